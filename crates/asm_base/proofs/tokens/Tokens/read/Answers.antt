@@ -1,0 +1,45 @@
+-- The steps of the loop over a statement.
+use Rattle.std.proofs.Common.{◌≡◌, ◌∷◌, ◌+◌, ◌-◌, length, take, drop, refl, sym, ap, ◌∙◌, arith}
+use Rattle.std.proofs.lemmas.Bool.{false≢true}
+use Rattle.std.proofs.lemmas.List.{length-drop, take_rest}
+use Rattle.asm_base.specs.Tokens.{token_length}
+use Rattle.asm_base.proofs.ReadingTokens.{read_blank, read_token, read_end, one_more}
+use Rattle.asm_base.proofs.tokens.Tokens.read.Goals as goal
+
+pub loop-first-preserved-then-is_blank : goal.loop-first-preserved-then-is_blank
+loop-first-preserved-then-is_blank c =
+    let s = c.args.statement.now in
+    let front : drop c.loop-first.at s ≡ c.in-Some.first.now ∷ c.in-Some.rest.now = sym (take_rest s c.loop-first.at) ∙ c.in-Some.ensures.cases.0 in
+    record {
+      within = omega (arith, length-drop c.loop-first.at s, ap length front);
+      room = c.loop-first.invariant.room;
+      all = read_blank _ _ s c.loop-first.at c.in-Some.first.now c.in-Some.rest.now front (sym c.is_blank.ensures ∙ c.if-is_blank.true) c.loop-first.invariant.all;
+    }
+
+pub returns-in_err-push-clause-inline : goal.returns-in_err-push-clause-inline
+returns-in_err-push-clause-inline c = λ few.
+    let s = c.args.statement.now in
+    let front : drop c.loop-first.at s ≡ c.in-Some.first.now ∷ c.in-Some.rest.now = sym (take_rest s c.loop-first.at) ∙ c.in-Some.ensures.cases.0 in
+    let more = one_more c.loop-first.list.items _ s c.loop-first.at c.in-Some.first.now c.in-Some.rest.now front (sym c.is_blank.ensures ∙ c.if-is_blank.false) c.loop-first.invariant.all in
+    let room = c.loop-first.invariant.room in
+    absurd (false≢true (c.in_err-push.ensures.succeeds (omega arith)))
+
+pub loop-first-preserved : goal.loop-first-preserved
+loop-first-preserved c =
+    let s = c.args.statement.now in
+    let front : drop c.loop-first.at s ≡ c.in-Some.first.now ∷ c.in-Some.rest.now = sym (take_rest s c.loop-first.at) ∙ c.in-Some.ensures.cases.0 in
+    let kind = c.token_kind-kind.ensures in
+    let length_is = c.token_length.ensures.value ∙ ap (λ k. token_length k c.in-Some.first.now c.in-Some.rest.now) kind in
+    let part : take (c.loop-first.at + c.token_length.result - c.loop-first.at) (drop c.loop-first.at s) ≡ take c.token_length.result (drop c.loop-first.at s) =
+    ap (λ n. take n (drop c.loop-first.at s)) (omega arith) in
+    record {
+      within = omega (arith, length-drop c.loop-first.at s, ap length front);
+      room = omega (arith, c.push.ensures.capacity);
+      all = read_token _ _ _ s c.loop-first.at c.in-Some.first.now c.in-Some.rest.now c.token_length.result _ front (sym c.is_blank.ensures ∙ c.if-is_blank.false) length_is c.in_ok-push.ensures.ok kind part refl c.loop-first.invariant.all;
+    }
+
+pub returns-clause-tokens : goal.returns-clause-tokens
+returns-clause-tokens c =
+    let s = c.args.statement.now in
+    let nothing : length (drop c.loop-first.at s) ≡ 0 = rw take_rest at c.in_default.ensures.cases in
+    read_end _ _ s c.loop-first.at (omega (arith, length-drop c.loop-first.at s)) c.loop-first.invariant.all

@@ -1,0 +1,10 @@
+-- The definitions that the contracts cite, in reading order.
+pub mod Counts
+pub mod Inputs
+pub mod Output
+pub mod Console
+pub mod Memory
+pub mod FaultTexts
+pub mod Messages
+pub mod WholeFile
+pub mod Tokens

@@ -1,0 +1,24 @@
+//! What all layers of the assembler share: the outside, texts, tokens, faults and messages.
+#![tactic(auto)]
+
+mod faults;
+mod memory;
+mod messages;
+mod notes;
+mod outside;
+mod positions;
+mod reading;
+mod streams;
+mod texts;
+mod tokens;
+
+pub use faults::{EndFault, Fault, Note, SavedRegister, ScfiFault, StatementFault};
+pub use memory::{MemoryConsole, MemoryFile, MemoryInputs, MemoryOutput, Stage};
+pub use messages::{NoMemory, heading, message};
+pub use notes::{Noted, Notes};
+pub use outside::{Channel, Console, Failed, Inputs, Output};
+pub use positions::{Files, Pos};
+pub use reading::{MOST_BYTES, TextFault, read_text};
+pub use streams::{FileInputs, FileOutput, StreamConsole};
+pub use texts::{Bytes, Text};
+pub use tokens::{Token, TokenKind, Tokens, is_blank, is_name_byte, is_name_start};

@@ -1,0 +1,198 @@
+//! The outside of files and standard streams. These tell nothing of contents: they are thin, and trusted.
+
+ghost use Rattle.std.specs.Prelude.{None};
+
+use crate::outside::{Channel, Console, Failed, Inputs, Output};
+use std::fs;
+use std::io::{ErrorKind, Read, Write};
+use std::rt::Files;
+
+/// Files by their paths, and standard input under the empty name.
+#[derive(Drop)]
+pub struct FileInputs<'a, R: Files + Input> {
+    rt: &'a R,
+    standard: R::Reader,
+    /// Standard input is the started file.
+    reads_standard: bool,
+    file: Option<R::File>,
+    faults: u64,
+    missing: u64,
+    taken: u64,
+}
+
+impl<'a, R: Files + Input> FileInputs<'a, R> {
+    pub fn new(rt: &'a R) -> FileInputs<'a, R> {
+        FileInputs {
+            rt,
+            standard: rt.reader(),
+            reads_standard: false,
+            file: None,
+            faults: 0,
+            missing: 0,
+            taken: 0,
+        }
+    }
+}
+
+impl<'a, R: Files + Input> Inputs for FileInputs<'a, R> {
+    ghost contents = { λ _. None };
+
+    ghost rest = { λ _. None };
+
+    ghost faults = { λ i. i.faults };
+
+    ghost missing = { λ i. i.missing };
+
+    ghost taken = { λ i. i.taken };
+
+    fn start(&mut self, name: &str) -> Result<(), Failed> {
+        if name.is_empty() {
+            self.file = None;
+            self.reads_standard = true;
+            return Ok(());
+        }
+        match fs::open(self.rt, name) {
+            Ok(file) => {
+                self.file = Some(file);
+                self.reads_standard = false;
+                Ok(())
+            }
+            Err(error) => {
+                self.faults = self.faults.saturating_add(1);
+                if error.kind() == ErrorKind::NotFound {
+                    self.missing = self.missing.saturating_add(1);
+                }
+                Err(Failed)
+            }
+        }
+    }
+
+    fn read(&mut self, buffer: &mut [u8]) -> Result<usize, Failed> {
+        let read = match self.file.take() {
+            Some(mut file) => {
+                let read = file.read(buffer);
+                self.file = Some(file);
+                read
+            }
+            None if self.reads_standard => self.standard.read(buffer),
+            None => Ok(0),
+        };
+        match read {
+            Ok(count) => {
+                self.taken = self.taken.saturating_add(count as u64);
+                Ok(count)
+            }
+            Err(_) => {
+                self.faults = self.faults.saturating_add(1);
+                Err(Failed)
+            }
+        }
+    }
+}
+
+/// A file by its path.
+#[derive(Drop)]
+pub struct FileOutput<'a, R: Files> {
+    rt: &'a R,
+    file: Option<R::File>,
+    faults: u64,
+}
+
+impl<'a, R: Files> FileOutput<'a, R> {
+    pub fn new(rt: &'a R) -> FileOutput<'a, R> {
+        FileOutput {
+            rt,
+            file: None,
+            faults: 0,
+        }
+    }
+}
+
+impl<'a, R: Files> Output for FileOutput<'a, R> {
+    ghost made = { λ _. None };
+
+    ghost faults = { λ o. o.faults };
+
+    fn create(&mut self, name: &str) -> Result<(), Failed> {
+        match fs::create(self.rt, name) {
+            Ok(file) => {
+                self.file = Some(file);
+                Ok(())
+            }
+            Err(_) => {
+                self.faults = self.faults.saturating_add(1);
+                Err(Failed)
+            }
+        }
+    }
+
+    fn write(&mut self, piece: &[u8]) -> Result<usize, Failed> {
+        let written = match self.file.take() {
+            Some(mut file) => {
+                let written = file.write(piece);
+                self.file = Some(file);
+                written
+            }
+            None => return Ok(piece.len()),
+        };
+        match written {
+            Ok(count) if count > 0 || piece.is_empty() => Ok(count),
+            _ => {
+                self.faults = self.faults.saturating_add(1);
+                Err(Failed)
+            }
+        }
+    }
+
+    fn finish(&mut self) -> Result<(), Failed> {
+        let flushed = match self.file.take() {
+            Some(mut file) => file.flush(),
+            None => return Ok(()),
+        };
+        match flushed {
+            Ok(()) => Ok(()),
+            Err(_) => {
+                self.faults = self.faults.saturating_add(1);
+                Err(Failed)
+            }
+        }
+    }
+}
+
+/// Two streams, as standard output and standard error.
+#[derive(Drop)]
+pub struct StreamConsole<O: Write + Drop, E: Write + Drop> {
+    out: O,
+    err: E,
+    faults: u64,
+}
+
+impl<O: Write + Drop, E: Write + Drop> StreamConsole<O, E> {
+    pub fn new(out: O, err: E) -> StreamConsole<O, E> {
+        StreamConsole {
+            out,
+            err,
+            faults: 0,
+        }
+    }
+}
+
+impl<O: Write + Drop, E: Write + Drop> Console for StreamConsole<O, E> {
+    ghost said = { λ _. None };
+
+    ghost faults = { λ c. c.faults };
+
+    fn say(&mut self, to: Channel, piece: &[u8]) -> Result<usize, Failed> {
+        let written = match to {
+            Channel::Out => self.out.write(piece),
+            Channel::Err => self.err.write(piece),
+        };
+        match written {
+            Ok(count) if count > 0 || piece.is_empty() => Ok(count),
+            _ => {
+                self.faults = self.faults.saturating_add(1);
+                Err(Failed)
+            }
+        }
+    }
+}

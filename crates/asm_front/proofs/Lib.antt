@@ -1,0 +1,15 @@
+-- The proofs of this crate.
+pub mod Names
+pub mod Readings
+pub mod Samples
+pub mod NumberLemmas
+pub mod SymbolLemmas
+pub mod NextSection
+mod ImageSamples
+pub mod TokenLists
+pub mod NumberLists
+pub mod NameLists
+pub mod LabelLemmas
+pub mod StatementLists
+pub mod EndingLemmas
+pub mod AnswerLemmas

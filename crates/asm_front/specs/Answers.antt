@@ -1,0 +1,20 @@
+-- What a call of a step answers, by what the step's definition answers.
+use Rattle.std.specs.Prelude.{◌≡◌, Result, Ok, Err}
+use Rattle.asm_base.specs.declared.faults.StatementFault.{StatementFault}
+use Rattle.asm_front.specs.declared.steps.StepFault.{StepFault}
+use Rattle.asm_front.specs.declared.steps.StepFault.TheVariants.{Source, NoMemory}
+
+-- a fault of the source is the definition's; want of memory may come at any point
+abbrev pub Fails : {A : Type 0} → StepFault → Result A StatementFault → Type 0
+Fails (Source fault) answer = answer ≡ Err fault
+Fails NoMemory answer = Unit {0}
+
+-- the step made this
+abbrev pub Gives : {A T : Type 0} → A → Result T StepFault → Result A StatementFault → Type 0
+Gives made (Ok t) answer = answer ≡ Ok made
+Gives made (Err e) answer = Fails e answer
+
+-- the step made what this value is seen as
+abbrev pub GivesBy : {A T : Type 0} → (T → A) → Result T StepFault → Result A StatementFault → Type 0
+GivesBy view (Ok t) answer = answer ≡ Ok (view t)
+GivesBy view (Err e) answer = Fails e answer

@@ -1,0 +1,20 @@
+-- The definitions that the contracts cite, in reading order.
+pub mod Rows
+pub mod Reads
+pub mod Results
+pub mod Answers
+pub mod Numbers
+pub mod SymbolMap
+pub mod SymbolEntries
+pub mod Operands
+pub mod Placing
+pub mod PlacedBy
+pub mod Fields
+pub mod StringTable
+pub mod Sections
+pub mod Symbols
+pub mod Image
+pub mod Assembly
+pub mod Stops
+pub mod Outcome
+pub mod Answering

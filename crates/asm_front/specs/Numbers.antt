@@ -1,0 +1,38 @@
+-- The number that a token of digits spells (GNU as manual, "Integers").
+use Rattle.std.specs.Prelude.{ℕ, ◌+◌, ◌-◌, ◌*◌, ◌^◌, ◌==◌, ◌||◌, ◌&&◌, Bool, List, [], ◌∷◌, nat_lt, nat_le, if◌then◌else◌, Result, Ok, Err}
+use Rattle.std.specs.List.{list_all}
+use Rattle.asm_base.specs.declared.faults.StatementFault.{StatementFault}
+use Rattle.asm_base.specs.declared.faults.StatementFault.TheVariants.{BadExpression, NumberTooWide}
+
+-- what a digit of any radix up to 16 counts, and 16 for any other byte
+unfoldable pub digit_of : ℕ → ℕ
+digit_of byte =
+    if nat_le 48 byte && nat_le byte 57 then byte - 48
+    else (if nat_le 97 byte && nat_le byte 102 then byte - 87
+    else (if nat_le 65 byte && nat_le byte 70 then byte - 55 else 16))
+
+-- the number that digits give which stand behind this one
+unfoldable pub number_after : ℕ → ℕ → List ℕ → ℕ
+number_after radix number [] = number
+number_after radix number (digit ∷ digits) = number_after radix (number * radix + digit_of digit) digits
+
+-- the radix has this digit
+abbrev pub is_digit_of : ℕ → ℕ → Bool
+is_digit_of radix byte = nat_lt (digit_of byte) radix
+
+-- digits of a radix, at least one, none of another radix, and their number is not too wide
+unfoldable pub numeral : ℕ → List ℕ → Result ℕ StatementFault
+numeral radix [] = Err BadExpression
+numeral radix (digit ∷ digits) =
+    if list_all (is_digit_of radix) (digit ∷ digits)
+    then (if nat_lt (number_after radix 0 (digit ∷ digits)) (2 ^ 64) then Ok (number_after radix 0 (digit ∷ digits)) else Err NumberTooWide)
+    else Err BadExpression
+
+-- behind a zero an `x` begins hexadecimal and a `b` binary digits, and a digit octal ones; other numbers are decimal
+unfoldable pub spelled_number : List ℕ → Result ℕ StatementFault
+spelled_number [] = numeral 10 []
+spelled_number (first ∷ []) = numeral 10 (first ∷ [])
+spelled_number (first ∷ second ∷ rest) =
+    if first == 48 then (if second == 120 || second == 88 then numeral 16 rest
+    else (if second == 98 || second == 66 then numeral 2 rest else numeral 8 (second ∷ rest)))
+    else numeral 10 (first ∷ second ∷ rest)

@@ -1,0 +1,83 @@
+-- What a call of `assemble` answers, by what the input tells of the source.
+use Rattle.std.specs.Prelude.{◌≡◌, ℕ, ◌+◌, ◌≤◌, min, Bool, true, false, IsTrue, List, [], ◌∷◌, codes, Option, None, Some, Result, Ok, Err}
+use Rattle.asm_base.specs.Counts.{HasRisen, last_count}
+use Rattle.asm_base.specs.WholeFile.{most_bytes}
+use Rattle.asm_base.specs.declared.faults.StatementFault.{StatementFault}
+use Rattle.asm_base.specs.declared.faults.StatementFault.TheVariants as statement
+use Rattle.asm_base.specs.declared.faults.Fault.{Fault}
+use Rattle.asm_base.specs.declared.faults.Fault.TheVariants.{Statement, End, Scfi}
+use Rattle.asm_base.specs.Inputs.{Contents}
+use Rattle.asm_front.specs.Assembly.{FaultAt, fault_at, assembly_of}
+use Rattle.asm_front.specs.declared.answers.Assembled.{Assembled}
+use Rattle.asm_front.specs.declared.answers.AsmFault.{AsmFault}
+use Rattle.asm_front.specs.declared.answers.AsmFault.TheVariants.{Source, Read, NoMemory}
+
+-- how messages show the source: standard input has no name
+abbrev pub shown_name : List ℕ → List ℕ
+shown_name [] = codes "{standard input}"
+shown_name (byte ∷ bytes) = byte ∷ bytes
+
+-- the files that were started
+abbrev pub files_of : List ℕ → List (List ℕ)
+files_of name = shown_name name ∷ []
+
+-- the one source file has the number 0
+abbrev pub main_file : ℕ
+main_file = 0
+
+-- the answer for a source of this assembly: its object or its first fault, and no notes
+abbrev pub AssemblesAs : List ℕ → Result (List ℕ) FaultAt → Result Assembled AsmFault → Type 0
+AssemblesAs name assembly (Ok made) = (assembly ≡ Ok made.object) × (made.notes ≡ []) × (made.files ≡ files_of name)
+AssemblesAs name assembly (Err (Source fault pos notes files)) = (assembly ≡ Err (fault_at fault pos)) × (notes ≡ []) × (files ≡ files_of name)
+AssemblesAs name assembly (Err Read) = Unit {0}
+AssemblesAs name assembly (Err NoMemory) = Unit {0}
+
+-- a source that is not there gives neither
+abbrev pub AssemblesFile : List ℕ → Option (List ℕ) → Result Assembled AsmFault → Type 0
+AssemblesFile name (Some source) result = AssemblesAs name (assembly_of main_file source) result
+AssemblesFile name None (Ok made) = ⊥
+AssemblesFile name None (Err (Source fault pos notes files)) = ⊥
+AssemblesFile name None (Err Read) = Unit {0}
+AssemblesFile name None (Err NoMemory) = Unit {0}
+
+-- what stands under the name, where the contents are told
+abbrev pub Assembles : Option Contents → List ℕ → Result Assembled AsmFault → Type 0
+Assembles None name result = Unit {0}
+Assembles (Some contents) name result = AssemblesFile name (contents name) result
+
+-- the count of failures has risen where the input failed, and is the same else
+abbrev pub HasAssemblyCause : Result Assembled AsmFault → ℕ → ℕ → Type 0
+HasAssemblyCause (Ok made) before now = now ≡ before
+HasAssemblyCause (Err (Source fault pos notes files)) before now = now ≡ before
+HasAssemblyCause (Err Read) before now = (before ≤ now) × HasRisen before now
+HasAssemblyCause (Err NoMemory) before now = now ≡ before
+
+-- told or not, the files are those that were started
+abbrev pub NamesFiles : List ℕ → Result Assembled AsmFault → Type 0
+NamesFiles name (Ok made) = made.files ≡ files_of name
+NamesFiles name (Err (Source fault pos notes files)) = files ≡ files_of name
+NamesFiles name (Err Read) = Unit {0}
+NamesFiles name (Err NoMemory) = Unit {0}
+
+-- a count of the input is as before where there is an object or a fault of the source
+abbrev pub KeepsCount : Result Assembled AsmFault → ℕ → ℕ → Type 0
+KeepsCount (Ok made) before now = now ≡ before
+KeepsCount (Err (Source fault pos notes files)) before now = now ≡ before
+KeepsCount (Err Read) before now = Unit {0}
+KeepsCount (Err NoMemory) before now = Unit {0}
+
+abbrev pub is_too_large_fault : StatementFault → Bool
+is_too_large_fault statement.FileTooLarge = true
+is_too_large_fault _ = false
+
+abbrev pub is_too_large : Fault → Bool
+is_too_large (Statement fault) = is_too_large_fault fault
+is_too_large (End fault) = false
+is_too_large (Scfi fault) = false
+
+-- a file is called too large only where more than the most bytes were taken
+abbrev pub TakesSource : Result Assembled AsmFault → ℕ → ℕ → Type 0
+TakesSource (Ok made) before now = Unit {0}
+TakesSource (Err (Source fault pos notes files)) before now = IsTrue (is_too_large fault) → min (before + (most_bytes + 1)) last_count ≤ now
+TakesSource (Err Read) before now = Unit {0}
+TakesSource (Err NoMemory) before now = Unit {0}

@@ -1,0 +1,6 @@
+-- What the assembler has placed, as the definitions have it.
+use Rattle.asm_front.specs.Placing.{Placed}
+use Rattle.asm_front.specs.declared.placing.Assembler.{Assembler}
+
+abbrev pub placed_by : Assembler → Placed
+placed_by assembler = record { text = assembler.text.items; symbols = assembler.symbols }

@@ -1,0 +1,111 @@
+-- What each statement adds to the section and the symbols, or its fault.
+use Rattle.std.specs.Prelude.{ℕ, ◌&&◌, Bool, true, false, not, List, [], ◌∷◌, ◌++◌, length, find, fold, codes, if◌then◌else◌, ◌==◌, Option, None, Some, Result, Ok, Err}
+use Rattle.std.specs.Str.{bytes_eq}
+use Rattle.asm_base.specs.declared.faults.StatementFault.{StatementFault}
+use Rattle.asm_base.specs.declared.faults.StatementFault.TheVariants.{UnknownMnemonic, UnknownDirective, BadOperand}
+use Rattle.asm_base.specs.declared.positions.Pos.{Pos}
+use Rattle.asm_base.specs.Tokens.{SpelledToken, tokens_of}
+use Rattle.asm_front.specs.declared.instructions.Row.{Row}
+use Rattle.asm_front.specs.Results.{◌>>=◌}
+use Rattle.asm_front.specs.Rows.{the_rows, has_name, bytes_of}
+use Rattle.asm_front.specs.Operands.{is_name, is_mark, number_list, as_bytes, name_list}
+use Rattle.asm_front.specs.SymbolMap.{SymbolList, symbol_named, with_symbol, labelled, made_global}
+
+-- what the statements so far have placed: the bytes of `.text`, and the symbols
+pub record Placed : Type 0 where
+  pub text : List ℕ
+  pub symbols : SymbolList
+
+abbrev pub nothing_placed : Placed
+nothing_placed = record { text = []; symbols = [] }
+
+-- these bytes more in `.text`
+abbrev pub with_text : List ℕ → Placed → Placed
+with_text bytes placed = record { text = placed.text ++ bytes; symbols = placed.symbols }
+
+-- `name:` defines a symbol where the next byte goes
+unfoldable pub place_label : Pos → List ℕ → Placed → Result Placed StatementFault
+place_label pos name placed =
+    labelled (symbol_named name placed.symbols) (length placed.text) pos
+    >>= λ symbol. Ok (record { text = placed.text; symbols = with_symbol placed.symbols name symbol })
+
+-- `.text`
+unfoldable pub place_text : List SpelledToken → Placed → Result Placed StatementFault
+place_text [] placed = Ok placed
+place_text (token ∷ rest) placed = Err BadOperand
+
+-- `.byte`
+unfoldable pub place_byte : List SpelledToken → Placed → Result Placed StatementFault
+place_byte operands placed = number_list operands >>= λ ns. as_bytes ns >>= λ bytes. Ok (with_text bytes placed)
+
+-- a name is made global
+abbrev pub with_global : Pos → SymbolList → List ℕ → SymbolList
+with_global pos symbols name = with_symbol symbols name (made_global (symbol_named name symbols) pos)
+
+-- the names are made global, one after the other
+unfoldable pub with_globals : Pos → SymbolList → Result (List (List ℕ)) StatementFault → Result SymbolList StatementFault
+with_globals pos symbols names = names >>= λ these. Ok (fold (with_global pos) symbols these)
+
+-- `.globl`
+unfoldable pub place_globl : Pos → List SpelledToken → Placed → Result Placed StatementFault
+place_globl pos operands placed =
+    with_globals pos placed.symbols (name_list operands) >>= λ symbols. Ok (record { text = placed.text; symbols = symbols })
+
+-- a directive by its name
+unfoldable pub place_directive : Pos → List ℕ → List SpelledToken → Placed → Result Placed StatementFault
+place_directive pos name operands placed =
+    if bytes_eq name (codes ".text") then place_text operands placed
+    else (if bytes_eq name (codes ".byte") then place_byte operands placed
+    else (if bytes_eq name (codes ".globl") then place_globl pos operands placed
+    else (if bytes_eq name (codes ".global") then place_globl pos operands placed
+    else Err UnknownDirective)))
+
+-- an instruction of this row, which takes no operands
+abbrev pub place_row : Option Row → List SpelledToken → Placed → Result Placed StatementFault
+place_row None operands placed = Err UnknownMnemonic
+place_row (Some row) [] placed = Ok (with_text (bytes_of row) placed)
+place_row (Some row) (token ∷ rest) placed = Err BadOperand
+
+-- an instruction by its name
+unfoldable pub place_instruction : List ℕ → List SpelledToken → Placed → Result Placed StatementFault
+place_instruction name operands placed = place_row (find (λ row. has_name row name) the_rows) operands placed
+
+-- an equals sign behind a name makes an assignment
+abbrev pub is_assignment : List SpelledToken → Bool
+is_assignment [] = false
+is_assignment (token ∷ rest) = is_mark 61 token
+
+abbrev pub begins_with_dot : List ℕ → Bool
+begins_with_dot [] = false
+begins_with_dot (byte ∷ bytes) = byte == 46
+
+-- what stands behind the labels: a directive or an instruction
+unfoldable pub place_body : Pos → SpelledToken → List SpelledToken → Placed → Result Placed StatementFault
+place_body pos first rest placed =
+    if not (is_name first) then Err UnknownMnemonic
+    else (if is_assignment rest then Err UnknownMnemonic
+    else (if begins_with_dot first.bytes then place_directive pos first.bytes rest placed
+    else place_instruction first.bytes rest placed))
+
+-- a name and a colon
+abbrev pub is_label : SpelledToken → SpelledToken → Bool
+is_label first second = is_name first && is_mark 58 second
+
+-- behind the labels, where anything is
+unfoldable pub place_unlabelled : Pos → List SpelledToken → Placed → Result Placed StatementFault
+place_unlabelled pos [] placed = Ok placed
+place_unlabelled pos (first ∷ rest) placed = place_body pos first rest placed
+
+-- a label stands in front
+abbrev pub begins_with_label : List SpelledToken → Bool
+begins_with_label [] = false
+begins_with_label (first ∷ []) = false
+begins_with_label (first ∷ second ∷ rest) = is_label first second
+
+-- the labels one after the other, and what stands behind them
+unfoldable pub place_tokens : Pos → List SpelledToken → Placed → Result Placed StatementFault
+place_tokens pos [] placed = Ok placed
+place_tokens pos (first ∷ []) placed = place_body pos first [] placed
+place_tokens pos (first ∷ second ∷ rest) placed =
+    if is_label first second then place_label pos first.bytes placed >>= (λ labels. place_tokens pos rest labels)
+    else place_body pos first (second ∷ rest) placed

@@ -1,0 +1,31 @@
+-- String tables (gABI, chapter 4, "String Table").
+use Rattle.std.specs.Prelude.{ℕ, ◌+◌, List, [], ◌∷◌, ◌++◌, length}
+
+-- a name with the zero byte that ends it; the empty name takes no bytes
+abbrev pub string_of : List ℕ → List ℕ
+string_of [] = []
+string_of (c ∷ cs) = (c ∷ cs) ++ 0 ∷ []
+
+-- the names, one after the other
+abbrev pub strings : List (List ℕ) → List ℕ
+strings [] = []
+strings (name ∷ names) = string_of name ++ strings names
+
+-- the table of the names, which begins with a zero byte
+unfoldable pub string_table_of : List (List ℕ) → List ℕ
+string_table_of names = 0 ∷ strings names
+
+-- where a name stands, in a table that is this long before it; the empty name is at 0
+abbrev pub name_offset_after : ℕ → List ℕ → ℕ
+name_offset_after before [] = 0
+name_offset_after before (c ∷ cs) = before
+
+-- where each of the names stands, in a table that is this long before them
+abbrev pub name_offsets_after : ℕ → List (List ℕ) → List ℕ
+name_offsets_after before [] = []
+name_offsets_after before (name ∷ names) =
+    name_offset_after before name ∷ name_offsets_after (before + length (string_of name)) names
+
+-- where each of the names stands in their table
+unfoldable pub name_offsets : List (List ℕ) → List ℕ
+name_offsets names = name_offsets_after 1 names

@@ -1,0 +1,36 @@
+//! What the assembler is asked for, and what it answers.
+
+use crate::object::Object;
+use asm_base::{Fault, Files, Notes, Pos};
+
+/// What the command line asks for.
+#[derive(Drop)]
+pub struct Options {
+    /// The name of the source file; the empty name is standard input.
+    pub file: String,
+    /// Frame tables are synthesized.
+    pub scfi: bool,
+    /// No warning is made.
+    pub no_warn: bool,
+    /// A warning refuses the run at its end.
+    pub fatal_warnings: bool,
+}
+
+/// An object with what is to be told of it.
+#[derive(Drop)]
+pub struct Assembled {
+    pub notes: Notes,
+    pub files: Files,
+    pub object: Object,
+}
+
+/// Why there is no object.
+#[derive(Drop)]
+pub enum AsmFault {
+    /// The first fault of the source, where it stands, the notes before it, and the names of the files.
+    Source(Fault, Pos, Notes, Files),
+    /// The input failed. Its count of failures has risen.
+    Read,
+    /// Memory was refused.
+    NoMemory,
+}

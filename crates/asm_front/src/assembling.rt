@@ -1,0 +1,136 @@
+//! From the name of a source to its object.
+
+ghost use Rattle.std.specs.Prelude.{◌≡◌, string_bytes, IfOk, OnOk};
+ghost use Rattle.std.specs.Io.KnownBytes.{IsAtEnd};
+ghost use Rattle.asm_base.specs.Inputs.{CountsMissing};
+ghost use Rattle.asm_front.specs.Assembly.{assembly_of_lines};
+ghost use Rattle.asm_front.specs.Outcome.{main_file, shown_name, files_of, AssemblesAs, Assembles, NamesFiles, HasAssemblyCause, KeepsCount, TakesSource};
+ghost use Rattle.asm_front.specs.Answering.{IsAnswered};
+ghost use Rattle.asm_front.specs.Stops.{MakesBy, line_stop, too_large_stop};
+
+use crate::answers::{AsmFault, Assembled, Options};
+use crate::ending::finished;
+use crate::object::Object;
+use crate::sources::place_all;
+use crate::steps::Stop;
+use asm_base::{
+    Fault, Files, Inputs, NoMemory, Notes, Pos, StatementFault, Text, TextFault, read_text,
+};
+use asm_lines::{LineFault, read_statements};
+use std::alloc::Global;
+
+/// The number of the source file, which is the only one.
+const MAIN_FILE: u32 = 0;
+
+/// The place of a fault of the lines.
+fn line_stop(fault: LineFault) -> Stop
+    ensures { result ≡ line_stop main_file fault }
+{
+    match fault {
+        LineFault::NulByte(line) => Stop::Source(
+            Fault::Statement(StatementFault::NulByte),
+            Pos {
+                file: MAIN_FILE,
+                line,
+            },
+        ),
+        LineFault::StatementTooLong(line) => Stop::Source(
+            Fault::Statement(StatementFault::StatementTooLong),
+            Pos {
+                file: MAIN_FILE,
+                line,
+            },
+        ),
+        LineFault::NoMemory => Stop::NoMemory,
+    }
+}
+
+/// The object of a text that is not too large.
+#[tactic(auto, unfolding(crate::specs::Assembly::assembly_of_lines))]
+fn object_of_text(alloc: Global, text: &Text) -> Result<Object, Stop>
+    ensures { MakesBy (λ object. object) result (assembly_of_lines main_file text.now) }
+{
+    match read_statements(alloc, text, MAIN_FILE) {
+        Ok(statements) => {
+            let assembler = place_all(alloc, statements.as_slice())?;
+            finished(alloc, &assembler)
+        }
+        Err(fault) => Err(line_stop(fault)),
+    }
+}
+
+/// The name under which messages show the source.
+fn shown_name(alloc: Global, name: &str) -> Result<String, NoMemory>
+    ensures { IfOk result (λ shown. string_bytes shown ≡ shown_name name.now) }
+{
+    if name.is_empty() {
+        String::from_str(alloc, "{standard input}")
+    } else {
+        String::from_str(alloc, name)
+    }
+}
+
+/// The files that were started.
+fn started_files(alloc: Global, name: &str) -> Result<Files, NoMemory>
+    ensures { IfOk result (λ files. files ≡ files_of name.now) }
+{
+    let mut files = Files::new(alloc);
+    files.add(shown_name(alloc, name)?)?;
+    Ok(files)
+}
+
+/// The answer for an object or a fault of the source, with the names of the files.
+fn answered(alloc: Global, name: &str, made: Result<Object, Stop>) -> Result<Assembled, AsmFault>
+    ensures { IsAnswered name.now made result }
+{
+    let files = match started_files(alloc, name) {
+        Ok(files) => files,
+        Err(_) => return Err(AsmFault::NoMemory),
+    };
+    let notes = Notes::new(alloc);
+    match made {
+        Ok(object) => Ok(Assembled {
+            notes,
+            files,
+            object,
+        }),
+        Err(Stop::Source(fault, pos)) => Err(AsmFault::Source(fault, pos, notes, files)),
+        Err(Stop::NoMemory) => Err(AsmFault::NoMemory),
+    }
+}
+
+/// The fault of a file that is too large.
+fn too_large() -> Stop
+    ensures { result ≡ too_large_stop main_file }
+{
+    Stop::Source(
+        Fault::Statement(StatementFault::FileTooLarge),
+        Pos {
+            file: MAIN_FILE,
+            line: 1,
+        },
+    )
+}
+
+/// Reads the source and assembles it: its object, or its first fault.
+pub fn assemble<I: Inputs>(
+    alloc: Global,
+    options: &Options,
+    ins: &mut I,
+) -> Result<Assembled, AsmFault>
+    ensures outcome { Assembles (I.contents ins.old) (string_bytes options.now.file) result }
+    ensures names { NamesFiles (string_bytes options.now.file) result }
+    ensures cause { HasAssemblyCause result (I.faults ins.old) (I.faults ins.new) }
+    ensures missing { CountsMissing (I.contents ins.old) (string_bytes options.now.file) (I.missing ins.old) (I.missing ins.new) }
+    ensures found { KeepsCount result (I.missing ins.old) (I.missing ins.new) }
+    ensures contents { I.contents ins.new ≡ I.contents ins.old }
+    ensures whole { OnOk result (IsAtEnd (I.rest ins.new)) }
+{
+    let name = options.file.as_str();
+    match read_text(alloc, ins, name) {
+        Ok(text) => answered(alloc, name, object_of_text(alloc, &text)),
+        Err(TextFault::TooLarge) => answered(alloc, name, Err(too_large())),
+        Err(TextFault::Read) => Err(AsmFault::Read),
+        Err(TextFault::NoMemory) => Err(AsmFault::NoMemory),
+    }
+}

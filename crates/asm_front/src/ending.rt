@@ -1,0 +1,146 @@
+//! What is found and made at the end of a source: undefined local symbols, and the object.
+
+ghost use Rattle.std.specs.Prelude.{◌≡◌, ◌++◌, map, find, filter_map, IfOk, OnOk, option_map};
+ghost use Rattle.std.specs.Option.{option_to_list};
+ghost use Rattle.asm_front.specs.SymbolEntries.{listed};
+ghost use Rattle.asm_front.specs.Symbols.{symbol_view};
+ghost use Rattle.asm_front.specs.Sections.{section_view};
+ghost use Rattle.asm_front.specs.Assembly.{is_file_local, is_undefined_local, symbol_of, sections_of, object_of, finished};
+ghost use Rattle.asm_front.specs.PlacedBy.{placed_by};
+ghost use Rattle.asm_front.specs.Stops.{MakesBy, undefined_stop};
+
+use crate::image::image;
+use crate::named_symbols::NamedEntry;
+use crate::object::Object;
+use crate::placing::Assembler;
+use crate::sections::{Body, Section};
+use crate::steps::Stop;
+use crate::symbols::{Binding, Kind, Symbol, Visibility};
+use asm_base::{EndFault, Fault};
+use std::alloc::{AllocError, Global};
+
+/// Whether a symbol of this name is local to the file.
+fn is_file_local(name: &[u8]) -> bool
+    ensures { result ≡ is_file_local name.now }
+{
+    name.starts_with(b".L")
+}
+
+/// Whether a symbol is named that must be defined and is not.
+fn is_undefined_local(entry: &NamedEntry) -> bool
+    ensures { result ≡ is_undefined_local (listed entry.now) }
+{
+    is_file_local(entry.name) && entry.symbol.offset.is_none()
+}
+
+/// The first symbol that is named, must be defined and is not.
+pub(crate) fn first_undefined<'e, 'a>(entries: &'e [NamedEntry<'a>]) -> Option<&'e NamedEntry<'a>>
+    ensures { option_map (λ entry. entry.now) result ≡ find (λ entry. is_undefined_local (listed entry)) entries.now }
+{
+    entries.iter().find(|entry| is_undefined_local(entry))
+}
+
+/// The fault of a symbol that is not defined.
+fn undefined(entry: &NamedEntry) -> Stop
+    ensures { result ≡ undefined_stop (listed entry.now) }
+{
+    Stop::Source(Fault::End(EndFault::UndefinedLocalSymbol), entry.symbol.pos)
+}
+
+/// The symbol as it stands in the table, if it does.
+fn symbol_of<'a>(entry: &NamedEntry<'a>) -> Option<Symbol<'a>>
+    ensures { option_map symbol_view result ≡ symbol_of (listed entry.now) }
+{
+    let offset = entry.symbol.offset?;
+    let binding = if entry.symbol.is_global {
+        Binding::Global
+    } else if is_file_local(entry.name) {
+        return None;
+    } else {
+        Binding::Local
+    };
+    Some(Symbol {
+        name: entry.name,
+        binding,
+        kind: Kind::NoType,
+        visibility: Visibility::Default,
+        section: 1,
+        value: offset,
+        size: 0,
+    })
+}
+
+/// Appends the symbol, if there is one.
+fn put_symbol<'a>(
+    symbols: &mut Vec<Symbol<'a>>,
+    symbol: Option<Symbol<'a>>,
+) -> Result<(), AllocError>
+    ensures { OnOk result (map symbol_view symbols.new.items ≡ map symbol_view symbols.old.items ++ option_to_list (option_map symbol_view symbol.entry)) }
+{
+    if let Some(symbol) = symbol {
+        symbols.push(symbol)?;
+    }
+    Ok(())
+}
+
+/// The symbols that stand in the table.
+fn table_symbols<'a>(
+    alloc: Global,
+    entries: &[NamedEntry<'a>],
+) -> Result<Vec<Symbol<'a>>, AllocError>
+    ensures { IfOk result (λ symbols. map symbol_view symbols.items ≡ filter_map symbol_of (map listed entries.now)) }
+{
+    let mut symbols = Vec::new(alloc);
+    for entry in entries {
+        put_symbol(&mut symbols, symbol_of(entry))?;
+    }
+    Ok(symbols)
+}
+
+/// The sections (gABI, chapter 4, "Special Sections").
+fn sections_of(text: &[u8]) -> [Section<'_>; 3]
+    ensures { map section_view result ≡ sections_of text.now }
+{
+    [
+        Section {
+            name: b".text",
+            kind: 1,
+            flags: 6,
+            alignment: 1,
+            entry_size: 0,
+            body: Body::Bytes(text),
+        },
+        Section {
+            name: b".data",
+            kind: 1,
+            flags: 3,
+            alignment: 1,
+            entry_size: 0,
+            body: Body::Bytes(b""),
+        },
+        Section {
+            name: b".bss",
+            kind: 8,
+            flags: 3,
+            alignment: 1,
+            entry_size: 0,
+            body: Body::NoBits(0),
+        },
+    ]
+}
+
+/// The object of what was placed, or the first fault at the end of the source.
+#[tactic(auto, unfolding(crate::specs::Assembly::placed_whole, crate::specs::Assembly::object_of), using(crate::proofs::EndingLemmas::found_none, crate::proofs::EndingLemmas::found_one))]
+pub(crate) fn finished(alloc: Global, assembler: &Assembler) -> Result<Object, Stop>
+    ensures { MakesBy (λ object. object) result (finished (placed_by assembler.now)) }
+{
+    let entries = assembler.symbols.entries(alloc)?;
+    match first_undefined(&entries) {
+        Some(entry) => Err(undefined(entry)),
+        None => {
+            let symbols = table_symbols(alloc, &entries)?;
+            let bytes = image(alloc, &sections_of(&assembler.text), &symbols)?;
+            Ok(Object::new(bytes))
+        }
+    }
+}

@@ -1,0 +1,28 @@
+//! From the bytes of a source to its object.
+#![tactic(auto)]
+
+mod answers;
+mod assembling;
+mod ending;
+mod fields;
+mod globals;
+pub mod image;
+mod instructions;
+mod named_symbols;
+mod numbers;
+mod object;
+mod operands;
+mod placing;
+pub mod sections;
+mod sources;
+mod steps;
+mod string_table;
+pub mod symbols;
+
+pub use answers::{AsmFault, Assembled, Options};
+pub use assembling::assemble;
+pub use instructions::{
+    Mnemonic, ROWS, Row, find_row, instruction_length, names_apart, names_are_whole, one_reading,
+    put_instruction, rows, rows_apart, rows_read,
+};
+pub use object::Object;

@@ -1,0 +1,42 @@
+//! The object, and how it is written.
+
+ghost use Rattle.std.specs.Prelude.{◌≡◌, ℕ, ◌≤◌, length, take, OnOk, option_map};
+ghost use Rattle.asm_base.specs.Counts.{HasCause};
+ghost use Rattle.asm_base.specs.Output.{after_write};
+
+use asm_base::{Failed, Output};
+use std::marker::Model;
+
+/// A relocatable object file.
+#[derive(Drop)]
+pub struct Object {
+    bytes: Vec<u8>,
+}
+
+impl Model for Object {
+    ghost use Rattle.std.specs.Prelude.{ℕ, List};
+
+    ghost Value = { List ℕ };
+
+    ghost view = { λ o. o.bytes.items };
+}
+
+impl Object {
+    ghost use Rattle.std.specs.Prelude.{◌≡◌, ℕ, ◌≤◌, length, take, OnOk, option_map};
+    ghost use Rattle.asm_base.specs.Counts.{HasCause};
+    ghost use Rattle.asm_base.specs.Output.{after_write};
+
+    /// The object of these bytes.
+    pub(crate) fn new(bytes: Vec<u8>) -> Object
+        ensures { result ≡ bytes.items }
+    {
+        Object { bytes }
+    }
+
+    /// How many bytes it has.
+    pub fn len(&self) -> usize
+        ensures { result ≡ length self.now }
+    {
+        self.bytes.len()
+    }
+}

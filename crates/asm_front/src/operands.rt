@@ -1,0 +1,119 @@
+//! The operands of directives: numbers and names, separated by commas.
+
+ghost use Rattle.std.specs.Prelude.{◌≡◌, ◌≤◌, length, map, IsTrue};
+ghost use Rattle.asm_base.specs.Tokens.{spelled};
+ghost use Rattle.asm_front.specs.Answers.{GivesBy};
+ghost use Rattle.asm_front.specs.Operands.{is_name, is_mark, token_number, numbers, number_list, as_bytes};
+ghost use Rattle.asm_front.specs.Placing.{is_assignment, begins_with_dot, begins_with_label};
+
+use crate::numbers::spelled_number;
+use crate::steps::StepFault;
+use asm_base::{StatementFault, Token, TokenKind};
+use std::alloc::Global;
+
+/// Whether the token is a name.
+pub(crate) fn is_name(token: &Token) -> bool
+    ensures { result ≡ is_name (spelled token.now) }
+{
+    token.kind == TokenKind::Name
+}
+
+/// Whether the token is this one mark of punctuation.
+pub(crate) fn is_mark(token: &Token, mark: u8) -> bool
+    ensures { result ≡ is_mark mark (spelled token.now) }
+{
+    token.bytes == [mark].as_slice()
+}
+
+/// The number that a token is.
+#[tactic(auto, unfolding(crate::specs::Operands::token_number))]
+fn token_number(token: &Token) -> Result<u64, StatementFault>
+    ensures { result ≡ token_number (spelled token.now) }
+{
+    if token.kind == TokenKind::Digits {
+        spelled_number(token.bytes)
+    } else {
+        Err(StatementFault::BadExpression)
+    }
+}
+
+/// The numbers, at least one, separated by commas.
+#[tactic(auto, unfolding(crate::specs::Operands::numbers, crate::specs::Operands::numbers_behind))]
+fn numbers(alloc: Global, operands: &[Token]) -> Result<Vec<u64>, StepFault>
+    ensures { GivesBy (λ ns. ns.items) result (numbers (map spelled operands.now)) }
+{
+    let mut numbers = Vec::new(alloc);
+    let mut at = 0;
+    while operands.len() - at >= 2 {
+        numbers.push(token_number(&operands[at])?)?;
+        if !is_mark(&operands[at + 1], b',') {
+            return Err(StepFault::Source(StatementFault::BadOperand));
+        }
+        at += 2;
+    }
+    match operands.get(at) {
+        Some(token) => {
+            numbers.push(token_number(token)?)?;
+            Ok(numbers)
+        }
+        None => Err(StepFault::Source(StatementFault::BadExpression)),
+    }
+}
+
+/// The numbers, or none, separated by commas.
+#[tactic(auto, unfolding(crate::specs::Operands::number_list))]
+pub(crate) fn number_list(alloc: Global, operands: &[Token]) -> Result<Vec<u64>, StepFault>
+    ensures { GivesBy (λ ns. ns.items) result (number_list (map spelled operands.now)) }
+{
+    if operands.is_empty() {
+        Ok(Vec::new(alloc))
+    } else {
+        numbers(alloc, operands)
+    }
+}
+
+/// The numbers as bytes.
+#[tactic(auto, unfolding(crate::specs::Operands::as_bytes))]
+pub(crate) fn as_bytes(alloc: Global, numbers: &[u64]) -> Result<Vec<u8>, StepFault>
+    ensures { GivesBy (λ bytes. bytes.items) result (as_bytes numbers.now) }
+{
+    let mut bytes = Vec::new(alloc);
+    for number in numbers {
+        if *number > 255 {
+            return Err(StepFault::Source(StatementFault::OutOfRange));
+        }
+        bytes.push(*number as u8)?;
+    }
+    Ok(bytes)
+}
+
+/// Whether an equals sign stands behind a name.
+pub(crate) fn begins_assignment(rest: &[Token]) -> bool
+    ensures { result ≡ is_assignment (map spelled rest.now) }
+{
+    match rest.first() {
+        Some(token) => is_mark(token, b'='),
+        None => false,
+    }
+}
+
+/// Whether the name begins with a dot, as those of directives do.
+pub(crate) fn begins_with_dot(name: &[u8]) -> bool
+    ensures { result ≡ begins_with_dot name.now }
+{
+    match name {
+        [first, ..] => *first == b'.',
+        [] => false,
+    }
+}
+
+/// Whether a name and a colon stand in front.
+pub(crate) fn begins_with_label(tokens: &[Token]) -> bool
+    ensures label { result ≡ begins_with_label (map spelled tokens.now) }
+    ensures two { IsTrue result → 2 ≤ length tokens.now }
+{
+    match tokens {
+        [first, second, ..] => is_name(first) && is_mark(second, b':'),
+        _ => false,
+    }
+}

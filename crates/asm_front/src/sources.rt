@@ -1,0 +1,50 @@
+//! Placing all statements of a source.
+
+ghost use Rattle.std.specs.Prelude.{◌≡◌, map};
+ghost use Rattle.asm_lines.specs.Seen.{seen};
+ghost use Rattle.asm_front.specs.Placing.{nothing_placed};
+ghost use Rattle.asm_front.specs.PlacedBy.{placed_by};
+ghost use Rattle.asm_front.specs.Assembly.{place, place_all};
+ghost use Rattle.asm_front.specs.Stops.{Makes, MakesBy, stop_at};
+
+use crate::placing::Assembler;
+use crate::steps::{StepFault, Stop};
+use asm_base::{Fault, Pos, Tokens};
+use asm_lines::Statement;
+use std::alloc::Global;
+
+/// A fault of the statement at this place.
+fn stands_at(fault: StepFault, pos: Pos) -> Stop
+    ensures { result ≡ stop_at fault pos }
+{
+    match fault {
+        StepFault::Source(fault) => Stop::Source(Fault::Statement(fault), pos),
+        StepFault::NoMemory => Stop::NoMemory,
+    }
+}
+
+/// Places one statement.
+#[tactic(auto, unfolding(crate::specs::Assembly::place))]
+fn place<'a>(assembler: &mut Assembler<'a>, statement: &Statement<'a>) -> Result<(), Stop>
+    ensures { Makes (placed_by assembler.new) result (place (seen statement.now) (placed_by assembler.old)) }
+{
+    let tokens = Tokens::read(assembler.alloc, statement.bytes)?;
+    match assembler.place_tokens(statement.pos, tokens.as_slice()) {
+        Ok(()) => Ok(()),
+        Err(fault) => Err(stands_at(fault, statement.pos)),
+    }
+}
+
+/// Places all statements in order, up to the first that has a fault.
+pub(crate) fn place_all<'a>(
+    alloc: Global,
+    statements: &[Statement<'a>],
+) -> Result<Assembler<'a>, Stop>
+    ensures { MakesBy placed_by result (place_all (map seen statements.now) nothing_placed) }
+{
+    let mut assembler = Assembler::new(alloc);
+    for statement in statements {
+        place(&mut assembler, statement)?;
+    }
+    Ok(assembler)
+}

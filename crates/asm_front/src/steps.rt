@@ -1,0 +1,62 @@
+//! Why a step of the placing ends without its result.
+
+ghost use Rattle.std.specs.Prelude.{◌≡◌};
+ghost use Rattle.asm_front.specs.declared.steps.StepFault.TheVariants.{Source, NoMemory};
+ghost use Rattle.asm_front.specs.declared.steps.Stop.TheVariants as stop;
+
+use asm_base::{Fault, Pos, StatementFault};
+use std::alloc::{AllocError, AllocFailed};
+
+/// A fault of the source, or want of memory.
+#[derive(Drop)]
+pub(crate) enum StepFault {
+    Source(StatementFault),
+    NoMemory,
+}
+
+impl From<StatementFault> for StepFault {
+    ghost from_gives = { λ f e. e ≡ Source f };
+
+    fn from(fault: StatementFault) -> StepFault {
+        StepFault::Source(fault)
+    }
+}
+
+impl From<AllocError> for StepFault {
+    ghost from_gives = { λ _ e. e ≡ NoMemory };
+
+    fn from(_refused: AllocError) -> StepFault {
+        StepFault::NoMemory
+    }
+}
+
+impl<T: Drop> From<AllocFailed<T>> for StepFault {
+    ghost from_gives = { λ _ e. e ≡ NoMemory };
+
+    fn from(_refused: AllocFailed<T>) -> StepFault {
+        StepFault::NoMemory
+    }
+}
+
+/// Why the assembly of a source ends without an object: its first fault and where that stands, or want of memory.
+#[derive(Drop)]
+pub(crate) enum Stop {
+    Source(Fault, Pos),
+    NoMemory,
+}
+
+impl From<AllocError> for Stop {
+    ghost from_gives = { λ _ e. e ≡ stop.NoMemory };
+
+    fn from(_refused: AllocError) -> Stop {
+        Stop::NoMemory
+    }
+}
+
+impl<T: Drop> From<AllocFailed<T>> for Stop {
+    ghost from_gives = { λ _ e. e ≡ stop.NoMemory };
+
+    fn from(_refused: AllocFailed<T>) -> Stop {
+        Stop::NoMemory
+    }
+}
