@@ -8,7 +8,11 @@ mod notes;
 mod outside;
 mod positions;
 mod reading;
+mod statuses;
+mod steps;
 mod streams;
+#[cfg(test)]
+mod tests;
 mod texts;
 mod tokens;
 
@@ -19,6 +23,8 @@ pub use notes::{Noted, Notes};
 pub use outside::{Channel, Console, Failed, Inputs, Output};
 pub use positions::{Files, Pos};
 pub use reading::{MOST_BYTES, TextFault, read_text};
+pub use statuses::Status;
+pub use steps::Steps;
 pub use streams::{FileInputs, FileOutput, StreamConsole};
 pub use texts::{Bytes, Text};
 pub use tokens::{Token, TokenKind, Tokens, is_blank, is_name_byte, is_name_start};

@@ -13,3 +13,4 @@ pub mod LabelLemmas
 pub mod StatementLists
 pub mod EndingLemmas
 pub mod AnswerLemmas
+pub mod FaultLaws

@@ -113,6 +113,7 @@ fn too_large() -> Stop
 }
 
 /// Reads the source and assembles it: its object, or its first fault.
+#[tactic(auto, using(crate::proofs::FaultLaws::not_too_large))]
 pub fn assemble<I: Inputs>(
     alloc: Global,
     options: &Options,
@@ -123,6 +124,7 @@ pub fn assemble<I: Inputs>(
     ensures cause { HasAssemblyCause result (I.faults ins.old) (I.faults ins.new) }
     ensures missing { CountsMissing (I.contents ins.old) (string_bytes options.now.file) (I.missing ins.old) (I.missing ins.new) }
     ensures found { KeepsCount result (I.missing ins.old) (I.missing ins.new) }
+    ensures taken { TakesSource result (I.taken ins.old) (I.taken ins.new) }
     ensures contents { I.contents ins.new ≡ I.contents ins.old }
     ensures whole { OnOk result (IsAtEnd (I.rest ins.new)) }
 {

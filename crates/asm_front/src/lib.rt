@@ -8,6 +8,7 @@ mod fields;
 mod globals;
 pub mod image;
 mod instructions;
+mod laws;
 mod named_symbols;
 mod numbers;
 mod object;
@@ -25,4 +26,5 @@ pub use instructions::{
     Mnemonic, ROWS, Row, find_row, instruction_length, names_apart, names_are_whole, one_reading,
     put_instruction, rows, rows_apart, rows_read,
 };
+pub use laws::never_too_large;
 pub use object::Object;

@@ -1,0 +1,50 @@
+//! The real adapters once each, and a file read through pieces.
+
+use crate::{
+    Channel, Console, Fault, FileInputs, FileOutput, Files, Inputs, MemoryFile, MemoryInputs,
+    Output, Pos, StatementFault, StreamConsole, heading, message, read_text,
+};
+use std::test::Fail;
+
+#[test]
+fn reads_what_it_wrote(rt: HostRuntime) -> Result<(), Fail> {
+    let mut obj = FileOutput::new(&rt);
+    obj.create("written.tmp")?;
+    assert_eq!(rt; obj.write(b"nop\n")?, 4);
+    obj.finish()?;
+    let mut ins = FileInputs::new(&rt);
+    let text = read_text(rt.alloc(), &mut ins, "written.tmp")?;
+    assert_eq!(rt; text.as_bytes(), b"nop\n".as_slice());
+    assert!(rt; ins.start("no such file").is_err());
+    std::fs::remove_file(&rt, "written.tmp")?;
+    Ok(())
+}
+
+#[test]
+fn says_on_streams(rt: HostRuntime) -> Result<(), Fail> {
+    let mut con = StreamConsole::new(rt.stdout(), rt.stderr());
+    assert_eq!(rt; con.say(Channel::Err, b"said\n")?, 5);
+    Ok(())
+}
+
+#[test]
+fn tells_a_fault(rt: HostRuntime) -> Result<(), Fail> {
+    let mut files = Files::new(rt.alloc());
+    files.add(String::from_str(rt.alloc(), "x.s")?)?;
+    let pos = Pos { file: 0, line: 1 };
+    let first = heading(rt.alloc(), &pos, &files)?;
+    assert_eq!(rt; first.as_slice(), b"x.s: Assembler messages:\n".as_slice());
+    let fault = Fault::Statement(StatementFault::UnknownMnemonic);
+    let line = message(rt.alloc(), &fault, &pos, &files)?;
+    assert_eq!(rt;
+        line.as_slice(),
+        b"x.s:1: Error: unknown mnemonic\n".as_slice()
+    );
+    let files = [MemoryFile {
+        name: "x.s",
+        bytes: b"ret",
+    }];
+    let text = read_text(rt.alloc(), &mut MemoryInputs::new(&files), "x.s")?;
+    assert_eq!(rt; text.as_bytes(), b"ret".as_slice());
+    Ok(())
+}

@@ -1,0 +1,190 @@
+-- No step but the reading of the file calls a file too large.
+use Rattle.std.proofs.Common.{◌≡◌, ℕ, Bool, true, false, cond, List, [], ◌∷◌, Option, None, Some, Result, Ok, Err, refl}
+use Rattle.std.specs.Prelude.{not}
+use Rattle.std.specs.Result.{IfErr}
+use Rattle.std.proofs.lemmas.Result.{IfErr-at_err}
+use Rattle.asm_base.specs.declared.faults.StatementFault.{StatementFault}
+use Rattle.asm_base.specs.declared.faults.Fault.{Fault}
+use Rattle.asm_base.specs.declared.positions.Pos.{Pos}
+use Rattle.asm_base.specs.Tokens.{SpelledToken, tokens_of}
+use Rattle.asm_lines.specs.Statements.{StatementAt, statements_of}
+use Rattle.asm_lines.specs.declared.faults.LineFault.{LineFault}
+use Rattle.asm_lines.specs.declared.faults.LineFault.TheVariants as line
+use Rattle.asm_front.specs.declared.instructions.Row.{Row}
+use Rattle.asm_front.specs.declared.named_symbols.NamedSymbol.{NamedSymbol}
+use Rattle.asm_front.specs.Results.{◌>>=◌}
+use Rattle.asm_front.specs.Numbers.{numeral, spelled_number}
+use Rattle.asm_front.specs.Operands.{is_name, token_number, numbers, number_list, as_bytes, name_list}
+use Rattle.asm_front.specs.SymbolMap.{labelled, symbol_named}
+use Rattle.asm_front.specs.Placing.{Placed, nothing_placed, place_label, place_text, place_byte, with_globals, place_globl, place_directive, place_row, place_instruction, is_assignment, place_body, place_tokens}
+use Rattle.asm_front.specs.Assembly.{FaultAt, fault_at, pos_at, place, place_all, end_answer, placed_whole, finished, lines_answer, assembly_of_lines}
+use Rattle.asm_front.specs.Outcome.{is_too_large_fault, is_too_large}
+
+-- what is known of the fault, if there is one
+record FaultIs {A E : Type 0} (P : E → Type 0) (result : Result A E) : Type 0 where
+  holds : IfErr result P
+
+-- no fault of a statement that says that a file is too large
+abbrev NotTooLarge : {A : Type 0} → Result A StatementFault → Type 0
+NotTooLarge = FaultIs (λ fault. is_too_large_fault fault ≡ false)
+
+-- nor one at its place
+abbrev NotTooLargeAt : {A : Type 0} → Result A FaultAt → Type 0
+NotTooLargeAt = FaultIs (λ fault. is_too_large fault.fault ≡ false)
+
+-- no fault, and one of which it is known
+no_fault : {A E : Type 0} {P : E → Type 0} (x : A) → FaultIs {A = A} P (Ok x)
+no_fault x = record { holds = tt }
+
+a_fault : {A E : Type 0} {P : E → Type 0} (fault : E) → P fault → FaultIs {A = A} P (Err fault)
+a_fault fault is = record { holds = is }
+
+-- what is known of the faults of two steps is known of one after the other
+step : {A B E : Type 0} {P : E → Type 0} {r : Result A E} {f : A → Result B E} → FaultIs P r → ((x : A) → FaultIs P (f x)) → FaultIs P (r >>= f)
+step {r = Ok x} first later = later x
+step {r = Err fault} first later = record { holds = first.holds }
+
+-- what is known of the faults of two branches is known whatever the test says
+either : {A E : Type 0} {P : E → Type 0} (test : Bool) {r s : Result A E} → FaultIs P r → FaultIs P s → FaultIs P (cond test r s)
+either true one other = one
+either false one other = other
+
+-- each step is fine: from the digits of a number up to a whole source
+numeral_fine : (radix : ℕ) (digits : List ℕ) → NotTooLarge (numeral radix digits)
+unfolding numeral
+numeral_fine radix [] = a_fault _ refl
+numeral_fine radix (digit ∷ digits) = either _ (either _ (no_fault _) (a_fault _ refl)) (a_fault _ refl)
+
+spelled_fine : (bytes : List ℕ) → NotTooLarge (spelled_number bytes)
+unfolding spelled_number
+spelled_fine [] = numeral_fine 10 []
+spelled_fine (first ∷ []) = numeral_fine 10 (first ∷ [])
+spelled_fine (first ∷ second ∷ rest) =
+    either _ (either _ (numeral_fine 16 rest) (either _ (numeral_fine 2 rest) (numeral_fine 8 (second ∷ rest))))
+    (numeral_fine 10 (first ∷ second ∷ rest))
+
+token_fine : (token : SpelledToken) → NotTooLarge (token_number token)
+unfolding token_number
+token_fine token = either _ (spelled_fine token.bytes) (a_fault _ refl)
+
+numbers_fine : (tokens : List SpelledToken) → NotTooLarge (numbers tokens)
+unfolding numbers
+numbers_fine [] = a_fault _ refl
+numbers_fine (token ∷ []) = step (token_fine token) (λ n. no_fault _)
+numbers_fine (token ∷ comma ∷ rest) =
+    step (token_fine token) (λ n. either _ (step (numbers_fine rest) (λ ns. no_fault _)) (a_fault _ refl))
+
+number_list_fine : (tokens : List SpelledToken) → NotTooLarge (number_list tokens)
+unfolding number_list
+number_list_fine [] = no_fault _
+number_list_fine (token ∷ rest) = numbers_fine (token ∷ rest)
+
+bytes_fine : (ns : List ℕ) → NotTooLarge (as_bytes ns)
+unfolding as_bytes
+bytes_fine ns = either _ (no_fault _) (a_fault _ refl)
+
+names_fine : (tokens : List SpelledToken) → NotTooLarge (name_list tokens)
+unfolding name_list
+names_fine [] = a_fault _ refl
+names_fine (token ∷ []) = either _ (no_fault _) (a_fault _ refl)
+names_fine (token ∷ comma ∷ rest) = either _ (step (names_fine rest) (λ names. no_fault _)) (a_fault _ refl)
+
+-- of a symbol that is known
+known_fine : (is_global : Bool) (known : Option ℕ) (first : Pos) (offset : ℕ) (pos : Pos)
+    → NotTooLarge (labelled (Some (record { is_global = is_global; offset = known; pos = first })) offset pos)
+known_fine is_global None first offset pos = no_fault _
+known_fine is_global (Some defined) first offset pos = a_fault _ refl
+
+labelled_fine : (known : Option NamedSymbol) (offset : ℕ) (pos : Pos) → NotTooLarge (labelled known offset pos)
+labelled_fine None offset pos = no_fault _
+labelled_fine (Some symbol) offset pos = known_fine symbol.is_global symbol.offset symbol.pos offset pos
+
+label_fine : (pos : Pos) (name : List ℕ) (placed : Placed) → NotTooLarge (place_label pos name placed)
+unfolding place_label
+label_fine pos name placed = step (labelled_fine (symbol_named name placed.symbols) _ pos) (λ symbol. no_fault _)
+
+text_fine : (operands : List SpelledToken) (placed : Placed) → NotTooLarge (place_text operands placed)
+unfolding place_text
+text_fine [] placed = no_fault _
+text_fine (token ∷ rest) placed = a_fault _ refl
+
+byte_fine : (operands : List SpelledToken) (placed : Placed) → NotTooLarge (place_byte operands placed)
+unfolding place_byte
+byte_fine operands placed =
+    step (number_list_fine operands) (λ ns. step (bytes_fine ns) (λ bytes. no_fault _))
+
+globl_fine : (pos : Pos) (operands : List SpelledToken) (placed : Placed) → NotTooLarge (place_globl pos operands placed)
+unfolding place_globl with_globals
+globl_fine pos operands placed =
+    step (step (names_fine operands) (λ names. no_fault _)) (λ symbols. no_fault _)
+
+directive_fine : (pos : Pos) (name : List ℕ) (operands : List SpelledToken) (placed : Placed) → NotTooLarge (place_directive pos name operands placed)
+unfolding place_directive
+directive_fine pos name operands placed =
+    either _ (text_fine operands placed)
+    (either _ (byte_fine operands placed)
+    (either _ (globl_fine pos operands placed)
+    (either _ (globl_fine pos operands placed) (a_fault _ refl))))
+
+row_fine : (row : Option Row) (operands : List SpelledToken) (placed : Placed) → NotTooLarge (place_row row operands placed)
+row_fine None operands placed = a_fault _ refl
+row_fine (Some row) [] placed = no_fault _
+row_fine (Some row) (token ∷ rest) placed = a_fault _ refl
+
+instruction_fine : (name : List ℕ) (operands : List SpelledToken) (placed : Placed) → NotTooLarge (place_instruction name operands placed)
+unfolding place_instruction
+instruction_fine name operands placed = row_fine _ operands placed
+
+body_fine : (pos : Pos) (first : SpelledToken) (rest : List SpelledToken) (placed : Placed) → NotTooLarge (place_body pos first rest placed)
+unfolding place_body
+body_fine pos first rest placed =
+    either (not (is_name first)) (a_fault _ refl)
+    (either (is_assignment rest) (a_fault _ refl)
+    (either _ (directive_fine pos first.bytes rest placed) (instruction_fine first.bytes rest placed)))
+
+tokens_fine : (pos : Pos) (tokens : List SpelledToken) (placed : Placed) → NotTooLarge (place_tokens pos tokens placed)
+unfolding place_tokens
+tokens_fine pos [] placed = no_fault _
+tokens_fine pos (first ∷ []) placed = body_fine pos first [] placed
+tokens_fine pos (first ∷ second ∷ rest) placed =
+    either _ (step (label_fine pos first.bytes placed) (λ labels. tokens_fine pos rest labels))
+    (body_fine pos first (second ∷ rest) placed)
+
+-- the answer for the tokens of a statement is fine, and so is that for the statement
+stands_fine : (s : StatementAt) (placed : Placed) (answer : Result Placed StatementFault) → place_tokens (pos_at s.file s.line) (tokens_of s.bytes) placed ≡ answer
+    → NotTooLarge answer → NotTooLargeAt (place s placed)
+unfolding place
+stands_fine s placed (Ok more) is fine = rw is (no_fault more)
+stands_fine s placed (Err fault) is fine = rw is (a_fault _ fine.holds)
+
+statement_fine : (s : StatementAt) (placed : Placed) → NotTooLargeAt (place s placed)
+statement_fine s placed = stands_fine s placed _ refl (tokens_fine (pos_at s.file s.line) (tokens_of s.bytes) placed)
+
+all_fine : (statements : List StatementAt) (placed : Placed) → NotTooLargeAt (place_all statements placed)
+unfolding place_all
+all_fine [] placed = no_fault _
+all_fine (s ∷ later) placed = step (statement_fine s placed) (all_fine later)
+
+end_fine : (entry : Option (List ℕ × NamedSymbol)) (placed : Placed) → NotTooLargeAt (end_answer entry placed)
+end_fine None placed = no_fault _
+end_fine (Some entry) placed = a_fault _ refl
+
+finished_fine : (placed : Placed) → NotTooLargeAt (finished placed)
+unfolding finished placed_whole
+finished_fine placed = step (end_fine _ placed) (λ whole. no_fault _)
+
+lines_fine : (file : ℕ) (lines : Result (List StatementAt) LineFault) → NotTooLargeAt (lines_answer file lines)
+lines_fine file (Ok statements) = no_fault _
+lines_fine file (Err (line.NulByte number)) = a_fault _ refl
+lines_fine file (Err (line.StatementTooLong number)) = a_fault _ refl
+lines_fine file (Err line.NoMemory) = no_fault _
+
+assembly_fine : (file : ℕ) (source : List ℕ) → NotTooLargeAt (assembly_of_lines file source)
+unfolding assembly_of_lines
+assembly_fine file source =
+    step (lines_fine file (statements_of file source))
+    (λ statements. step (all_fine statements nothing_placed) finished_fine)
+
+-- what is answered for the lines of a file is never that the file is too large
+pub not_too_large : (file : ℕ) (source : List ℕ) (fault : Fault) (pos : Pos) → assembly_of_lines file source ≡ Err (fault_at fault pos) → is_too_large fault ≡ false
+not_too_large file source fault pos is = IfErr-at_err (λ at. is_too_large at.fault ≡ false) is (assembly_fine file source).holds
