@@ -12,5 +12,9 @@ pub mod NameLists
 pub mod LabelLemmas
 pub mod StatementLists
 pub mod EndingLemmas
+pub mod ReadsBackLemmas
+mod ReadsBackSamples
 pub mod AnswerLemmas
 pub mod FaultLaws
+pub mod AnswersReadBack
+pub mod Writing

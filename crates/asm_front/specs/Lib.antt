@@ -17,4 +17,5 @@ pub mod Image
 pub mod Assembly
 pub mod Stops
 pub mod Outcome
+pub mod ReadsBack
 pub mod Answering

@@ -6,6 +6,7 @@ ghost use Rattle.asm_base.specs.Inputs.{CountsMissing};
 ghost use Rattle.asm_front.specs.Assembly.{assembly_of_lines};
 ghost use Rattle.asm_front.specs.Outcome.{main_file, shown_name, files_of, AssemblesAs, Assembles, NamesFiles, HasAssemblyCause, KeepsCount, TakesSource};
 ghost use Rattle.asm_front.specs.Answering.{IsAnswered};
+ghost use Rattle.asm_front.specs.ReadsBack.{ReadsBackFrom};
 ghost use Rattle.asm_front.specs.Stops.{MakesBy, line_stop, too_large_stop};
 
 use crate::answers::{AsmFault, Assembled, Options};
@@ -113,13 +114,14 @@ fn too_large() -> Stop
 }
 
 /// Reads the source and assembles it: its object, or its first fault.
-#[tactic(auto, using(crate::proofs::FaultLaws::not_too_large))]
+#[tactic(auto, using(crate::proofs::FaultLaws::not_too_large, crate::proofs::AnswersReadBack::no_object))]
 pub fn assemble<I: Inputs>(
     alloc: Global,
     options: &Options,
     ins: &mut I,
 ) -> Result<Assembled, AsmFault>
     ensures outcome { Assembles (I.contents ins.old) (string_bytes options.now.file) result }
+    ensures reads_back { ReadsBackFrom (I.contents ins.old) (string_bytes options.now.file) result }
     ensures names { NamesFiles (string_bytes options.now.file) result }
     ensures cause { HasAssemblyCause result (I.faults ins.old) (I.faults ins.new) }
     ensures missing { CountsMissing (I.contents ins.old) (string_bytes options.now.file) (I.missing ins.old) (I.missing ins.new) }

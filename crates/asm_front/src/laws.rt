@@ -1,14 +1,21 @@
 //! What holds of every source.
 
-ghost use Rattle.std.specs.Prelude.{◌≡◌, ℕ, List, Err, false};
+ghost use Rattle.std.specs.Prelude.{◌≡◌, ℕ, List, Ok, Err, false};
 ghost use Rattle.asm_base.specs.declared.faults.Fault.{Fault};
 ghost use Rattle.asm_base.specs.declared.positions.Pos.{Pos};
-ghost use Rattle.asm_front.specs.Assembly.{fault_at, assembly_of_lines};
-ghost use Rattle.asm_front.specs.Outcome.{is_too_large};
+ghost use Rattle.asm_front.specs.Assembly.{fault_at, assembly_of, assembly_of_lines};
+ghost use Rattle.asm_front.specs.Outcome.{main_file, is_too_large};
+ghost use Rattle.asm_front.specs.ReadsBack.{ReadsBack};
 
 /// Only the reading of a file calls it too large: no step behind that does.
 #[tactic(auto, using(crate::proofs::FaultLaws::not_too_large))]
 pub fn never_too_large()
     ensures { (file : ℕ) (source : List ℕ) (fault : Fault) (pos : Pos)
         → assembly_of_lines file source ≡ Err (fault_at fault pos) → is_too_large fault ≡ false }
+{}
+
+/// Each instruction of a source stands in the object, where the statements before it end, as bytes that read as it and as nothing else.
+#[tactic(auto, using(crate::proofs::ReadsBackLemmas::reads_back))]
+pub fn written_reads_back()
+    ensures { (source object : List ℕ) → assembly_of main_file source ≡ Ok object → ReadsBack source object }
 {}

@@ -26,5 +26,5 @@ pub use instructions::{
     Mnemonic, ROWS, Row, find_row, instruction_length, names_apart, names_are_whole, one_reading,
     put_instruction, rows, rows_apart, rows_read,
 };
-pub use laws::never_too_large;
+pub use laws::{never_too_large, written_reads_back};
 pub use object::Object;

@@ -39,4 +39,18 @@ impl Object {
     {
         self.bytes.len()
     }
+
+    /// Writes the bytes to the file that the output makes: all of them, or a front of them where the output fails.
+    /// It takes no memory.
+    pub fn write_to<O: Output>(&self, obj: &mut O) -> Result<(), Failed>
+        ensures ok { OnOk result (O.made obj.new ≡ option_map (after_write self.now) (O.made obj.old)) }
+        ensures prefix { (n : ℕ) × (n ≤ length self.now) × (O.made obj.new ≡ option_map (after_write (take n self.now)) (O.made obj.old)) }
+        ensures cause { HasCause (O.faults obj.old) (O.faults obj.new) result }
+    {
+        let mut at = 0;
+        'pieces: while at < self.bytes.len() {
+            at += obj.write(&self.bytes[at..])?;
+        }
+        Ok(())
+    }
 }

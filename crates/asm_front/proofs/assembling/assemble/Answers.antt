@@ -1,10 +1,11 @@
 -- What was read is assembled, or is too large.
-use Rattle.std.proofs.Common.{◌≡◌, ℕ, List, Option, subst, Result, Ok, Err}
+use Rattle.std.proofs.Common.{◌≡◌, ℕ, List, Option, subst, Result, Ok, Err, string_bytes}
 use Rattle.asm_base.specs.Inputs.{Contents}
 use Rattle.asm_base.specs.WholeFile.{ReadsName}
 use Rattle.asm_base.specs.declared.reading.TextFault.TheVariants.{TooLarge}
 use Rattle.asm_front.specs.Outcome.{Assembles}
 use Rattle.asm_front.proofs.AnswerLemmas.{text_read, text_too_large}
+use Rattle.asm_front.proofs.AnswersReadBack.{answer_reads_back}
 use Rattle.asm_front.proofs.assembling.assemble.Goals as goal
 
 pub returns-in-Ok-clause-outcome : goal.returns-in-Ok-clause-outcome
@@ -18,3 +19,9 @@ returns-in-Err-TooLarge-clause-outcome g c =
     (text_too_large (g.I.Inputs.contents c.args.ins.now) c.as_str-name.result.now (g.I.Inputs.rest c.read_text.new.ins) c.too_large.result c.answered-in-Err-TooLarge.result
     (subst (λ fault. ReadsName (g.I.Inputs.contents c.args.ins.now) c.as_str-name.result.now (Err fault) (g.I.Inputs.rest c.read_text.new.ins)) c.in-Err-TooLarge.field-0-is c.in-Err-TooLarge.ensures.text)
     c.too_large.ensures c.answered-in-Err-TooLarge.ensures)
+
+pub returns-in-Ok-clause-reads_back : goal.returns-in-Ok-clause-reads_back
+returns-in-Ok-clause-reads_back g c = answer_reads_back (g.I.Inputs.contents c.args.ins.now) (string_bytes c.args.options.now.file) c.answered.result (returns-in-Ok-clause-outcome g c)
+
+pub returns-in-Err-TooLarge-clause-reads_back : goal.returns-in-Err-TooLarge-clause-reads_back
+returns-in-Err-TooLarge-clause-reads_back g c = answer_reads_back (g.I.Inputs.contents c.args.ins.now) (string_bytes c.args.options.now.file) c.answered-in-Err-TooLarge.result (returns-in-Err-TooLarge-clause-outcome g c)

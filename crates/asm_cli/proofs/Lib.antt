@@ -1,0 +1,5 @@
+-- The proofs of this crate.
+pub mod SaidPieces
+pub mod MadeFiles
+pub mod FaultyWrites
+mod Samples

@@ -1,0 +1,103 @@
+-- The definitions computed on command lines and sources written out.
+use Rattle.std.specs.Prelude.{◌≡◌, ℕ, List, [], ◌∷◌, length, take, drop, codes, Option, None, Some, if◌then◌else◌, refl}
+use Rattle.std.specs.Fmt.{digits}
+use Rattle.std.specs.Str.{bytes_eq}
+use Rattle.asm_base.specs.Inputs.{Contents}
+use Rattle.asm_base.specs.Tokens.{is_blank, is_name_start, is_name_byte, is_operator_byte, is_long_operator, token_kind, token_length, tokens_from}
+use Rattle.asm_lines.specs.Faults.{is_refused, fault_of}
+use Rattle.asm_lines.specs.Statements.{statements_in, statements_of}
+use Rattle.asm_lines.specs.Stretches.{stretches_from, trimmed}
+use Rattle.asm_front.specs.Assembly.{place, place_all, placed_whole, object_of, assembly_of_lines, assembly_of, finished}
+use Rattle.asm_front.specs.Fields.{half, word, xword}
+use Rattle.asm_front.specs.Image.{null_header, header_table, elf_header, file_of, with_tables, image_of}
+use Rattle.asm_front.specs.Placing.{place_label, place_byte, place_globl, place_directive, place_instruction, place_body, place_tokens, with_globals}
+use Rattle.asm_front.specs.Numbers.{digit_of, number_after, numeral, spelled_number}
+use Rattle.asm_front.specs.Operands.{token_number, numbers, number_list, as_bytes, name_list, numbers_behind}
+use Rattle.asm_front.specs.Rows.{the_rows}
+use Rattle.asm_front.specs.SymbolMap.{symbol_named, with_symbol}
+use Rattle.asm_front.specs.Sections.{section_names}
+use Rattle.asm_front.specs.StringTable.{string_table_of, name_offsets}
+use Rattle.asm_front.specs.Symbols.{symbol_names, symbol_table_of, in_file_order, first_global}
+use Rattle.asm_cli.specs.Command.{command_of, usage_text}
+use Rattle.asm_cli.specs.Outcome.{Outcome, usage, missing, refused, object, outcome}
+
+-- commands, and words that are none
+no_word : command_of [] ≡ None
+unfolding command_of
+no_word = refl
+
+program_alone : command_of (codes "as" ∷ []) ≡ Some []
+unfolding command_of
+program_alone = refl
+
+dash : command_of (codes "as" ∷ codes "-" ∷ []) ≡ Some []
+unfolding command_of
+dash = refl
+
+empty_word : command_of (codes "as" ∷ [] ∷ []) ≡ Some []
+unfolding command_of
+empty_word = refl
+
+one_file : command_of (codes "as" ∷ codes "x.s" ∷ []) ≡ Some (codes "x.s")
+unfolding command_of
+one_file = refl
+
+unknown_option : command_of (codes "as" ∷ codes "--zap" ∷ []) ≡ None
+unfolding command_of
+unknown_option = refl
+
+two_files : command_of (codes "as" ∷ codes "x.s" ∷ codes "y.s" ∷ []) ≡ None
+unfolding command_of
+two_files = refl
+
+usage_text-length : length usage_text ≡ 106
+unfolding usage_text
+usage_text-length = refl
+
+-- the one file `x.s`
+abbrev one_source : List ℕ → Option Contents
+one_source source = Some (λ name. if bytes_eq name (codes "x.s") then Some source else None)
+
+abbrev outcome_of : List ℕ → Option Outcome
+outcome_of source = outcome (codes "as" ∷ codes "x.s" ∷ []) (one_source source)
+
+not_there : outcome (codes "as" ∷ codes "none.s" ∷ []) (one_source []) ≡ Some missing
+unfolding command_of
+not_there = refl
+
+not_told : outcome (codes "as" ∷ codes "x.s" ∷ []) None ≡ None
+unfolding command_of
+not_told = refl
+
+usage_untold : outcome (codes "as" ∷ codes "--zap" ∷ []) None ≡ Some usage
+unfolding command_of
+usage_untold = refl
+
+-- a source with a fault
+row_foo : outcome_of (codes "foo\nbar\n") ≡ Some (refused (codes "x.s: Assembler messages:\nx.s:1: Error: unknown mnemonic\n"))
+unfolding command_of assembly_of assembly_of_lines finished with_globals statements_of statements_in stretches_from trimmed fault_of is_refused is_blank is_name_start is_name_byte is_operator_byte is_long_operator token_kind token_length tokens_from place_all place place_tokens place_label place_body place_directive place_instruction the_rows digits
+row_foo = refl
+
+-- the bytes of the object
+abbrev object_bytes : Option Outcome → List ℕ
+object_bytes None = []
+object_bytes (Some usage) = []
+object_bytes (Some missing) = []
+object_bytes (Some (refused messages)) = []
+object_bytes (Some (object name bytes messages)) = bytes
+
+-- its length, and the bytes of its `.text`, which stand behind the header
+abbrev length_and_text : ℕ → Option Outcome → ℕ × List ℕ
+length_and_text count o = (length (object_bytes o), take count (drop 64 (object_bytes o)))
+
+row_empty : length_and_text 0 (outcome_of []) ≡ (584, [])
+unfolding command_of assembly_of assembly_of_lines finished with_globals statements_of statements_in stretches_from trimmed fault_of is_refused is_blank is_name_start is_name_byte is_operator_byte is_long_operator token_kind token_length tokens_from place_all place place_tokens place_label place_body place_directive place_instruction the_rows placed_whole object_of image_of with_tables file_of elf_header null_header header_table half word xword section_names string_table_of name_offsets symbol_names symbol_table_of in_file_order first_global
+row_empty = refl
+
+row_nop : length_and_text 1 (outcome_of (codes "nop\n")) ≡ (592, 0x90 ∷ [])
+unfolding command_of assembly_of assembly_of_lines finished with_globals statements_of statements_in stretches_from trimmed fault_of is_refused is_blank is_name_start is_name_byte is_operator_byte is_long_operator token_kind token_length tokens_from place_all place place_tokens place_label place_body place_directive place_instruction the_rows placed_whole object_of image_of with_tables file_of elf_header null_header header_table half word xword section_names string_table_of name_offsets symbol_names symbol_table_of in_file_order first_global
+row_nop = refl
+
+row_ret : length_and_text 3 (outcome_of (codes ".globl f\nf: .byte 1, 0x41\nret\n")) ≡ (616, 0x01 ∷ 0x41 ∷ 0xc3 ∷ [])
+unfolding command_of assembly_of assembly_of_lines finished with_globals statements_of statements_in stretches_from trimmed fault_of is_refused is_blank is_name_start is_name_byte is_operator_byte is_long_operator token_kind token_length tokens_from place_all place place_tokens place_label place_body place_directive place_instruction the_rows placed_whole object_of image_of with_tables file_of elf_header null_header header_table half word xword section_names string_table_of name_offsets symbol_names symbol_table_of in_file_order first_global numbers_behind number_list numbers token_number spelled_number numeral number_after digit_of as_bytes name_list symbol_named with_symbol place_globl place_byte
+row_ret = refl

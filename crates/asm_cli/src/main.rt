@@ -1,0 +1,34 @@
+//! The assembler as a program: its words, the real files and streams, and its exit status.
+#![tactic(auto)]
+
+mod command;
+mod running;
+mod saying;
+#[cfg(test)]
+mod tests;
+
+use asm_base::{FileInputs, FileOutput, Status, StreamConsole};
+use running::run;
+use std::alloc::AllocError;
+use std::env;
+use std::io::ErrorKind;
+use std::process::ExitCode;
+
+fn main(rt: HostRuntime) -> ExitCode {
+    // Words that are no text are no command, as no words are none.
+    let words = match env::args(&rt) {
+        Ok(words) => words.collect(rt.alloc()),
+        Err(error) if error.kind() == ErrorKind::OutOfMemory => Err(AllocError),
+        Err(_) => Ok(Vec::new(rt.alloc())),
+    };
+    let status = match words {
+        Ok(words) => {
+            let mut ins = FileInputs::new(&rt);
+            let mut obj = FileOutput::new(&rt);
+            let mut con = StreamConsole::new(rt.stdout(), rt.stderr());
+            run(rt.alloc(), &words, &mut ins, &mut obj, &mut con)
+        }
+        Err(AllocError) => Status::NoMemory,
+    };
+    ExitCode::from(status.code())
+}
