@@ -1,6 +1,6 @@
 -- What reading the rest of a file gives, by what was read so far and what is left.
-use Rattle.std.proofs.Common.{◌≡◌, ℕ, ◌+◌, ◌<◌, ◌≤◌, List, [], ◌++◌, Option, None, Some, Result, Ok, Err, length, refl, sym, ◌∙◌, ap, arith, append-nil, length-append}
-use Rattle.std.specs.Io.KnownBytes.{Consumes, IsAtEnd, ReadConsumes}
+use Rattle.std.proofs.Common.{◌≡◌, ℕ, ◌+◌, ◌<◌, ◌≤◌, List, ◌++◌, Option, None, Some, Ok, Err, length, sym, ◌∙◌, ap, arith, append-nil, length-append}
+use Rattle.std.specs.Io.KnownBytes.{Consumes, IsAtEnd}
 use Rattle.std.proofs.KnownBytes.{Consumes-trans}
 use Rattle.asm_base.specs.WholeFile.{ReadsOn, StopsReading, TakesBytes, ReadsRest, most_bytes}
 use Rattle.asm_base.specs.declared.reading.TextFault.{TextFault}

@@ -1,5 +1,5 @@
 -- What an input tells: the contents by name, and what starting and reading do to what is left of the started file.
-use Rattle.std.specs.Prelude.{◌≡◌, ℕ, ◌≤◌, List, Option, None, Some, Result, Ok, Err, OnOk, IsErr, MatchResult}
+use Rattle.std.specs.Prelude.{◌≡◌, ℕ, ◌≤◌, List, Option, None, Some, Result, OnOk, IsErr, MatchResult}
 use Rattle.asm_base.specs.Counts.{HasRisen, grown}
 
 -- what each name has: its bytes, or none where there is no such file

@@ -1,8 +1,8 @@
 -- What the objects in memory hold, as the outside's words have it.
-use Rattle.std.specs.Prelude.{ℕ, Bool, true, false, List, [], ◌∷◌, Option, Some, if◌then◌else◌, string_bytes}
+use Rattle.std.specs.Prelude.{ℕ, true, false, List, [], ◌∷◌, Some, if◌then◌else◌}
 use Rattle.std.specs.Str.{bytes_eq}
 use Rattle.asm_base.specs.Inputs.{Contents}
-use Rattle.asm_base.specs.Output.{Made, nothing, file, MadeFile}
+use Rattle.asm_base.specs.Output.{Made, nothing, file}
 use Rattle.asm_base.specs.declared.memory.MemoryFile.{MemoryFile}
 use Rattle.asm_base.specs.declared.memory.Stage.{Stage}
 use Rattle.asm_base.specs.declared.memory.Stage.TheVariants.{Nothing, Begun, Finished}

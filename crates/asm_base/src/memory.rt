@@ -109,17 +109,23 @@ impl MemoryOutput {
         }
     }
 
-    pub fn stage(&self) -> Stage {
+    pub fn stage(&self) -> Stage
+        ensures { result ≡ self.now.stage }
+    {
         self.stage
     }
 
     /// The name of the file, or nothing before it is made.
-    pub fn name(&self) -> &str {
+    pub fn name(&self) -> &str
+        ensures { result.now ≡ string_bytes self.now.name }
+    {
         self.name.as_str()
     }
 
     /// The bytes of the file so far.
-    pub fn bytes(&self) -> &[u8] {
+    pub fn bytes(&self) -> &[u8]
+        ensures { result.now ≡ self.now.bytes.items }
+    {
         self.bytes.as_slice()
     }
 }
@@ -190,7 +196,10 @@ impl MemoryConsole {
     }
 
     /// What was said on the channel.
-    pub fn said(&self, on: Channel) -> &[u8] {
+    pub fn said(&self, on: Channel) -> &[u8]
+        ensures out { on ≡ Channel.Out → result.now ≡ self.now.out.items }
+        ensures err { on ≡ Channel.Err → result.now ≡ self.now.err.items }
+    {
         match on {
             Channel::Out => self.out.as_slice(),
             Channel::Err => self.err.as_slice(),

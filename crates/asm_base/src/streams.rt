@@ -1,6 +1,6 @@
 //! The outside of files and standard streams. These tell nothing of contents: they are thin, and trusted.
 
-ghost use Rattle.std.specs.Prelude.{None};
+ghost use Rattle.std.specs.Prelude.{◌≡◌, None};
 
 use crate::outside::{Channel, Console, Failed, Inputs, Output};
 use std::fs;
@@ -21,7 +21,11 @@ pub struct FileInputs<'a, R: Files + Input> {
 }
 
 impl<'a, R: Files + Input> FileInputs<'a, R> {
-    pub fn new(rt: &'a R) -> FileInputs<'a, R> {
+    pub fn new(rt: &'a R) -> FileInputs<'a, R>
+        ensures faults { result.faults ≡ 0 }
+        ensures missing { result.missing ≡ 0 }
+        ensures taken { result.taken ≡ 0 }
+    {
         FileInputs {
             rt,
             standard: rt.reader(),
@@ -99,7 +103,9 @@ pub struct FileOutput<'a, R: Files> {
 }
 
 impl<'a, R: Files> FileOutput<'a, R> {
-    pub fn new(rt: &'a R) -> FileOutput<'a, R> {
+    pub fn new(rt: &'a R) -> FileOutput<'a, R>
+        ensures { result.faults ≡ 0 }
+    {
         FileOutput {
             rt,
             file: None,
@@ -168,7 +174,9 @@ pub struct StreamConsole<O: Write + Drop, E: Write + Drop> {
 }
 
 impl<O: Write + Drop, E: Write + Drop> StreamConsole<O, E> {
-    pub fn new(out: O, err: E) -> StreamConsole<O, E> {
+    pub fn new(out: O, err: E) -> StreamConsole<O, E>
+        ensures { result.faults ≡ 0 }
+    {
         StreamConsole {
             out,
             err,

@@ -1,8 +1,8 @@
 -- From what was read and what was made of it to the answer of a call of `assemble`.
-use Rattle.std.proofs.Common.{◌≡◌, ℕ, ◌<◌, ◌≤◌, true, false, cond, nat_lt, List, [], length, Option, None, Some, Result, Ok, Err, refl, sym, ap, ◌∙◌, subst, arith}
+use Rattle.std.proofs.Common.{◌≡◌, ℕ, ◌<◌, ◌≤◌, true, false, cond, nat_lt, List, length, Option, None, Some, Result, Ok, Err, sym, ap, ◌∙◌, subst, arith}
 use Rattle.std.proofs.lemmas.Bool.Decides.{nat_tests}
 use Rattle.asm_base.specs.Inputs.{Contents}
-use Rattle.asm_base.specs.WholeFile.{most_bytes, ReadsRest, ReadsFile, ReadsName}
+use Rattle.asm_base.specs.WholeFile.{most_bytes, ReadsFile, ReadsName}
 use Rattle.asm_base.specs.declared.reading.TextFault.TheVariants.{TooLarge}
 use Rattle.asm_base.specs.declared.faults.Fault.TheVariants.{Statement}
 use Rattle.asm_base.specs.declared.faults.StatementFault.TheVariants as statement

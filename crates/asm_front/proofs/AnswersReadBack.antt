@@ -1,5 +1,5 @@
 -- The object of an answer reads back as its source.
-use Rattle.std.proofs.Common.{◌≡◌, ℕ, List, Option, None, Some, Result, Ok, Err}
+use Rattle.std.proofs.Common.{ℕ, List, Option, None, Some, Result, Ok, Err}
 use Rattle.asm_base.specs.Inputs.{Contents}
 use Rattle.asm_front.specs.Outcome.{AssemblesFile, Assembles}
 use Rattle.asm_front.specs.ReadsBack.{AnswerReadsBack, ReadsBackFrom}

@@ -1,17 +1,16 @@
 -- What is found and made at the end of a source, entry by entry.
-use Rattle.std.proofs.Common.{◌≡◌, ℕ, ◌+◌, ◌<◌, ◌≤◌, ◌++◌, Bool, cond, List, [], ◌∷◌, Option, None, Some, Result, Ok, Err, length, get_or, drop, map, refl, sym, ap, ◌∙◌, append_assoc, append-nil}
+use Rattle.std.proofs.Common.{◌≡◌, ℕ, ◌+◌, ◌<◌, ◌≤◌, ◌++◌, cond, List, [], ◌∷◌, Option, None, Some, Ok, Err, length, get_or, drop, map, refl, sym, ap, ◌∙◌, append_assoc, append-nil}
 use Rattle.std.proofs.lemmas.List.{at_drop_more, at_drop_all}
 use Rattle.std.specs.Prelude.{filter_map, find, true, false}
 use Rattle.std.specs.List.{cons_option}
 use Rattle.std.specs.Option.{option_map, option_to_list}
 use Rattle.asm_front.specs.SymbolEntries.{listed}
 use Rattle.asm_front.specs.SymbolMap.{SymbolList}
-use Rattle.asm_front.specs.Symbols.{SymbolEntry, symbol_view}
+use Rattle.asm_front.specs.Symbols.{SymbolEntry}
 use Rattle.asm_base.specs.declared.faults.Fault.TheVariants.{End}
 use Rattle.asm_base.specs.declared.faults.EndFault.TheVariants.{UndefinedLocalSymbol}
 use Rattle.asm_front.specs.Results.{◌>>=◌}
-use Rattle.asm_front.specs.Placing.{Placed}
-use Rattle.asm_front.specs.Assembly.{FaultAt, fault_at, symbol_of, is_undefined_local, end_answer, placed_whole, object_of, finished}
+use Rattle.asm_front.specs.Assembly.{fault_at, symbol_of, is_undefined_local, end_answer, placed_whole, object_of, finished}
 use Rattle.asm_front.specs.declared.named_symbols.NamedEntry.{NamedEntry}
 use Rattle.asm_front.specs.declared.named_symbols.NamedSymbol.{NamedSymbol}
 

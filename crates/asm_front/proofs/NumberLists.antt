@@ -1,5 +1,5 @@
 -- A list of numbers, two tokens at a time.
-use Rattle.std.proofs.Common.{◌≡◌, ℕ, ◌+◌, ◌-◌, ◌<◌, ◌≤◌, Bool, true, false, cond, List, [], ◌∷◌, ◌++◌, Result, Ok, Err, length, get_or, drop, map, refl, sym, ap, ◌∙◌, arith, add-one, append_assoc}
+use Rattle.std.proofs.Common.{◌≡◌, ℕ, ◌+◌, ◌≤◌, true, cond, List, [], ◌∷◌, ◌++◌, Result, Ok, Err, length, get_or, drop, map, refl, sym, ap, ◌∙◌, arith, append_assoc}
 use Rattle.asm_base.specs.declared.tokens.Token.{Token}
 use Rattle.asm_base.specs.declared.faults.StatementFault.{StatementFault}
 use Rattle.asm_base.specs.declared.faults.StatementFault.TheVariants.{BadOperand}

@@ -1,9 +1,8 @@
 -- The statements that are left from a place on, and what placing them answers.
-use Rattle.std.proofs.Common.{◌≡◌, ℕ, ◌+◌, ◌<◌, ◌≤◌, List, [], ◌∷◌, Result, Ok, Err, length, get_or, drop, map, refl, sym, ap, ◌∙◌}
+use Rattle.std.proofs.Common.{◌≡◌, ℕ, ◌+◌, ◌<◌, ◌≤◌, List, Result, Ok, length, get_or, drop, map, sym, ap, ◌∙◌}
 use Rattle.std.proofs.lemmas.List.{at_drop_more, at_drop_all}
 use Rattle.asm_lines.specs.declared.statements.Statement.{Statement}
 use Rattle.asm_lines.specs.Seen.{seen}
-use Rattle.asm_lines.specs.Statements.{StatementAt}
 use Rattle.asm_front.specs.Results.{◌>>=◌}
 use Rattle.asm_front.specs.Placing.{Placed}
 use Rattle.asm_front.specs.Assembly.{FaultAt, place, place_all}

@@ -1,5 +1,5 @@
 -- The map of symbols, looked up and written by the bytes of the names.
-use Rattle.std.proofs.Common.{◌≡◌, ◌≤◌, ◌+◌, ◌++◌, length, take, map, arith, ℕ, List, [], ◌∷◌, Option, None, Some, cond, true, false, refl, ap, sym, ◌∙◌}
+use Rattle.std.proofs.Common.{◌≡◌, ◌+◌, ◌++◌, length, take, map, ℕ, List, [], ◌∷◌, Some, cond, true, false, refl, ap, sym, ◌∙◌}
 use Rattle.std.proofs.lemmas.List.{map_more}
 use Rattle.std.proofs.lemmas.Option.{slice_get_within, get_or_from_slice_get}
 use Rattle.std.proofs.Math.Seq.{take-length}

@@ -1,8 +1,8 @@
 -- The tokens that are left from a place on.
-use Rattle.std.proofs.Common.{◌≡◌, ℕ, ◌+◌, ◌-◌, ◌<◌, ◌≤◌, List, [], ◌∷◌, length, get_or, drop, map, refl, ap, ◌∙◌, arith, add-one}
+use Rattle.std.proofs.Common.{◌≡◌, ℕ, ◌+◌, ◌<◌, ◌≤◌, List, [], ◌∷◌, length, get_or, drop, map}
 use Rattle.std.proofs.lemmas.List.{at_drop_more, at_drop_all}
 use Rattle.asm_base.specs.declared.tokens.Token.{Token}
-use Rattle.asm_base.specs.Tokens.{spelled, SpelledToken}
+use Rattle.asm_base.specs.Tokens.{spelled}
 
 pub one_more_left : (tokens : List Token) (at : ℕ) (d : Token) → at < length tokens
     → map spelled (drop at tokens) ≡ spelled (get_or tokens at d) ∷ map spelled (drop (at + 1) tokens)

@@ -1,5 +1,5 @@
 -- What a source stands for: its object, or its first fault and where that stands.
-use Rattle.std.specs.Prelude.{◌≡◌, ℕ, ◌+◌, ◌^◌, Bool, true, false, List, [], ◌∷◌, ◌++◌, length, find, filter_map, nat_eq, nat_lt, is_none, codes, if◌then◌else◌, Option, None, Some, Result, Ok, Err, ◌&&◌}
+use Rattle.std.specs.Prelude.{ℕ, Bool, true, false, List, [], ◌∷◌, length, find, filter_map, nat_eq, nat_lt, is_none, codes, if◌then◌else◌, Option, None, Some, Result, Ok, Err, ◌&&◌}
 use Rattle.std.specs.List.{starts_with}
 use Rattle.asm_base.specs.declared.faults.StatementFault.{StatementFault}
 use Rattle.asm_base.specs.declared.faults.StatementFault.TheVariants as statement
@@ -13,7 +13,6 @@ use Rattle.asm_lines.specs.Statements.{StatementAt, statements_of}
 use Rattle.asm_lines.specs.declared.faults.LineFault.{LineFault}
 use Rattle.asm_lines.specs.declared.faults.LineFault.TheVariants as line
 use Rattle.asm_front.specs.Results.{◌>>=◌}
-use Rattle.asm_front.specs.SymbolMap.{SymbolList}
 use Rattle.asm_front.specs.Placing.{Placed, nothing_placed, place_tokens}
 use Rattle.asm_front.specs.Image.{image_of}
 use Rattle.asm_front.specs.Sections.{SectionEntry, stored, nobits}

@@ -1,10 +1,10 @@
 -- What each statement adds to the section and the symbols, or its fault.
-use Rattle.std.specs.Prelude.{ℕ, ◌&&◌, Bool, true, false, not, List, [], ◌∷◌, ◌++◌, length, find, fold, codes, if◌then◌else◌, ◌==◌, Option, None, Some, Result, Ok, Err}
+use Rattle.std.specs.Prelude.{ℕ, ◌&&◌, Bool, false, not, List, [], ◌∷◌, ◌++◌, length, find, fold, codes, if◌then◌else◌, ◌==◌, Option, None, Some, Result, Ok, Err}
 use Rattle.std.specs.Str.{bytes_eq}
 use Rattle.asm_base.specs.declared.faults.StatementFault.{StatementFault}
 use Rattle.asm_base.specs.declared.faults.StatementFault.TheVariants.{UnknownMnemonic, UnknownDirective, BadOperand}
 use Rattle.asm_base.specs.declared.positions.Pos.{Pos}
-use Rattle.asm_base.specs.Tokens.{SpelledToken, tokens_of}
+use Rattle.asm_base.specs.Tokens.{SpelledToken}
 use Rattle.asm_front.specs.declared.instructions.Row.{Row}
 use Rattle.asm_front.specs.Results.{◌>>=◌}
 use Rattle.asm_front.specs.Rows.{the_rows, has_name, bytes_of}

@@ -1,5 +1,5 @@
 -- The symbols of a source in the order in which they are first named, and what is known of each.
-use Rattle.std.specs.Prelude.{ℕ, Bool, true, false, List, Option, None, Some, Result, Ok, Err}
+use Rattle.std.specs.Prelude.{ℕ, true, false, List, Option, None, Some, Result, Ok, Err}
 use Rattle.std.specs.Map.{lookup}
 use Rattle.std.specs.Str.{bytes_eq}
 use Rattle.indexmap.specs.IndexMap.{insert_entry}

@@ -1,5 +1,5 @@
 -- What was read goes onto the end.
-use Rattle.std.proofs.Common.{rules, arith}
+use Rattle.std.proofs.Common.{arith}
 use Rattle.std.proofs.lemmas.Grind.{common_steps}
 use Rattle.asm_base.proofs.WholeFileLemmas.{reads_on}
 use Rattle.asm_base.proofs.reading.read_piece.Goals as goal

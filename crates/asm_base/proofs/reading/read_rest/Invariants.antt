@@ -1,5 +1,5 @@
 -- The bytes so far and what is left are what was left at first; each read but the last gives at least one byte.
-use Rattle.std.proofs.Common.{◌≡◌, ℕ, ◌+◌, ◌-◌, ◌<◌, ◌≤◌, ◌^◌, min, vec_len}
+use Rattle.std.proofs.Common.{◌≡◌, ◌+◌, ◌-◌, ◌<◌, ◌≤◌, min, vec_len}
 use Rattle.std.specs.Io.KnownBytes.{Consumes}
 use Rattle.asm_base.specs.Counts.{last_count}
 use Rattle.asm_base.specs.WholeFile.{most_bytes}

@@ -1,8 +1,6 @@
 -- What was read is assembled, or is too large.
-use Rattle.std.proofs.Common.{◌≡◌, ℕ, List, Option, subst, Result, Ok, Err, string_bytes}
-use Rattle.asm_base.specs.Inputs.{Contents}
+use Rattle.std.proofs.Common.{subst, Err, string_bytes}
 use Rattle.asm_base.specs.WholeFile.{ReadsName}
-use Rattle.asm_base.specs.declared.reading.TextFault.TheVariants.{TooLarge}
 use Rattle.asm_front.specs.Outcome.{Assembles}
 use Rattle.asm_front.proofs.AnswerLemmas.{text_read, text_too_large}
 use Rattle.asm_front.proofs.AnswersReadBack.{answer_reads_back}

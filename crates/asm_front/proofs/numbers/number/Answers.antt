@@ -1,6 +1,5 @@
 -- One digit more is behind the number, or makes it too wide.
-use Rattle.std.proofs.Common.{◌≡◌, ◌+◌, ◌*◌, ◌<◌, ◌≤◌, length, get_or, arith}
-use Rattle.asm_front.specs.Numbers.{digit_of, number_after}
+use Rattle.std.proofs.Common.{◌<◌, length, arith}
 use Rattle.asm_front.proofs.NumberLemmas.{number_step, number_too_wide}
 use Rattle.asm_front.proofs.numbers.number.Goals as goal
 

@@ -1,5 +1,5 @@
 -- Two tokens more are read, or the first of them is no number.
-use Rattle.std.proofs.Common.{rules, ◌≡◌, map, ℕ, ◌+◌, ◌-◌, ◌<◌, ◌≤◌, length, arith, refl}
+use Rattle.std.proofs.Common.{◌+◌, ◌≤◌, length, arith}
 use Rattle.std.proofs.lemmas.Result.{err_from_is_err_and}
 use Rattle.asm_front.proofs.NumberLists.{numbers_step, numbers_stop}
 use Rattle.asm_front.proofs.operands.numbers.Goals as goal

@@ -1,7 +1,6 @@
 -- A statement more is placed, or has a fault, or all are placed.
-use Rattle.std.proofs.Common.{◌<◌, ◌≤◌, length, arith, ap, ◌∙◌}
+use Rattle.std.proofs.Common.{◌<◌, ◌≤◌, length, arith}
 use Rattle.std.proofs.lemmas.Result.{err_from_is_err_and}
-use Rattle.asm_lines.specs.Seen.{seen}
 use Rattle.asm_front.proofs.StatementLists.{places_step, places_fail, places_end}
 use Rattle.asm_front.proofs.sources.place_all.Goals as goal
 

@@ -1,5 +1,5 @@
 -- The entry of the name is what its bytes have.
-use Rattle.std.proofs.Common.{◌∙◌, ap, rules}
+use Rattle.std.proofs.Common.{◌∙◌, ap}
 use Rattle.std.specs.Map.{lookup}
 use Rattle.std.specs.Str.{bytes_eq}
 use Rattle.asm_front.specs.SymbolMap.{symbol_named}

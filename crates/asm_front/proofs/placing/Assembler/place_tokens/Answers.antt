@@ -1,9 +1,8 @@
 -- A label more is placed, or what stands behind the labels.
-use Rattle.std.proofs.Common.{◌≡◌, ◌+◌, ◌-◌, ◌≤◌, true, false, List, map, length, drop, take, arith, sym, ap, ◌∙◌, subst}
+use Rattle.std.proofs.Common.{◌≡◌, ◌+◌, ◌-◌, ◌≤◌, true, false, map, length, drop, take, sym, ap, ◌∙◌, subst}
 use Rattle.std.proofs.lemmas.Result.{err_from_is_err_and}
 use Rattle.std.proofs.lemmas.List.{take_rest}
 use Rattle.asm_base.specs.Tokens.{spelled}
-use Rattle.asm_base.specs.declared.tokens.Token.{Token}
 use Rattle.asm_front.specs.Answers.{Gives}
 use Rattle.asm_front.specs.PlacedBy.{placed_by}
 use Rattle.asm_front.specs.Placing.{begins_with_label, place_unlabelled, place_tokens}
