@@ -1,0 +1,30 @@
+# Builds the proved assembler as build/as; `make check` is the whole gate.
+
+PREFIX ?= /usr/local
+DESTDIR ?=
+SOURCES := crates.txt $(shell find crates -path '*/out' -prune -o \( -name '*.rt' -o -name '*.antt' \) -print)
+
+all: build/as
+
+# Only a proved program is linked. A word that is no command makes it end at once, with status 2.
+build/as: $(SOURCES)
+	@mkdir -p build
+	@rm -f crates/asm_cli/out/asm_cli
+	@cd crates/asm_cli && rt run -- --build >../../build/log 2>&1; test -x out/asm_cli || { cat ../../build/log; exit 1; }
+	@cp crates/asm_cli/out/asm_cli $@
+	@echo built $@
+
+demo: build/as
+	cd build && ./as ../examples/first.s && readelf -hSs a.out && objdump -d a.out
+
+check:
+	rt ci
+
+install: build/as
+	install -d $(DESTDIR)$(PREFIX)/bin
+	install -m 755 build/as $(DESTDIR)$(PREFIX)/bin/as
+
+clean:
+	rm -rf build
+
+.PHONY: all demo check install clean
