@@ -3,3 +3,4 @@ pub mod SaidPieces
 pub mod MadeFiles
 pub mod FaultyWrites
 mod Samples
+pub mod ReadsBackAgain

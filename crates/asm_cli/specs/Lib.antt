@@ -2,3 +2,4 @@
 pub mod Command
 pub mod Outcome
 pub mod Answers
+pub mod ReadsBack

@@ -6,6 +6,7 @@ ghost use Rattle.asm_base.specs.Counts.{HasCause, HasRisen, IsQuiet};
 ghost use Rattle.asm_base.specs.Messages as messages;
 ghost use Rattle.asm_cli.specs.Command.{command_of};
 ghost use Rattle.asm_cli.specs.Outcome.{object_name, name_outcome, outcome};
+ghost use Rattle.asm_cli.specs.ReadsBack.{CommandReadsBack};
 ghost use Rattle.asm_cli.specs.Answers.{Answers, Completes, CountsMissingOutcome, MakesFile, MakesFileInPart};
 
 use crate::command::source_name;
@@ -13,7 +14,7 @@ use crate::saying::say_all;
 use asm_base::{
     Channel, Console, Failed, Fault, Files, Inputs, NoMemory, Output, Pos, Status, heading, message,
 };
-use asm_front::{AsmFault, Object, Options, assemble};
+use asm_front::{AsmFault, Object, Options, assemble, written_reads_back};
 use std::alloc::Global;
 
 /// What is said where the words are no command.
@@ -109,7 +110,7 @@ fn run_source<I: Inputs, O: Output, C: Console>(
 }
 
 /// Reads the words, assembles the source that they name, says the messages, and makes the object.
-#[tactic(auto, unfolding(crate::specs::Command::usage_text))]
+#[tactic(auto, unfolding(crate::specs::Command::usage_text), using(crate::proofs::ReadsBackAgain::command_reads_back))]
 pub fn run<I: Inputs, O: Output, C: Console>(
     alloc: Global,
     words: &Vec<String>,
@@ -139,12 +140,16 @@ pub fn run<I: Inputs, O: Output, C: Console>(
         Completes (outcome (map string_bytes words.now.items) (I.contents ins.old)) result }
     ensures usage { IsQuiet (C.faults con.old) (C.faults con.new) → (result ≡ Status.Usage) ↔ (command_of (map string_bytes words.now.items) ≡ None) }
 
+    // In the object that the words stand for, each instruction's place reads as the instruction of the source, and as no other.
+    ensures reads_back { CommandReadsBack (command_of (map string_bytes words.now.items)) (I.contents ins.old) }
+
     // What is read.
     ensures missing { CountsMissingOutcome (outcome (map string_bytes words.now.items) (I.contents ins.old)) (I.missing ins.old) (I.missing ins.new) }
     ensures contents { I.contents ins.new ≡ I.contents ins.old }
     ensures whole { result ≡ Status.Done → IsAtEnd (I.rest ins.new) }
     ensures usage_reads_nothing { command_of (map string_bytes words.now.items) ≡ None → ins.new ≡ ins.old }
 {
+    written_reads_back();
     match source_name(words.as_slice()) {
         Some(name) => run_source(alloc, name, ins, obj, con),
         None => match say_all(con, Channel::Err, USAGE) {
