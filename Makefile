@@ -20,6 +20,10 @@ demo: build/as
 check:
 	rt ci
 
+# What no clause can say: the built program on files and devices that fail.
+check-outside: build/as
+	checks/outside.sh build/as
+
 install: build/as
 	install -d $(DESTDIR)$(PREFIX)/bin
 	install -m 755 build/as $(DESTDIR)$(PREFIX)/bin/as
@@ -27,4 +31,4 @@ install: build/as
 clean:
 	rm -rf build
 
-.PHONY: all demo check install clean
+.PHONY: all demo check check-outside install clean

@@ -4,6 +4,7 @@ pub mod Inputs
 pub mod Output
 pub mod Console
 pub mod Memory
+pub mod Faulty
 pub mod FaultTexts
 pub mod Messages
 pub mod WholeFile

@@ -2,6 +2,7 @@
 #![tactic(auto)]
 
 mod faults;
+mod faulty;
 mod memory;
 mod messages;
 mod notes;
@@ -17,6 +18,7 @@ mod texts;
 mod tokens;
 
 pub use faults::{EndFault, Fault, Note, SavedRegister, ScfiFault, StatementFault};
+pub use faulty::{Calls, FaultyConsole, FaultyInputs, FaultyOutput, Unlisted};
 pub use memory::{MemoryConsole, MemoryFile, MemoryInputs, MemoryOutput, Stage};
 pub use messages::{NoMemory, heading, message};
 pub use notes::{Noted, Notes};

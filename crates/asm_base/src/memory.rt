@@ -1,6 +1,7 @@
 //! The outside in memory: an input that never fails, and an output and a console that fail only where memory is refused.
 
-ghost use Rattle.std.specs.Prelude.{◌≡◌, [], Some, string_bytes};
+ghost use Rattle.std.specs.Prelude.{◌≡◌, ◌≤◌, [], Some, IsErr, string_bytes};
+ghost use Rattle.asm_base.specs.Counts.{HasRisen};
 ghost use Rattle.asm_base.specs.Memory as named;
 
 use crate::outside::{Channel, Console, Failed, Inputs, Output};
@@ -109,6 +110,17 @@ impl MemoryOutput {
         }
     }
 
+    /// A call failed.
+    pub(crate) fn failed(&mut self) -> Result<(), Failed>
+        ensures fails { IsErr result }
+        ensures counts { HasRisen self.old.faults self.new.faults }
+        ensures later { self.old.faults ≤ self.new.faults }
+        ensures same { self.new ≡ record self.old { faults = self.new.faults } }
+    {
+        self.faults = self.faults.saturating_add(1);
+        Err(Failed)
+    }
+
     pub fn stage(&self) -> Stage
         ensures { result ≡ self.now.stage }
     {
@@ -193,6 +205,17 @@ impl MemoryConsole {
             err: Vec::new(alloc),
             faults: 0,
         }
+    }
+
+    /// A call failed.
+    pub(crate) fn failed(&mut self) -> Result<(), Failed>
+        ensures fails { IsErr result }
+        ensures counts { HasRisen self.old.faults self.new.faults }
+        ensures later { self.old.faults ≤ self.new.faults }
+        ensures same { self.new ≡ record self.old { faults = self.new.faults } }
+    {
+        self.faults = self.faults.saturating_add(1);
+        Err(Failed)
     }
 
     /// What was said on the channel.

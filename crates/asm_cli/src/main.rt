@@ -2,6 +2,8 @@
 #![tactic(auto)]
 
 mod command;
+#[cfg(test)]
+mod failing_tests;
 mod running;
 mod saying;
 #[cfg(test)]

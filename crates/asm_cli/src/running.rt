@@ -77,6 +77,7 @@ fn run_source<I: Inputs, O: Output, C: Console>(
     ensures read_fault { result ≡ Status.ReadFault → HasRisen (I.faults ins.old) (I.faults ins.new) }
     ensures write_fault { result ≡ Status.WriteFault → HasRisen (O.faults obj.old) (O.faults obj.new) ⊎ HasRisen (C.faults con.old) (C.faults con.new) }
     ensures input_quiet { (result ≡ Status.ReadFault) ⊎ (I.faults ins.new ≡ I.faults ins.old) }
+    ensures missing_quiet { (result ≡ Status.ReadFault) ⊎ (result ≡ Status.NoMemory) ⊎ (I.missing ins.new ≡ I.missing ins.old) }
     ensures output_quiet { (result ≡ Status.WriteFault) ⊎ (O.faults obj.new ≡ O.faults obj.old) }
     ensures console_quiet { (result ≡ Status.WriteFault) ⊎ (C.faults con.new ≡ C.faults con.old) }
     ensures input_count { I.faults ins.old ≤ I.faults ins.new }
@@ -129,6 +130,7 @@ pub fn run<I: Inputs, O: Output, C: Console>(
     ensures read_fault { result ≡ Status.ReadFault → HasRisen (I.faults ins.old) (I.faults ins.new) }
     ensures write_fault { result ≡ Status.WriteFault → HasRisen (O.faults obj.old) (O.faults obj.new) ⊎ HasRisen (C.faults con.old) (C.faults con.new) }
     ensures input_quiet { (result ≡ Status.ReadFault) ⊎ (I.faults ins.new ≡ I.faults ins.old) }
+    ensures missing_quiet { (result ≡ Status.ReadFault) ⊎ (result ≡ Status.NoMemory) ⊎ (I.missing ins.new ≡ I.missing ins.old) }
     ensures output_quiet { (result ≡ Status.WriteFault) ⊎ (O.faults obj.new ≡ O.faults obj.old) }
     ensures console_quiet { (result ≡ Status.WriteFault) ⊎ (C.faults con.new ≡ C.faults con.old) }
     ensures input_count { I.faults ins.old ≤ I.faults ins.new }

@@ -1,5 +1,7 @@
 //! Command lines, and sources with what they stand for, over the outside in memory.
 
+ghost use Rattle.std.specs.Prelude.{◌≡◌, IfOk};
+
 use crate::running::run;
 use asm_base::{Channel, MemoryConsole, MemoryFile, MemoryInputs, MemoryOutput, Stage, Status};
 use std::alloc::{AllocError, Global};
@@ -14,7 +16,7 @@ struct Left {
 }
 
 /// The words as `run` takes them.
-fn words_of(alloc: Global, words: &[&str]) -> Result<Vec<String>, AllocError> {
+pub(crate) fn words_of(alloc: Global, words: &[&str]) -> Result<Vec<String>, AllocError> {
     let mut all = Vec::new(alloc);
     for word in words {
         all.push(String::from_str(alloc, word)?)?;
@@ -23,7 +25,10 @@ fn words_of(alloc: Global, words: &[&str]) -> Result<Vec<String>, AllocError> {
 }
 
 /// A run on these words, where `x.s` holds the source.
-fn run_on(alloc: Global, words: &[&str], source: &[u8]) -> Result<Left, AllocError> {
+fn run_on(alloc: Global, words: &[&str], source: &[u8]) -> Result<Left, AllocError>
+    // An input that never fails never ends a run.
+    ensures { IfOk result (λ left. left.status ≡ Status.ReadFault → ⊥) }
+{
     let words = words_of(alloc, words)?;
     let files = [MemoryFile {
         name: "x.s",

@@ -1,0 +1,293 @@
+//! The outside in memory with failures: chosen calls fail, and a call reads, writes or says a few bytes at a time.
+
+ghost use Rattle.std.specs.Prelude.{◌≡◌, ◌<◌, ◌≤◌, ◌+◌, ◌-◌, ◌^◌, [], min, nat_eq, option_map};
+ghost use Rattle.std.specs.List.{list_any};
+ghost use Rattle.asm_base.specs.Faulty as named;
+
+use crate::memory::{MemoryConsole, MemoryFile, MemoryOutput};
+use crate::outside::{Channel, Console, Failed, Inputs, Output};
+use std::alloc::Global;
+
+/// The calls of an object: which fail, and how many bytes one takes.
+#[derive(Clone, Copy, Debug)]
+pub struct Calls<'a> {
+    /// The numbers of the calls that fail. The first call has the number 0.
+    failing: &'a [u64],
+    /// The most bytes that a call takes; 0 counts as 1.
+    largest: usize,
+    /// How many calls came.
+    made: u64,
+}
+
+impl<'a> Calls<'a> {
+    /// No call yet.
+    pub fn new(failing: &'a [u64], largest: usize) -> Calls<'a>
+        ensures failing { result.failing.now ≡ failing.now }
+        ensures largest { result.largest ≡ largest }
+        ensures made { result.made ≡ 0 }
+    {
+        Calls {
+            failing,
+            largest,
+            made: 0,
+        }
+    }
+
+    /// How many calls came.
+    pub fn made(&self) -> u64
+        ensures { result ≡ self.now.made }
+    {
+        self.made
+    }
+
+    /// Whether the next call fails, which counts as made.
+    fn next_fails(&mut self) -> bool
+        ensures fails { result ≡ list_any (λ call. nat_eq call self.old.made) self.old.failing.now }
+        ensures made { self.new.made ≡ min (self.old.made + 1) (2 ^ 64 - 1) }
+    {
+        let fails = self.failing.contains(&self.made);
+        self.made = self.made.saturating_add(1);
+        fails
+    }
+
+    /// How many of so many bytes a call takes.
+    fn piece(&self, bytes: usize) -> usize
+        ensures at_most { result ≤ bytes }
+        ensures some { 0 < bytes → 0 < result }
+    {
+        bytes.min(self.largest.max(1))
+    }
+}
+
+/// What a name has that no file of an input has.
+#[derive(Clone, Copy, PartialEq, Eq, Debug)]
+pub enum Unlisted {
+    /// No contents: it can't be started.
+    Missing,
+    /// Empty contents.
+    Empty,
+}
+
+/// The contents of a name.
+fn contents_named<'a>(
+    files: &'a [MemoryFile<'a>],
+    unlisted: Unlisted,
+    name: &str,
+) -> Option<&'a [u8]>
+    ensures { option_map (λ bytes. bytes.now) result ≡ named.contents_named files.now unlisted name.now }
+{
+    for file in files {
+        if file.name == name {
+            return Some(file.bytes);
+        }
+    }
+    match unlisted {
+        Unlisted::Missing => None,
+        Unlisted::Empty => Some(&[]),
+    }
+}
+
+/// An input of files in memory whose calls may fail.
+#[derive(Drop)]
+pub struct FaultyInputs<'a> {
+    files: &'a [MemoryFile<'a>],
+    unlisted: Unlisted,
+    calls: Calls<'a>,
+    rest: &'a [u8],
+    faults: u64,
+    missing: u64,
+    taken: u64,
+}
+
+impl<'a> FaultyInputs<'a> {
+    /// No file is started yet, so nothing is left to read.
+    pub fn new(
+        files: &'a [MemoryFile<'a>],
+        unlisted: Unlisted,
+        calls: Calls<'a>,
+    ) -> FaultyInputs<'a>
+        ensures files { result.files.now ≡ files.now }
+        ensures unlisted { result.unlisted ≡ unlisted }
+        ensures rest { result.rest.now ≡ [] }
+        ensures faults { result.faults ≡ 0 }
+        ensures missing { result.missing ≡ 0 }
+        ensures taken { result.taken ≡ 0 }
+    {
+        FaultyInputs {
+            files,
+            unlisted,
+            calls,
+            rest: &[],
+            faults: 0,
+            missing: 0,
+            taken: 0,
+        }
+    }
+
+    /// How many calls came.
+    pub fn calls(&self) -> u64
+        ensures { result ≡ self.now.calls.made }
+    {
+        self.calls.made()
+    }
+}
+
+impl<'a> Inputs for FaultyInputs<'a> {
+    ghost use Rattle.std.specs.Prelude.{Some};
+    ghost use Rattle.asm_base.specs.Faulty.{contents_named};
+
+    ghost contents = { λ m. Some (contents_named m.files.now m.unlisted) };
+
+    ghost rest = { λ m. Some m.rest.now };
+
+    ghost faults = { λ m. m.faults };
+
+    ghost missing = { λ m. m.missing };
+
+    ghost taken = { λ m. m.taken };
+
+    fn start(&mut self, name: &str) -> Result<(), Failed> {
+        let fails = self.calls.next_fails();
+        match contents_named(self.files, self.unlisted, name) {
+            None => {
+                self.missing = self.missing.saturating_add(1);
+                self.faults = self.faults.saturating_add(1);
+                Err(Failed)
+            }
+            Some(bytes) => {
+                if fails {
+                    self.faults = self.faults.saturating_add(1);
+                    return Err(Failed);
+                }
+                self.rest = bytes;
+                Ok(())
+            }
+        }
+    }
+
+    fn read(&mut self, buffer: &mut [u8]) -> Result<usize, Failed> {
+        if self.calls.next_fails() {
+            self.faults = self.faults.saturating_add(1);
+            return Err(Failed);
+        }
+        let count = self.calls.piece(buffer.len().min(self.rest.len()));
+        let (piece, rest) = self.rest.split_at(count);
+        buffer[..count].copy_from_slice(piece);
+        self.rest = rest;
+        self.taken = self.taken.saturating_add(count as u64);
+        Ok(count)
+    }
+}
+
+/// An output in memory whose calls may fail.
+#[derive(Drop)]
+pub struct FaultyOutput<'a> {
+    inner: MemoryOutput,
+    calls: Calls<'a>,
+}
+
+impl<'a> FaultyOutput<'a> {
+    /// Nothing is made yet.
+    pub fn new(alloc: Global, calls: Calls<'a>) -> FaultyOutput<'a>
+        ensures { result.inner.faults ≡ 0 }
+    {
+        FaultyOutput {
+            inner: MemoryOutput::new(alloc),
+            calls,
+        }
+    }
+
+    /// What is made so far.
+    pub fn inner(&self) -> &MemoryOutput
+        ensures { result.now ≡ self.now.inner }
+    {
+        &self.inner
+    }
+
+    /// How many calls came.
+    pub fn calls(&self) -> u64
+        ensures { result ≡ self.now.calls.made }
+    {
+        self.calls.made()
+    }
+}
+
+impl<'a> Output for FaultyOutput<'a> {
+    ghost use Rattle.std.specs.Prelude.{Some, string_bytes};
+    ghost use Rattle.asm_base.specs.Memory.{made_at};
+
+    ghost made = { λ o. Some (made_at o.inner.stage (string_bytes o.inner.name) o.inner.bytes.items) };
+
+    ghost faults = { λ o. o.inner.faults };
+
+    fn create(&mut self, name: &str) -> Result<(), Failed> {
+        if self.calls.next_fails() {
+            return self.inner.failed();
+        }
+        self.inner.create(name)
+    }
+
+    fn write(&mut self, piece: &[u8]) -> Result<usize, Failed> {
+        if self.calls.next_fails() {
+            self.inner.failed()?;
+        }
+        let count = self.calls.piece(piece.len());
+        self.inner.write(&piece[..count])
+    }
+
+    fn finish(&mut self) -> Result<(), Failed> {
+        if self.calls.next_fails() {
+            return self.inner.failed();
+        }
+        self.inner.finish()
+    }
+}
+
+/// A console in memory whose calls may fail.
+#[derive(Drop)]
+pub struct FaultyConsole<'a> {
+    inner: MemoryConsole,
+    calls: Calls<'a>,
+}
+
+impl<'a> FaultyConsole<'a> {
+    /// Nothing is said yet.
+    pub fn new(alloc: Global, calls: Calls<'a>) -> FaultyConsole<'a>
+        ensures { result.inner.faults ≡ 0 }
+    {
+        FaultyConsole {
+            inner: MemoryConsole::new(alloc),
+            calls,
+        }
+    }
+
+    /// What was said so far.
+    pub fn inner(&self) -> &MemoryConsole
+        ensures { result.now ≡ self.now.inner }
+    {
+        &self.inner
+    }
+
+    /// How many calls came.
+    pub fn calls(&self) -> u64
+        ensures { result ≡ self.now.calls.made }
+    {
+        self.calls.made()
+    }
+}
+
+impl<'a> Console for FaultyConsole<'a> {
+    ghost use Rattle.std.specs.Prelude.{Some};
+
+    ghost said = { λ c. Some (record { out = c.inner.out.items; err = c.inner.err.items }) };
+
+    ghost faults = { λ c. c.inner.faults };
+
+    fn say(&mut self, to: Channel, piece: &[u8]) -> Result<usize, Failed> {
+        if self.calls.next_fails() {
+            self.inner.failed()?;
+        }
+        let count = self.calls.piece(piece.len());
+        self.inner.say(to, &piece[..count])
+    }
+}
