@@ -30,4 +30,7 @@ fi
 "$as" bad.s 2>said; status=$?; expect 'a source with a fault' 1
 printf 'bad.s: Assembler messages:\nbad.s:1: Error: unknown mnemonic\n' | cmp -s - said; status=$?; expect 'its messages' 0
 "$as" good.s; status=$?; expect 'a source with an object' 0
+printf 'nop\n' | "$as"; status=$?; expect 'a source on standard input' 0
+printf 'foo\n' | "$as" - 2>said; status=$?; expect 'a fault on standard input' 1
+printf '{standard input}: Assembler messages:\n{standard input}:1: Error: unknown mnemonic\n' | cmp -s - said; status=$?; expect 'its messages' 0
 exit $failed

@@ -1,11 +1,11 @@
 //! The outside in memory with failures: chosen calls fail, and a call reads, writes or says a few bytes at a time.
 
-ghost use Rattle.std.specs.Prelude.{◌≡◌, ◌<◌, ◌≤◌, ◌+◌, ◌-◌, ◌^◌, [], min, nat_eq, option_map};
+ghost use Rattle.std.specs.Prelude.{◌≡◌, ◌<◌, ◌≤◌, ◌+◌, ◌-◌, ◌^◌, [], max, min, nat_eq, option_map};
 ghost use Rattle.std.specs.List.{list_any};
 ghost use Rattle.asm_base.specs.Faulty as named;
 
-use crate::memory::{MemoryConsole, MemoryFile, MemoryOutput};
-use crate::outside::{Channel, Console, Failed, Inputs, Output};
+use crate::memory::{MemoryConsole, MemoryFile, MemoryOutput, Stage};
+use crate::outside::{Channel, Console, Failed, Inputs, Output, failure};
 use std::alloc::Global;
 
 /// The calls of an object: which fail, and how many bytes one takes.
@@ -54,6 +54,7 @@ impl<'a> Calls<'a> {
     fn piece(&self, bytes: usize) -> usize
         ensures at_most { result ≤ bytes }
         ensures some { 0 < bytes → 0 < result }
+        ensures largest { result ≤ max self.now.largest 1 }
     {
         bytes.min(self.largest.max(1))
     }
@@ -108,6 +109,7 @@ impl<'a> FaultyInputs<'a> {
     ) -> FaultyInputs<'a>
         ensures files { result.files.now ≡ files.now }
         ensures unlisted { result.unlisted ≡ unlisted }
+        ensures calls { result.calls ≡ calls.entry }
         ensures rest { result.rest.now ≡ [] }
         ensures faults { result.faults ≡ 0 }
         ensures missing { result.missing ≡ 0 }
@@ -151,13 +153,11 @@ impl<'a> Inputs for FaultyInputs<'a> {
         match contents_named(self.files, self.unlisted, name) {
             None => {
                 self.missing = self.missing.saturating_add(1);
-                self.faults = self.faults.saturating_add(1);
-                Err(Failed)
+                Err(failure(&mut self.faults))
             }
             Some(bytes) => {
                 if fails {
-                    self.faults = self.faults.saturating_add(1);
-                    return Err(Failed);
+                    return Err(failure(&mut self.faults));
                 }
                 self.rest = bytes;
                 Ok(())
@@ -167,8 +167,7 @@ impl<'a> Inputs for FaultyInputs<'a> {
 
     fn read(&mut self, buffer: &mut [u8]) -> Result<usize, Failed> {
         if self.calls.next_fails() {
-            self.faults = self.faults.saturating_add(1);
-            return Err(Failed);
+            return Err(failure(&mut self.faults));
         }
         let count = self.calls.piece(buffer.len().min(self.rest.len()));
         let (piece, rest) = self.rest.split_at(count);
@@ -189,7 +188,9 @@ pub struct FaultyOutput<'a> {
 impl<'a> FaultyOutput<'a> {
     /// Nothing is made yet.
     pub fn new(alloc: Global, calls: Calls<'a>) -> FaultyOutput<'a>
-        ensures { result.inner.faults ≡ 0 }
+        ensures stage { result.inner.stage ≡ Stage.Nothing }
+        ensures calls { result.calls ≡ calls.entry }
+        ensures faults { result.inner.faults ≡ 0 }
     {
         FaultyOutput {
             inner: MemoryOutput::new(alloc),
@@ -222,14 +223,14 @@ impl<'a> Output for FaultyOutput<'a> {
 
     fn create(&mut self, name: &str) -> Result<(), Failed> {
         if self.calls.next_fails() {
-            return self.inner.failed();
+            return Err(failure(&mut self.inner.faults));
         }
         self.inner.create(name)
     }
 
     fn write(&mut self, piece: &[u8]) -> Result<usize, Failed> {
         if self.calls.next_fails() {
-            self.inner.failed()?;
+            return Err(failure(&mut self.inner.faults));
         }
         let count = self.calls.piece(piece.len());
         self.inner.write(&piece[..count])
@@ -237,7 +238,7 @@ impl<'a> Output for FaultyOutput<'a> {
 
     fn finish(&mut self) -> Result<(), Failed> {
         if self.calls.next_fails() {
-            return self.inner.failed();
+            return Err(failure(&mut self.inner.faults));
         }
         self.inner.finish()
     }
@@ -253,7 +254,10 @@ pub struct FaultyConsole<'a> {
 impl<'a> FaultyConsole<'a> {
     /// Nothing is said yet.
     pub fn new(alloc: Global, calls: Calls<'a>) -> FaultyConsole<'a>
-        ensures { result.inner.faults ≡ 0 }
+        ensures out { result.inner.out.items ≡ [] }
+        ensures err { result.inner.err.items ≡ [] }
+        ensures calls { result.calls ≡ calls.entry }
+        ensures faults { result.inner.faults ≡ 0 }
     {
         FaultyConsole {
             inner: MemoryConsole::new(alloc),
@@ -285,7 +289,7 @@ impl<'a> Console for FaultyConsole<'a> {
 
     fn say(&mut self, to: Channel, piece: &[u8]) -> Result<usize, Failed> {
         if self.calls.next_fails() {
-            self.inner.failed()?;
+            return Err(failure(&mut self.inner.faults));
         }
         let count = self.calls.piece(piece.len());
         self.inner.say(to, &piece[..count])

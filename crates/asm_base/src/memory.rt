@@ -1,10 +1,9 @@
 //! The outside in memory: an input that never fails, and an output and a console that fail only where memory is refused.
 
-ghost use Rattle.std.specs.Prelude.{◌≡◌, ◌≤◌, [], Some, IsErr, string_bytes};
-ghost use Rattle.asm_base.specs.Counts.{HasRisen};
+ghost use Rattle.std.specs.Prelude.{◌≡◌, [], Some, string_bytes};
 ghost use Rattle.asm_base.specs.Memory as named;
 
-use crate::outside::{Channel, Console, Failed, Inputs, Output};
+use crate::outside::{Channel, Console, Failed, Inputs, Output, failure};
 use std::alloc::Global;
 
 /// A file of an input in memory.
@@ -80,8 +79,11 @@ impl<'a> Inputs for MemoryInputs<'a> {
 /// How far the file of an output is.
 #[derive(Clone, Copy, PartialEq, Eq, Debug)]
 pub enum Stage {
+    /// No file is made.
     Nothing,
+    /// A file is made, and not finished.
     Begun,
+    /// A file is made and finished.
     Finished,
 }
 
@@ -92,7 +94,7 @@ pub struct MemoryOutput {
     stage: Stage,
     name: String,
     bytes: Vec<u8>,
-    faults: u64,
+    pub(crate) faults: u64,
 }
 
 impl MemoryOutput {
@@ -110,17 +112,7 @@ impl MemoryOutput {
         }
     }
 
-    /// A call failed.
-    pub(crate) fn failed(&mut self) -> Result<(), Failed>
-        ensures fails { IsErr result }
-        ensures counts { HasRisen self.old.faults self.new.faults }
-        ensures later { self.old.faults ≤ self.new.faults }
-        ensures same { self.new ≡ record self.old { faults = self.new.faults } }
-    {
-        self.faults = self.faults.saturating_add(1);
-        Err(Failed)
-    }
-
+    /// How far the file is.
     pub fn stage(&self) -> Stage
         ensures { result ≡ self.now.stage }
     {
@@ -157,10 +149,7 @@ impl Output for MemoryOutput {
                 self.stage = Stage::Begun;
                 Ok(())
             }
-            Err(_) => {
-                self.faults = self.faults.saturating_add(1);
-                Err(Failed)
-            }
+            Err(_) => { Err(failure(&mut self.faults)) }
         }
     }
 
@@ -170,10 +159,7 @@ impl Output for MemoryOutput {
         }
         match self.bytes.extend_from_slice(piece) {
             Ok(()) => Ok(piece.len()),
-            Err(_) => {
-                self.faults = self.faults.saturating_add(1);
-                Err(Failed)
-            }
+            Err(_) => { Err(failure(&mut self.faults)) }
         }
     }
 
@@ -190,7 +176,7 @@ impl Output for MemoryOutput {
 pub struct MemoryConsole {
     out: Vec<u8>,
     err: Vec<u8>,
-    faults: u64,
+    pub(crate) faults: u64,
 }
 
 impl MemoryConsole {
@@ -205,17 +191,6 @@ impl MemoryConsole {
             err: Vec::new(alloc),
             faults: 0,
         }
-    }
-
-    /// A call failed.
-    pub(crate) fn failed(&mut self) -> Result<(), Failed>
-        ensures fails { IsErr result }
-        ensures counts { HasRisen self.old.faults self.new.faults }
-        ensures later { self.old.faults ≤ self.new.faults }
-        ensures same { self.new ≡ record self.old { faults = self.new.faults } }
-    {
-        self.faults = self.faults.saturating_add(1);
-        Err(Failed)
     }
 
     /// What was said on the channel.
@@ -242,10 +217,7 @@ impl Console for MemoryConsole {
         };
         match said {
             Ok(()) => Ok(piece.len()),
-            Err(_) => {
-                self.faults = self.faults.saturating_add(1);
-                Err(Failed)
-            }
+            Err(_) => { Err(failure(&mut self.faults)) }
         }
     }
 }

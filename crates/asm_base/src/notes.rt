@@ -39,6 +39,7 @@ impl Notes {
         }
     }
 
+    /// All of them.
     pub fn as_slice(&self) -> &[Noted]
         ensures { result.now ≡ self.now }
     {

@@ -4,13 +4,22 @@
 ghost use Rattle.std.specs.Prelude.{◌≡◌, ℕ, ◌<◌, ◌≤◌, List, Option, length, take, IfOk, OnOk, OnErr};
 ghost use Rattle.std.specs.Option.{option_map};
 ghost use Rattle.std.specs.Io.KnownBytes.{ReadConsumes};
-ghost use Rattle.asm_base.specs.Counts.{HasCause};
+ghost use Rattle.asm_base.specs.Counts.{HasCause, HasRisen};
 ghost use Rattle.asm_base.specs.Inputs.{Contents, Starts, CountsMissing, CountsTaken};
 ghost use Rattle.asm_base.specs.Output.{Made, after_create, after_write, after_finish};
 
 /// A call of the outside failed. The object's count of failures has risen.
 #[derive(Clone, Copy, PartialEq, Eq, Debug)]
 pub struct Failed;
+
+/// A call failed: its count rises, and stands still at its type's end.
+pub(crate) fn failure(count: &mut u64) -> Failed
+    ensures risen { HasRisen count.old count.new }
+    ensures later { count.old ≤ count.new }
+{
+    *count = count.saturating_add(1);
+    Failed
+}
 
 /// Files that are read, one open at a time.
 pub trait Inputs {

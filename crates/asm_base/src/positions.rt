@@ -52,6 +52,7 @@ impl Files {
         self.names.len()
     }
 
+    /// Whether there is none.
     pub fn is_empty(&self) -> bool
         ensures { result ≡ (length self.now == 0) }
     {

@@ -2,7 +2,7 @@
 
 ghost use Rattle.std.specs.Prelude.{◌≡◌, None};
 
-use crate::outside::{Channel, Console, Failed, Inputs, Output};
+use crate::outside::{Channel, Console, Failed, Inputs, Output, failure};
 use std::fs;
 use std::io::{ErrorKind, Read, Write};
 use std::rt::Files;
@@ -21,6 +21,7 @@ pub struct FileInputs<'a, R: Files + Input> {
 }
 
 impl<'a, R: Files + Input> FileInputs<'a, R> {
+    /// No file is started yet, so nothing is left to read.
     pub fn new(rt: &'a R) -> FileInputs<'a, R>
         ensures faults { result.faults ≡ 0 }
         ensures missing { result.missing ≡ 0 }
@@ -62,11 +63,10 @@ impl<'a, R: Files + Input> Inputs for FileInputs<'a, R> {
                 Ok(())
             }
             Err(error) => {
-                self.faults = self.faults.saturating_add(1);
                 if error.kind() == ErrorKind::NotFound {
                     self.missing = self.missing.saturating_add(1);
                 }
-                Err(Failed)
+                Err(failure(&mut self.faults))
             }
         }
     }
@@ -86,10 +86,7 @@ impl<'a, R: Files + Input> Inputs for FileInputs<'a, R> {
                 self.taken = self.taken.saturating_add(count as u64);
                 Ok(count)
             }
-            Err(_) => {
-                self.faults = self.faults.saturating_add(1);
-                Err(Failed)
-            }
+            Err(_) => { Err(failure(&mut self.faults)) }
         }
     }
 }
@@ -103,6 +100,7 @@ pub struct FileOutput<'a, R: Files> {
 }
 
 impl<'a, R: Files> FileOutput<'a, R> {
+    /// Nothing is made yet.
     pub fn new(rt: &'a R) -> FileOutput<'a, R>
         ensures { result.faults ≡ 0 }
     {
@@ -125,10 +123,7 @@ impl<'a, R: Files> Output for FileOutput<'a, R> {
                 self.file = Some(file);
                 Ok(())
             }
-            Err(_) => {
-                self.faults = self.faults.saturating_add(1);
-                Err(Failed)
-            }
+            Err(_) => { Err(failure(&mut self.faults)) }
         }
     }
 
@@ -143,10 +138,7 @@ impl<'a, R: Files> Output for FileOutput<'a, R> {
         };
         match written {
             Ok(count) if count > 0 || piece.is_empty() => Ok(count),
-            _ => {
-                self.faults = self.faults.saturating_add(1);
-                Err(Failed)
-            }
+            _ => { Err(failure(&mut self.faults)) }
         }
     }
 
@@ -157,10 +149,7 @@ impl<'a, R: Files> Output for FileOutput<'a, R> {
         };
         match flushed {
             Ok(()) => Ok(()),
-            Err(_) => {
-                self.faults = self.faults.saturating_add(1);
-                Err(Failed)
-            }
+            Err(_) => { Err(failure(&mut self.faults)) }
         }
     }
 }
@@ -174,6 +163,7 @@ pub struct StreamConsole<O: Write + Drop, E: Write + Drop> {
 }
 
 impl<O: Write + Drop, E: Write + Drop> StreamConsole<O, E> {
+    /// A console of these two streams.
     pub fn new(out: O, err: E) -> StreamConsole<O, E>
         ensures { result.faults ≡ 0 }
     {
@@ -197,10 +187,7 @@ impl<O: Write + Drop, E: Write + Drop> Console for StreamConsole<O, E> {
         };
         match written {
             Ok(count) if count > 0 || piece.is_empty() => Ok(count),
-            _ => {
-                self.faults = self.faults.saturating_add(1);
-                Err(Failed)
-            }
+            _ => { Err(failure(&mut self.faults)) }
         }
     }
 }

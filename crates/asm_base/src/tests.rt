@@ -23,6 +23,7 @@ fn reads_what_it_wrote(rt: HostRuntime) -> Result<(), Fail> {
 #[test]
 fn says_on_streams(rt: HostRuntime) -> Result<(), Fail> {
     let mut con = StreamConsole::new(rt.stdout(), rt.stderr());
+    assert_eq!(rt; con.say(Channel::Out, b"said\n")?, 5);
     assert_eq!(rt; con.say(Channel::Err, b"said\n")?, 5);
     Ok(())
 }

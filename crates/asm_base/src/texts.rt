@@ -17,12 +17,14 @@ impl Model for Text {
 }
 
 impl Text {
+    /// The text of these bytes.
     pub fn new(bytes: Vec<u8>) -> Text
         ensures { result ≡ bytes.items }
     {
         Text { bytes }
     }
 
+    /// The bytes of the text.
     pub fn as_bytes(&self) -> &[u8]
         ensures { result.now ≡ self.now }
     {
@@ -43,12 +45,14 @@ impl Model for Bytes {
 }
 
 impl Bytes {
+    /// These bytes.
     pub fn new(bytes: Vec<u8>) -> Bytes
         ensures { result ≡ bytes.items }
     {
         Bytes { bytes }
     }
 
+    /// All of them.
     pub fn as_slice(&self) -> &[u8]
         ensures { result.now ≡ self.now }
     {

@@ -1,4 +1,5 @@
 //! The tokens of one statement (GNU as manual, chapter 3, "Syntax").
+
 ghost use Rattle.std.specs.Prelude.{◌≡◌, ◌+◌, ◌-◌, ◌<◌, ◌≤◌, map, length, IfOk, IsOk, false};
 ghost use Rattle.std.specs.List.{prefix_len};
 ghost use Rattle.asm_base.specs.Tokens.{is_blank, is_name_start, is_name_byte, is_operator_byte, is_long_operator, quoted_length, token_kind, token_length, spelled, tokens_of};

@@ -39,7 +39,7 @@ pub made_in_part : (contents : Option Contents) (name : List ℕ) (made : Assemb
     Assembles contents name (Ok made) → MakesFileInPart object_name made.object before after →
     IsWriteFault (name_outcome name contents) (silent said before after)
 made_in_part None name made said before after assembles in_part =
-    (object_name, made.object, [], object_in_part made.object said before after in_part)
+    (made.object, [], object_in_part made.object said before after in_part)
 made_in_part (Some contents) name made said before after assembles in_part =
     file_in_part name (contents name) made said before after assembles in_part
 
@@ -56,6 +56,6 @@ pub said_in_part : (contents : Option Contents) (name : List ℕ) (fault : Fault
     Assembles contents name (Err (Source fault pos notes files)) → text ≡ refusal files [] fault pos →
     ((n : ℕ) × (n ≤ length text) × (after ≡ option_map (after_say channel.Err (take n text)) before)) →
     IsWriteFault (name_outcome name contents) (record { said = before; said_after = after; made = made; made_after = made })
-said_in_part None name fault pos notes files text before after made assembles same front = (object_name, [], text, inl (front, refl))
+said_in_part None name fault pos notes files text before after made assembles same front = ([], text, inl (front, refl))
 said_in_part (Some contents) name fault pos notes files text before after made assembles same front =
     file_said_in_part name (contents name) fault pos notes files _ assembles (rw (← same) (front, refl))

@@ -8,7 +8,7 @@ use Rattle.asm_base.specs.declared.outside.Channel.TheVariants as channel
 use Rattle.asm_base.specs.declared.statuses.Status.{Status}
 use Rattle.asm_base.specs.declared.statuses.Status.TheVariants.{Done, SourceFault, Usage, ReadFault, WriteFault, NoMemory}
 use Rattle.asm_cli.specs.Command.{usage_text}
-use Rattle.asm_cli.specs.Outcome.{Outcome, usage, missing, refused, object}
+use Rattle.asm_cli.specs.Outcome.{Outcome, usage, missing, refused, object, object_name}
 
 -- what the console and the output tell before the run and after it
 pub record Effects : Type 0 where
@@ -64,7 +64,7 @@ abbrev pub MakesInPart : List ℕ → List ℕ → List ℕ → Effects → Type
 MakesInPart name bytes messages e = RefusesInPart messages e ⊎ (Says messages e × BeginsFile name bytes e.made e.made_after)
 
 abbrev pub IsDone : Option Outcome → Effects → Type 0
-IsDone None e = (name bytes messages : List ℕ) × MakesObject name bytes messages e
+IsDone None e = (bytes messages : List ℕ) × MakesObject object_name bytes messages e
 IsDone (Some usage) e = ⊥
 IsDone (Some missing) e = ⊥
 IsDone (Some (refused messages)) e = ⊥
@@ -92,7 +92,7 @@ IsReadFault (Some (refused messages)) e = LeavesAll e
 IsReadFault (Some (object name bytes messages)) e = LeavesAll e
 
 abbrev pub IsWriteFault : Option Outcome → Effects → Type 0
-IsWriteFault None e = (name bytes messages : List ℕ) × MakesInPart name bytes messages e
+IsWriteFault None e = (bytes messages : List ℕ) × MakesInPart object_name bytes messages e
 IsWriteFault (Some usage) e = RefusesInPart usage_text e
 IsWriteFault (Some missing) e = ⊥
 IsWriteFault (Some (refused messages)) e = RefusesInPart messages e
@@ -127,6 +127,6 @@ Completes (Some (object name bytes messages)) status = (status ≡ Done) ⊎ (st
 abbrev pub CountsMissingOutcome : Option Outcome → ℕ → ℕ → Type 0
 CountsMissingOutcome None before now = before ≤ now
 CountsMissingOutcome (Some usage) before now = now ≡ before
-CountsMissingOutcome (Some missing) before now = HasRisen before now ⊎ (now ≡ before)
+CountsMissingOutcome (Some missing) before now = ((before ≤ now) × HasRisen before now) ⊎ (now ≡ before)
 CountsMissingOutcome (Some (refused messages)) before now = now ≡ before
 CountsMissingOutcome (Some (object name bytes messages)) before now = now ≡ before

@@ -8,9 +8,10 @@ use asm_base::{
 use std::alloc::{AllocError, Global};
 use std::test::Fail;
 
-/// A source with an object, and one with a fault.
+/// A source with an object.
 const GOOD: &[u8] = b".globl f\nf: .byte 1, 0x41\nret\n";
 
+/// A source with a fault.
 const FAULTY: &[u8] = b"foo\nbar\n";
 
 /// The call that fails of each object, if one does, and the most bytes that a call takes.

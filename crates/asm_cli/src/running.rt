@@ -1,9 +1,10 @@
 //! One run, from the words of the command line to the answer.
 
-ghost use Rattle.std.specs.Prelude.{◌≡◌, ◌≤◌, ◌⊎◌, ◌↔◌, [], map, None, IfOk, OnOk, OnErr, string_bytes};
+ghost use Rattle.std.specs.Prelude.{◌≡◌, ◌≤◌, ◌+◌, ◌⊎◌, ◌↔◌, [], map, None, IfOk, OnOk, OnErr, string_bytes};
 ghost use Rattle.std.specs.Io.KnownBytes.{IsAtEnd};
 ghost use Rattle.asm_base.specs.Counts.{HasCause, HasRisen, IsQuiet};
 ghost use Rattle.asm_base.specs.Messages as messages;
+ghost use Rattle.asm_base.specs.WholeFile.{most_bytes};
 ghost use Rattle.asm_cli.specs.Command.{command_of};
 ghost use Rattle.asm_cli.specs.Outcome.{object_name, name_outcome, outcome};
 ghost use Rattle.asm_cli.specs.ReadsBack.{CommandReadsBack};
@@ -84,6 +85,7 @@ fn run_source<I: Inputs, O: Output, C: Console>(
     ensures output_count { O.faults obj.old ≤ O.faults obj.new }
     ensures console_count { C.faults con.old ≤ C.faults con.new }
     ensures missing { CountsMissingOutcome (name_outcome name.now (I.contents ins.old)) (I.missing ins.old) (I.missing ins.new) }
+    ensures taken { I.taken ins.new ≤ I.taken ins.old + (most_bytes + 1) }
     ensures contents { I.contents ins.new ≡ I.contents ins.old }
     ensures whole { result ≡ Status.Done → IsAtEnd (I.rest ins.new) }
 {
@@ -147,6 +149,7 @@ pub fn run<I: Inputs, O: Output, C: Console>(
 
     // What is read.
     ensures missing { CountsMissingOutcome (outcome (map string_bytes words.now.items) (I.contents ins.old)) (I.missing ins.old) (I.missing ins.new) }
+    ensures taken { I.taken ins.new ≤ I.taken ins.old + (most_bytes + 1) }
     ensures contents { I.contents ins.new ≡ I.contents ins.old }
     ensures whole { result ≡ Status.Done → IsAtEnd (I.rest ins.new) }
     ensures usage_reads_nothing { command_of (map string_bytes words.now.items) ≡ None → ins.new ≡ ins.old }

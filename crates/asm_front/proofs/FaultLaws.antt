@@ -123,8 +123,7 @@ unfolding place_directive
 directive_fine pos name operands placed =
     either _ (text_fine operands placed)
     (either _ (byte_fine operands placed)
-    (either _ (globl_fine pos operands placed)
-    (either _ (globl_fine pos operands placed) (a_fault _ refl))))
+    (either _ (globl_fine pos operands placed) (a_fault _ refl)))
 
 row_fine : (row : Option Row) (operands : List SpelledToken) (placed : Placed) → NotTooLarge (place_row row operands placed)
 row_fine None operands placed = a_fault _ refl

@@ -1,5 +1,5 @@
 -- Written bytes read back: what is placed stays in front of what is placed later, and stands behind the header.
-use Rattle.std.proofs.Common.{◌≡◌, ℕ, ◌+◌, ◌++◌, ◌&&◌, not, Bool, true, false, cond, List, [], ◌∷◌, Option, None, Some, Result, Ok, Err, length, drop, find, refl, sym, ap, ◌∙◌, append_assoc, append-nil}
+use Rattle.std.proofs.Common.{◌||◌, ◌≡◌, ℕ, ◌+◌, ◌++◌, ◌&&◌, not, Bool, true, false, cond, List, [], ◌∷◌, Option, None, Some, Result, Ok, Err, length, drop, find, refl, sym, ap, ◌∙◌, append_assoc, append-nil}
 use Rattle.std.proofs.lemmas.List.{drop_at, drop-drop}
 use Rattle.std.proofs.lemmas.Result.{IfOk-at_ok}
 use Rattle.std.specs.Prelude.{codes, nat_lt, filter_map}
@@ -82,8 +82,7 @@ unfolding place_directive
 directive_extends pos name operands p =
     either (Extends p) (bytes_eq name (codes ".text")) _ _ (text_extends operands p)
     (either (Extends p) (bytes_eq name (codes ".byte")) _ _ (byte_extends operands p)
-    (either (Extends p) (bytes_eq name (codes ".globl")) _ _ (globl_extends pos operands p)
-    (either (Extends p) (bytes_eq name (codes ".global")) _ (Err UnknownDirective) (globl_extends pos operands p) tt)))
+    (either (Extends p) (bytes_eq name (codes ".globl") || bytes_eq name (codes ".global")) _ (Err UnknownDirective) (globl_extends pos operands p) tt))
 
 row_extends : (row : Option Row) (operands : List SpelledToken) (p : Placed) → IfOk (place_row row operands p) (Extends p)
 row_extends None operands p = tt

@@ -1,5 +1,5 @@
 -- What each statement adds to the section and the symbols, or its fault.
-use Rattle.std.specs.Prelude.{ℕ, ◌&&◌, Bool, false, not, List, [], ◌∷◌, ◌++◌, length, find, fold, codes, if◌then◌else◌, ◌==◌, Option, None, Some, Result, Ok, Err}
+use Rattle.std.specs.Prelude.{ℕ, ◌&&◌, ◌||◌, Bool, false, not, List, [], ◌∷◌, ◌++◌, length, find, fold, codes, if◌then◌else◌, ◌==◌, Option, None, Some, Result, Ok, Err}
 use Rattle.std.specs.Str.{bytes_eq}
 use Rattle.asm_base.specs.declared.faults.StatementFault.{StatementFault}
 use Rattle.asm_base.specs.declared.faults.StatementFault.TheVariants.{UnknownMnemonic, UnknownDirective, BadOperand}
@@ -56,9 +56,8 @@ unfoldable pub place_directive : Pos → List ℕ → List SpelledToken → Plac
 place_directive pos name operands placed =
     if bytes_eq name (codes ".text") then place_text operands placed
     else (if bytes_eq name (codes ".byte") then place_byte operands placed
-    else (if bytes_eq name (codes ".globl") then place_globl pos operands placed
-    else (if bytes_eq name (codes ".global") then place_globl pos operands placed
-    else Err UnknownDirective)))
+    else (if bytes_eq name (codes ".globl") || bytes_eq name (codes ".global") then place_globl pos operands placed
+    else Err UnknownDirective))
 
 -- an instruction of this row, which takes no operands
 abbrev pub place_row : Option Row → List SpelledToken → Placed → Result Placed StatementFault

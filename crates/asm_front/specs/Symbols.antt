@@ -1,5 +1,5 @@
 -- Symbols and their table (gABI, chapter 4, "Symbol Table").
-use Rattle.std.specs.Prelude.{ℕ, ◌+◌, ◌*◌, Bool, true, false, not, ◌&&◌, ◌||◌, List, [], ◌∷◌, ◌++◌, map, filter, replicate}
+use Rattle.std.specs.Prelude.{ℕ, ◌+◌, ◌*◌, Bool, true, false, not, ◌&&◌, ◌||◌, List, [], ◌∷◌, ◌++◌, map, filter, replicate, if◌then◌else◌}
 use Rattle.std.specs.List.{prefix_len}
 use Rattle.asm_front.specs.declared.symbols.Binding.{Binding}
 use Rattle.asm_front.specs.declared.symbols.Binding.TheVariants.{Local, Global, Weak}
@@ -58,15 +58,6 @@ symbol_entries [] symbols = []
 symbol_entries (name ∷ names) [] = []
 symbol_entries (name ∷ names) (s ∷ symbols) = symbol_entry name s ++ symbol_entries names symbols
 
--- the names of the symbols
-unfoldable pub symbol_names : List SymbolEntry → List (List ℕ)
-symbol_names symbols = map (λ s. s.name) symbols
-
--- the table of the symbols, which begins with the null symbol
-unfoldable pub symbol_table_of : List SymbolEntry → List ℕ
-symbol_table_of symbols = replicate 24 0 ++ symbol_entries (name_offsets (symbol_names symbols)) symbols
-
--- tests of a binding and of a kind
 abbrev pub is_local_binding : Binding → Bool
 is_local_binding Local = true
 is_local_binding _ = false
@@ -89,6 +80,19 @@ is_file s = is_file_kind s.kind
 abbrev pub is_section : SymbolEntry → Bool
 is_section s = is_section_kind s.kind
 
+-- the name that the table has of a symbol: none for the symbol of a section, which has the section's
+abbrev pub table_name : SymbolEntry → List ℕ
+table_name s = if is_section s then [] else s.name
+
+-- the names of the symbols
+unfoldable pub symbol_names : List SymbolEntry → List (List ℕ)
+symbol_names symbols = map table_name symbols
+
+-- the table of the symbols, which begins with the null symbol
+unfoldable pub symbol_table_of : List SymbolEntry → List ℕ
+symbol_table_of symbols = replicate 24 0 ++ symbol_entries (name_offsets (symbol_names symbols)) symbols
+
+-- tests of a binding and of a kind
 -- whether a symbol is of a kind that has a part of its own
 abbrev pub has_own_part : SymbolEntry → Bool
 has_own_part s = is_file s || is_section s

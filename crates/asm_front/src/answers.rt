@@ -8,11 +8,11 @@ use asm_base::{Fault, Files, Notes, Pos};
 pub struct Options {
     /// The name of the source file; the empty name is standard input.
     pub file: String,
-    /// Frame tables are synthesized.
+    /// Frame tables are to be synthesized. Nothing reads this yet.
     pub scfi: bool,
-    /// No warning is made.
+    /// No warning is to be made. Nothing reads this yet.
     pub no_warn: bool,
-    /// A warning refuses the run at its end.
+    /// A warning is to refuse the run at its end. Nothing reads this yet.
     pub fatal_warnings: bool,
 }
 

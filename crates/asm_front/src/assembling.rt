@@ -1,8 +1,9 @@
 //! From the name of a source to its object.
 
-ghost use Rattle.std.specs.Prelude.{◌≡◌, string_bytes, IfOk, OnOk};
+ghost use Rattle.std.specs.Prelude.{◌≡◌, ◌≤◌, ◌+◌, string_bytes, IfOk, OnOk};
 ghost use Rattle.std.specs.Io.KnownBytes.{IsAtEnd};
 ghost use Rattle.asm_base.specs.Inputs.{CountsMissing};
+ghost use Rattle.asm_base.specs.WholeFile.{most_bytes};
 ghost use Rattle.asm_front.specs.Assembly.{assembly_of_lines};
 ghost use Rattle.asm_front.specs.Outcome.{main_file, shown_name, files_of, AssemblesAs, Assembles, NamesFiles, HasAssemblyCause, KeepsCount, TakesSource};
 ghost use Rattle.asm_front.specs.Answering.{IsAnswered};
@@ -127,6 +128,7 @@ pub fn assemble<I: Inputs>(
     ensures missing { CountsMissing (I.contents ins.old) (string_bytes options.now.file) (I.missing ins.old) (I.missing ins.new) }
     ensures found { KeepsCount result (I.missing ins.old) (I.missing ins.new) }
     ensures taken { TakesSource result (I.taken ins.old) (I.taken ins.new) }
+    ensures at_most { I.taken ins.new ≤ I.taken ins.old + (most_bytes + 1) }
     ensures contents { I.contents ins.new ≡ I.contents ins.old }
     ensures whole { OnOk result (IsAtEnd (I.rest ins.new)) }
 {

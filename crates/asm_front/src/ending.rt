@@ -13,11 +13,16 @@ use crate::image::image;
 use crate::named_symbols::NamedEntry;
 use crate::object::Object;
 use crate::placing::Assembler;
-use crate::sections::{Body, Section};
+use crate::sections::{
+    Body, SHF_ALLOC, SHF_EXECINSTR, SHF_WRITE, SHT_NOBITS, SHT_PROGBITS, Section,
+};
 use crate::steps::Stop;
 use crate::symbols::{Binding, Kind, Symbol, Visibility};
 use asm_base::{EndFault, Fault};
 use std::alloc::{AllocError, Global};
+
+/// The index of `.text` in the header table, behind the null section.
+const TEXT_SECTION: u16 = 1;
 
 /// Whether a symbol of this name is local to the file.
 fn is_file_local(name: &[u8]) -> bool
@@ -34,7 +39,7 @@ fn is_undefined_local(entry: &NamedEntry) -> bool
 }
 
 /// The first symbol that is named, must be defined and is not.
-pub(crate) fn first_undefined<'e, 'a>(entries: &'e [NamedEntry<'a>]) -> Option<&'e NamedEntry<'a>>
+fn first_undefined<'e, 'a>(entries: &'e [NamedEntry<'a>]) -> Option<&'e NamedEntry<'a>>
     ensures { option_map (λ entry. entry.now) result ≡ find (λ entry. is_undefined_local (listed entry)) entries.now }
 {
     entries.iter().find(|entry| is_undefined_local(entry))
@@ -64,7 +69,7 @@ fn symbol_of<'a>(entry: &NamedEntry<'a>) -> Option<Symbol<'a>>
         binding,
         kind: Kind::NoType,
         visibility: Visibility::Default,
-        section: 1,
+        section: TEXT_SECTION,
         value: offset,
         size: 0,
     })
@@ -104,24 +109,24 @@ fn sections_of(text: &[u8]) -> [Section<'_>; 3]
     [
         Section {
             name: b".text",
-            kind: 1,
-            flags: 6,
+            kind: SHT_PROGBITS,
+            flags: SHF_ALLOC + SHF_EXECINSTR,
             alignment: 1,
             entry_size: 0,
             body: Body::Bytes(text),
         },
         Section {
             name: b".data",
-            kind: 1,
-            flags: 3,
+            kind: SHT_PROGBITS,
+            flags: SHF_WRITE + SHF_ALLOC,
             alignment: 1,
             entry_size: 0,
             body: Body::Bytes(b""),
         },
         Section {
             name: b".bss",
-            kind: 8,
-            flags: 3,
+            kind: SHT_NOBITS,
+            flags: SHF_WRITE + SHF_ALLOC,
             alignment: 1,
             entry_size: 0,
             body: Body::NoBits(0),

@@ -1,4 +1,5 @@
 //! The fields of ELF64 structures, appended low byte first (gABI, chapter 4, "Data Representation").
+
 ghost use Rattle.std.specs.Prelude.{◌≡◌, ◌++◌, OnOk};
 ghost use Rattle.asm_front.specs.Fields.{half, word, xword};
 

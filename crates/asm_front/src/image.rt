@@ -1,4 +1,5 @@
 //! The bytes of an ELF64 relocatable object file (gABI, chapter 4; psABI AMD64, chapter 4).
+
 ghost use Rattle.std.specs.Prelude.{ℕ, ◌≡◌, ◌+◌, ◌-◌, ◌≤◌, ◌<◌, [], ◌++◌, map, length, vec_len, IfOk, OnOk};
 ghost use Rattle.asm_front.specs.Image.{next_multiple, gap, body_from, header_from, bodies_from, header_end, null_header, header_table, elf_header, file_of, with_tables, image_of};
 ghost use Rattle.asm_front.specs.Sections.{entry_view, section_view};
@@ -107,6 +108,7 @@ fn put_gap(bytes: &mut Vec<u8>, alignment: u64) -> Result<(), AllocError>
 {
     let position = HEADER_END + bytes.len();
     let alignment = alignment.max(1) as usize;
+    // A file of 2^64 bytes can't be held.
     let end = position
         .checked_next_multiple_of(alignment)
         .ok_or(AllocError)?;

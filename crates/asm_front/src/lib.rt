@@ -19,6 +19,8 @@ mod sources;
 mod steps;
 mod string_table;
 pub mod symbols;
+#[cfg(test)]
+mod tests;
 
 pub use answers::{AsmFault, Assembled, Options};
 pub use assembling::assemble;

@@ -120,6 +120,7 @@ impl<'a> NamedSymbols<'a> {
     {
         let mut entries = Vec::new(alloc);
         for at in 0..self.map.len() {
+            // The index is below the length.
             let (name, symbol) = self.map.get_index(at).unwrap();
             entries.push(NamedEntry {
                 name: *name,

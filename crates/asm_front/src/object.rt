@@ -1,9 +1,5 @@
 //! The object, and how it is written.
 
-ghost use Rattle.std.specs.Prelude.{◌≡◌, ℕ, ◌≤◌, length, take, OnOk, option_map};
-ghost use Rattle.asm_base.specs.Counts.{HasCause};
-ghost use Rattle.asm_base.specs.Output.{after_write};
-
 use asm_base::{Failed, Output};
 use std::marker::Model;
 

@@ -93,9 +93,7 @@ impl<'a> Assembler<'a> {
             self.place_text(operands)
         } else if name == b".byte".as_slice() {
             self.place_byte(operands)
-        } else if name == b".globl".as_slice() {
-            self.place_globl(pos, operands)
-        } else if name == b".global".as_slice() {
+        } else if name == b".globl".as_slice() || name == b".global".as_slice() {
             self.place_globl(pos, operands)
         } else {
             Err(StepFault::Source(StatementFault::UnknownDirective))

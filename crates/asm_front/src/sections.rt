@@ -1,9 +1,23 @@
 //! Sections and their headers (gABI, chapter 4, "Sections").
+
 ghost use Rattle.std.specs.Prelude.{◌≡◌, ◌+◌, ◌++◌, map, length, vec_len, IfOk, OnOk};
 ghost use Rattle.asm_front.specs.Sections.{entry_view, section_view, section_header, content_view, size_of, file_bytes, section_names, symbol_section, string_section};
 
 use crate::fields::{put_word, put_xword};
 use std::alloc::{AllocError, Global};
+
+/// `sh_type` of bytes that the source defines.
+pub const SHT_PROGBITS: u32 = 1;
+
+/// `sh_type` of space that takes no bytes in the file.
+pub const SHT_NOBITS: u32 = 8;
+
+/// `sh_flags`: the section is written to, is loaded, and is executed.
+pub const SHF_WRITE: u64 = 1;
+
+pub const SHF_ALLOC: u64 = 2;
+
+pub const SHF_EXECINSTR: u64 = 4;
 
 /// `sh_type` of a symbol table.
 const SHT_SYMTAB: u32 = 2;

@@ -1,4 +1,5 @@
 //! String tables (gABI, chapter 4, "String Table").
+
 ghost use Rattle.std.specs.Prelude.{◌≡◌, ◌++◌, map, length, vec_len, IfOk, OnOk};
 ghost use Rattle.asm_front.specs.StringTable.{string_of, string_table_of, name_offset_after, name_offsets};
 

@@ -1,12 +1,14 @@
 //! Symbols and their table (gABI, chapter 4, "Symbol Table").
+
 ghost use Rattle.std.specs.Prelude.{ℕ, ◌≡◌, ◌+◌, ◌<◌, ◌++◌, map, filter, length, vec_len, replicate, IfOk, OnOk};
-ghost use Rattle.asm_front.specs.Symbols.{binding_number, kind_number, visibility_number, symbol_view, symbol_entry, symbol_entries, in_file_order, first_global, is_local, is_in, symbol_names, symbol_table_of};
+ghost use Rattle.asm_front.specs.Symbols.{binding_number, kind_number, visibility_number, symbol_view, symbol_entry, symbol_entries, in_file_order, first_global, is_local, is_in, table_name, symbol_names, symbol_table_of};
 ghost use Rattle.asm_front.specs.StringTable.{string_table_of};
 
 use crate::fields::{put_half, put_word, put_xword};
 use crate::string_table::string_table;
 use std::alloc::{AllocError, Global};
 
+/// Who sees a symbol (`STB_`).
 #[derive(Clone, Copy)]
 pub enum Binding {
     Local,
@@ -24,6 +26,7 @@ impl Binding {
     }
 }
 
+/// What a symbol stands for (`STT_`).
 #[derive(Clone, Copy)]
 pub enum Kind {
     NoType,
@@ -45,6 +48,7 @@ impl Kind {
     }
 }
 
+/// How far a symbol is seen (`STV_`).
 #[derive(Clone, Copy)]
 pub enum Visibility {
     Default,
@@ -180,6 +184,16 @@ pub(crate) fn symbol_table(alloc: Global, symbols: &[Symbol]) -> Result<SymbolTa
     })
 }
 
+/// The name that the table has of a symbol: none for the symbol of a section, which has the section's.
+fn table_name<'a>(symbol: &Symbol<'a>) -> &'a [u8]
+    ensures { result.now ≡ table_name (symbol_view symbol.now) }
+{
+    match symbol.kind {
+        Kind::Section => b"",
+        _ => symbol.name,
+    }
+}
+
 /// The names of the symbols.
 #[tactic(auto, unfolding(crate::specs::Symbols::symbol_names))]
 fn symbol_names<'a>(alloc: Global, symbols: &[Symbol<'a>]) -> Result<Vec<&'a [u8]>, AllocError>
@@ -189,7 +203,7 @@ fn symbol_names<'a>(alloc: Global, symbols: &[Symbol<'a>]) -> Result<Vec<&'a [u8
 {
     let mut names = Vec::with_capacity(alloc, symbols.len())?;
     for symbol in symbols {
-        names.push(symbol.name)?;
+        names.push(table_name(symbol))?;
     }
     Ok(names)
 }

@@ -1,4 +1,5 @@
 //! The fault of a statement.
+
 ghost use Rattle.std.specs.Prelude.{◌≡◌};
 ghost use Rattle.std.specs.List.{list_any};
 ghost use Rattle.asm_lines.specs.Faults.{fault_of, is_refused};

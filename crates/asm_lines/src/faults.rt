@@ -1,4 +1,5 @@
 //! What the lines of a source are refused for.
+
 ghost use Rattle.std.specs.Prelude.{◌≡◌};
 ghost use Rattle.asm_lines.specs.declared.faults.LineFault.TheVariants.{NoMemory};
 
@@ -22,7 +23,7 @@ pub enum LineFault {
 impl From<AllocError> for LineFault {
     ghost from_gives = { λ _ e. e ≡ NoMemory };
 
-    fn from(_e: AllocError) -> LineFault {
+    fn from(_refused: AllocError) -> LineFault {
         LineFault::NoMemory
     }
 }
@@ -30,7 +31,7 @@ impl From<AllocError> for LineFault {
 impl<T: Drop> From<AllocFailed<T>> for LineFault {
     ghost from_gives = { λ _ e. e ≡ NoMemory };
 
-    fn from(_e: AllocFailed<T>) -> LineFault {
+    fn from(_refused: AllocFailed<T>) -> LineFault {
         LineFault::NoMemory
     }
 }

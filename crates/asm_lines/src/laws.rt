@@ -1,4 +1,5 @@
 //! What holds of the statements of every source.
+
 ghost use Rattle.std.specs.Prelude.{ℕ, List, IfOk};
 ghost use Rattle.asm_lines.specs.Laws.{AreStatements, LinesNeverFall};
 ghost use Rattle.asm_lines.specs.Statements.{statements_of};

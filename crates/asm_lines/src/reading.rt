@@ -1,4 +1,5 @@
 //! The statements of a source, read stretch by stretch.
+
 ghost use Rattle.std.specs.Prelude.{◌≡◌, option_map};
 ghost use Rattle.asm_lines.specs.Statements.{Gives, statement_of, statements_of};
 ghost use Rattle.asm_lines.specs.Seen.{seen};

@@ -1,4 +1,5 @@
 //! A statement where it stands in a source, and all statements of a source.
+
 use asm_base::Pos;
 use std::marker::Model;
 use std::slice;
@@ -31,12 +32,14 @@ impl<'a> Statements<'a> {
     ghost use Rattle.std.specs.Slice.Iter.{iter_rest};
     ghost use Rattle.asm_lines.specs.Seen.{seen};
 
+    /// All of them.
     pub fn as_slice(&self) -> &[Statement<'a>]
         ensures { map seen result.now ≡ self.now }
     {
         self.items.as_slice()
     }
 
+    /// One after the other.
     pub fn iter(&self) -> slice::Iter<'_, Statement<'a>>
         ensures { map seen (iter_rest result) ≡ self.now }
     {

@@ -1,4 +1,5 @@
 //! Small sources, with their statements or their fault.
+
 use crate::{LineFault, read_statements};
 use asm_base::{Pos, Text};
 use std::test::Fail;

@@ -1,4 +1,5 @@
 //! A stretch without the blanks round its statement.
+
 ghost use Rattle.std.specs.Prelude.{◌≡◌};
 ghost use Rattle.std.specs.List.{prefix_len, suffix_len};
 ghost use Rattle.asm_base.specs.Tokens.{is_blank};

@@ -1,0 +1,147 @@
+//! Each instruction with its bytes, each fault at its line, and one image, with ample memory.
+
+use crate::image::image;
+use crate::sections::{Body, SHF_ALLOC, SHF_EXECINSTR, SHT_PROGBITS, Section};
+use crate::{AsmFault, Assembled, Options, assemble};
+use asm_base::{MemoryFile, MemoryInputs, MemoryOutput, Output, message};
+use std::alloc::{AllocError, Global};
+use std::test::Fail;
+
+/// The answer for a source.
+fn assembled(alloc: Global, source: &[u8]) -> Result<Result<Assembled, AsmFault>, AllocError> {
+    let files = [MemoryFile {
+        name: "x.s",
+        bytes: source,
+    }];
+    let options = Options {
+        file: String::from_str(alloc, "x.s")?,
+        scfi: false,
+        no_warn: false,
+        fatal_warnings: false,
+    };
+    Ok(assemble(alloc, &options, &mut MemoryInputs::new(&files)))
+}
+
+/// The bytes of the object of a source, or none where it is refused.
+fn object_of(alloc: Global, source: &[u8]) -> Result<Vec<u8>, AllocError> {
+    let mut output = MemoryOutput::new(alloc);
+    if let Ok(made) = assembled(alloc, source)? {
+        let _ = output.create("a.out");
+        let _ = made.object.write_to(&mut output);
+    }
+    Vec::from_slice(alloc, output.bytes())
+}
+
+/// The message of the fault of a source, or none where there is an object.
+fn message_of(alloc: Global, source: &[u8]) -> Result<Vec<u8>, AllocError> {
+    match assembled(alloc, source)? {
+        Err(AsmFault::Source(fault, pos, _notes, files)) => {
+            let line = message(alloc, &fault, &pos, &files)?;
+            Vec::from_slice(alloc, line.as_slice())
+        }
+        _ => Ok(Vec::new(alloc)),
+    }
+}
+
+#[test]
+fn instructions(rt: HostRuntime) -> Result<(), Fail> {
+    // Intel SDM, volume 2.
+    let cases: [(&str, &[u8]); 29] = [
+        ("nop", &[0x90]),
+        ("pause", &[0xf3, 0x90]),
+        ("ret", &[0xc3]),
+        ("leave", &[0xc9]),
+        ("pushf", &[0x9c]),
+        ("popf", &[0x9d]),
+        ("endbr64", &[0xf3, 0x0f, 0x1e, 0xfa]),
+        ("syscall", &[0x0f, 0x05]),
+        ("ud2", &[0x0f, 0x0b]),
+        ("cpuid", &[0x0f, 0xa2]),
+        ("rdtsc", &[0x0f, 0x31]),
+        ("hlt", &[0xf4]),
+        ("int3", &[0xcc]),
+        ("lfence", &[0x0f, 0xae, 0xe8]),
+        ("mfence", &[0x0f, 0xae, 0xf0]),
+        ("sfence", &[0x0f, 0xae, 0xf8]),
+        ("clc", &[0xf8]),
+        ("stc", &[0xf9]),
+        ("cmc", &[0xf5]),
+        ("cld", &[0xfc]),
+        ("std", &[0xfd]),
+        ("sahf", &[0x9e]),
+        ("lahf", &[0x9f]),
+        ("cbtw", &[0x66, 0x98]),
+        ("cwtl", &[0x98]),
+        ("cltq", &[0x48, 0x98]),
+        ("cwtd", &[0x66, 0x99]),
+        ("cltd", &[0x99]),
+        ("CqTo", &[0x48, 0x99]),
+    ];
+    for (name, bytes) in cases {
+        let object = object_of(rt.alloc(), name.as_bytes())?;
+        assert!(rt;
+            object.iter().skip(64).take(bytes.len()).eq(bytes),
+            "{name}"
+        );
+    }
+    Ok(())
+}
+
+#[test]
+fn faults(rt: HostRuntime) -> Result<(), Fail> {
+    let cases: [(&[u8], &[u8]); 20] = [
+        (b"foo", b"x.s:1: Error: unknown mnemonic\n"),
+        (b"nop\n1:", b"x.s:2: Error: unknown mnemonic\n"),
+        (b"s = 5", b"x.s:1: Error: unknown mnemonic\n"),
+        (b".foo", b"x.s:1: Error: unknown directive\n"),
+        (b"ret 8", b"x.s:1: Error: bad operand\n"),
+        (b".text 1", b"x.s:1: Error: bad operand\n"),
+        (b".globl", b"x.s:1: Error: bad operand\n"),
+        (b".globl a,", b"x.s:1: Error: bad operand\n"),
+        (b".byte 1 2", b"x.s:1: Error: bad operand\n"),
+        (b".byte 1,", b"x.s:1: Error: bad expression\n"),
+        (b".byte 300, x", b"x.s:1: Error: bad expression\n"),
+        (b".byte 08", b"x.s:1: Error: bad expression\n"),
+        (
+            b".byte 0x10000000000000000",
+            b"x.s:1: Error: number is too wide\n",
+        ),
+        (
+            b".byte 0xffffffffffffffff",
+            b"x.s:1: Error: value out of range\n",
+        ),
+        (b".byte 255, 256", b"x.s:1: Error: value out of range\n"),
+        (
+            b"a: nop\n\na: foo",
+            b"x.s:3: Error: symbol is already defined\n",
+        ),
+        (
+            b"nop\n.globl b, .La\n",
+            b"x.s:2: Error: undefined local symbol\n",
+        ),
+        (b"nop\nnop;", b"x.s:2: Error: NUL byte in source\n"),
+        (b".globl .La\n.La: .byte 0, 017, 0b11, 0xFf\n", b""),
+        (b"a:b: .Lc: .text\n.byte\n.global a, undefined", b""),
+    ];
+    for (source, line) in cases {
+        let told = message_of(rt.alloc(), source)?;
+        assert_eq!(rt; told.as_slice(), line, "{source:?}");
+    }
+    Ok(())
+}
+
+#[test]
+fn an_image(rt: HostRuntime) -> Result<(), Fail> {
+    let text = Section {
+        name: b".text",
+        kind: SHT_PROGBITS,
+        flags: SHF_ALLOC + SHF_EXECINSTR,
+        alignment: 16,
+        entry_size: 0,
+        body: Body::Bytes(b"\x90"),
+    };
+    let bytes = image(rt.alloc(), &[text], &[])?;
+    // A null header, `.text` and three tables, behind 130 bytes of bodies.
+    assert_eq!(rt; bytes.len(), 136 + 5 * 64);
+    Ok(())
+}
