@@ -44,6 +44,8 @@ impl<'a> Calls<'a> {
     fn next_fails(&mut self) -> bool
         ensures fails { result ≡ list_any (λ call. nat_eq call self.old.made) self.old.failing.now }
         ensures made { self.new.made ≡ min (self.old.made + 1) (2 ^ 64 - 1) }
+        ensures failing { self.new.failing ≡ self.old.failing }
+        ensures largest { self.new.largest ≡ self.old.largest }
     {
         let fails = self.failing.contains(&self.made);
         self.made = self.made.saturating_add(1);
