@@ -8,4 +8,10 @@ pub mod Faulty
 pub mod FaultTexts
 pub mod Messages
 pub mod WholeFile
+pub mod ByteClasses
+pub mod Pieces
+pub mod Dividing
 pub mod Tokens
+pub mod Digits
+pub mod Strings
+pub mod StringGrammar

@@ -1,7 +1,12 @@
 -- The tokens of a statement (GNU as manual, chapter 3, "Syntax").
-use Rattle.std.specs.Prelude.{ℕ, zero, suc, ◌+◌, ◌-◌, Bool, true, false, not, ◌&&◌, ◌||◌, ◌==◌, if◌then◌else◌, nat_eq, nat_lt, nat_le, List, [], ◌∷◌, length, take, codes}
+use Rattle.std.specs.Prelude.{ℕ, zero, suc, ◌+◌, ◌-◌, Bool, false, if◌then◌else◌, nat_eq, List, [], ◌∷◌, take, codes}
 use Rattle.std.specs.List.{list_any, prefix_len, starts_with}
-use Rattle.std.specs.Char.{is_ascii_alphabetic, is_ascii_digit, is_ascii_punctuation}
+use Rattle.std.specs.Char.{is_ascii_digit}
+use Rattle.asm_base.specs.ByteClasses.{is_name_start, is_name_byte, is_operator_byte}
+use Rattle.asm_base.specs.Pieces.{is_space}
+use Rattle.asm_base.specs.Dividing.{piece_kind, piece_length}
+use Rattle.asm_base.specs.declared.pieces.PieceKind.{PieceKind}
+use Rattle.asm_base.specs.declared.pieces.PieceKind.TheVariants as piece
 use Rattle.asm_base.specs.declared.tokens.TokenKind.{TokenKind}
 use Rattle.asm_base.specs.declared.tokens.TokenKind.TheVariants.{Name, Digits, Character, String, Operator, Other}
 use Rattle.asm_base.specs.declared.tokens.Token.{Token}
@@ -16,22 +21,6 @@ pub record SpelledToken : Type 0 where
 abbrev pub spelled : Token → SpelledToken
 spelled token = record { kind = token.kind; bytes = token.bytes.now; start = token.start }
 
--- a space or a tab: it separates tokens
-unfoldable pub is_blank : ℕ → Bool
-is_blank byte = byte == 32 || byte == 9
-
--- a letter, `_`, `.` or a byte past ASCII: it begins a name
-unfoldable pub is_name_start : ℕ → Bool
-is_name_start byte = is_ascii_alphabetic byte || byte == 95 || byte == 46 || nat_le 128 byte
-
--- what begins a name, a digit or `$`: it goes on with a name
-unfoldable pub is_name_byte : ℕ → Bool
-is_name_byte byte = is_name_start byte || is_ascii_digit byte || byte == 36
-
--- punctuation but for quotes, `#` and `;` (what begins a name is asked for before it)
-unfoldable pub is_operator_byte : ℕ → Bool
-is_operator_byte byte = is_ascii_punctuation byte && not (list_any (λ mark. mark == byte) (codes "\"'#;"))
-
 -- the operators of two bytes
 abbrev pub long_operators : List (List ℕ)
 long_operators =
@@ -42,30 +31,27 @@ unfoldable pub is_long_operator : ℕ → List ℕ → Bool
 is_long_operator first [] = false
 is_long_operator first (second ∷ rest) = list_any (starts_with nat_eq (first ∷ second ∷ [])) long_operators
 
--- how many bytes stand before the first `"` that no backslash escapes; the flag says that a backslash stands before the bytes
-unfoldable pub quoted_length : Bool → List ℕ → ℕ
-quoted_length escaped [] = 0
-quoted_length true (byte ∷ rest) = suc (quoted_length false rest)
-quoted_length false (byte ∷ rest) = if byte == 34 then 0 else suc (quoted_length (byte == 92) rest)
+-- the class of a token that is no word, by its first byte and its piece
+abbrev pub kind_by_piece : ℕ → PieceKind → TokenKind
+kind_by_piece first piece.Character = Character
+kind_by_piece first piece.String = String
+kind_by_piece first piece.Other = if is_operator_byte first then Operator else Other
+kind_by_piece first _ = Other
+
+-- the same of any token
+abbrev pub token_kind_by : ℕ → PieceKind → TokenKind
+token_kind_by first kind = if is_name_start first then Name else (if is_ascii_digit first then Digits else kind_by_piece first kind)
 
 -- the class of the token that begins with this byte
 unfoldable pub token_kind : ℕ → List ℕ → TokenKind
-token_kind first rest =
-    if is_name_start first then Name
-    else (if is_ascii_digit first then Digits
-    else (if first == 39 && nat_lt 0 (length rest) then Character
-    else (if first == 34 && nat_lt (quoted_length false rest) (length rest) then String
-    else (if is_operator_byte first then Operator
-    else Other))))
+token_kind first rest = token_kind_by first (piece_kind first rest)
 
--- how many bytes a token of this class has, of which this is the first
+-- how many bytes a token of this class has, of which this is the first; one that is no word and no operator is a whole piece
 unfoldable pub token_length : TokenKind → ℕ → List ℕ → ℕ
 token_length Name first rest = 1 + prefix_len is_name_byte rest
 token_length Digits first rest = 1 + prefix_len is_name_byte rest
-token_length Character first rest = 2
-token_length String first rest = 2 + quoted_length false rest
 token_length Operator first rest = if is_long_operator first rest then 2 else 1
-token_length Other first rest = 1
+token_length _ first rest = piece_length (piece_kind first rest) rest
 
 -- the token that begins with this byte, at this offset
 abbrev pub first_token : ℕ → ℕ → List ℕ → SpelledToken
@@ -78,7 +64,7 @@ unfoldable pub tokens_from : ℕ → ℕ → List ℕ → List SpelledToken
 tokens_from left_out offset [] = []
 tokens_from (suc left_out) offset (byte ∷ rest) = tokens_from left_out (suc offset) rest
 tokens_from zero offset (byte ∷ rest) =
-    if is_blank byte then tokens_from 0 (suc offset) rest
+    if is_space (piece_kind byte rest) then tokens_from (piece_length (piece_kind byte rest) rest - 1) (suc offset) rest
     else (first_token offset byte rest ∷ tokens_from (token_length (token_kind byte rest) byte rest - 1) (suc offset) rest)
 
 -- the tokens of a statement

@@ -1,32 +1,42 @@
 //! What all layers of the assembler share: the outside, texts, tokens, faults and messages.
 #![tactic(auto)]
 
+mod byte_classes;
+mod digits;
 mod faults;
 mod faulty;
+mod laws;
 mod memory;
 mod messages;
 mod notes;
 mod outside;
+mod pieces;
 mod positions;
 mod reading;
 mod statuses;
 mod steps;
 mod streams;
+mod strings;
 #[cfg(test)]
 mod tests;
 mod texts;
 mod tokens;
 
+pub use byte_classes::{is_name_byte, is_name_start};
+pub use digits::digit_of;
 pub use faults::{EndFault, Fault, Note, SavedRegister, ScfiFault, StatementFault};
 pub use faulty::{Calls, FaultyConsole, FaultyInputs, FaultyOutput, Unlisted};
+pub use laws::{one_division, one_value};
 pub use memory::{MemoryConsole, MemoryFile, MemoryInputs, MemoryOutput, Stage};
 pub use messages::{NoMemory, heading, message};
 pub use notes::{Noted, Notes};
 pub use outside::{Channel, Console, Failed, Inputs, Output};
+pub use pieces::{FirstPiece, PieceKind, first_piece};
 pub use positions::{Files, Pos};
 pub use reading::{MOST_BYTES, TextFault, read_text};
 pub use statuses::Status;
 pub use steps::Steps;
 pub use streams::{FileInputs, FileOutput, StreamConsole};
+pub use strings::string_value;
 pub use texts::{Bytes, Text};
-pub use tokens::{Token, TokenKind, Tokens, is_blank, is_name_byte, is_name_start};
+pub use tokens::{Token, TokenKind, Tokens};

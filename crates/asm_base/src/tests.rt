@@ -1,8 +1,8 @@
-//! The real adapters once each, and a file read through pieces.
+//! The real adapters once each, a file read through pieces, and the values of strings.
 
 use crate::{
     Channel, Console, Fault, FileInputs, FileOutput, Files, Inputs, MemoryFile, MemoryInputs,
-    Output, Pos, StatementFault, StreamConsole, heading, message, read_text,
+    Output, Pos, StatementFault, StreamConsole, heading, message, read_text, string_value,
 };
 use std::test::Fail;
 
@@ -47,5 +47,22 @@ fn tells_a_fault(rt: HostRuntime) -> Result<(), Fail> {
     }];
     let text = read_text(rt.alloc(), &mut MemoryInputs::new(&files), "x.s")?;
     assert_eq!(rt; text.as_bytes(), b"ret".as_slice());
+    Ok(())
+}
+
+#[test]
+fn string_values(rt: HostRuntime) -> Result<(), Fail> {
+    let cases: [(&[u8], &[u8]); 6] = [
+        (b"", b""),
+        (b"a b", b"a b"),
+        (b"\\101\\x41\\n", b"AA\n"),
+        (b"\\1234", b"S4"),
+        (b"\\b\\f\\r\\t\\\\\\\"\\q", b"\x08\x0c\r\t\\\"q"),
+        (b"\\777\\x1234g", b"\xff4g"),
+    ];
+    for (inner, bytes) in cases {
+        let value = string_value(rt.alloc(), inner)?;
+        assert_eq!(rt; value.as_slice(), bytes, "{inner:?}");
+    }
     Ok(())
 }

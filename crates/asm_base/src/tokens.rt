@@ -1,9 +1,13 @@
 //! The tokens of one statement (GNU as manual, chapter 3, "Syntax").
 
-ghost use Rattle.std.specs.Prelude.{◌≡◌, ◌+◌, ◌-◌, ◌<◌, ◌≤◌, map, length, IfOk, IsOk, false};
+ghost use Rattle.std.specs.Prelude.{◌≡◌, ◌+◌, ◌-◌, ◌<◌, ◌≤◌, map, length, IfOk, IsOk};
 ghost use Rattle.std.specs.List.{prefix_len};
-ghost use Rattle.asm_base.specs.Tokens.{is_blank, is_name_start, is_name_byte, is_operator_byte, is_long_operator, quoted_length, token_kind, token_length, spelled, tokens_of};
+ghost use Rattle.asm_base.specs.ByteClasses.{is_name_byte};
+ghost use Rattle.asm_base.specs.Dividing.{piece_kind, piece_length};
+ghost use Rattle.asm_base.specs.Tokens.{is_long_operator, kind_by_piece, token_kind_by, token_kind, token_length, spelled, tokens_of};
 
+use crate::byte_classes::{is_name_byte, is_name_start, is_operator_byte};
+use crate::pieces::{FirstPiece, PieceKind, first_piece};
 use smallvec::SmallVec;
 use std::alloc::{AllocError, Global};
 use std::marker::Model;
@@ -26,7 +30,7 @@ pub enum TokenKind {
     String,
     /// An operator or a mark of punctuation.
     Operator,
-    /// A byte that begins no token.
+    /// A byte that begins no token, or a string that does not close.
     #[default]
     Other,
 }
@@ -56,7 +60,7 @@ impl<'a> Model for Tokens<'a> {
 }
 
 impl<'a> Tokens<'a> {
-    /// Reads the tokens of a statement, which has no line end in it.
+    /// Reads the tokens of a statement: blanks and comments stand between them.
     pub fn read(alloc: Global, statement: &'a [u8]) -> Result<Tokens<'a>, AllocError>
         ensures tokens { IfOk result (λ tokens. tokens ≡ tokens_of statement.now) }
         ensures inline { length (tokens_of statement.now) ≤ 8 → IsOk result }
@@ -64,11 +68,12 @@ impl<'a> Tokens<'a> {
         let mut list = SmallVec::new(alloc);
         let mut at = 0;
         while let Some((first, rest)) = statement[at..].split_first() {
-            if is_blank(*first) {
-                at += 1;
+            let piece = first_piece(*first, rest);
+            if piece.kind.is_space() {
+                at += piece.length;
             } else {
-                let kind = token_kind(*first, rest);
-                let end = at + token_length(kind, *first, rest);
+                let kind = token_kind(*first, piece.kind);
+                let end = at + token_length(kind, *first, rest, piece);
                 list.push(Token {
                     kind,
                     bytes: &statement[at..end],
@@ -86,38 +91,6 @@ impl<'a> Tokens<'a> {
     {
         self.list.as_slice()
     }
-}
-
-/// Whether the byte separates tokens.
-#[tactic(auto, unfolding(crate::specs::Tokens::is_blank))]
-pub fn is_blank(byte: u8) -> bool
-    ensures { result ≡ is_blank byte }
-{
-    byte == b' ' || byte == b'\t'
-}
-
-/// Whether the byte begins a name.
-#[tactic(auto, unfolding(crate::specs::Tokens::is_name_start))]
-pub fn is_name_start(byte: u8) -> bool
-    ensures { result ≡ is_name_start byte }
-{
-    byte.is_ascii_alphabetic() || byte == b'_' || byte == b'.' || byte >= 0x80
-}
-
-/// Whether the byte goes on with a name.
-#[tactic(auto, unfolding(crate::specs::Tokens::is_name_byte))]
-pub fn is_name_byte(byte: u8) -> bool
-    ensures { result ≡ is_name_byte byte }
-{
-    is_name_start(byte) || byte.is_ascii_digit() || byte == b'$'
-}
-
-/// Whether the byte is an operator or begins one.
-#[tactic(auto, unfolding(crate::specs::Tokens::is_operator_byte))]
-fn is_operator_byte(byte: u8) -> bool
-    ensures { result ≡ is_operator_byte byte }
-{
-    byte.is_ascii_punctuation() && !b"\"'#;".contains(&byte)
 }
 
 /// Whether the byte and the one after it are one operator.
@@ -139,59 +112,47 @@ fn name_length(bytes: &[u8]) -> usize
     bytes.iter().take_while(|byte| is_name_byte(**byte)).count()
 }
 
-/// How many bytes stand before the quote that closes a string.
-#[tactic(auto, using(crate::proofs::Quotes::quoted_steps))]
-fn quoted_length(bytes: &[u8]) -> usize
-    ensures value { result ≡ quoted_length false bytes.now }
-    ensures within { result ≤ length bytes.now }
+/// The class of the token that begins with this byte and this piece, and is no word.
+fn kind_by_piece(first: u8, kind: PieceKind) -> TokenKind
+    ensures { result ≡ kind_by_piece first kind }
 {
-    let mut escaped = false;
-    for (i, byte) in bytes.iter().enumerate() {
-        if escaped {
-            escaped = false;
-        } else if *byte == b'"' {
-            return i;
-        } else {
-            escaped = *byte == b'\\';
-        }
+    match kind {
+        PieceKind::Character => TokenKind::Character,
+        PieceKind::String => TokenKind::String,
+        PieceKind::Other if is_operator_byte(first) => TokenKind::Operator,
+        _ => TokenKind::Other,
     }
-    bytes.len()
 }
 
-/// The class of the token that begins with this byte.
-#[tactic(auto, unfolding(crate::specs::Tokens::token_kind))]
-fn token_kind(first: u8, rest: &[u8]) -> TokenKind
-    ensures { result ≡ token_kind first rest.now }
+/// The class of the token that begins with this byte and this piece.
+fn token_kind(first: u8, kind: PieceKind) -> TokenKind
+    ensures { result ≡ token_kind_by first kind }
 {
     if is_name_start(first) {
         TokenKind::Name
     } else if first.is_ascii_digit() {
         TokenKind::Digits
-    } else if first == b'\'' && !rest.is_empty() {
-        TokenKind::Character
-    } else if first == b'"' && quoted_length(rest) < rest.len() {
-        TokenKind::String
-    } else if is_operator_byte(first) {
-        TokenKind::Operator
     } else {
-        TokenKind::Other
+        kind_by_piece(first, kind)
     }
 }
 
-/// How many bytes the token of this class has that begins with this byte.
+/// How many bytes the token of this class has that begins with this byte and this piece.
 #[tactic(auto, unfolding(crate::specs::Tokens::token_length))]
-fn token_length(kind: TokenKind, first: u8, rest: &[u8]) -> usize
-    requires { kind ≡ token_kind first rest.now }
+fn token_length(kind: TokenKind, first: u8, rest: &[u8], piece: FirstPiece) -> usize
+    requires class { kind ≡ token_kind first rest.now }
+    requires piece_class { piece.kind ≡ piece_kind first rest.now }
+    requires piece_length { piece.length ≡ piece_length piece.kind rest.now }
+    requires piece_some { 0 < piece.length }
+    requires piece_within { piece.length ≤ 1 + length rest.now }
     ensures value { result ≡ token_length kind first rest.now }
     ensures some { 0 < result }
     ensures within { result ≤ 1 + length rest.now }
 {
     match kind {
         TokenKind::Name | TokenKind::Digits => 1 + name_length(rest),
-        TokenKind::Character => 2,
-        TokenKind::String => 2 + quoted_length(rest),
         TokenKind::Operator => if is_long_operator(first, rest) { 2 } else { 1 },
-        TokenKind::Other => 1,
+        TokenKind::Character | TokenKind::String | TokenKind::Other => piece.length,
     }
 }
 
@@ -203,7 +164,7 @@ mod tests {
 
     #[test]
     fn reads_tokens(rt: HostRuntime) -> Result<(), Fail> {
-        let cases: [(&[u8], &[(TokenKind, &[u8])]); 9] = [
+        let cases: [(&[u8], &[(TokenKind, &[u8])]); 10] = [
             (b"", &[]),
             (
                 b"f: .byte 1, 0x41, -2",
@@ -247,12 +208,17 @@ mod tests {
             (b"'a''", &[(Character, b"'a"), (Character, b"''")]),
             (b"\"a\\\"b\" c", &[(String, b"\"a\\\"b\""), (Name, b"c")]),
             (
-                b"\"a#\x01",
+                b"a;\"a#\x01",
+                &[(Name, b"a"), (Other, b";"), (Other, b"\"a#\x01")],
+            ),
+            (
+                b"a/**/b/* \" */+'/*",
                 &[
-                    (Other, b"\""),
                     (Name, b"a"),
-                    (Other, b"#"),
-                    (Other, b"\x01"),
+                    (Name, b"b"),
+                    (Operator, b"+"),
+                    (Character, b"'/"),
+                    (Operator, b"*"),
                 ],
             ),
         ];

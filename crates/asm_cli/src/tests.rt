@@ -66,10 +66,19 @@ fn commands(rt: HostRuntime) -> Result<(), Fail> {
 
 #[test]
 fn objects(rt: HostRuntime) -> Result<(), Fail> {
-    let cases: [(&[u8], usize, &[u8]); 3] = [
+    let cases: [(&[u8], usize, &[u8]); 8] = [
         (b"", 584, b""),
         (b"nop\n", 592, b"\x90"),
         (b".globl f\nf: .byte 1, 0x41\nret\n", 616, b"\x01\x41\xc3"),
+        (
+            b".globl f\r\nf: .byte 1, 0x41\r\nret\r\n",
+            616,
+            b"\x01\x41\xc3",
+        ),
+        (b".byte '/,'#;nop/*x*/;ret # c", 592, b"\x2f\x23\x90\xc3"),
+        (b".byte ' ,1", 592, b"\x20\x01"),
+        (b"\"a b\": nop\n.globl \"a b\"", 624, b"\x90"),
+        (b"/* a */ a:/* b\n */ nop # c\n;;", 616, b"\x90"),
     ];
     for (source, length, text) in cases {
         let left = run_on(rt.alloc(), &["as", "x.s"], source)?;
@@ -88,10 +97,40 @@ fn objects(rt: HostRuntime) -> Result<(), Fail> {
 
 #[test]
 fn refusals(rt: HostRuntime) -> Result<(), Fail> {
-    let left = run_on(rt.alloc(), &["as", "x.s"], b"foo\nbar\n")?;
-    assert_eq!(rt; left.status, Status::SourceFault);
-    assert_eq!(rt; left.obj.stage(), Stage::Nothing);
-    let messages = b"x.s: Assembler messages:\nx.s:1: Error: unknown mnemonic\n";
-    assert_eq!(rt; left.con.said(Channel::Err), messages.as_slice());
+    let cases: [(&[u8], &str); 11] = [
+        (b"foo\nbar\n", "1: Error: unknown mnemonic"),
+        (b"no/**/p", "1: Error: unknown mnemonic"),
+        (b"/* a\nb */ foo", "2: Error: unknown mnemonic"),
+        (b".byte '/','#", "1: Error: bad operand"),
+        (b"\"\\0\": nop", "1: Error: bad operand"),
+        (b"nop # c\n# \0 c\n", "2: Error: NUL byte in source"),
+        (b"nop\n\n\0", "3: Error: NUL byte in source"),
+        (b".ascii \"ab", "1: Error: string is not closed"),
+        (b"nop\n/* x", "2: Error: comment is not closed"),
+        (b"foo\n\"a\n/* b", "2: Error: string is not closed"),
+        (b"a:;a: nop", "1: Error: symbol is already defined"),
+    ];
+    for (source, message) in cases {
+        let left = run_on(rt.alloc(), &["as", "x.s"], source)?;
+        assert_eq!(rt; left.status, Status::SourceFault, "{source:?}");
+        assert_eq!(rt; left.obj.stage(), Stage::Nothing, "{source:?}");
+        let said = format!(in rt.alloc(); "x.s: Assembler messages:\nx.s:{message}\n")?;
+        assert_eq!(rt; left.con.said(Channel::Err), said.as_bytes(), "{source:?}");
+    }
+    Ok(())
+}
+
+#[test]
+fn longest_statement(rt: HostRuntime) -> Result<(), Fail> {
+    let mut source = vec![in rt.alloc(); b'a'; 65535]?;
+    source.push(b':')?;
+    let left = run_on(rt.alloc(), &["as", "x.s"], &source)?;
+    assert_eq!(rt; left.status, Status::Done);
+    // Two symbols, and the name with a byte 0 on either side.
+    assert_eq!(rt; left.obj.bytes().len(), 66144);
+    source.push(b':')?;
+    let left = run_on(rt.alloc(), &["as", "x.s"], &source)?;
+    let said = b"x.s: Assembler messages:\nx.s:1: Error: statement is too long\n";
+    assert_eq!(rt; left.con.said(Channel::Err), said.as_slice());
     Ok(())
 }

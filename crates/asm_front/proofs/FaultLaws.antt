@@ -14,9 +14,11 @@ use Rattle.asm_front.specs.declared.instructions.Row.{Row}
 use Rattle.asm_front.specs.declared.named_symbols.NamedSymbol.{NamedSymbol}
 use Rattle.asm_front.specs.Results.{◌>>=◌}
 use Rattle.asm_front.specs.Numbers.{numeral, spelled_number}
-use Rattle.asm_front.specs.Operands.{is_name, token_number, numbers, number_list, as_bytes, name_list}
+use Rattle.asm_base.specs.declared.tokens.TokenKind.{TokenKind}
+use Rattle.asm_base.specs.declared.tokens.TokenKind.TheVariants.{Name, Digits, Character, String, Operator, Other}
+use Rattle.asm_front.specs.Operands.{is_name, character_code, number_by_kind, token_number, numbers, number_list, as_bytes, checked_name, name_by_kind, symbol_name, name_list}
 use Rattle.asm_front.specs.SymbolMap.{labelled, symbol_named}
-use Rattle.asm_front.specs.Placing.{Placed, nothing_placed, place_label, place_text, place_byte, with_globals, place_globl, place_directive, place_row, place_instruction, is_assignment, place_body, place_tokens}
+use Rattle.asm_front.specs.Placing.{Placed, nothing_placed, place_symbol, place_label, place_text, place_byte, with_globals, place_globl, place_directive, place_row, place_instruction, is_assignment, place_body, place_tokens}
 use Rattle.asm_front.specs.Assembly.{FaultAt, fault_at, pos_at, place, place_all, end_answer, placed_whole, finished, lines_answer, assembly_of_lines}
 use Rattle.asm_front.specs.Outcome.{is_too_large_fault, is_too_large}
 
@@ -63,9 +65,23 @@ spelled_fine (first ∷ second ∷ rest) =
     either _ (either _ (numeral_fine 16 rest) (either _ (numeral_fine 2 rest) (numeral_fine 8 (second ∷ rest))))
     (numeral_fine 10 (first ∷ second ∷ rest))
 
+character_fine : (bytes : List ℕ) → NotTooLarge (character_code bytes)
+unfolding character_code
+character_fine [] = a_fault _ refl
+character_fine (quote ∷ []) = a_fault _ refl
+character_fine (quote ∷ byte ∷ rest) = no_fault _
+
+by_kind_fine : (kind : TokenKind) (bytes : List ℕ) → NotTooLarge (number_by_kind kind bytes)
+by_kind_fine Name bytes = a_fault _ refl
+by_kind_fine Digits bytes = spelled_fine bytes
+by_kind_fine Character bytes = character_fine bytes
+by_kind_fine String bytes = a_fault _ refl
+by_kind_fine Operator bytes = a_fault _ refl
+by_kind_fine Other bytes = a_fault _ refl
+
 token_fine : (token : SpelledToken) → NotTooLarge (token_number token)
 unfolding token_number
-token_fine token = either _ (spelled_fine token.bytes) (a_fault _ refl)
+token_fine token = by_kind_fine token.kind token.bytes
 
 numbers_fine : (tokens : List SpelledToken) → NotTooLarge (numbers tokens)
 unfolding numbers
@@ -83,11 +99,28 @@ bytes_fine : (ns : List ℕ) → NotTooLarge (as_bytes ns)
 unfolding as_bytes
 bytes_fine ns = either _ (no_fault _) (a_fault _ refl)
 
+checked_fine : (name : List ℕ) → NotTooLarge (checked_name name)
+unfolding checked_name
+checked_fine name = either _ (no_fault _) (a_fault _ refl)
+
+name_fine : (kind : TokenKind) (bytes : List ℕ) → NotTooLarge (name_by_kind kind bytes)
+name_fine Name bytes = no_fault _
+name_fine Digits bytes = a_fault _ refl
+name_fine Character bytes = a_fault _ refl
+name_fine String bytes = checked_fine _
+name_fine Operator bytes = a_fault _ refl
+name_fine Other bytes = a_fault _ refl
+
+symbol_name_fine : (token : SpelledToken) → NotTooLarge (symbol_name token)
+unfolding symbol_name
+symbol_name_fine token = name_fine token.kind token.bytes
+
 names_fine : (tokens : List SpelledToken) → NotTooLarge (name_list tokens)
 unfolding name_list
 names_fine [] = a_fault _ refl
-names_fine (token ∷ []) = either _ (no_fault _) (a_fault _ refl)
-names_fine (token ∷ comma ∷ rest) = either _ (step (names_fine rest) (λ names. no_fault _)) (a_fault _ refl)
+names_fine (token ∷ []) = step (symbol_name_fine token) (λ name. no_fault _)
+names_fine (token ∷ comma ∷ rest) =
+    step (symbol_name_fine token) (λ name. either _ (step (names_fine rest) (λ names. no_fault _)) (a_fault _ refl))
 
 -- of a symbol that is known
 known_fine : (is_global : Bool) (known : Option ℕ) (first : Pos) (offset : ℕ) (pos : Pos)
@@ -99,9 +132,13 @@ labelled_fine : (known : Option NamedSymbol) (offset : ℕ) (pos : Pos) → NotT
 labelled_fine None offset pos = no_fault _
 labelled_fine (Some symbol) offset pos = known_fine symbol.is_global symbol.offset symbol.pos offset pos
 
-label_fine : (pos : Pos) (name : List ℕ) (placed : Placed) → NotTooLarge (place_label pos name placed)
+symbol_fine : (pos : Pos) (name : List ℕ) (placed : Placed) → NotTooLarge (place_symbol pos name placed)
+unfolding place_symbol
+symbol_fine pos name placed = step (labelled_fine (symbol_named name placed.symbols) _ pos) (λ symbol. no_fault _)
+
+label_fine : (pos : Pos) (token : SpelledToken) (placed : Placed) → NotTooLarge (place_label pos token placed)
 unfolding place_label
-label_fine pos name placed = step (labelled_fine (symbol_named name placed.symbols) _ pos) (λ symbol. no_fault _)
+label_fine pos token placed = step (symbol_name_fine token) (λ name. symbol_fine pos name placed)
 
 text_fine : (operands : List SpelledToken) (placed : Placed) → NotTooLarge (place_text operands placed)
 unfolding place_text
@@ -146,7 +183,7 @@ unfolding place_tokens
 tokens_fine pos [] placed = no_fault _
 tokens_fine pos (first ∷ []) placed = body_fine pos first [] placed
 tokens_fine pos (first ∷ second ∷ rest) placed =
-    either _ (step (label_fine pos first.bytes placed) (λ labels. tokens_fine pos rest labels))
+    either _ (step (label_fine pos first placed) (λ labels. tokens_fine pos rest labels))
     (body_fine pos first (second ∷ rest) placed)
 
 -- the answer for the tokens of a statement is fine, and so is that for the statement
@@ -175,6 +212,8 @@ finished_fine placed = step (end_fine _ placed) (λ whole. no_fault _)
 lines_fine : (file : ℕ) (lines : Result (List StatementAt) LineFault) → NotTooLargeAt (lines_answer file lines)
 lines_fine file (Ok statements) = no_fault _
 lines_fine file (Err (line.NulByte number)) = a_fault _ refl
+lines_fine file (Err (line.UnclosedString number)) = a_fault _ refl
+lines_fine file (Err (line.UnclosedComment number)) = a_fault _ refl
 lines_fine file (Err (line.StatementTooLong number)) = a_fault _ refl
 lines_fine file (Err line.NoMemory) = no_fault _
 

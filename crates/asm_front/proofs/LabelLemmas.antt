@@ -21,37 +21,37 @@ unfolding place_tokens place_unlabelled
 unlabelled pos [] placed none = refl
 unlabelled pos (first ∷ []) placed none = refl
 unlabelled pos (first ∷ second ∷ rest) placed none =
-    ap (λ b. cond b (place_label pos first.bytes placed >>= (λ labels. place_tokens pos rest labels)) (place_body pos first (second ∷ rest) placed)) none
+    ap (λ b. cond b (place_label pos first placed >>= (λ labels. place_tokens pos rest labels)) (place_body pos first (second ∷ rest) placed)) none
 
 label_two : (pos : Pos) (first second : SpelledToken) (rest : List SpelledToken) (placed : Placed) → is_label first second ≡ true
-    → place_tokens pos (first ∷ second ∷ rest) placed ≡ (place_label pos first.bytes placed >>= (λ labels. place_tokens pos rest labels))
+    → place_tokens pos (first ∷ second ∷ rest) placed ≡ (place_label pos first placed >>= (λ labels. place_tokens pos rest labels))
 unfolding place_tokens
 label_two pos first second rest placed labelled =
-    ap (λ b. cond b (place_label pos first.bytes placed >>= (λ labels. place_tokens pos rest labels)) (place_body pos first (second ∷ rest) placed)) labelled
+    ap (λ b. cond b (place_label pos first placed >>= (λ labels. place_tokens pos rest labels)) (place_body pos first (second ∷ rest) placed)) labelled
 
 -- what stands from the place on, where a label does
 label_left : (pos : Pos) (tokens : List Token) (at : ℕ) (d : Token) (placed : Placed) → at + 2 ≤ length tokens → begins_with_label (map spelled (drop at tokens)) ≡ true
-    → place_tokens pos (map spelled (drop at tokens)) placed ≡ (place_label pos (spelled (get_or tokens at d)).bytes placed >>= (λ labels. place_tokens pos (map spelled (drop (at + 2) tokens)) labels))
+    → place_tokens pos (map spelled (drop at tokens)) placed ≡ (place_label pos (spelled (get_or tokens at d)) placed >>= (λ labels. place_tokens pos (map spelled (drop (at + 2) tokens)) labels))
 label_left pos tokens at d placed inside labelled =
     let two = two_left tokens at d inside in
     ap (λ ts. place_tokens pos ts placed) two
     ∙ label_two pos (spelled (get_or tokens at d)) (spelled (get_or tokens (at + 1) d)) (map spelled (drop (at + 2) tokens)) placed (sym (ap begins_with_label two) ∙ labelled)
 
 pub label_step : (pos : Pos) (tokens : List Token) (at : ℕ) (d : Token) (placed more : Placed) (whole : Result Placed StatementFault)
-    → at + 2 ≤ length tokens → begins_with_label (map spelled (drop at tokens)) ≡ true → place_label pos (spelled (get_or tokens at d)).bytes placed ≡ Ok more
+    → at + 2 ≤ length tokens → begins_with_label (map spelled (drop at tokens)) ≡ true → place_label pos (spelled (get_or tokens at d)) placed ≡ Ok more
     → place_tokens pos (map spelled (drop at tokens)) placed ≡ whole → place_tokens pos (map spelled (drop (at + 2) tokens)) more ≡ whole
 label_step pos tokens at d placed more whole inside labelled is before =
     sym (label_left pos tokens at d placed inside labelled ∙ ap (λ r. r >>= (λ labels. place_tokens pos (map spelled (drop (at + 2) tokens)) labels)) is) ∙ before
 
 pub label_stop : (pos : Pos) (tokens : List Token) (at : ℕ) (d : Token) (placed : Placed) (fault : StatementFault) (whole : Result Placed StatementFault)
-    → at + 2 ≤ length tokens → begins_with_label (map spelled (drop at tokens)) ≡ true → place_label pos (spelled (get_or tokens at d)).bytes placed ≡ Err fault
+    → at + 2 ≤ length tokens → begins_with_label (map spelled (drop at tokens)) ≡ true → place_label pos (spelled (get_or tokens at d)) placed ≡ Err fault
     → place_tokens pos (map spelled (drop at tokens)) placed ≡ whole → whole ≡ Err fault
 label_stop pos tokens at d placed fault whole inside labelled is before =
     sym before ∙ label_left pos tokens at d placed inside labelled ∙ ap (λ r. r >>= (λ labels. place_tokens pos (map spelled (drop (at + 2) tokens)) labels)) is
 
 -- a label that can't be placed ends the statement
 pub label_fails : (pos : Pos) (tokens : List Token) (at : ℕ) (d : Token) (placed : Placed) (fault : StepFault) (whole : Result Placed StatementFault)
-    → at + 2 ≤ length tokens → begins_with_label (map spelled (drop at tokens)) ≡ true → Fails fault (place_label pos (spelled (get_or tokens at d)).bytes placed)
+    → at + 2 ≤ length tokens → begins_with_label (map spelled (drop at tokens)) ≡ true → Fails fault (place_label pos (spelled (get_or tokens at d)) placed)
     → place_tokens pos (map spelled (drop at tokens)) placed ≡ whole → Fails fault whole
 label_fails pos tokens at d placed (Source fault) whole inside labelled is before = label_stop pos tokens at d placed fault whole inside labelled is before
 label_fails pos tokens at d placed NoMemory whole inside labelled is before = tt

@@ -9,6 +9,7 @@ mod ImageSamples
 pub mod TokenLists
 pub mod NumberLists
 pub mod NameLists
+mod OperandSamples
 pub mod LabelLemmas
 pub mod StatementLists
 pub mod EndingLemmas

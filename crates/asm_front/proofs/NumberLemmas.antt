@@ -2,7 +2,7 @@
 use Rattle.std.proofs.Common.{◌≡◌, ℕ, ◌+◌, ◌*◌, ◌<◌, ◌≤◌, ◌^◌, List, [], ◌∷◌, length, get_or, drop, arith}
 use Rattle.std.proofs.Math.Nat.{mul-le-mul_left}
 use Rattle.std.proofs.lemmas.List.{at_drop_more, at_drop_all}
-use Rattle.asm_front.specs.Numbers.{digit_of, number_after}
+use Rattle.asm_base.specs.Digits.{digit_of, number_after}
 
 grows : (radix number digit : ℕ) → 0 < radix → number ≤ number * radix + digit
 grows radix number digit some = omega (arith, mul-le-mul_left number some)

@@ -18,8 +18,8 @@ use Rattle.asm_front.specs.Rows.{the_rows, has_name, bytes_of}
 use Rattle.asm_front.specs.Reads.{Reads}
 use Rattle.asm_front.specs.Results.{◌>>=◌}
 use Rattle.asm_front.specs.SymbolMap.{symbol_named, with_symbol, labelled}
-use Rattle.asm_front.specs.Operands.{is_name, number_list, as_bytes, name_list}
-use Rattle.asm_front.specs.Placing.{Placed, nothing_placed, with_text, with_globals, is_assignment, begins_with_dot, is_label, place_label, place_text, place_byte, place_globl, place_directive, place_row, place_instruction, place_body, place_tokens}
+use Rattle.asm_front.specs.Operands.{is_name, number_list, as_bytes, symbol_name, name_list}
+use Rattle.asm_front.specs.Placing.{Placed, nothing_placed, with_text, with_globals, is_assignment, begins_with_dot, is_label, place_symbol, place_label, place_text, place_byte, place_globl, place_directive, place_row, place_instruction, place_body, place_tokens}
 use Rattle.asm_front.specs.Fields.{half, word, xword}
 use Rattle.asm_front.specs.Symbols.{SymbolEntry}
 use Rattle.asm_front.specs.Image.{header_end, elf_header, header_table, file_of, with_tables, image_of}
@@ -53,11 +53,16 @@ extends_both p q r one two = record {
 }
 
 -- a label changes no text
-label_text : (pos : Pos) (name : List ℕ) (p : Placed) → IfOk (place_label pos name p) (λ q. q.text ≡ p.text)
-unfolding place_label
-label_text pos name p =
+symbol_text : (pos : Pos) (name : List ℕ) (p : Placed) → IfOk (place_symbol pos name p) (λ q. q.text ≡ p.text)
+unfolding place_symbol
+symbol_text pos name p =
     after_step (λ q. q.text ≡ p.text) (labelled (symbol_named name p.symbols) (length p.text) pos)
     (λ symbol. Ok (record { text = p.text; symbols = with_symbol p.symbols name symbol })) (λ symbol. refl)
+
+label_text : (pos : Pos) (token : SpelledToken) (p : Placed) → IfOk (place_label pos token p) (λ q. q.text ≡ p.text)
+unfolding place_label
+label_text pos token p =
+    after_step (λ q. q.text ≡ p.text) (symbol_name token) (λ name. place_symbol pos name p) (λ name. symbol_text pos name p)
 
 -- directives, instructions and whole statements only append to the text
 text_extends : (operands : List SpelledToken) (p : Placed) → IfOk (place_text operands p) (Extends p)
@@ -117,7 +122,7 @@ tokens_extend pos [] p = extends_same p p refl
 tokens_extend pos (first ∷ []) p = body_extends pos first [] p
 tokens_extend pos (first ∷ second ∷ rest) p =
     either (Extends p) (is_label first second) _ _
-    (through (λ q. q.text ≡ p.text) (Extends p) (place_label pos first.bytes p) (λ labels. place_tokens pos rest labels) (label_text pos first.bytes p)
+    (through (λ q. q.text ≡ p.text) (Extends p) (place_label pos first p) (λ labels. place_tokens pos rest labels) (label_text pos first p)
     (λ q same. further p q (place_tokens pos rest q) (extends_same p q same) (tokens_extend pos rest q)))
     (body_extends pos first (second ∷ rest) p)
 
@@ -196,9 +201,9 @@ tokens_written pos (first ∷ []) row p e =
     (place_directive pos first.bytes [] p) e
 tokens_written pos (first ∷ second ∷ rest) row p e =
     behind_written (Adds p (bytes_of row)) (is_label first second) (behind_labels rest) first second rest row
-    (place_label pos first.bytes p >>= (λ labels. place_tokens pos rest labels)) (place_body pos first (second ∷ rest) p)
-    (λ behind. through (λ q. q.text ≡ p.text) (Adds p (bytes_of row)) (place_label pos first.bytes p) (λ labels. place_tokens pos rest labels)
-    (label_text pos first.bytes p)
+    (place_label pos first p >>= (λ labels. place_tokens pos rest labels)) (place_body pos first (second ∷ rest) p)
+    (λ behind. through (λ q. q.text ≡ p.text) (Adds p (bytes_of row)) (place_label pos first p) (λ labels. place_tokens pos rest labels)
+    (label_text pos first p)
     (λ q same. adds_behind p q (bytes_of row) (place_tokens pos rest q) same (tokens_written pos rest row q behind)))
     e
 

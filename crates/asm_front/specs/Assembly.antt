@@ -106,6 +106,8 @@ finished placed = placed_whole placed >>= λ whole. Ok (object_of whole)
 abbrev pub lines_answer : ℕ → Result (List StatementAt) LineFault → Result (List StatementAt) FaultAt
 lines_answer file (Ok statements) = Ok statements
 lines_answer file (Err (line.NulByte number)) = Err (fault_at (Statement statement.NulByte) (pos_at file number))
+lines_answer file (Err (line.UnclosedString number)) = Err (fault_at (Statement statement.UnclosedString) (pos_at file number))
+lines_answer file (Err (line.UnclosedComment number)) = Err (fault_at (Statement statement.UnclosedComment) (pos_at file number))
 lines_answer file (Err (line.StatementTooLong number)) = Err (fault_at (Statement statement.StatementTooLong) (pos_at file number))
 lines_answer file (Err line.NoMemory) = Ok []
 

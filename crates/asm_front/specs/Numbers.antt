@@ -1,24 +1,9 @@
 -- The number that a token of digits spells (GNU as manual, "Integers").
-use Rattle.std.specs.Prelude.{ℕ, ◌+◌, ◌-◌, ◌*◌, ◌^◌, ◌==◌, ◌||◌, ◌&&◌, Bool, List, [], ◌∷◌, nat_lt, nat_le, if◌then◌else◌, Result, Ok, Err}
+use Rattle.std.specs.Prelude.{ℕ, ◌^◌, ◌==◌, ◌||◌, List, [], ◌∷◌, nat_lt, if◌then◌else◌, Result, Ok, Err}
 use Rattle.std.specs.List.{list_all}
 use Rattle.asm_base.specs.declared.faults.StatementFault.{StatementFault}
 use Rattle.asm_base.specs.declared.faults.StatementFault.TheVariants.{BadExpression, NumberTooWide}
-
--- what a digit of any radix up to 16 counts, and 16 for any other byte
-unfoldable pub digit_of : ℕ → ℕ
-digit_of byte =
-    if nat_le 48 byte && nat_le byte 57 then byte - 48
-    else (if nat_le 97 byte && nat_le byte 102 then byte - 87
-    else (if nat_le 65 byte && nat_le byte 70 then byte - 55 else 16))
-
--- the number that digits give which stand behind this one
-unfoldable pub number_after : ℕ → ℕ → List ℕ → ℕ
-number_after radix number [] = number
-number_after radix number (digit ∷ digits) = number_after radix (number * radix + digit_of digit) digits
-
--- the radix has this digit
-abbrev pub is_digit_of : ℕ → ℕ → Bool
-is_digit_of radix byte = nat_lt (digit_of byte) radix
+use Rattle.asm_base.specs.Digits.{is_digit_of, number_after}
 
 -- digits of a radix, at least one, none of another radix, and their number is not too wide
 unfoldable pub numeral : ℕ → List ℕ → Result ℕ StatementFault

@@ -8,7 +8,7 @@ use Rattle.asm_base.specs.Tokens.{SpelledToken}
 use Rattle.asm_front.specs.declared.instructions.Row.{Row}
 use Rattle.asm_front.specs.Results.{◌>>=◌}
 use Rattle.asm_front.specs.Rows.{the_rows, has_name, bytes_of}
-use Rattle.asm_front.specs.Operands.{is_name, is_mark, number_list, as_bytes, name_list}
+use Rattle.asm_front.specs.Operands.{is_name, is_mark, number_list, as_bytes, names_symbol, symbol_name, name_list}
 use Rattle.asm_front.specs.SymbolMap.{SymbolList, symbol_named, with_symbol, labelled, made_global}
 
 -- what the statements so far have placed: the bytes of `.text`, and the symbols
@@ -23,11 +23,15 @@ nothing_placed = record { text = []; symbols = [] }
 abbrev pub with_text : List ℕ → Placed → Placed
 with_text bytes placed = record { text = placed.text ++ bytes; symbols = placed.symbols }
 
--- `name:` defines a symbol where the next byte goes
-unfoldable pub place_label : Pos → List ℕ → Placed → Result Placed StatementFault
-place_label pos name placed =
+-- a symbol of this name is defined where the next byte goes
+unfoldable pub place_symbol : Pos → List ℕ → Placed → Result Placed StatementFault
+place_symbol pos name placed =
     labelled (symbol_named name placed.symbols) (length placed.text) pos
     >>= λ symbol. Ok (record { text = placed.text; symbols = with_symbol placed.symbols name symbol })
+
+-- `name:`, by the token of the name
+unfoldable pub place_label : Pos → SpelledToken → Placed → Result Placed StatementFault
+place_label pos token placed = symbol_name token >>= λ name. place_symbol pos name placed
 
 -- `.text`
 unfoldable pub place_text : List SpelledToken → Placed → Result Placed StatementFault
@@ -86,9 +90,9 @@ place_body pos first rest placed =
     else (if begins_with_dot first.bytes then place_directive pos first.bytes rest placed
     else place_instruction first.bytes rest placed))
 
--- a name and a colon
+-- a name, quoted or not, and a colon
 abbrev pub is_label : SpelledToken → SpelledToken → Bool
-is_label first second = is_name first && is_mark 58 second
+is_label first second = names_symbol first && is_mark 58 second
 
 -- behind the labels, where anything is
 unfoldable pub place_unlabelled : Pos → List SpelledToken → Placed → Result Placed StatementFault
@@ -106,5 +110,5 @@ unfoldable pub place_tokens : Pos → List SpelledToken → Placed → Result Pl
 place_tokens pos [] placed = Ok placed
 place_tokens pos (first ∷ []) placed = place_body pos first [] placed
 place_tokens pos (first ∷ second ∷ rest) placed =
-    if is_label first second then place_label pos first.bytes placed >>= (λ labels. place_tokens pos rest labels)
+    if is_label first second then place_label pos first placed >>= (λ labels. place_tokens pos rest labels)
     else place_body pos first (second ∷ rest) placed

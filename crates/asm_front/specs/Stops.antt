@@ -40,6 +40,8 @@ undefined_stop entry = Source (End UndefinedLocalSymbol) entry.1.pos
 -- a fault of the lines of the file
 abbrev pub line_stop : ℕ → LineFault → Stop
 line_stop file (line.NulByte number) = Source (Statement statement.NulByte) (pos_at file number)
+line_stop file (line.UnclosedString number) = Source (Statement statement.UnclosedString) (pos_at file number)
+line_stop file (line.UnclosedComment number) = Source (Statement statement.UnclosedComment) (pos_at file number)
 line_stop file (line.StatementTooLong number) = Source (Statement statement.StatementTooLong) (pos_at file number)
 line_stop file line.NoMemory = NoMemory
 

@@ -36,6 +36,20 @@ fn line_stop(fault: LineFault) -> Stop
                 line,
             },
         ),
+        LineFault::UnclosedString(line) => Stop::Source(
+            Fault::Statement(StatementFault::UnclosedString),
+            Pos {
+                file: MAIN_FILE,
+                line,
+            },
+        ),
+        LineFault::UnclosedComment(line) => Stop::Source(
+            Fault::Statement(StatementFault::UnclosedComment),
+            Pos {
+                file: MAIN_FILE,
+                line,
+            },
+        ),
         LineFault::StatementTooLong(line) => Stop::Source(
             Fault::Statement(StatementFault::StatementTooLong),
             Pos {

@@ -68,13 +68,13 @@ pub(crate) struct NamedEntry<'a> {
     pub(crate) symbol: NamedSymbol,
 }
 
-/// The symbols by name, whose bytes stand in the source.
+/// The symbols by name. The names are copies, since what a quoted one stands for need not stand in the source.
 #[derive(Drop)]
-pub(crate) struct NamedSymbols<'a> {
-    map: IndexMap<&'a [u8], NamedSymbol>,
+pub(crate) struct NamedSymbols {
+    map: IndexMap<Vec<u8>, NamedSymbol>,
 }
 
-impl<'a> Model for NamedSymbols<'a> {
+impl Model for NamedSymbols {
     ghost use Rattle.asm_front.specs.SymbolMap.{SymbolList};
     ghost use Rattle.asm_front.specs.SymbolEntries.{plain_entries};
 
@@ -83,13 +83,13 @@ impl<'a> Model for NamedSymbols<'a> {
     ghost view = { λ s. plain_entries s.map.entries };
 }
 
-impl<'a> NamedSymbols<'a> {
+impl NamedSymbols {
     ghost use Rattle.std.specs.Prelude.{◌≡◌, [], OnOk, IfOk, map};
     ghost use Rattle.asm_front.specs.SymbolEntries.{listed};
     ghost use Rattle.asm_front.specs.SymbolMap.{symbol_named, with_symbol};
 
     /// No symbol.
-    pub(crate) fn new(alloc: Global) -> NamedSymbols<'a>
+    pub(crate) fn new(alloc: Global) -> NamedSymbols
         ensures { result ≡ [] }
     {
         NamedSymbols {
@@ -107,15 +107,15 @@ impl<'a> NamedSymbols<'a> {
 
     /// The name has this from now on.
     #[tactic(auto, unfolding(crate::specs::SymbolMap::with_symbol))]
-    pub(crate) fn put(&mut self, name: &'a [u8], symbol: NamedSymbol) -> Result<(), AllocError>
-        ensures { OnOk result (self.new ≡ with_symbol self.old name.now symbol) }
+    pub(crate) fn put(&mut self, name: Vec<u8>, symbol: NamedSymbol) -> Result<(), AllocError>
+        ensures { OnOk result (self.new ≡ with_symbol self.old name.items symbol) }
     {
         self.map.insert(name, symbol)?;
         Ok(())
     }
 
     /// The symbols in the order in which they are first named.
-    pub(crate) fn entries(&self, alloc: Global) -> Result<Vec<NamedEntry<'a>>, AllocError>
+    pub(crate) fn entries(&self, alloc: Global) -> Result<Vec<NamedEntry<'_>>, AllocError>
         ensures { IfOk result (λ entries. map listed entries.items ≡ self.now) }
     {
         let mut entries = Vec::new(alloc);
@@ -123,7 +123,7 @@ impl<'a> NamedSymbols<'a> {
             // The index is below the length.
             let (name, symbol) = self.map.get_index(at).unwrap();
             entries.push(NamedEntry {
-                name: *name,
+                name: name.as_slice(),
                 symbol: *symbol,
             })?;
         }

@@ -2,23 +2,10 @@
 
 ghost use Rattle.std.specs.Prelude.{◌≡◌, ◌+◌, ◌*◌, ◌<◌, ◌≤◌, ◌^◌, MatchOption};
 ghost use Rattle.std.specs.List.{list_all};
-ghost use Rattle.asm_front.specs.Numbers.{digit_of, number_after, is_digit_of, numeral, spelled_number};
+ghost use Rattle.asm_base.specs.Digits.{digit_of, number_after, is_digit_of};
+ghost use Rattle.asm_front.specs.Numbers.{numeral, spelled_number};
 
-use asm_base::StatementFault;
-
-/// What a digit of any radix up to 16 counts, and 16 for any other byte.
-#[tactic(auto, unfolding(crate::specs::Numbers::digit_of))]
-fn digit_of(byte: u8) -> u64
-    ensures value { result ≡ digit_of byte }
-    ensures small { result ≤ 16 }
-{
-    match byte {
-        b'0'..=b'9' => u64::from(byte - b'0'),
-        b'a'..=b'f' => u64::from(byte - b'a' + 10),
-        b'A'..=b'F' => u64::from(byte - b'A' + 10),
-        _ => 16,
-    }
-}
+use asm_base::{StatementFault, digit_of};
 
 /// Whether the radix has all these digits.
 fn all_digits(radix: u64, digits: &[u8]) -> bool

@@ -3,12 +3,12 @@
 ghost use Rattle.std.specs.Prelude.{◌≡◌, ◌≤◌, length, map, IsTrue};
 ghost use Rattle.asm_base.specs.Tokens.{spelled};
 ghost use Rattle.asm_front.specs.Answers.{GivesBy};
-ghost use Rattle.asm_front.specs.Operands.{is_name, is_mark, token_number, numbers, number_list, as_bytes};
+ghost use Rattle.asm_front.specs.Operands.{is_name, names_symbol, is_mark, character_code, token_number, numbers, number_list, as_bytes, between_quotes, is_symbol_name, checked_name, symbol_name};
 ghost use Rattle.asm_front.specs.Placing.{is_assignment, begins_with_dot, begins_with_label};
 
 use crate::numbers::spelled_number;
 use crate::steps::StepFault;
-use asm_base::{StatementFault, Token, TokenKind};
+use asm_base::{StatementFault, Token, TokenKind, string_value};
 use std::alloc::Global;
 
 /// Whether the token is a name.
@@ -18,6 +18,13 @@ pub(crate) fn is_name(token: &Token) -> bool
     token.kind == TokenKind::Name
 }
 
+/// Whether the token may name a symbol: a name, or a string in place of one.
+fn names_symbol(token: &Token) -> bool
+    ensures { result ≡ names_symbol (spelled token.now) }
+{
+    matches!(token.kind, TokenKind::Name | TokenKind::String)
+}
+
 /// Whether the token is this one mark of punctuation.
 pub(crate) fn is_mark(token: &Token, mark: u8) -> bool
     ensures { result ≡ is_mark mark (spelled token.now) }
@@ -25,15 +32,26 @@ pub(crate) fn is_mark(token: &Token, mark: u8) -> bool
     token.bytes == [mark].as_slice()
 }
 
+/// The code of the byte behind the quote.
+#[tactic(auto, unfolding(crate::specs::Operands::character_code))]
+fn character_code(character: &[u8]) -> Result<u64, StatementFault>
+    ensures { result ≡ character_code character.now }
+{
+    match character {
+        [_, byte, ..] => Ok(u64::from(*byte)),
+        _ => Err(StatementFault::BadExpression),
+    }
+}
+
 /// The number that a token is.
 #[tactic(auto, unfolding(crate::specs::Operands::token_number))]
 fn token_number(token: &Token) -> Result<u64, StatementFault>
     ensures { result ≡ token_number (spelled token.now) }
 {
-    if token.kind == TokenKind::Digits {
-        spelled_number(token.bytes)
-    } else {
-        Err(StatementFault::BadExpression)
+    match token.kind {
+        TokenKind::Digits => spelled_number(token.bytes),
+        TokenKind::Character => character_code(token.bytes),
+        _ => Err(StatementFault::BadExpression),
     }
 }
 
@@ -87,6 +105,48 @@ pub(crate) fn as_bytes(alloc: Global, numbers: &[u64]) -> Result<Vec<u8>, StepFa
     Ok(bytes)
 }
 
+/// What stands between the quotes of a string.
+fn between_quotes(string: &[u8]) -> &[u8]
+    ensures { result.now ≡ between_quotes string.now }
+{
+    if string.len() < 2 {
+        // No string that closes.
+        return &[];
+    }
+    &string[1..string.len() - 1]
+}
+
+/// Whether a string table can hold the name: it has some bytes, and none of them is 0.
+fn is_symbol_name(name: &[u8]) -> bool
+    ensures { result ≡ is_symbol_name name.now }
+{
+    !name.is_empty() && !name.contains(&0)
+}
+
+/// The name, if a string table can hold it.
+#[tactic(auto, unfolding(crate::specs::Operands::checked_name))]
+fn checked_name(name: Vec<u8>) -> Result<Vec<u8>, StepFault>
+    ensures { GivesBy (λ checked. checked.items) result (checked_name name.items) }
+{
+    if is_symbol_name(&name) {
+        Ok(name)
+    } else {
+        Err(StepFault::Source(StatementFault::BadOperand))
+    }
+}
+
+/// The name that a token gives a symbol, quoted or not.
+#[tactic(auto, unfolding(crate::specs::Operands::symbol_name))]
+pub(crate) fn symbol_name(alloc: Global, token: &Token) -> Result<Vec<u8>, StepFault>
+    ensures { GivesBy (λ name. name.items) result (symbol_name (spelled token.now)) }
+{
+    match token.kind {
+        TokenKind::Name => Ok(Vec::from_slice(alloc, token.bytes)?),
+        TokenKind::String => checked_name(string_value(alloc, between_quotes(token.bytes))?),
+        _ => Err(StepFault::Source(StatementFault::BadOperand)),
+    }
+}
+
 /// Whether an equals sign stands behind a name.
 pub(crate) fn begins_assignment(rest: &[Token]) -> bool
     ensures { result ≡ is_assignment (map spelled rest.now) }
@@ -107,13 +167,13 @@ pub(crate) fn begins_with_dot(name: &[u8]) -> bool
     }
 }
 
-/// Whether a name and a colon stand in front.
+/// Whether a name, quoted or not, and a colon stand in front.
 pub(crate) fn begins_with_label(tokens: &[Token]) -> bool
     ensures label { result ≡ begins_with_label (map spelled tokens.now) }
     ensures two { IsTrue result → 2 ≤ length tokens.now }
 {
     match tokens {
-        [first, second, ..] => is_name(first) && is_mark(second, b':'),
+        [first, second, ..] => names_symbol(first) && is_mark(second, b':'),
         _ => false,
     }
 }

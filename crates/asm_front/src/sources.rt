@@ -25,7 +25,7 @@ fn stands_at(fault: StepFault, pos: Pos) -> Stop
 
 /// Places one statement.
 #[tactic(auto, unfolding(crate::specs::Assembly::place))]
-fn place<'a>(assembler: &mut Assembler<'a>, statement: &Statement<'a>) -> Result<(), Stop>
+fn place(assembler: &mut Assembler, statement: &Statement) -> Result<(), Stop>
     ensures { Makes (placed_by assembler.new) result (place (seen statement.now) (placed_by assembler.old)) }
 {
     let tokens = Tokens::read(assembler.alloc, statement.bytes)?;
@@ -36,10 +36,7 @@ fn place<'a>(assembler: &mut Assembler<'a>, statement: &Statement<'a>) -> Result
 }
 
 /// Places all statements in order, up to the first that has a fault.
-pub(crate) fn place_all<'a>(
-    alloc: Global,
-    statements: &[Statement<'a>],
-) -> Result<Assembler<'a>, Stop>
+pub(crate) fn place_all(alloc: Global, statements: &[Statement]) -> Result<Assembler, Stop>
     ensures { MakesBy placed_by result (place_all (map seen statements.now) nothing_placed) }
 {
     let mut assembler = Assembler::new(alloc);

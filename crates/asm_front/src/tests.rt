@@ -1,4 +1,4 @@
-//! Each instruction with its bytes, each fault at its line, and one image, with ample memory.
+//! Each instruction with its bytes, characters, each fault at its line, and one image, with ample memory.
 
 use crate::image::image;
 use crate::sections::{Body, SHF_ALLOC, SHF_EXECINSTR, SHT_PROGBITS, Section};
@@ -88,8 +88,26 @@ fn instructions(rt: HostRuntime) -> Result<(), Fail> {
 }
 
 #[test]
+fn characters(rt: HostRuntime) -> Result<(), Fail> {
+    // ASCII codes. Behind a quote no byte begins a comment or a string, or ends a statement.
+    let cases: [(&[u8], &[u8]); 3] = [
+        (b".byte ' ,1", &[0x20, 0x01]),
+        (b".byte '/,'#", &[0x2f, 0x23]),
+        (b".byte '',';,'\"", &[0x27, 0x3b, 0x22]),
+    ];
+    for (source, bytes) in cases {
+        let object = object_of(rt.alloc(), source)?;
+        assert!(rt;
+            object.iter().skip(64).take(bytes.len()).eq(bytes),
+            "{source:?}"
+        );
+    }
+    Ok(())
+}
+
+#[test]
 fn faults(rt: HostRuntime) -> Result<(), Fail> {
-    let cases: [(&[u8], &[u8]); 20] = [
+    let cases: [(&[u8], &[u8]); 32] = [
         (b"foo", b"x.s:1: Error: unknown mnemonic\n"),
         (b"nop\n1:", b"x.s:2: Error: unknown mnemonic\n"),
         (b"s = 5", b"x.s:1: Error: unknown mnemonic\n"),
@@ -119,7 +137,25 @@ fn faults(rt: HostRuntime) -> Result<(), Fail> {
             b"nop\n.globl b, .La\n",
             b"x.s:2: Error: undefined local symbol\n",
         ),
-        (b"nop\nnop;", b"x.s:2: Error: NUL byte in source\n"),
+        (b"nop\n.byte 1\0", b"x.s:2: Error: NUL byte in source\n"),
+        (b"nop\n\"a", b"x.s:2: Error: string is not closed\n"),
+        (b"nop\nnop /*", b"x.s:2: Error: comment is not closed\n"),
+        (b".byte '/','#", b"x.s:1: Error: bad operand\n"),
+        (b".byte '", b"x.s:1: Error: bad expression\n"),
+        (b".byte \"a\"", b"x.s:1: Error: bad expression\n"),
+        (b"\"nop\"", b"x.s:1: Error: unknown mnemonic\n"),
+        (b"\"\": nop", b"x.s:1: Error: bad operand\n"),
+        (b"nop\n.globl \"a\\0b\"", b"x.s:2: Error: bad operand\n"),
+        (b".globl \"a\" b", b"x.s:1: Error: bad operand\n"),
+        (
+            b"\"\\141\": nop\na:",
+            b"x.s:2: Error: symbol is already defined\n",
+        ),
+        (
+            b"nop\n.globl \".\\x4c\"",
+            b"x.s:2: Error: undefined local symbol\n",
+        ),
+        (b".globl \"a b\", c\n\"a b\": nop\n\"c\":", b""),
         (b".globl .La\n.La: .byte 0, 017, 0b11, 0xFf\n", b""),
         (b"a:b: .Lc: .text\n.byte\n.global a, undefined", b""),
     ];

@@ -1,6 +1,8 @@
 -- The lemmas, in reading order.
-pub mod Lines
-pub mod Blanks
+pub mod Pieces
+pub mod Scans
+pub mod Order
 pub mod Steps
-pub mod WholeStatements
+pub mod RunLaws
+pub mod Runs
 mod Samples

@@ -1,49 +1,64 @@
 -- The definitions computed on sources written out.
-use Rattle.std.specs.Prelude.{◌≡◌, ℕ, ◌-◌, ◌^◌, List, [], ◌∷◌, ◌++◌, codes, Ok, Err, refl}
-use Rattle.asm_lines.specs.declared.faults.LineFault.TheVariants.{NulByte}
-use Rattle.asm_lines.specs.Stretches.{stretch_of, stretches_from, trimmed}
-use Rattle.asm_base.specs.Tokens.{is_blank}
-use Rattle.asm_lines.specs.Faults.{fault_of, is_refused}
-use Rattle.asm_lines.specs.Statements.{StatementAt, statements_of, statements_in}
-
-abbrev line_feed : List ℕ
-line_feed = 10 ∷ []
-
-abbrev return_and_feed : List ℕ
-return_and_feed = 13 ∷ 10 ∷ []
-
-abbrev tab : List ℕ
-tab = 9 ∷ []
+use Rattle.std.specs.Prelude.{◌≡◌, ℕ, List, [], ◌∷◌, ◌++◌, codes, Ok, Err, refl}
+use Rattle.asm_base.specs.ByteClasses.{is_blank}
+use Rattle.asm_base.specs.Dividing.{comment_length, piece_kind, piece_length, pieces_from, quoted_length}
+use Rattle.asm_lines.specs.declared.faults.LineFault.TheVariants.{NulByte, UnclosedString, UnclosedComment}
+use Rattle.asm_lines.specs.LineNumbers.{line_of}
+use Rattle.asm_lines.specs.Intervals.{trimmed}
+use Rattle.asm_lines.specs.Faults.{nul_found, source_found}
+use Rattle.asm_lines.specs.Statements.{StatementAt, statements_in, statements_of}
 
 abbrev at : ℕ → List ℕ → StatementAt
 at line bytes = record { file = 7; line = line; bytes = bytes }
 
 nothing : statements_of 7 [] ≡ Ok []
-unfolding statements_of statements_in stretches_from trimmed fault_of is_refused is_blank
+unfolding is_blank comment_length piece_kind piece_length pieces_from quoted_length line_of trimmed nul_found source_found statements_in statements_of
 nothing = refl
 
-one_line : statements_of 7 (codes "nop" ++ line_feed) ≡ Ok (at 1 (codes "nop") ∷ [])
-unfolding statements_of statements_in stretches_from trimmed fault_of is_refused is_blank
-one_line = refl
-
-blanks : statements_of 7 (return_and_feed ++ line_feed ++ codes "  f:" ++ tab ++ return_and_feed ++ tab ++ codes "ret") ≡ Ok (at 3 (codes "f:") ∷ at 4 (codes "ret") ∷ [])
-unfolding statements_of statements_in stretches_from trimmed fault_of is_refused is_blank
+blanks : statements_of 7 (codes "\r\n\n  f:\t\r\n\tret") ≡ Ok (at 3 (codes "f:") ∷ at 4 (codes "ret") ∷ [])
+unfolding is_blank comment_length piece_kind piece_length pieces_from quoted_length line_of trimmed nul_found source_found statements_in statements_of
 blanks = refl
 
-refused : statements_of 7 (codes "a" ++ line_feed ++ codes "#b") ≡ Err (NulByte 2)
-unfolding statements_of statements_in stretches_from trimmed fault_of is_refused is_blank
-refused = refl
-
-lone_return : statements_of 7 (codes "a" ++ 13 ∷ []) ≡ Ok (at 1 (codes "a" ++ 13 ∷ []) ∷ [])
-unfolding statements_of statements_in stretches_from trimmed fault_of is_refused is_blank
-lone_return = refl
-
 -- of two carriage returns the first stands before no line feed
-two_returns : statements_of 7 (codes "a" ++ 13 ∷ return_and_feed) ≡ Ok (at 1 (codes "a" ++ 13 ∷ []) ∷ [])
-unfolding statements_of statements_in stretches_from trimmed fault_of is_refused is_blank
+two_returns : statements_of 7 (codes "a\r\r\n") ≡ Ok (at 1 (codes "a\r") ∷ [])
+unfolding is_blank comment_length piece_kind piece_length pieces_from quoted_length line_of trimmed nul_found source_found statements_in statements_of
 two_returns = refl
 
--- later lines have the last number
-last_lines : stretches_from (2 ^ 32 - 1) (codes "a" ++ line_feed ++ codes "b") ≡ stretch_of 4294967295 (codes "a") ∷ stretch_of 4294967295 (codes "b") ∷ []
-unfolding stretches_from
-last_lines = refl
+one_line : statements_of 7 (codes ".byte '/,'#;nop/*x*/;ret # c\n") ≡ Ok (at 1 (codes ".byte '/,'#") ∷ at 1 (codes "nop") ∷ at 1 (codes "ret") ∷ [])
+unfolding is_blank comment_length piece_kind piece_length pieces_from quoted_length line_of trimmed nul_found source_found statements_in statements_of
+one_line = refl
+
+-- a comment parts tokens, and counts the lines that it spans
+comments : statements_of 7 (codes "no/**/p;/* a\nb */ foo\nx") ≡ Ok (at 1 (codes "no/**/p") ∷ at 2 (codes "foo") ∷ at 3 (codes "x") ∷ [])
+unfolding is_blank comment_length piece_kind piece_length pieces_from quoted_length line_of trimmed nul_found source_found statements_in statements_of
+comments = refl
+
+-- the blank of a character is no blank
+character : statements_of 7 (codes ".byte ' \n") ≡ Ok (at 1 (codes ".byte ' ") ∷ [])
+unfolding is_blank comment_length piece_kind piece_length pieces_from quoted_length line_of trimmed nul_found source_found statements_in statements_of
+character = refl
+
+strings : statements_of 7 (codes "\"a b\": nop\n.ascii \";#\\\"/*\";ret") ≡ Ok (at 1 (codes "\"a b\": nop") ∷ at 2 (codes ".ascii \";#\\\"/*\"") ∷ at 2 (codes "ret") ∷ [])
+unfolding is_blank comment_length piece_kind piece_length pieces_from quoted_length line_of trimmed nul_found source_found statements_in statements_of
+strings = refl
+
+open_string : statements_of 7 (codes ".ascii \"ab") ≡ Err (UnclosedString 1)
+unfolding is_blank comment_length piece_kind piece_length pieces_from quoted_length line_of trimmed nul_found source_found statements_in statements_of
+open_string = refl
+
+open_comment : statements_of 7 (codes "nop\n/* x") ≡ Err (UnclosedComment 2)
+unfolding is_blank comment_length piece_kind piece_length pieces_from quoted_length line_of trimmed nul_found source_found statements_in statements_of
+open_comment = refl
+
+nul : statements_of 7 (codes "nop\n\n# " ++ 0 ∷ []) ≡ Err (NulByte 3)
+unfolding is_blank comment_length piece_kind piece_length pieces_from quoted_length line_of trimmed nul_found source_found statements_in statements_of
+nul = refl
+
+-- the first of two faults in order of place
+nul_in_comment : statements_of 7 (codes "\n/* " ++ 0 ∷ []) ≡ Err (UnclosedComment 2)
+unfolding is_blank comment_length piece_kind piece_length pieces_from quoted_length line_of trimmed nul_found source_found statements_in statements_of
+nul_in_comment = refl
+
+nul_before_string : statements_of 7 (0 ∷ codes "\n\"") ≡ Err (NulByte 1)
+unfolding is_blank comment_length piece_kind piece_length pieces_from quoted_length line_of trimmed nul_found source_found statements_in statements_of
+nul_before_string = refl

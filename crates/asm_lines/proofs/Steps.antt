@@ -1,70 +1,174 @@
--- The statements of a source, from those of its first stretch and those of what is left.
-use Rattle.std.proofs.Common.{◌≡◌, ℕ, ◌<◌, List, [], ◌∷◌, ◌++◌, length, Option, Some, None, Result, Ok, Err, arith, refl, sym, ap, ◌∙◌, append_assoc}
-use Rattle.std.specs.List.{filter_map, cons_option}
-use Rattle.std.specs.Option.{option_to_list}
-use Rattle.std.proofs.lemmas.List.{append-nil, nil_from_length}
+-- The statements and the first fault of a source, from those of its first interval and those of what is left.
+use Rattle.std.proofs.Common.{◌≡◌, ℕ, ◌≤◌, Bool, true, false, cond, List, [], ◌∷◌, ◌++◌, length, drop, Option, Some, None, Result, Ok, Err, refl, sym, ap, subst, ◌∙◌, append_assoc, ◌⊎◌, inl, inr}
+use Rattle.std.specs.List.{filter_map, cons_option, onto_first}
+use Rattle.std.specs.Option.{option_or, option_to_list}
+use Rattle.std.proofs.lemmas.List.{append-nil}
+use Rattle.std.proofs.Common.{◌<◌, arith, ltb}
+use Rattle.std.proofs.lemmas.Bool.{le-ltb, lt-ltb}
+use Rattle.std.specs.List.{AllByRecursion}
+use Rattle.asm_base.specs.Pieces.{Piece, IsDivision, ends_statement}
+use Rattle.asm_base.specs.Dividing.{pieces_of}
 use Rattle.asm_lines.specs.declared.faults.LineFault.{LineFault}
-use Rattle.asm_lines.specs.declared.faults.LineFault.TheVariants.{NulByte, StatementTooLong, NoMemory}
-use Rattle.asm_lines.specs.Stretches.{stretch_of, stretches, stretches_from, trimmed}
-use Rattle.asm_lines.specs.Faults.{fault_of}
-use Rattle.asm_lines.specs.Statements.{StatementAt, Fails, statement_of, statement_in, first_fault, unless_fault, statements_in, statements_of}
+use Rattle.asm_lines.specs.declared.faults.LineFault.TheVariants.{NulByte, UnclosedString, UnclosedComment, StatementTooLong, NoMemory}
+use Rattle.asm_lines.specs.declared.faults.Found.{Found}
+use Rattle.asm_lines.specs.Intervals.{intervals_of, trimmed}
+use Rattle.asm_base.specs.declared.pieces.PieceKind.{PieceKind}
+use Rattle.asm_base.specs.declared.pieces.PieceKind.TheVariants.{LineFeed, Semicolon, Blank, LineComment, BlockComment, OpenComment, Character, String, OpenString, Other}
+use Rattle.asm_lines.specs.Faults.{earlier, first_long, first_open, long_found, nul_found, open_by, open_found, source_found}
+use Rattle.asm_lines.specs.Statements.{StatementAt, Fails, Gives, statement_in, statements_in, statements_of, unless_found}
+use Rattle.asm_lines.specs.Scan.{first_interval, interval_found, later_pieces, pieces_at}
+use Rattle.asm_lines.proofs.Order.{all_in, first_long_at, first_open_at, in_order, long_found_at, neither_found}
+use Rattle.asm_lines.proofs.Pieces.{none_off}
 
--- the answer for what is left, put after the statements that are done
-abbrev pub after : List StatementAt → Result (List StatementAt) LineFault → Result (List StatementAt) LineFault
-after done (Ok later) = Ok (done ++ later)
-after done (Err fault) = Err fault
+-- the first interval, and those behind it; no piece behind it is no interval
+split_more : (pieces : List Piece) → (intervals_of pieces ≡ first_interval pieces ∷ intervals_of (later_pieces pieces)) ⊎ ((intervals_of pieces ≡ first_interval pieces ∷ []) × (later_pieces pieces ≡ []))
+split_more [] = inr (refl, refl)
+split_more (piece ∷ pieces) = by_class (ends_statement piece.kind) (split_more pieces)
+  where
+    by_class : (end : Bool) → (intervals_of pieces ≡ first_interval pieces ∷ intervals_of (later_pieces pieces)) ⊎ ((intervals_of pieces ≡ first_interval pieces ∷ []) × (later_pieces pieces ≡ []))
+        → (cond end ([] ∷ intervals_of pieces) (onto_first piece (intervals_of pieces)) ≡ cond end [] (piece ∷ first_interval pieces) ∷ intervals_of (cond end pieces (later_pieces pieces)))
+        ⊎ ((cond end ([] ∷ intervals_of pieces) (onto_first piece (intervals_of pieces)) ≡ cond end [] (piece ∷ first_interval pieces) ∷ []) × (cond end pieces (later_pieces pieces) ≡ []))
+    by_class true later = inl refl
+    by_class false (inl same) = inl (ap (onto_first piece) same)
+    by_class false (inr both) = inr (ap (onto_first piece) both.0, both.1)
 
-pub after_none : (answer : Result (List StatementAt) LineFault) → after [] answer ≡ answer
-after_none (Ok statements) = refl
-after_none (Err fault) = refl
+-- a piece that ends a statement is none that does not close
+end_closes : (source : List ℕ) (kind : PieceKind) (start : ℕ) → ends_statement kind ≡ true → open_by source kind start ≡ None
+end_closes source LineFeed start end = refl
+end_closes source Semicolon start end = refl
+end_closes source Blank start end = cc
+end_closes source LineComment start end = cc
+end_closes source BlockComment start end = cc
+end_closes source OpenComment start end = cc
+end_closes source Character start end = cc
+end_closes source String start end = cc
+end_closes source OpenString start end = cc
+end_closes source Other start end = cc
 
-after_more : (done : List StatementAt) (fault : Option LineFault) (one : Option StatementAt) (later : List StatementAt) → after done (unless_fault fault (cons_option one later)) ≡ after (done ++ option_to_list one) (unless_fault fault later)
-after_more done (Some fault) one later = refl
-after_more done None None later = ap (λ these. Ok (these ++ later)) (sym (append-nil done))
-after_more done None (Some statement) later = ap Ok (sym (append_assoc done (statement ∷ []) later))
+or_assoc : (a b c : Option Found) → option_or (option_or a b) c ≡ option_or a (option_or b c)
+or_assoc None b c = refl
+or_assoc (Some found) b c = refl
 
--- a first stretch with no fault
-statements_more : (done : List StatementAt) (file line next : ℕ) (source bytes later : List ℕ) → stretches_from line source ≡ stretch_of line bytes ∷ stretches_from next later → fault_of line (trimmed bytes) ≡ None → after done (statements_in file (stretches_from line source)) ≡ after (done ++ option_to_list (statement_of file line (trimmed bytes))) (statements_in file (stretches_from next later))
-unfolding statements_in
-statements_more done file line next source bytes later cut good =
-    let these = stretches_from next later in
-    rw (cut, good)
-    (after_more done (first_fault these) (statement_of file line (trimmed bytes)) (filter_map (statement_in file) these))
+pub open_more : (source : List ℕ) (pieces : List Piece) → first_open source pieces ≡ option_or (first_open source (first_interval pieces)) (first_open source (later_pieces pieces))
+open_more source [] = refl
+open_more source (piece ∷ pieces) = by_class (ends_statement piece.kind) refl (open_more source pieces)
+  where
+    by_class : (end : Bool) → ends_statement piece.kind ≡ end → first_open source pieces ≡ option_or (first_open source (first_interval pieces)) (first_open source (later_pieces pieces))
+        → first_open source (piece ∷ pieces) ≡ option_or (first_open source (cond end [] (piece ∷ first_interval pieces))) (first_open source (cond end pieces (later_pieces pieces)))
+    by_class true e later = ap (λ one. option_or one (first_open source pieces)) (end_closes source piece.kind piece.start e)
+    by_class false e later = ap (option_or (open_found source piece)) later ∙ sym (or_assoc (open_found source piece) (first_open source (first_interval pieces)) (first_open source (later_pieces pieces)))
 
-pub statement_some : (file line : ℕ) (bytes : List ℕ) → 0 < length bytes → statement_of file line bytes ≡ Some (record { file = file; line = line; bytes = bytes })
-statement_some file line [] some = absurd (omega arith)
-statement_some file line (first ∷ rest) some = refl
+-- nothing is no statement
+pub long_more : (source : List ℕ) (pieces : List Piece) → first_long source (intervals_of pieces) ≡ option_or (long_found source (trimmed (first_interval pieces))) (first_long source (intervals_of (later_pieces pieces)))
+unfolding trimmed
+long_more source pieces = by_end (split_more pieces)
+  where
+    by_end : (intervals_of pieces ≡ first_interval pieces ∷ intervals_of (later_pieces pieces)) ⊎ ((intervals_of pieces ≡ first_interval pieces ∷ []) × (later_pieces pieces ≡ []))
+        → first_long source (intervals_of pieces) ≡ option_or (long_found source (trimmed (first_interval pieces))) (first_long source (intervals_of (later_pieces pieces)))
+    by_end (inl same) = ap (first_long source) same
+    by_end (inr both) = ap (first_long source) both.0 ∙ sym (ap (λ later. option_or (long_found source (trimmed (first_interval pieces))) (first_long source (intervals_of later))) both.1)
 
-pub statement_none : (file line : ℕ) (bytes : List ℕ) → length bytes ≡ 0 → statement_of file line bytes ≡ None
-statement_none file line bytes none = ap (statement_of file line) (nil_from_length bytes none)
+statements_more : (file : ℕ) (source : List ℕ) (pieces : List Piece) → filter_map (statement_in file source) (intervals_of pieces) ≡ cons_option (statement_in file source (first_interval pieces)) (filter_map (statement_in file source) (intervals_of (later_pieces pieces)))
+unfolding trimmed
+statements_more file source pieces = by_end (split_more pieces)
+  where
+    by_end : (intervals_of pieces ≡ first_interval pieces ∷ intervals_of (later_pieces pieces)) ⊎ ((intervals_of pieces ≡ first_interval pieces ∷ []) × (later_pieces pieces ≡ []))
+        → filter_map (statement_in file source) (intervals_of pieces) ≡ cons_option (statement_in file source (first_interval pieces)) (filter_map (statement_in file source) (intervals_of (later_pieces pieces)))
+    by_end (inl same) = ap (filter_map (statement_in file source)) same
+    by_end (inr both) = ap (filter_map (statement_in file source)) both.0 ∙ sym (ap (λ later. cons_option (statement_in file source (first_interval pieces)) (filter_map (statement_in file source) (intervals_of later))) both.1)
 
--- a first stretch with no fault
-pub step : (done now : List StatementAt) (file line next : ℕ) (source whole later bytes : List ℕ) (found : Option StatementAt) (answer : Result (List StatementAt) LineFault) → stretches_from line source ≡ stretch_of line whole ∷ stretches_from next later → bytes ≡ trimmed whole → fault_of line bytes ≡ None → found ≡ statement_of file line bytes → now ≡ done ++ option_to_list found → after done (statements_in file (stretches_from line source)) ≡ answer → after now (statements_in file (stretches_from next later)) ≡ answer
-step done now file line next source whole later bytes found answer cut bytes_is good found_is now_is before =
-    let more = statements_more done file line next source whole later cut (ap (fault_of line) (sym bytes_is) ∙ good) in
-    let same : found ≡ statement_of file line (trimmed whole) = found_is ∙ ap (statement_of file line) bytes_is in
-    let these : now ≡ done ++ option_to_list (statement_of file line (trimmed whole)) = now_is ∙ ap (λ one. done ++ option_to_list one) same in
-    rw these (sym more ∙ before)
+behind : (done : List StatementAt) (one : Option StatementAt) (later : List StatementAt) → done ++ cons_option one later ≡ (done ++ option_to_list one) ++ later
+behind done None later = ap (λ these. these ++ later) (sym (append-nil done))
+behind done (Some statement) later = sym (append_assoc done (statement ∷ []) later)
 
--- a first stretch with a fault
-pub stop_fault : (done : List StatementAt) (file line next : ℕ) (source whole later bytes : List ℕ) (fault : LineFault) (answer : Result (List StatementAt) LineFault) → stretches_from line source ≡ stretch_of line whole ∷ stretches_from next later → bytes ≡ trimmed whole → Some fault ≡ fault_of line bytes → after done (statements_in file (stretches_from line source)) ≡ answer → answer ≡ Err fault
-unfolding statements_in
-stop_fault done file line next source whole later bytes fault answer cut bytes_is bad before =
-    let same : fault_of line (trimmed whole) ≡ Some fault = ap (fault_of line) (sym bytes_is) ∙ sym bad in
-    sym before ∙ (rw (cut, same) refl)
+-- the statements behind a first interval
+pub statements_step : (file : ℕ) (source : List ℕ) (at next : ℕ) (done new whole : List StatementAt) (found : Option StatementAt)
+    → pieces_at source next ≡ later_pieces (pieces_at source at) → found ≡ statement_in file source (first_interval (pieces_at source at)) → new ≡ done ++ option_to_list found
+    → done ++ filter_map (statement_in file source) (intervals_of (pieces_at source at)) ≡ whole
+    → new ++ filter_map (statement_in file source) (intervals_of (pieces_at source next)) ≡ whole
+statements_step file source at next done new whole found later found_is new_is before =
+    let rest = filter_map (statement_in file source) (intervals_of (later_pieces (pieces_at source at))) in
+    rw (new_is, found_is, later) (sym (behind done (statement_in file source (first_interval (pieces_at source at))) rest) ∙ ap (λ these. done ++ these) (sym (statements_more file source (pieces_at source at))) ∙ before)
+
+-- no fault in the first interval
+pub open_step : (source : List ℕ) (at next : ℕ) (whole : Option Found) → pieces_at source next ≡ later_pieces (pieces_at source at) → interval_found source (first_interval (pieces_at source at)) ≡ None
+    → first_open source (pieces_at source at) ≡ whole → first_open source (pieces_at source next) ≡ whole
+open_step source at next whole later none before =
+    ap (first_open source) later ∙ sym (open_more source (pieces_at source at) ∙ ap (λ one. option_or one (first_open source (later_pieces (pieces_at source at)))) (neither_found _ _ none).0) ∙ before
+
+pub long_step : (source : List ℕ) (at next : ℕ) (whole : Option Found) → pieces_at source next ≡ later_pieces (pieces_at source at) → interval_found source (first_interval (pieces_at source at)) ≡ None
+    → first_long source (intervals_of (pieces_at source at)) ≡ whole → first_long source (intervals_of (pieces_at source next)) ≡ whole
+long_step source at next whole later none before =
+    ap (λ pieces. first_long source (intervals_of pieces)) later ∙ sym (long_more source (pieces_at source at) ∙ ap (λ one. option_or one (first_long source (intervals_of (later_pieces (pieces_at source at))))) (neither_found _ _ none).1) ∙ before
+
+-- a fault in the first interval stands before all that are later
+first_of_all : (unclosed later_open long later_long : Option Found) (found : Found)
+    → ((one other : Found) → unclosed ≡ Some one → later_long ≡ Some other → one.offset < other.offset)
+    → ((one other : Found) → long ≡ Some one → later_open ≡ Some other → one.offset < other.offset)
+    → earlier unclosed long ≡ Some found → earlier (option_or unclosed later_open) (option_or long later_long) ≡ Some found
+first_of_all None later_open None later_long found open_first long_first is = cc
+first_of_all (Some one) later_open (Some other) later_long found open_first long_first is = is
+first_of_all (Some one) later_open None None found open_first long_first is = is
+first_of_all (Some one) later_open None (Some other) found open_first long_first is =
+    let behind : ltb other.offset one.offset ≡ false = le-ltb other.offset one.offset (omega (arith, open_first one other refl refl)) in
+    ap (λ b. Some (cond b other one)) behind ∙ is
+first_of_all None None (Some one) later_long found open_first long_first is = is
+first_of_all None (Some other) (Some one) later_long found open_first long_first is =
+    let before : ltb one.offset other.offset ≡ true = lt-ltb one.offset other.offset (long_first one other refl refl) in
+    ap (λ b. Some (cond b one other)) before ∙ is
+
+pub found_stop : (source : List ℕ) (at : ℕ) (found : Found) (unclosed long : Option Found) → interval_found source (first_interval (pieces_at source at)) ≡ Some found
+    → first_open source (pieces_at source at) ≡ unclosed → first_long source (intervals_of (pieces_at source at)) ≡ long → earlier unclosed long ≡ Some found
+found_stop source at found unclosed long some open_is long_is =
+    let pieces = pieces_at source at in
+    let rises = in_order 0 at (drop at source) in
+    ap (λ one. earlier one long) (sym open_is) ∙ ap (earlier (first_open source pieces)) (sym long_is)
+    ∙ ap (λ one. earlier one (first_long source (intervals_of pieces))) (open_more source pieces)
+    ∙ ap (earlier (option_or (first_open source (first_interval pieces)) (first_open source (later_pieces pieces)))) (long_more source pieces)
+    ∙ first_of_all _ _ _ _ found
+    (λ one other one_is other_is. first_long_at source (λ n. one.offset < n) (intervals_of (later_pieces pieces)) other (all_in (λ p. one.offset < p.start) (later_pieces pieces) (first_open_at source (λ n. AllByRecursion (λ q. n < q.start) (later_pieces pieces)) (first_interval pieces) one rises one_is)) other_is)
+    (λ one other one_is other_is. first_open_at source (λ n. one.offset < n) (later_pieces pieces) other (long_found_at source (λ n. AllByRecursion (λ q. n < q.start) (later_pieces pieces)) (first_interval pieces) one rises one_is) other_is)
+    some
 
 -- nothing is left
-pub stop_end : (done : List StatementAt) (file line : ℕ) (source : List ℕ) (answer : Result (List StatementAt) LineFault) → length source ≡ 0 → after done (statements_in file (stretches_from line source)) ≡ answer → answer ≡ Ok done
-unfolding statements_in stretches_from
-stop_end done file line source answer none before =
-    let empty = nil_from_length source none in
-    sym before ∙ (rw empty (ap Ok (append-nil done)))
+pub open_end : (source : List ℕ) (at : ℕ) (whole : Option Found) → length source ≤ at → first_open source (pieces_at source at) ≡ whole → whole ≡ None
+open_end source at whole past before = sym before ∙ ap (first_open source) (none_off source at past)
+
+pub long_end : (source : List ℕ) (at : ℕ) (whole : Option Found) → length source ≤ at → first_long source (intervals_of (pieces_at source at)) ≡ whole → whole ≡ None
+unfolding trimmed
+long_end source at whole past before = sym before ∙ ap (λ pieces. first_long source (intervals_of pieces)) (none_off source at past)
+
+pub no_found : (unclosed long : Option Found) → unclosed ≡ None → long ≡ None → earlier unclosed long ≡ None
+no_found unclosed long none no_long = ap (λ one. earlier one long) none ∙ no_long
+
+pub statements_end : (file : ℕ) (source : List ℕ) (at : ℕ) (done whole : List StatementAt) → length source ≤ at → done ++ filter_map (statement_in file source) (intervals_of (pieces_at source at)) ≡ whole → whole ≡ done
+unfolding trimmed
+statements_end file source at done whole past before = sym before ∙ ap (λ pieces. done ++ filter_map (statement_in file source) (intervals_of pieces)) (none_off source at past) ∙ append-nil done
+
+-- the answer, by the first fault and the statements
+pub answer_err : (file : ℕ) (source : List ℕ) (found : Found) (fault : Option Found) → earlier (first_open source (pieces_of source)) (first_long source (intervals_of (pieces_of source))) ≡ fault
+    → earlier (nul_found source) fault ≡ Some found → statements_of file source ≡ Err found.fault
+unfolding statements_of statements_in source_found
+answer_err file source found fault same some =
+    ap (λ one. unless_found (earlier (nul_found source) one) (filter_map (statement_in file source) (intervals_of (pieces_of source)))) same
+    ∙ ap (λ one. unless_found one (filter_map (statement_in file source) (intervals_of (pieces_of source)))) some
+
+pub answer_ok : (file : ℕ) (source : List ℕ) (done : List StatementAt) → earlier (first_open source (pieces_of source)) (first_long source (intervals_of (pieces_of source))) ≡ None
+    → nul_found source ≡ None → filter_map (statement_in file source) (intervals_of (pieces_of source)) ≡ done → statements_of file source ≡ Ok done
+unfolding statements_of statements_in source_found
+answer_ok file source done none no_nul same =
+    ap (λ one. unless_found (earlier (nul_found source) one) (filter_map (statement_in file source) (intervals_of (pieces_of source)))) none
+    ∙ ap (λ one. unless_found (earlier one None) (filter_map (statement_in file source) (intervals_of (pieces_of source)))) no_nul ∙ ap Ok same
 
 pub fails_with : (fault : LineFault) (answer : Result (List StatementAt) LineFault) → answer ≡ Err fault → Fails fault answer
 fails_with NoMemory answer same = tt
 fails_with (NulByte line) answer same = same
+fails_with (UnclosedString line) answer same = same
+fails_with (UnclosedComment line) answer same = same
 fails_with (StatementTooLong line) answer same = same
 
-pub begins : (file : ℕ) (source rest : List ℕ) (done : List StatementAt) → rest ≡ source → done ≡ [] → after done (statements_in file (stretches_from 1 rest)) ≡ statements_of file source
+-- what is wanted of the computed division is wanted of every division
+pub by_grammar : (file : ℕ) (source : List ℕ) (answer : Result (List StatementAt) LineFault) → ((text : List ℕ) (pieces : List Piece) → IsDivision text pieces → pieces ≡ pieces_of text)
+    → Gives answer (statements_of file source) → (pieces : List Piece) → IsDivision source pieces → Gives answer (statements_in file source pieces)
 unfolding statements_of
-begins file source rest done same none = rw (same, none) (after_none (statements_in file (stretches source)))
+by_grammar file source answer only value pieces division = let Wanted : List Piece → Type 0 = λ these. Gives answer (statements_in file source these) in subst Wanted (sym (only source pieces division)) value

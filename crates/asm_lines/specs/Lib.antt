@@ -1,6 +1,8 @@
 -- The definitions that contracts cite, in reading order.
-pub mod Stretches
+pub mod Intervals
+pub mod LineNumbers
 pub mod Faults
 pub mod Statements
 pub mod Seen
+pub mod Scan
 pub mod Laws

@@ -1,19 +1,27 @@
 //! What the lines of a source are refused for.
 
-ghost use Rattle.std.specs.Prelude.{◌≡◌};
+ghost use Rattle.std.specs.Prelude.{◌≡◌, ◌≤◌, length};
 ghost use Rattle.asm_lines.specs.declared.faults.LineFault.TheVariants.{NoMemory};
+ghost use Rattle.asm_lines.specs.Faults.{earlier, nul_offset, nul_found};
 
+use crate::line_numbers::line_of;
 use std::alloc::{AllocError, AllocFailed};
 use thiserror::Error;
 
 /// A fault of the lines of a source, with the line that it stands on. Lines past the last `u32` have that number.
 #[derive(Clone, Copy, Debug, PartialEq, Eq, Error)]
 pub enum LineFault {
-    /// A byte 0, or for now the beginning of a string, a comment or a second statement on one line.
+    /// A byte 0.
     #[error("NUL byte in source")]
     NulByte(u32),
-    /// A statement has more than 65536 bytes.
-    #[error("statement too long")]
+    /// A string does not close on its line.
+    #[error("string is not closed")]
+    UnclosedString(u32),
+    /// A block comment does not close.
+    #[error("comment is not closed")]
+    UnclosedComment(u32),
+    /// A statement has more than 65536 bytes, those of comments not counted.
+    #[error("statement is too long")]
     StatementTooLong(u32),
     /// Memory ran out.
     #[error("out of memory")]
@@ -33,5 +41,44 @@ impl<T: Drop> From<AllocFailed<T>> for LineFault {
 
     fn from(_refused: AllocFailed<T>) -> LineFault {
         LineFault::NoMemory
+    }
+}
+
+/// A fault, and the offset where it stands, in bytes from the beginning of the source.
+#[derive(Clone, Copy, Debug)]
+pub(crate) struct Found {
+    pub offset: usize,
+    pub fault: LineFault,
+}
+
+/// Of a byte 0 and another fault the one that stands first.
+pub(crate) fn earlier(nul: Option<Found>, other: Found) -> Found
+    ensures { Some result ≡ earlier nul (Some other) }
+{
+    match nul {
+        Some(nul) if nul.offset <= other.offset => nul,
+        _ => other,
+    }
+}
+
+/// The offset of the first byte 0, or the length.
+fn nul_offset(source: &[u8]) -> usize
+    ensures value { result ≡ nul_offset source.now }
+    ensures within { result ≤ length source.now }
+{
+    source.iter().take_while(|byte| **byte != 0).count()
+}
+
+/// The first byte 0 of a source.
+#[tactic(auto, unfolding(crate::specs::Faults::nul_found))]
+pub(crate) fn nul_found(source: &[u8]) -> Option<Found>
+    ensures { result ≡ nul_found source.now }
+{
+    let offset = nul_offset(source);
+    if offset < source.len() {
+        let fault = LineFault::NulByte(line_of(source, offset));
+        Some(Found { offset, fault })
+    } else {
+        None
     }
 }

@@ -1,17 +1,24 @@
 //! What holds of the statements of every source.
 
-ghost use Rattle.std.specs.Prelude.{ℕ, List, IfOk};
-ghost use Rattle.asm_lines.specs.Laws.{AreStatements, LinesNeverFall};
+ghost use Rattle.std.specs.Prelude.{ℕ, List, All, IfOk};
+ghost use Rattle.asm_lines.specs.Laws.{IsRun, HasNoNul, LinesNeverFall};
 ghost use Rattle.asm_lines.specs.Statements.{statements_of};
 
-/// A statement has 1 to 65536 bytes, and begins and ends with no blank.
-#[tactic(auto, using(crate::proofs::WholeStatements::are_statements))]
+use asm_base::one_division;
+
+/// Each statement is a run of whole pieces of the source, on the line where the first stands, and has at most 65536 bytes of its own.
 pub fn statements_are_whole()
-    ensures { (file : ℕ) (source : List ℕ) → IfOk (statements_of file source) AreStatements }
+    ensures { (file : ℕ) (source : List ℕ) → IfOk (statements_of file source) (All (IsRun source)) }
+{
+    one_division();
+}
+
+/// No byte of a statement is 0.
+pub fn no_statement_has_nul()
+    ensures { (file : ℕ) (source : List ℕ) → IfOk (statements_of file source) (All HasNoNul) }
 {}
 
 /// The lines of the statements do not fall.
-#[tactic(auto, using(crate::proofs::WholeStatements::lines_never_fall))]
 pub fn lines_never_fall()
     ensures { (file : ℕ) (source : List ℕ) → IfOk (statements_of file source) LinesNeverFall }
 {}

@@ -1,27 +1,32 @@
-//! The statements of a source, read stretch by stretch.
+//! The statements of a source, read interval by interval.
 
-ghost use Rattle.std.specs.Prelude.{◌≡◌, option_map};
-ghost use Rattle.asm_lines.specs.Statements.{Gives, statement_of, statements_of};
+ghost use Rattle.std.specs.Prelude.{◌≡◌, List, length};
+ghost use Rattle.std.specs.Option.{option_map};
+ghost use Rattle.asm_base.specs.Pieces.{Piece, IsDivision};
+ghost use Rattle.asm_lines.specs.Statements.{Gives, statements_in, statements_of};
 ghost use Rattle.asm_lines.specs.Seen.{seen};
+ghost use Rattle.asm_lines.specs.Scan.{EndsBy, statement_by_span};
 
-use crate::checking::statement_fault;
-use crate::faults::LineFault;
+use crate::faults::{LineFault, earlier, nul_found};
+use crate::intervals::{Span, first_interval};
 use crate::statements::{Statement, Statements};
-use crate::stretches::first_stretch;
-use crate::trimming::trimmed;
-use asm_base::{Pos, Text};
+use asm_base::{Pos, Text, one_division};
 use std::alloc::Global;
 
-/// The bytes as a statement of the line, if there are any.
-#[tactic(auto, using(crate::proofs::Steps::statement_some, crate::proofs::Steps::statement_none))]
-fn statement_of(file: u32, line: u32, bytes: &[u8]) -> Option<Statement<'_>>
-    ensures { option_map seen result ≡ statement_of file line bytes.now }
+/// The statement of an interval, if it holds one.
+fn statement_by_span<'a>(source: &'a [u8], file: u32, span: Option<Span>) -> Option<Statement<'a>>
+    requires { EndsBy (length source.now) span }
+    ensures { option_map seen result ≡ statement_by_span file source.now span }
 {
-    if bytes.is_empty() {
-        return None;
-    }
-    let pos = Pos { file, line };
-    Some(Statement { pos, bytes })
+    let span = span?;
+    let pos = Pos {
+        file,
+        line: span.line,
+    };
+    Some(Statement {
+        pos,
+        bytes: &source[span.begin..span.end],
+    })
 }
 
 /// The statements of a source, or its first fault in order of place.
@@ -30,22 +35,28 @@ pub fn read_statements<'a>(
     text: &'a Text,
     file: u32,
 ) -> Result<Statements<'a>, LineFault>
-    ensures { Gives result (statements_of file text.now) }
+    ensures grammar { (pieces : List Piece) → IsDivision text.now pieces → Gives result (statements_in file text.now pieces) }
+    ensures value { Gives result (statements_of file text.now) }
 {
+    one_division();
+    let source = text.as_bytes();
+    let nul = nul_found(source);
     let mut items = Vec::new(alloc);
-    let mut rest = text.as_bytes();
+    let mut at = 0;
     let mut line: u32 = 1;
-    while !rest.is_empty() {
-        let cut = first_stretch(rest, line);
-        let bytes = trimmed(cut.stretch);
-        if let Some(fault) = statement_fault(bytes, line) {
-            return Err(fault);
+    while at < source.len() {
+        let interval = first_interval(source, at, line);
+        if let Some(found) = interval.scan.found() {
+            return Err(earlier(nul, found).fault);
         }
-        if let Some(statement) = statement_of(file, line, bytes) {
+        if let Some(statement) = statement_by_span(source, file, interval.scan.span) {
             items.push(statement)?;
         }
-        rest = cut.later;
-        line = cut.line;
+        at = interval.next;
+        line = interval.line;
     }
-    Ok(Statements { items })
+    match nul {
+        Some(found) => Err(found.fault),
+        None => Ok(Statements { items }),
+    }
 }

@@ -1,6 +1,6 @@
 -- The digits so far, and those to come, give the number of all.
 use Rattle.std.proofs.Common.{◌≡◌, drop}
-use Rattle.asm_front.specs.Numbers.{number_after}
+use Rattle.asm_base.specs.Digits.{number_after}
 use Rattle.asm_front.proofs.numbers.number.Given as goal
 
 abbrev pub invariant-loop-digit : goal.invariant-loop-digit

@@ -1,36 +1,73 @@
--- Each stretch adds its statement, and the first fault ends the loop.
-use Rattle.std.proofs.Common.{None, Some, map, length, sym, ap, ◌∙◌}
+-- Each interval adds its statement, and the first fault ends the loop.
+use Rattle.std.proofs.Common.{◌≡◌, ◌++◌, Some, None, Ok, Err, map, sym, ap, ◌∙◌, refl}
 use Rattle.std.proofs.lemmas.List.{map-append, append-nil}
-use Rattle.std.proofs.lemmas.Bool.{eqb-true}
+use Rattle.std.specs.List.{filter_map}
+use Rattle.asm_base.specs.Dividing.{pieces_of}
+use Rattle.asm_lines.specs.Intervals.{intervals_of}
+use Rattle.asm_lines.specs.Faults.{earlier}
+use Rattle.asm_lines.specs.Statements.{statement_in, statements_of}
+use Rattle.asm_lines.specs.LineNumbers.{line_of}
 use Rattle.asm_lines.specs.Seen.{seen}
-use Rattle.asm_lines.proofs.Steps.{begins, fails_with, step, stop_fault, stop_end}
+use Rattle.asm_lines.specs.Scan.{first_interval, found_by_scan, interval_found, pieces_at, statement_by_span}
+use Rattle.asm_lines.proofs.Scans.{scanned_fault, scanned_statement}
+use Rattle.asm_lines.proofs.Steps.{answer_err, answer_ok, by_grammar, fails_with, found_stop, long_end, long_step, no_found, open_end, open_step, statements_end, statements_step}
 use Rattle.asm_lines.proofs.reading.read_statements.Goals as goal
-use Rattle.asm_lines.proofs.reading.read_statements.Goals.{in-Some-statement_of+in_ok-push, in_default-statement_of}
 
-pub loop-rest-init : goal.loop-rest-init
-loop-rest-init c =
-    (begins c.args.file c.args.text.now _ _ c.as_bytes-rest.ensures (ap (map seen) c.new-items.ensures.items))
+pub loop-at-init : goal.loop-at-init
+unfolding line_of
+loop-at-init c =
+    let source = c.as_bytes-source.result.now in
+    record { line = refl; unclosed = refl; long = refl; statements = ap (λ done. map seen done ++ filter_map (statement_in c.args.file source) (intervals_of (pieces_of source))) c.new-items.ensures.items }
 
 pub returns-in-Some : goal.returns-in-Some
 returns-in-Some c =
-    fails_with _ _
-    (stop_fault _ _ _ _ _ _ c.first_stretch-cut.result.later.now _ _ _ c.first_stretch-cut.ensures.stretches c.trimmed-bytes.ensures c.in-Some.ensures c.loop-rest.invariant)
+    let source = c.as_bytes-source.result.now in
+    let interval = first_interval (pieces_at source c.loop-at.at) in
+    let fault : interval_found source interval ≡ Some c.in-Some.found = sym (scanned_fault source interval) ∙ ap found_by_scan (sym c.first_interval-interval.ensures.scan) ∙ sym c.in-Some.ensures in
+    let whole = found_stop source c.loop-at.at c.in-Some.found _ _ fault c.loop-at.invariant.unclosed c.loop-at.invariant.long in
+    let first = ap (λ nul. earlier nul (Some c.in-Some.found)) (sym c.nul_found-nul.ensures) ∙ sym c.earlier.ensures in
+    let value = fails_with c.earlier.result.fault _ (ap (statements_of c.args.file) (sym c.as_bytes-source.ensures) ∙ answer_err c.args.file source c.earlier.result (Some c.in-Some.found) whole first) in
+    record { grammar = by_grammar c.args.file c.args.text.now (Err c.earlier.result.fault) c.one_division.ensures.only value; value = value }
 
-pub loop-rest-preserved : goal.loop-rest-preserved
-loop-rest-preserved c =
-    let done = map seen c.loop-rest.items.items in
-    let cut = c.first_stretch-cut in
-    let bytes = c.trimmed-bytes in
-    let good = sym c.in_default.ensures in
-    elim c.match-statement_of.branch [
-      | in-Some-statement_of+in_ok-push w ↦
-          let items = ap (λ v. map seen v.items) w.items-is ∙ ap (map seen) w.in_ok-push.ensures.items ∙ map-append seen c.loop-rest.items.items _ in
-          step done _ _ _ _ _ cut.result.stretch.now cut.result.later.now bytes.result.now (Some (seen w.in-Some-statement_of.statement)) _ cut.ensures.stretches bytes.ensures good w.in-Some-statement_of.ensures items c.loop-rest.invariant
-      | in_default-statement_of w ↦
-          let items = ap (λ v. map seen v.items) w.items-is ∙ sym (append-nil done) in
-          step done _ _ _ _ _ cut.result.stretch.now cut.result.later.now bytes.result.now None _ cut.ensures.stretches bytes.ensures good w.in_default-statement_of.ensures items c.loop-rest.invariant
-    ]
+pub loop-at-preserved-in_ok-push : goal.loop-at-preserved-in_ok-push
+loop-at-preserved-in_ok-push c =
+    let source = c.as_bytes-source.result.now in
+    let read = c.first_interval-interval.ensures in
+    let interval = first_interval (pieces_at source c.loop-at.at) in
+    let none : interval_found source interval ≡ None = sym (scanned_fault source interval) ∙ ap found_by_scan (sym read.scan) ∙ sym c.in_default.ensures in
+    let statement = c.in-Some-statement_by_span.ensures ∙ ap (λ scan. statement_by_span c.args.file source scan.span) read.scan ∙ scanned_statement c.args.file source interval in
+    record {
+      line = read.line;
+      unclosed = open_step source c.loop-at.at c.first_interval-interval.result.next _ read.later none c.loop-at.invariant.unclosed;
+      long = long_step source c.loop-at.at c.first_interval-interval.result.next _ read.later none c.loop-at.invariant.long;
+      statements = statements_step c.args.file source c.loop-at.at c.first_interval-interval.result.next (map seen c.loop-at.items.items) _ _ (Some (seen c.in-Some-statement_by_span.statement)) read.later statement (ap (map seen) c.in_ok-push.ensures.items ∙ map-append seen c.loop-at.items.items _) c.loop-at.invariant.statements;
+    }
+
+pub loop-at-preserved : goal.loop-at-preserved
+loop-at-preserved c =
+    let source = c.as_bytes-source.result.now in
+    let read = c.first_interval-interval.ensures in
+    let interval = first_interval (pieces_at source c.loop-at.at) in
+    let none : interval_found source interval ≡ None = sym (scanned_fault source interval) ∙ ap found_by_scan (sym read.scan) ∙ sym c.in_default.ensures in
+    let statement = c.in_default-statement_by_span.ensures ∙ ap (λ scan. statement_by_span c.args.file source scan.span) read.scan ∙ scanned_statement c.args.file source interval in
+    record {
+      line = read.line;
+      unclosed = open_step source c.loop-at.at c.first_interval-interval.result.next _ read.later none c.loop-at.invariant.unclosed;
+      long = long_step source c.loop-at.at c.first_interval-interval.result.next _ read.later none c.loop-at.invariant.long;
+      statements = statements_step c.args.file source c.loop-at.at c.first_interval-interval.result.next (map seen c.loop-at.items.items) (map seen c.loop-at.items.items) _ None read.later statement (sym (append-nil (map seen c.loop-at.items.items))) c.loop-at.invariant.statements;
+    }
+
+pub returns-in-Some-nul : goal.returns-in-Some-nul
+returns-in-Some-nul c =
+    let source = c.as_bytes-source.result.now in
+    let none = no_found _ _ (open_end source c.loop-at.at _ c.loop-at-test.false c.loop-at.invariant.unclosed) (long_end source c.loop-at.at _ c.loop-at-test.false c.loop-at.invariant.long) in
+    let first = ap (λ nul. earlier nul None) (sym c.nul_found-nul.ensures ∙ c.in-Some-nul.is) in
+    let value = fails_with c.in-Some-nul.found.fault _ (ap (statements_of c.args.file) (sym c.as_bytes-source.ensures) ∙ answer_err c.args.file source c.in-Some-nul.found None none first) in
+    record { grammar = by_grammar c.args.file c.args.text.now (Err c.in-Some-nul.found.fault) c.one_division.ensures.only value; value = value }
 
 pub returns : goal.returns
 returns c =
-    stop_end _ _ _ c.loop-rest.rest.now _ (eqb-true (length c.loop-rest.rest.now) 0 (sym c.loop-rest-test.ensures)) c.loop-rest.invariant
+    let source = c.as_bytes-source.result.now in
+    let none = no_found _ _ (open_end source c.loop-at.at _ c.loop-at-test.false c.loop-at.invariant.unclosed) (long_end source c.loop-at.at _ c.loop-at-test.false c.loop-at.invariant.long) in
+    let value = ap (statements_of c.args.file) (sym c.as_bytes-source.ensures) ∙ answer_ok c.args.file source _ none (sym c.nul_found-nul.ensures ∙ c.in-None.is) (statements_end c.args.file source c.loop-at.at _ _ c.loop-at-test.false c.loop-at.invariant.statements) in
+    record { grammar = by_grammar c.args.file c.args.text.now (Ok (map seen c.loop-at.items.items)) c.one_division.ensures.only value; value = value }

@@ -1,13 +1,22 @@
--- What the loop over the stretches keeps: the statements done, and then those of what is left, are those of the source.
-use Rattle.std.proofs.Common.{◌≡◌, length, map}
-use Rattle.asm_lines.specs.Stretches.{stretches_from}
-use Rattle.asm_lines.specs.Statements.{statements_in, statements_of}
+-- The statements done, and then those of what is left, are those of the source, whose first fault is that of what is left.
+use Rattle.std.proofs.Common.{◌≡◌, ◌-◌, ◌++◌, length, map}
+use Rattle.std.specs.List.{filter_map}
+use Rattle.asm_base.specs.Dividing.{pieces_of}
+use Rattle.asm_lines.specs.Intervals.{intervals_of}
+use Rattle.asm_lines.specs.LineNumbers.{line_of}
+use Rattle.asm_lines.specs.Faults.{first_long, first_open}
+use Rattle.asm_lines.specs.Statements.{statement_in}
 use Rattle.asm_lines.specs.Seen.{seen}
-use Rattle.asm_lines.proofs.Steps.{after}
+use Rattle.asm_lines.specs.Scan.{pieces_at}
 use Rattle.asm_lines.proofs.reading.read_statements.Given as goal
 
-abbrev pub invariant-loop-rest : goal.invariant-loop-rest
-invariant-loop-rest l = after (map seen l.items.items) (statements_in l.file (stretches_from l.line l.rest)) ≡ statements_of l.file l.text
+abbrev pub invariant-loop-at : goal.invariant-loop-at
+invariant-loop-at l = record {
+  line : l.line ≡ line_of l.source l.at;
+  unclosed : first_open l.source (pieces_at l.source l.at) ≡ first_open l.source (pieces_of l.source);
+  long : first_long l.source (intervals_of (pieces_at l.source l.at)) ≡ first_long l.source (intervals_of (pieces_of l.source));
+  statements : map seen l.items.items ++ filter_map (statement_in l.file l.source) (intervals_of (pieces_at l.source l.at)) ≡ filter_map (statement_in l.file l.source) (intervals_of (pieces_of l.source));
+}
 
-abbrev pub decreases-loop-rest : goal.decreases-loop-rest
-decreases-loop-rest l = length l.rest
+abbrev pub decreases-loop-at : goal.decreases-loop-at
+decreases-loop-at l = length l.source - l.at

@@ -11,7 +11,7 @@ pub loop-at-preserved : goal.loop-at-preserved
 loop-at-preserved c =
     let found : Some (c.unwrap.result.0.now, c.unwrap.result.1.now) ≡ slice_get c.self.inside.map.entries c.loop-at.at = ap (λ o. option_map (λ p. (p.0.now, p.1.now)) o) (sym c.unwrap.ensures) ∙ c.get_index.ensures.entry in
     let more = one_more_entry c.self.inside.map.entries c.loop-at.at _ found in
-    ap (map listed) c.in_ok-push.ensures.items ∙ map-append listed c.loop-at.entries.items _ ∙ ap (λ es. es ++ plain_entry (c.unwrap.result.0.now, c.unwrap.result.1.now) ∷ []) c.loop-at.invariant ∙ sym more
+    ap (map listed) c.in_ok-push.ensures.items ∙ map-append listed c.loop-at.entries.items _ ∙ ap (λ name. map listed c.loop-at.entries.items ++ (name, c.unwrap.result.1.now) ∷ []) c.as_slice.ensures.value ∙ ap (λ es. es ++ plain_entry (c.unwrap.result.0.now, c.unwrap.result.1.now) ∷ []) c.loop-at.invariant ∙ sym more
 
 pub loop-at-init : goal.loop-at-init
 unfolding plain_entries

@@ -9,4 +9,4 @@ use Rattle.asm_front.proofs.named_symbols.NamedSymbols.put.Goals as goal
 
 pub returns : goal.returns
 unfolding with_symbol
-returns c = ap plain_entries c.in_ok-insert.ensures.entries ∙ insert-plain c.self.inside.map.entries c.args.name c.args.symbol ∙ ap (λ es. insert_entry bytes_eq es c.args.name.now c.args.symbol) c.self.view_is
+returns c = ap plain_entries c.in_ok-insert.ensures.entries ∙ insert-plain c.self.inside.map.entries c.args.name c.args.symbol ∙ ap (λ es. insert_entry bytes_eq es c.args.name.items c.args.symbol) c.self.view_is

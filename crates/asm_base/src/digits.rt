@@ -1,0 +1,18 @@
+//! What digits count (GNU as manual, "Integers").
+
+ghost use Rattle.std.specs.Prelude.{◌≡◌, ◌≤◌};
+ghost use Rattle.asm_base.specs.Digits.{digit_of};
+
+/// What a digit of any radix up to 16 counts, and 16 for any other byte.
+#[tactic(auto, unfolding(crate::specs::Digits::digit_of))]
+pub fn digit_of(byte: u8) -> u64
+    ensures value { result ≡ digit_of byte }
+    ensures small { result ≤ 16 }
+{
+    match byte {
+        b'0'..=b'9' => u64::from(byte - b'0'),
+        b'a'..=b'f' => u64::from(byte - b'a' + 10),
+        b'A'..=b'F' => u64::from(byte - b'A' + 10),
+        _ => 16,
+    }
+}

@@ -1,0 +1,55 @@
+-- Each piece adds to what is known, until one ends the statement.
+use Rattle.std.proofs.Common.{◌≡◌, ◌+◌, ◌∷◌, length, take, drop, min, sym, ap, ◌∙◌, arith}
+use Rattle.std.specs.Prelude.{count_by}
+use Rattle.std.proofs.lemmas.List.{length-drop, take_rest}
+use Rattle.asm_base.specs.ByteClasses.{is_feed}
+use Rattle.asm_lines.specs.LineNumbers.{last_line}
+use Rattle.asm_lines.proofs.Pieces.{scan_more, later_more, scan_ends, later_ends, scan_at_end, later_at_end, line_more}
+use Rattle.asm_lines.proofs.intervals.first_interval.Goals as goal
+
+pub returns-then-ends_statement-clause-scan : goal.returns-then-ends_statement-clause-scan
+returns-then-ends_statement-clause-scan c =
+    let source = c.args.source.now in
+    let front : drop c.loop-first.at source ≡ c.in-Some.first.now ∷ c.in-Some.rest.now = sym (take_rest source c.loop-first.at) ∙ c.in-Some.ensures.cases.0 in
+    let piece = c.first_piece-piece.ensures in
+    scan_ends source _ _ _ _ _ _ _ front piece.length piece.some piece.kind (sym c.ends_statement.ensures ∙ c.if-ends_statement.true) c.loop-first.invariant.scan
+
+pub returns-then-ends_statement-clause-later : goal.returns-then-ends_statement-clause-later
+returns-then-ends_statement-clause-later c =
+    let source = c.args.source.now in
+    let front : drop c.loop-first.at source ≡ c.in-Some.first.now ∷ c.in-Some.rest.now = sym (take_rest source c.loop-first.at) ∙ c.in-Some.ensures.cases.0 in
+    let piece = c.first_piece-piece.ensures in
+    later_ends source _ _ _ _ _ _ front piece.length piece.some piece.kind (sym c.ends_statement.ensures ∙ c.if-ends_statement.true) c.loop-first.invariant.later
+
+pub returns-then-ends_statement-clause-line : goal.returns-then-ends_statement-clause-line
+returns-then-ends_statement-clause-line c =
+    let part = ap (λ n. min (c.loop-first.line + count_by is_feed (take n (drop c.loop-first.at c.args.source.now))) last_line) (omega arith) in
+    line_more c.args.source.now c.loop-first.at c.first_piece-piece.result.length c.loop-first.line _ c.loop-first.invariant.line (c.line_behind-line_there.ensures ∙ part)
+
+pub loop-first-preserved : goal.loop-first-preserved
+loop-first-preserved c =
+    let source = c.args.source.now in
+    let front : drop c.loop-first.at source ≡ c.in-Some.first.now ∷ c.in-Some.rest.now = sym (take_rest source c.loop-first.at) ∙ c.in-Some.ensures.cases.0 in
+    let piece = c.first_piece-piece.ensures in
+    let goes_on = sym c.ends_statement.ensures ∙ c.if-ends_statement.false in
+    let part = ap (λ n. min (c.loop-first.line + count_by is_feed (take n (drop c.loop-first.at source))) last_line) (omega arith) in
+    record {
+      within = omega (arith, length-drop c.loop-first.at source, ap length front, piece.within);
+      line = line_more source c.loop-first.at c.first_piece-piece.result.length c.loop-first.line _ c.loop-first.invariant.line (c.line_behind-line_there.ensures ∙ part);
+      scan = scan_more source _ _ _ _ c.loop-first.line _ _ _ _ front piece.length piece.some piece.within piece.kind c.loop-first.invariant.line goes_on c.with-scan.ensures.value c.loop-first.invariant.scan;
+      later = later_more source _ _ _ _ _ _ front piece.length piece.some piece.kind goes_on c.loop-first.invariant.later;
+      ends = c.with-scan.ensures.ends;
+      begins = omega arith;
+    }
+
+pub returns-clause-scan : goal.returns-clause-scan
+returns-clause-scan c =
+    let source = c.args.source.now in
+    let nothing : length (drop c.loop-first.at source) ≡ 0 = rw take_rest at c.in_default.ensures.cases in
+    scan_at_end source c.loop-first.at _ _ (omega (arith, length-drop c.loop-first.at source)) c.loop-first.invariant.scan
+
+pub returns-clause-later : goal.returns-clause-later
+returns-clause-later c =
+    let source = c.args.source.now in
+    let nothing : length (drop c.loop-first.at source) ≡ 0 = rw take_rest at c.in_default.ensures.cases in
+    later_at_end source c.loop-first.at _ (omega (arith, length-drop c.loop-first.at source)) c.loop-first.invariant.later
