@@ -24,6 +24,10 @@ check:
 check-outside: build/as
 	checks/outside.sh build/as
 
+# No test, and no part of the gate: times build/as beside the machine's GNU as.
+bench: build/as
+	@python3 bench/bench.py $(BENCH_OPTIONS)
+
 install: build/as
 	install -d $(DESTDIR)$(PREFIX)/bin
 	install -m 755 build/as $(DESTDIR)$(PREFIX)/bin/as
@@ -31,4 +35,4 @@ install: build/as
 clean:
 	rm -rf build
 
-.PHONY: all demo check check-outside install clean
+.PHONY: all demo check check-outside bench install clean

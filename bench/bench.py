@@ -1,0 +1,159 @@
+#!/usr/bin/env python3
+"""Times build/as beside the machine's GNU as on large sources, and prints a table.
+
+Both assemble each source in turn, some times over. The table has the best wall time of each, of the whole program with its reading and
+writing, and the most memory that it had resident. Where a run does not exit with 0, the table says `failed`.
+
+This is no test: it does not look at the objects, claims nothing, and ends with 0 whatever it measures, also where there is no GNU as.
+"""
+import argparse
+import ctypes
+import itertools
+import os
+import pathlib
+import shutil
+import subprocess
+import tempfile
+import time
+from collections.abc import Callable, Iterator
+from dataclasses import dataclass
+
+BUILT = pathlib.Path(__file__).resolve().parent.parent / "build" / "as"
+ENVIRONMENT = {**os.environ, "LC_ALL": "C"}
+MIB = 1 << 20
+
+
+def nops() -> Iterator[str]:
+    """`nop` with comments of both kinds, two statements on a line, and blank lines."""
+    return itertools.cycle((
+        "nop\n", "    nop\n", "\tnop\t# the rest of the line\n", "nop\n", "nop; nop\n", "nop\n", "\n", "/* a block */ nop\n", "nop\n",
+        "# a line of its own\n", "\tnop\n", "nop ; nop # two statements\n", "    nop /* behind it */\n", "nop\n", "\n", "\tnop\n",
+    ))
+
+
+def byte_lists() -> Iterator[str]:
+    """`.byte` with 16 numbers, decimal and hexadecimal, and a character now and then."""
+    state = 1
+    while True:
+        operands = []
+        for _ in range(16):
+            state = (state * 1103515245 + 12345) % (1 << 31)
+            number, form = state >> 16 & 255, state >> 24 & 7
+            is_character = form == 0 and ord("a") <= number <= ord("z")
+            operands.append(f"'{number:c}" if is_character else str(number) if form < 4 else hex(number))
+        yield f"\t.byte {', '.join(operands)}\n"
+
+
+# Each function yields lines without end, the same ones at each run; its name begins those of its cases.
+SOURCES: list[Callable[[], Iterator[str]]] = [nops, byte_lists]
+SIZES_IN_MIB = [1, 4, 16]
+
+
+def write_source(name: str, lines: Iterator[str], least: int) -> int:
+    """Writes lines until the file has at least so many bytes. Answers how many it has."""
+    length = 0
+    with open(name, "w", encoding="ascii") as source:
+        while length < least:
+            length += source.write(next(lines))
+    return length
+
+
+@dataclass
+class Measured:
+    """The best time and the most memory of some runs; or the word that stands for both in the table, and why."""
+    seconds: float = float("inf")
+    memory: float = 0.0
+    instead: str = ""
+    reason: str = ""
+
+    def shown(self, number: float, digits: int) -> str:
+        return self.instead or f"{number:.{digits}f}"
+
+
+def start(command: list[str]) -> int:
+    """Starts a program in the current directory, with what it says in the file `messages`. Answers its process."""
+    streams = [(os.POSIX_SPAWN_OPEN, 1, "messages", os.O_WRONLY | os.O_CREAT | os.O_TRUNC, 0o600), (os.POSIX_SPAWN_DUP2, 1, 2)]
+    return os.posix_spawn(command[0], command, ENVIRONMENT, file_actions=streams)
+
+
+def run_once(command: list[str], measured: Measured, for_memory: bool) -> None:
+    """Runs a program for its time or its memory. Memory counts from what the parent has, and Python has much: so a small shell starts
+    the program and ends, and the program, an orphan, becomes a child of this process."""
+    before = time.perf_counter()
+    if for_memory:
+        os.waitpid(start(["/bin/sh", "-c", '"$@" &', "sh", *command]), 0)
+        _, status, usage = os.wait4(-1, 0)
+        measured.memory = usage.ru_maxrss / 1024
+    else:
+        _, status, _ = os.wait4(start(command), 0)
+        measured.seconds = min(measured.seconds, time.perf_counter() - before)
+    if status != 0:
+        said = pathlib.Path("messages").read_text(errors="replace").splitlines()
+        first = next((line for line in said if not line.endswith("Assembler messages:")), "no message")
+        measured.instead, measured.reason = "failed", f"status {os.waitstatus_to_exitcode(status)}, {first}"
+
+
+def measure(name: str, gnu: str | None, runs: int) -> tuple[Measured, Measured]:
+    """Runs build/as and GNU as in turn on a source, and once more for the memory. One that failed is not run again."""
+    ours, theirs = Measured(), Measured(instead="" if gnu else "-")
+    programs = [([str(BUILT), name], "a.out", ours), ([str(gnu), "-o", "gnu.o", name], "gnu.o", theirs)]
+    for for_memory in [False] * runs + [True]:
+        for command, output, measured in programs:
+            if not measured.instead:
+                pathlib.Path(output).unlink(missing_ok=True)
+                run_once(command, measured, for_memory)
+    return ours, theirs
+
+
+def find_gnu() -> tuple[str | None, str]:
+    """The first GNU as on PATH and the first line of its version. Any other `as`, such as this one installed, is passed over."""
+    for folder in os.get_exec_path():
+        if path := shutil.which("as", path=os.path.abspath(folder)):
+            answer = subprocess.run([path, "--version"], stdin=subprocess.DEVNULL, capture_output=True, env=ENVIRONMENT, check=False)
+            if answer.stdout.startswith(b"GNU assembler"):
+                return path, answer.stdout.decode(errors="replace").splitlines()[0]
+    return None, "no GNU as on PATH, so build/as is timed alone"
+
+
+def row_of(name: str, mib: float, ours: Measured, theirs: Measured) -> list[str]:
+    ratio = "-" if ours.instead or theirs.instead else f"{theirs.seconds / ours.seconds:.2f}"
+    times = [ours.shown(ours.seconds, 3), ours.shown(mib / ours.seconds, 1), theirs.shown(theirs.seconds, 3), ratio]
+    return [name, f"{mib:.1f}", *times, ours.shown(ours.memory, 1), theirs.shown(theirs.memory, 1)]
+
+
+def print_table(rows: list[list[str]], markdown: bool) -> None:
+    header = ["case", "MiB", "build/as s", "build/as MiB/s", "GNU as s", "GNU as / build/as", "build/as memory", "GNU as memory"]
+    widths = [max(map(len, column)) for column in zip(header, *rows)]
+    rule = [["-" * widths[0]] + ["-" * (width - 1) + ":" for width in widths[1:]]] if markdown else []
+    for row in [header] + rule + rows:
+        cells = [row[0].ljust(widths[0])] + [cell.rjust(width) for cell, width in zip(row[1:], widths[1:])]
+        print(f"| {' | '.join(cells)} |" if markdown else "  ".join(cells))
+
+
+def main() -> None:
+    parser = argparse.ArgumentParser(description="Times build/as beside the machine's GNU as. It claims nothing.")
+    parser.add_argument("--only", metavar="WORD", default="", help="the cases that have WORD in their name")
+    parser.add_argument("--runs", metavar="N", type=int, default=5, help="how often each runs on a case (default 5)")
+    parser.add_argument("--markdown", action="store_true", help="print the table as Markdown")
+    options = parser.parse_args()
+    cases = {f"{source.__name__}-{size}M": (source, size) for source in SOURCES for size in SIZES_IN_MIB}
+    chosen = {name: case for name, case in cases.items() if options.only in name}
+    if options.runs < 1 or not chosen or not BUILT.exists():
+        parser.error(f"build/as is built first, N is at least 1, and WORD stands in one of: {', '.join(cases)}")
+    gnu, version = find_gnu()
+    print(f"{version}\nbest of {options.runs} wall times, memory in MiB\n", flush=True)
+    ctypes.CDLL(None).prctl(36, 1, 0, 0, 0)  # PR_SET_CHILD_SUBREAPER: orphans become children of this process
+    rows, reasons = [], []
+    with tempfile.TemporaryDirectory() as folder:
+        os.chdir(folder)
+        for name, (source, size) in chosen.items():
+            mib = write_source(f"{name}.s", source(), size * MIB) / MIB
+            ours, theirs = measure(f"{name}.s", gnu, options.runs)
+            rows.append(row_of(name, mib, ours, theirs))
+            reasons += [f"{who} failed: {it.reason}" for who, it in (("build/as", ours), ("GNU as", theirs)) if it.reason]
+    print_table(rows, options.markdown)
+    print("", *reasons, sep="\n")
+
+
+if __name__ == "__main__":
+    main()
