@@ -1,7 +1,7 @@
 -- The division of a text into its pieces, computed from its front.
-use Rattle.std.specs.Prelude.{ℕ, zero, suc, ◌+◌, ◌-◌, Bool, true, false, ◌&&◌, ◌||◌, ◌==◌, if◌then◌else◌, nat_lt, List, [], ◌∷◌, length, take, drop}
+use Rattle.std.specs.Prelude.{ℕ, zero, suc, ◌+◌, ◌-◌, Bool, true, false, not, ◌&&◌, ◌||◌, ◌==◌, if◌then◌else◌, nat_lt, List, [], ◌∷◌, length, take, drop}
 use Rattle.std.specs.List.{position_or_len}
-use Rattle.asm_base.specs.ByteClasses.{is_feed, begins_with, line_goes_on}
+use Rattle.asm_base.specs.ByteClasses.{is_feed, is_blank, begins_with, line_goes_on}
 use Rattle.asm_base.specs.Pieces.{Piece, is_blank_before}
 use Rattle.asm_base.specs.declared.pieces.PieceKind.{PieceKind}
 use Rattle.asm_base.specs.declared.pieces.PieceKind.TheVariants.{LineFeed, Semicolon, Blank, LineComment, BlockComment, OpenComment, Character, String, OpenString, Other}
@@ -28,6 +28,10 @@ comment_kind inner = if nat_lt (comment_length inner) (length inner) then BlockC
 -- of what begins with `"`, by what follows that
 abbrev pub string_kind : List ℕ → PieceKind
 string_kind rest = if begins_with 34 (drop (quoted_length false rest) rest) then String else OpenString
+
+-- the byte is a piece of its own whatever follows it
+unfoldable pub is_plain : ℕ → Bool
+is_plain byte = not (is_feed byte || byte == 59 || is_blank byte || byte == 13 || byte == 35 || byte == 47 || byte == 39 || byte == 34)
 
 -- the class of the piece that begins with this byte
 unfoldable pub piece_kind : ℕ → List ℕ → PieceKind

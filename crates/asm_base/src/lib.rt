@@ -31,7 +31,7 @@ pub use memory::{MemoryConsole, MemoryFile, MemoryInputs, MemoryOutput, Stage};
 pub use messages::{NoMemory, heading, message};
 pub use notes::{Noted, Notes};
 pub use outside::{Channel, Console, Failed, Inputs, Output};
-pub use pieces::{FirstPiece, PieceKind, first_piece};
+pub use pieces::{FirstPiece, PieceKind, first_piece, plain_length};
 pub use positions::{Files, Pos};
 pub use reading::{MOST_BYTES, TextFault, read_text};
 pub use statuses::Status;

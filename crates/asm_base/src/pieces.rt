@@ -1,9 +1,10 @@
 //! The pieces of a text: ends of statements, blanks, comments, strings, characters, and other bytes one by one (GNU as manual, chapter 3, "Syntax").
 
 ghost use Rattle.std.specs.Prelude.{◌≡◌, ◌+◌, ◌<◌, ◌≤◌, ◌==◌, ◌&&◌, length, drop, false};
+ghost use Rattle.std.specs.List.{prefix_len};
 ghost use Rattle.asm_base.specs.ByteClasses.{begins_with};
 ghost use Rattle.asm_base.specs.Pieces.{is_space, is_comment, ends_statement};
-ghost use Rattle.asm_base.specs.Dividing.{line_length, comment_length, quoted_length, comment_kind, string_kind, piece_kind, piece_length};
+ghost use Rattle.asm_base.specs.Dividing.{line_length, comment_length, quoted_length, comment_kind, string_kind, is_plain, piece_kind, piece_length};
 
 use crate::byte_classes::{begins_with, is_blank, line_goes_on};
 
@@ -121,6 +122,25 @@ fn quoted_length(bytes: &[u8]) -> usize
         }
     }
     bytes.len()
+}
+
+/// Whether the byte is a piece of its own whatever follows it.
+#[tactic(auto, unfolding(crate::specs::Dividing::is_plain, crate::specs::ByteClasses::is_blank))]
+fn is_plain(byte: u8) -> bool
+    ensures { result ≡ is_plain byte }
+{
+    !matches!(
+        byte,
+        b'\n' | b';' | b' ' | b'\t' | b'\r' | b'#' | b'/' | b'\'' | b'"'
+    )
+}
+
+/// How many bytes in front are pieces of their own whatever follows them. A reader may take them at once.
+pub fn plain_length(bytes: &[u8]) -> usize
+    ensures value { result ≡ prefix_len is_plain bytes.now }
+    ensures within { result ≤ length bytes.now }
+{
+    bytes.iter().take_while(|byte| is_plain(**byte)).count()
 }
 
 /// A piece of one byte.

@@ -1,5 +1,6 @@
 -- The lemmas, in reading order.
 pub mod Pieces
+pub mod PlainRuns
 pub mod Scans
 pub mod Order
 pub mod Steps

@@ -3,7 +3,7 @@ use Rattle.std.specs.Prelude.{ℕ, ◌+◌, ◌≤◌, length, List, [], ◌∷�
 use Rattle.std.specs.Option.{option_or}
 use Rattle.asm_base.specs.Pieces.{Piece, ends_statement, is_comment, is_space}
 use Rattle.asm_base.specs.declared.pieces.PieceKind.{PieceKind}
-use Rattle.asm_base.specs.declared.pieces.PieceKind.TheVariants.{OpenString, OpenComment}
+use Rattle.asm_base.specs.declared.pieces.PieceKind.TheVariants.{OpenString, OpenComment, Other}
 use Rattle.asm_base.specs.Dividing.{pieces_from}
 use Rattle.asm_lines.specs.declared.faults.Found.{Found}
 use Rattle.asm_lines.specs.declared.faults.LineFault.TheVariants.{UnclosedString, UnclosedComment, StatementTooLong}
@@ -35,6 +35,10 @@ nothing_scanned = record { span = None; unclosed = None }
 -- the piece where it stands in the source
 abbrev pub piece_at : List ℕ → Piece → PieceAt
 piece_at source piece = record { kind = piece.kind; start = piece.start; length = length piece.bytes; line = line_of source piece.start }
+
+-- a run of pieces of one byte each, as one
+abbrev pub plain_run : ℕ → ℕ → ℕ → PieceAt
+plain_run start length line = record { kind = Other; start = start; length = length; line = line }
 
 abbrev pub own_by : PieceAt → ℕ
 own_by piece = if is_comment piece.kind then 0 else piece.length

@@ -7,7 +7,7 @@ ghost use Rattle.asm_lines.specs.Scan.{EndsBy, pieces_at, scan_of, nothing_scann
 
 use crate::faults::{Found, LineFault};
 use crate::line_numbers::line_behind;
-use asm_base::{PieceKind, first_piece};
+use asm_base::{PieceKind, first_piece, plain_length};
 
 /// The most bytes that a statement has.
 const LONGEST_STATEMENT: usize = 65536;
@@ -165,6 +165,18 @@ impl Scan {
     }
 }
 
+/// A run of pieces of one byte each, as one.
+fn plain_run(start: usize, length: usize, line: u32) -> PieceAt
+    ensures { result ≡ spec.plain_run start length line }
+{
+    PieceAt {
+        kind: PieceKind::Other,
+        start,
+        length,
+        line,
+    }
+}
+
 /// Reads the first interval from an offset on, which stands on the line.
 pub(crate) fn first_interval(source: &[u8], from: usize, line: u32) -> Interval
     requires within { from < length source.now }
@@ -183,6 +195,13 @@ pub(crate) fn first_interval(source: &[u8], from: usize, line: u32) -> Interval
     let mut at = from;
     let mut line = line;
     while let Some((first, rest)) = source[at..].split_first() {
+        // Most bytes are pieces of their own: a run of them is taken at once.
+        let plain = plain_length(&source[at..]);
+        if plain > 0 {
+            scan = scan.with(plain_run(at, plain, line));
+            at += plain;
+            continue;
+        }
         let piece = first_piece(*first, rest);
         let next = at + piece.length;
         let line_there = line_behind(line, &source[at..next]);

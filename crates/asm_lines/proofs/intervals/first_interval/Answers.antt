@@ -1,9 +1,15 @@
 -- Each piece adds to what is known, until one ends the statement.
-use Rattle.std.proofs.Common.{◌≡◌, ◌+◌, ◌∷◌, length, take, drop, min, sym, ap, ◌∙◌, arith}
+use Rattle.std.proofs.Common.{◌≡◌, ◌+◌, ◌∷◌, length, take, drop, min, sym, ap, subst, ◌∙◌, arith}
 use Rattle.std.specs.Prelude.{count_by}
 use Rattle.std.proofs.lemmas.List.{length-drop, take_rest}
 use Rattle.asm_base.specs.ByteClasses.{is_feed}
 use Rattle.asm_lines.specs.LineNumbers.{last_line}
+use Rattle.std.specs.List.{prefix_len}
+use Rattle.std.proofs.lemmas.List.Sums.{prefix_len-le-length}
+use Rattle.asm_base.specs.Dividing.{is_plain}
+use Rattle.asm_lines.specs.declared.intervals.PieceAt.{PieceAt}
+use Rattle.asm_lines.specs.Scan.{EndsBy, scanned}
+use Rattle.asm_lines.proofs.PlainRuns.{later_plain, line_of_run, scan_plain}
 use Rattle.asm_lines.proofs.Pieces.{scan_more, later_more, scan_ends, later_ends, scan_at_end, later_at_end, line_more}
 use Rattle.asm_lines.proofs.intervals.first_interval.Goals as goal
 
@@ -26,6 +32,20 @@ returns-then-ends_statement-clause-line c =
     let part = ap (λ n. min (c.loop-first.line + count_by is_feed (take n (drop c.loop-first.at c.args.source.now))) last_line) (omega arith) in
     line_more c.args.source.now c.loop-first.at c.first_piece-piece.result.length c.loop-first.line _ c.loop-first.invariant.line (c.line_behind-line_there.ensures ∙ part)
 
+pub loop-first-preserved-then-plain-gt0 : goal.loop-first-preserved-then-plain-gt0
+loop-first-preserved-then-plain-gt0 c =
+    let source = c.args.source.now in
+    let run : c.plain_length-plain.result ≡ prefix_len is_plain (drop c.loop-first.at source) = c.plain_length-plain.ensures.value ∙ ap (prefix_len is_plain) (take_rest source c.loop-first.at) in
+    let known = c.with-scan.ensures.value ∙ ap (scanned c.loop-first.scan) c.plain_run.ensures in
+    record {
+      within = omega (arith, length-drop c.loop-first.at source, prefix_len-le-length is_plain (drop c.loop-first.at source));
+      line = line_of_run source c.loop-first.at c.plain_length-plain.result c.loop-first.line (omega arith) c.loop-first.invariant.line;
+      scan = scan_plain source c.loop-first.at c.plain_length-plain.result c.loop-first.line c.loop-first.scan _ _ c.if-plain-gt0.true run c.loop-first.invariant.line known c.loop-first.invariant.scan;
+      later = later_plain source c.loop-first.at c.plain_length-plain.result _ run c.loop-first.invariant.later;
+      ends = subst (λ (piece : PieceAt). EndsBy (piece.start + piece.length) c.with-scan.result.span) c.plain_run.ensures c.with-scan.ensures.ends;
+      begins = omega arith;
+    }
+
 pub loop-first-preserved : goal.loop-first-preserved
 loop-first-preserved c =
     let source = c.args.source.now in
@@ -36,9 +56,9 @@ loop-first-preserved c =
     record {
       within = omega (arith, length-drop c.loop-first.at source, ap length front, piece.within);
       line = line_more source c.loop-first.at c.first_piece-piece.result.length c.loop-first.line _ c.loop-first.invariant.line (c.line_behind-line_there.ensures ∙ part);
-      scan = scan_more source _ _ _ _ c.loop-first.line _ _ _ _ front piece.length piece.some piece.within piece.kind c.loop-first.invariant.line goes_on c.with-scan.ensures.value c.loop-first.invariant.scan;
+      scan = scan_more source _ _ _ _ c.loop-first.line _ _ _ _ front piece.length piece.some piece.within piece.kind c.loop-first.invariant.line goes_on c.with-scan-in-Some.ensures.value c.loop-first.invariant.scan;
       later = later_more source _ _ _ _ _ _ front piece.length piece.some piece.kind goes_on c.loop-first.invariant.later;
-      ends = c.with-scan.ensures.ends;
+      ends = c.with-scan-in-Some.ensures.ends;
       begins = omega arith;
     }
 
