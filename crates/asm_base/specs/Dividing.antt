@@ -29,7 +29,7 @@ comment_kind inner = if nat_lt (comment_length inner) (length inner) then BlockC
 abbrev pub string_kind : List ℕ → PieceKind
 string_kind rest = if begins_with 34 (drop (quoted_length false rest) rest) then String else OpenString
 
--- the byte is a piece of its own whatever follows it
+-- the byte is a piece of the class `Other` whatever follows it
 unfoldable pub is_plain : ℕ → Bool
 is_plain byte = not (is_feed byte || byte == 59 || is_blank byte || byte == 13 || byte == 35 || byte == 47 || byte == 39 || byte == 34)
 

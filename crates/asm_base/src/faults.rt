@@ -11,7 +11,7 @@ pub enum StatementFault {
     UnclosedString,
     /// A block comment does not close.
     UnclosedComment,
-    /// A statement has more than 2^16 bytes.
+    /// A statement has more than 2^16 bytes, those of comments not counted.
     StatementTooLong,
     /// A source file has more than 2^26 bytes.
     FileTooLarge,

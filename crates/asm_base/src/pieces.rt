@@ -124,7 +124,7 @@ fn quoted_length(bytes: &[u8]) -> usize
     bytes.len()
 }
 
-/// Whether the byte is a piece of its own whatever follows it.
+/// Whether the byte is a piece of the class `Other` whatever follows it.
 #[tactic(auto, unfolding(crate::specs::Dividing::is_plain, crate::specs::ByteClasses::is_blank))]
 fn is_plain(byte: u8) -> bool
     ensures { result ≡ is_plain byte }
@@ -135,7 +135,7 @@ fn is_plain(byte: u8) -> bool
     )
 }
 
-/// How many bytes in front are pieces of their own whatever follows them. A reader may take them at once.
+/// How many bytes in front are each a piece of the class `Other` whatever follows them. A reader may take them at once.
 pub fn plain_length(bytes: &[u8]) -> usize
     ensures value { result ≡ prefix_len is_plain bytes.now }
     ensures within { result ≤ length bytes.now }

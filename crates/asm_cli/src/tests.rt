@@ -96,6 +96,23 @@ fn objects(rt: HostRuntime) -> Result<(), Fail> {
 }
 
 #[test]
+fn line_ends(rt: HostRuntime) -> Result<(), Fail> {
+    let feeds = run_on(
+        rt.alloc(),
+        &["as", "x.s"],
+        b".globl f\nf: # c\n/* a\n */ .byte 'a\n",
+    )?;
+    let returns = run_on(
+        rt.alloc(),
+        &["as", "x.s"],
+        b".globl f\r\nf: # c\r\n/* a\r\n */ .byte 'a \r\n",
+    )?;
+    assert_eq!(rt; returns.status, Status::Done);
+    assert_eq!(rt; returns.obj.bytes(), feeds.obj.bytes());
+    Ok(())
+}
+
+#[test]
 fn refusals(rt: HostRuntime) -> Result<(), Fail> {
     let cases: [(&[u8], &str); 11] = [
         (b"foo\nbar\n", "1: Error: unknown mnemonic"),

@@ -1,4 +1,4 @@
--- LineNumbers in a source, in bytes from its beginning, and the lines that they stand on.
+-- Offsets in a source, in bytes from its beginning, and the lines that they stand on.
 use Rattle.std.specs.Prelude.{ℕ, ◌+◌, ◌-◌, ◌^◌, min, List, [], ◌∷◌, length, take, drop, count_by}
 use Rattle.asm_base.specs.ByteClasses.{is_feed}
 use Rattle.asm_base.specs.Pieces.{Piece}

@@ -51,12 +51,12 @@ pub(crate) struct Found {
     pub fault: LineFault,
 }
 
-/// Of a byte 0 and another fault the one that stands first.
-pub(crate) fn earlier(nul: Option<Found>, other: Found) -> Found
-    ensures { Some result ≡ earlier nul (Some other) }
+/// Of two faults the one that stands first, and of two at one place the first of these two.
+pub(crate) fn earlier(one: Option<Found>, other: Found) -> Found
+    ensures { Some result ≡ earlier one (Some other) }
 {
-    match nul {
-        Some(nul) if nul.offset <= other.offset => nul,
+    match one {
+        Some(one) if one.offset <= other.offset => one,
         _ => other,
     }
 }

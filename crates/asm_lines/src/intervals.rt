@@ -5,14 +5,14 @@ ghost use Rattle.asm_lines.specs.LineNumbers.{line_of};
 ghost use Rattle.asm_lines.specs.Scan as spec;
 ghost use Rattle.asm_lines.specs.Scan.{EndsBy, pieces_at, scan_of, nothing_scanned};
 
-use crate::faults::{Found, LineFault};
+use crate::faults::{Found, LineFault, earlier};
 use crate::line_numbers::line_behind;
 use asm_base::{PieceKind, first_piece, plain_length};
 
 /// The most bytes that a statement has.
 const LONGEST_STATEMENT: usize = 65536;
 
-/// A piece where it stands in a source.
+/// A piece where it stands in a source, or a run of pieces of the class `Other`.
 #[derive(Clone, Copy)]
 pub(crate) struct PieceAt {
     pub kind: PieceKind,
@@ -47,7 +47,7 @@ pub(crate) struct Scan {
     pub unclosed: Option<Found>,
 }
 
-/// A interval that is read whole.
+/// An interval that is read whole.
 #[derive(Clone, Copy)]
 pub(crate) struct Interval {
     pub scan: Scan,
@@ -155,10 +155,7 @@ impl Scan {
                     offset: span.begin,
                     fault,
                 };
-                Some(match self.unclosed {
-                    Some(unclosed) if unclosed.offset <= long.offset => unclosed,
-                    _ => long,
-                })
+                Some(earlier(self.unclosed, long))
             }
             _ => self.unclosed,
         }

@@ -4,9 +4,10 @@ use asm_base::Pos;
 use std::marker::Model;
 use std::slice;
 
-/// A statement: the part of the source from its first to its last byte that is no blank.
+/// A statement: the part of the source from its first to its last byte that is of no blank and no comment. Comments between them stand in it.
 #[derive(Clone, Copy, Debug)]
 pub struct Statement<'a> {
+    /// The file, and the line of the first byte.
     pub pos: Pos,
     pub bytes: &'a [u8],
 }
