@@ -4,6 +4,7 @@ use Rattle.std.specs.List.{slice_index_or}
 use Rattle.std.specs.Fmt.{decimal}
 use Rattle.asm_base.specs.FaultTexts.{fault_text, note_text}
 use Rattle.asm_base.specs.declared.faults.Fault.{Fault}
+use Rattle.asm_base.specs.declared.faults.Note.{Note}
 use Rattle.asm_base.specs.declared.notes.Noted.{Noted}
 use Rattle.asm_base.specs.declared.positions.Pos.{Pos}
 
@@ -22,15 +23,18 @@ heading files pos = file_name files pos.file ++ codes ": Assembler messages:\n"
 abbrev pub error_line : List (List ℕ) → Fault → Pos → List ℕ
 error_line files fault pos = place_text files pos ++ codes "Error: " ++ fault_text fault ++ codes "\n"
 
-abbrev pub warning_line : List (List ℕ) → Noted → List ℕ
-warning_line files noted = place_text files noted.pos ++ codes "Warning: " ++ note_text noted.note ++ codes "\n"
+abbrev pub warning_line : List (List ℕ) → Note → Pos → List ℕ
+warning_line files note pos = place_text files pos ++ codes "Warning: " ++ note_text note ++ codes "\n"
+
+abbrev pub noted_line : List (List ℕ) → Noted → List ℕ
+noted_line files noted = warning_line files noted.note noted.pos
 
 -- what a run that succeeds says
 abbrev pub remarks : List (List ℕ) → List Noted → List ℕ
 remarks files [] = []
-remarks files (first ∷ others) = heading files first.pos ++ flat_map (warning_line files) (first ∷ others)
+remarks files (first ∷ others) = heading files first.pos ++ flat_map (noted_line files) (first ∷ others)
 
 -- what a run says that is refused for this fault
 abbrev pub refusal : List (List ℕ) → List Noted → Fault → Pos → List ℕ
 refusal files [] fault pos = heading files pos ++ error_line files fault pos
-refusal files (first ∷ others) fault pos = heading files first.pos ++ flat_map (warning_line files) (first ∷ others) ++ error_line files fault pos
+refusal files (first ∷ others) fault pos = heading files first.pos ++ flat_map (noted_line files) (first ∷ others) ++ error_line files fault pos

@@ -28,7 +28,7 @@ pub use faults::{EndFault, Fault, Note, SavedRegister, ScfiFault, StatementFault
 pub use faulty::{Calls, FaultyConsole, FaultyInputs, FaultyOutput, Unlisted};
 pub use laws::{one_division, one_value};
 pub use memory::{MemoryConsole, MemoryFile, MemoryInputs, MemoryOutput, Stage};
-pub use messages::{NoMemory, heading, message};
+pub use messages::{NoMemory, heading, message, warning};
 pub use notes::{Noted, Notes};
 pub use outside::{Channel, Console, Failed, Inputs, Output};
 pub use pieces::{FirstPiece, PieceKind, first_piece, plain_length};

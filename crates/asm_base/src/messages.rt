@@ -1,11 +1,10 @@
-//! The texts of faults, and the lines that a run says of them.
+//! The texts of faults and notes, and the lines that a run says of them.
 
 ghost use Rattle.std.specs.Prelude.{◌≡◌, ◌++◌, IfOk, OnOk, Ok, codes, string_bytes};
-ghost use Rattle.std.specs.Fmt.{decimal};
-ghost use Rattle.asm_base.specs.FaultTexts.{register_name, statement_text, end_text, scfi_text, fault_text};
-ghost use Rattle.asm_base.specs.Messages.{heading, error_line};
+ghost use Rattle.asm_base.specs.FaultTexts.{register_name, statement_text, end_text, scfi_text, fault_text, note_text};
+ghost use Rattle.asm_base.specs.Messages.{heading, place_text, error_line, warning_line};
 
-use crate::faults::{EndFault, Fault, SavedRegister, ScfiFault, StatementFault};
+use crate::faults::{EndFault, Fault, Note, SavedRegister, ScfiFault, StatementFault};
 use crate::positions::{Files, Pos};
 use crate::texts::Bytes;
 use std::alloc::{AllocError, Global};
@@ -134,24 +133,52 @@ fn put_fault(alloc: Global, bytes: &mut Vec<u8>, fault: &Fault) -> Result<(), No
     }
 }
 
-/// Appends `:LINE: `, which stands behind the file's name.
-fn put_line(alloc: Global, bytes: &mut Vec<u8>, line: u32) -> Result<(), NoMemory>
-    ensures { OnOk result (bytes.new.items ≡ bytes.old.items ++ codes ":" ++ decimal line ++ codes ": ") }
+/// How a message begins: `FILE:LINE: ` and this label.
+fn message_front(alloc: Global, pos: &Pos, files: &Files, label: &[u8]) -> Result<Vec<u8>, NoMemory>
+    ensures { IfOk result (λ front. front.items ≡ place_text files.now pos.now ++ label.now) }
 {
-    let line = line.to_string(alloc)?;
+    let mut bytes = Vec::from_slice(alloc, files.name(pos.file).as_bytes())?;
+    let line = pos.line.to_string(alloc)?;
     bytes.extend_from_slice(b":")?;
     bytes.extend_from_slice(line.as_bytes())?;
-    bytes.extend_from_slice(b": ")
+    bytes.extend_from_slice(b": ")?;
+    bytes.extend_from_slice(label)?;
+    Ok(bytes)
+}
+
+/// The message with its line end.
+fn ended(mut bytes: Vec<u8>) -> Result<Bytes, NoMemory>
+    ensures { IfOk result (λ line. line ≡ bytes.items ++ codes "\n") }
+{
+    bytes.extend_from_slice(b"\n")?;
+    Ok(Bytes::new(bytes))
 }
 
 /// The line of a fault at a place: `FILE:LINE: Error: TEXT` and a line end.
 pub fn message(alloc: Global, fault: &Fault, pos: &Pos, files: &Files) -> Result<Bytes, NoMemory>
     ensures { IfOk result (λ text. text ≡ error_line files.now fault.now pos.now) }
 {
-    let mut bytes = Vec::from_slice(alloc, files.name(pos.file).as_bytes())?;
-    put_line(alloc, &mut bytes, pos.line)?;
-    bytes.extend_from_slice(b"Error: ")?;
+    let mut bytes = message_front(alloc, pos, files, b"Error: ")?;
     put_fault(alloc, &mut bytes, fault)?;
-    bytes.extend_from_slice(b"\n")?;
-    Ok(Bytes::new(bytes))
+    ended(bytes)
+}
+
+/// The text of a note, without the place.
+fn note_text(note: &Note) -> &[u8]
+    ensures { result.now ≡ note_text note.now }
+{
+    match note {
+        Note::Written(text) => text.as_bytes(),
+        Note::CfiIgnored => b"CFI directives are ignored under synthesis",
+        Note::ValueTruncated => b"value is truncated",
+    }
+}
+
+/// The line of a note at a place: `FILE:LINE: Warning: TEXT` and a line end.
+pub fn warning(alloc: Global, note: &Note, pos: &Pos, files: &Files) -> Result<Bytes, NoMemory>
+    ensures { IfOk result (λ text. text ≡ warning_line files.now note.now pos.now) }
+{
+    let mut bytes = message_front(alloc, pos, files, b"Warning: ")?;
+    bytes.extend_from_slice(note_text(note))?;
+    ended(bytes)
 }

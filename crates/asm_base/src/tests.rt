@@ -1,8 +1,9 @@
 //! The real adapters once each, a file read through pieces, and the values of strings.
 
 use crate::{
-    Channel, Console, Fault, FileInputs, FileOutput, Files, Inputs, MemoryFile, MemoryInputs,
-    Output, Pos, StatementFault, StreamConsole, heading, message, read_text, string_value,
+    Channel, Console, Fault, FileInputs, FileOutput, Files, Inputs, MemoryFile, MemoryInputs, Note,
+    Output, Pos, StatementFault, StreamConsole, Text, heading, message, read_text, string_value,
+    warning,
 };
 use std::test::Fail;
 
@@ -29,7 +30,7 @@ fn says_on_streams(rt: HostRuntime) -> Result<(), Fail> {
 }
 
 #[test]
-fn tells_a_fault(rt: HostRuntime) -> Result<(), Fail> {
+fn tells_faults_and_notes(rt: HostRuntime) -> Result<(), Fail> {
     let mut files = Files::new(rt.alloc());
     files.add(String::from_str(rt.alloc(), "x.s")?)?;
     let pos = Pos { file: 0, line: 1 };
@@ -41,6 +42,24 @@ fn tells_a_fault(rt: HostRuntime) -> Result<(), Fail> {
         line.as_slice(),
         b"x.s:1: Error: unknown mnemonic\n".as_slice()
     );
+    let told: [(Note, &[u8]); 3] = [
+        (
+            Note::ValueTruncated,
+            b"x.s:1: Warning: value is truncated\n",
+        ),
+        (
+            Note::CfiIgnored,
+            b"x.s:1: Warning: CFI directives are ignored under synthesis\n",
+        ),
+        (
+            Note::Written(Text::new(b"of old".to_vec(rt.alloc())?)),
+            b"x.s:1: Warning: of old\n",
+        ),
+    ];
+    for (note, text) in told {
+        let line = warning(rt.alloc(), &note, &pos, &files)?;
+        assert_eq!(rt; line.as_slice(), text);
+    }
     let files = [MemoryFile {
         name: "x.s",
         bytes: b"ret",
