@@ -2,5 +2,7 @@
 pub mod SaidPieces
 pub mod MadeFiles
 pub mod FaultyWrites
-mod Samples
+mod CommandSamples
 pub mod ReadsBackAgain
+pub mod Reading
+mod Samples

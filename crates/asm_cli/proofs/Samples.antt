@@ -23,37 +23,9 @@ use Rattle.asm_front.specs.SymbolMap.{symbol_named, with_symbol}
 use Rattle.asm_front.specs.Sections.{section_names}
 use Rattle.asm_front.specs.StringTable.{string_table_of, name_offsets}
 use Rattle.asm_front.specs.Symbols.{symbol_names, symbol_table_of, in_file_order, first_global}
-use Rattle.asm_cli.specs.Command.{command_of, usage_text}
+use Rattle.clap.proofs.OnLiterals.{clap_on_literals}
+use Rattle.asm_cli.specs.Words.{as_app, asked_by, command_of, faults_of, invocation_of, rows_of_words, usage_text}
 use Rattle.asm_cli.specs.Outcome.{Outcome, usage, missing, refused, object, outcome}
-
--- commands, and words that are none
-no_word : command_of [] ≡ None
-unfolding command_of
-no_word = refl
-
-program_alone : command_of (codes "as" ∷ []) ≡ Some []
-unfolding command_of
-program_alone = refl
-
-dash : command_of (codes "as" ∷ codes "-" ∷ []) ≡ Some []
-unfolding command_of
-dash = refl
-
-empty_word : command_of (codes "as" ∷ [] ∷ []) ≡ Some []
-unfolding command_of
-empty_word = refl
-
-one_file : command_of (codes "as" ∷ codes "x.s" ∷ []) ≡ Some (codes "x.s")
-unfolding command_of
-one_file = refl
-
-unknown_option : command_of (codes "as" ∷ codes "--zap" ∷ []) ≡ None
-unfolding command_of
-unknown_option = refl
-
-two_files : command_of (codes "as" ∷ codes "x.s" ∷ codes "y.s" ∷ []) ≡ None
-unfolding command_of
-two_files = refl
 
 usage_text-length : length usage_text ≡ 106
 unfolding usage_text
@@ -67,20 +39,20 @@ abbrev outcome_of : List ℕ → Option Outcome
 outcome_of source = outcome (codes "as" ∷ codes "x.s" ∷ []) (one_source source)
 
 not_there : outcome (codes "as" ∷ codes "none.s" ∷ []) (one_source []) ≡ Some missing
-unfolding command_of
+unfolding command_of asked_by faults_of rows_of_words invocation_of as_app clap_on_literals
 not_there = refl
 
 not_told : outcome (codes "as" ∷ codes "x.s" ∷ []) None ≡ None
-unfolding command_of
+unfolding command_of asked_by faults_of rows_of_words invocation_of as_app clap_on_literals
 not_told = refl
 
 usage_untold : outcome (codes "as" ∷ codes "--zap" ∷ []) None ≡ Some usage
-unfolding command_of
+unfolding command_of asked_by faults_of rows_of_words invocation_of as_app clap_on_literals
 usage_untold = refl
 
 -- a source with a fault
 row_foo : outcome_of (codes "foo\nbar\n") ≡ Some (refused (codes "x.s: Assembler messages:\nx.s:1: Error: unknown mnemonic\n"))
-unfolding command_of assembly_of assembly_of_lines finished with_globals statements_of statements_in comment_length quoted_length piece_kind piece_length pieces_from line_of trimmed nul_found source_found is_blank is_name_start is_name_byte is_operator_byte is_long_operator token_kind token_length tokens_from place_all place place_tokens place_label place_symbol symbol_name place_body place_directive place_instruction the_rows digits
+unfolding command_of asked_by faults_of rows_of_words invocation_of as_app clap_on_literals assembly_of assembly_of_lines finished with_globals statements_of statements_in comment_length quoted_length piece_kind piece_length pieces_from line_of trimmed nul_found source_found is_blank is_name_start is_name_byte is_operator_byte is_long_operator token_kind token_length tokens_from place_all place place_tokens place_label place_symbol symbol_name place_body place_directive place_instruction the_rows digits
 row_foo = refl
 
 -- the bytes of the object
@@ -96,27 +68,27 @@ abbrev length_and_text : ℕ → Option Outcome → ℕ × List ℕ
 length_and_text count o = (length (object_bytes o), take count (drop 64 (object_bytes o)))
 
 row_empty : length_and_text 0 (outcome_of []) ≡ (584, [])
-unfolding command_of assembly_of assembly_of_lines finished with_globals statements_of statements_in comment_length quoted_length piece_kind piece_length pieces_from line_of trimmed nul_found source_found is_blank is_name_start is_name_byte is_operator_byte is_long_operator token_kind token_length tokens_from place_all place place_tokens place_label place_symbol symbol_name place_body place_directive place_instruction the_rows placed_whole object_of image_of with_tables file_of elf_header null_header header_table half word xword section_names string_table_of name_offsets symbol_names symbol_table_of in_file_order first_global
+unfolding command_of asked_by faults_of rows_of_words invocation_of as_app clap_on_literals assembly_of assembly_of_lines finished with_globals statements_of statements_in comment_length quoted_length piece_kind piece_length pieces_from line_of trimmed nul_found source_found is_blank is_name_start is_name_byte is_operator_byte is_long_operator token_kind token_length tokens_from place_all place place_tokens place_label place_symbol symbol_name place_body place_directive place_instruction the_rows placed_whole object_of image_of with_tables file_of elf_header null_header header_table half word xword section_names string_table_of name_offsets symbol_names symbol_table_of in_file_order first_global
 row_empty = refl
 
 row_nop : length_and_text 1 (outcome_of (codes "nop\n")) ≡ (592, 0x90 ∷ [])
-unfolding command_of assembly_of assembly_of_lines finished with_globals statements_of statements_in comment_length quoted_length piece_kind piece_length pieces_from line_of trimmed nul_found source_found is_blank is_name_start is_name_byte is_operator_byte is_long_operator token_kind token_length tokens_from place_all place place_tokens place_label place_symbol symbol_name place_body place_directive place_instruction the_rows placed_whole object_of image_of with_tables file_of elf_header null_header header_table half word xword section_names string_table_of name_offsets symbol_names symbol_table_of in_file_order first_global
+unfolding command_of asked_by faults_of rows_of_words invocation_of as_app clap_on_literals assembly_of assembly_of_lines finished with_globals statements_of statements_in comment_length quoted_length piece_kind piece_length pieces_from line_of trimmed nul_found source_found is_blank is_name_start is_name_byte is_operator_byte is_long_operator token_kind token_length tokens_from place_all place place_tokens place_label place_symbol symbol_name place_body place_directive place_instruction the_rows placed_whole object_of image_of with_tables file_of elf_header null_header header_table half word xword section_names string_table_of name_offsets symbol_names symbol_table_of in_file_order first_global
 row_nop = refl
 
 row_ret : length_and_text 3 (outcome_of (codes ".globl f\nf: .byte 1, 0x41\nret\n")) ≡ (616, 0x01 ∷ 0x41 ∷ 0xc3 ∷ [])
-unfolding command_of assembly_of assembly_of_lines finished with_globals statements_of statements_in comment_length quoted_length piece_kind piece_length pieces_from line_of trimmed nul_found source_found is_blank is_name_start is_name_byte is_operator_byte is_long_operator token_kind token_length tokens_from place_all place place_tokens place_label place_symbol symbol_name place_body place_directive place_instruction the_rows placed_whole object_of image_of with_tables file_of elf_header null_header header_table half word xword section_names string_table_of name_offsets symbol_names symbol_table_of in_file_order first_global numbers_behind number_list numbers token_number spelled_number numeral number_after digit_of as_bytes name_list symbol_named with_symbol place_globl place_byte
+unfolding command_of asked_by faults_of rows_of_words invocation_of as_app clap_on_literals assembly_of assembly_of_lines finished with_globals statements_of statements_in comment_length quoted_length piece_kind piece_length pieces_from line_of trimmed nul_found source_found is_blank is_name_start is_name_byte is_operator_byte is_long_operator token_kind token_length tokens_from place_all place place_tokens place_label place_symbol symbol_name place_body place_directive place_instruction the_rows placed_whole object_of image_of with_tables file_of elf_header null_header header_table half word xword section_names string_table_of name_offsets symbol_names symbol_table_of in_file_order first_global numbers_behind number_list numbers token_number spelled_number numeral number_after digit_of as_bytes name_list symbol_named with_symbol place_globl place_byte
 row_ret = refl
 
 -- characters, comments, and several statements on a line
 row_line : length_and_text 4 (outcome_of (codes ".byte '/,'#;nop/*x*/;ret # c")) ≡ (592, 0x2f ∷ 0x23 ∷ 0x90 ∷ 0xc3 ∷ [])
-unfolding command_of assembly_of assembly_of_lines finished with_globals statements_of statements_in comment_length quoted_length piece_kind piece_length pieces_from line_of trimmed nul_found source_found is_blank is_name_start is_name_byte is_operator_byte is_long_operator token_kind token_length tokens_from place_all place place_tokens place_label place_symbol symbol_name checked_name string_value_from character_code place_body place_directive place_instruction the_rows placed_whole object_of image_of with_tables file_of elf_header null_header header_table half word xword section_names string_table_of name_offsets symbol_names symbol_table_of in_file_order first_global numbers_behind number_list numbers token_number spelled_number numeral number_after digit_of as_bytes name_list symbol_named with_symbol place_globl place_byte
+unfolding command_of asked_by faults_of rows_of_words invocation_of as_app clap_on_literals assembly_of assembly_of_lines finished with_globals statements_of statements_in comment_length quoted_length piece_kind piece_length pieces_from line_of trimmed nul_found source_found is_blank is_name_start is_name_byte is_operator_byte is_long_operator token_kind token_length tokens_from place_all place place_tokens place_label place_symbol symbol_name checked_name string_value_from character_code place_body place_directive place_instruction the_rows placed_whole object_of image_of with_tables file_of elf_header null_header header_table half word xword section_names string_table_of name_offsets symbol_names symbol_table_of in_file_order first_global numbers_behind number_list numbers token_number spelled_number numeral number_after digit_of as_bytes name_list symbol_named with_symbol place_globl place_byte
 row_line = refl
 
 -- a name in quotes
 row_quoted : length_and_text 1 (outcome_of (codes "\"a b\": nop\n.globl \"a b\"")) ≡ (624, 0x90 ∷ [])
-unfolding command_of assembly_of assembly_of_lines finished with_globals statements_of statements_in comment_length quoted_length piece_kind piece_length pieces_from line_of trimmed nul_found source_found is_blank is_name_start is_name_byte is_operator_byte is_long_operator token_kind token_length tokens_from place_all place place_tokens place_label place_symbol symbol_name checked_name string_value_from character_code place_body place_directive place_instruction the_rows placed_whole object_of image_of with_tables file_of elf_header null_header header_table half word xword section_names string_table_of name_offsets symbol_names symbol_table_of in_file_order first_global numbers_behind number_list numbers token_number spelled_number numeral number_after digit_of as_bytes name_list symbol_named with_symbol place_globl place_byte
+unfolding command_of asked_by faults_of rows_of_words invocation_of as_app clap_on_literals assembly_of assembly_of_lines finished with_globals statements_of statements_in comment_length quoted_length piece_kind piece_length pieces_from line_of trimmed nul_found source_found is_blank is_name_start is_name_byte is_operator_byte is_long_operator token_kind token_length tokens_from place_all place place_tokens place_label place_symbol symbol_name checked_name string_value_from character_code place_body place_directive place_instruction the_rows placed_whole object_of image_of with_tables file_of elf_header null_header header_table half word xword section_names string_table_of name_offsets symbol_names symbol_table_of in_file_order first_global numbers_behind number_list numbers token_number spelled_number numeral number_after digit_of as_bytes name_list symbol_named with_symbol place_globl place_byte
 row_quoted = refl
 
 row_comment : outcome_of (codes "nop\n/* x") ≡ Some (refused (codes "x.s: Assembler messages:\nx.s:2: Error: comment is not closed\n"))
-unfolding command_of assembly_of assembly_of_lines finished with_globals statements_of statements_in comment_length quoted_length piece_kind piece_length pieces_from line_of trimmed nul_found source_found is_blank is_name_start is_name_byte is_operator_byte is_long_operator token_kind token_length tokens_from place_all place place_tokens place_label place_symbol symbol_name place_body place_directive place_instruction the_rows digits
+unfolding command_of asked_by faults_of rows_of_words invocation_of as_app clap_on_literals assembly_of assembly_of_lines finished with_globals statements_of statements_in comment_length quoted_length piece_kind piece_length pieces_from line_of trimmed nul_found source_found is_blank is_name_start is_name_byte is_operator_byte is_long_operator token_kind token_length tokens_from place_all place place_tokens place_label place_symbol symbol_name place_body place_directive place_instruction the_rows digits
 row_comment = refl

@@ -7,8 +7,8 @@ use Rattle.asm_base.specs.Output.{Made, file, finished_file}
 use Rattle.asm_base.specs.declared.outside.Channel.TheVariants as channel
 use Rattle.asm_base.specs.declared.statuses.Status.{Status}
 use Rattle.asm_base.specs.declared.statuses.Status.TheVariants.{Done, SourceFault, Usage, ReadFault, WriteFault, NoMemory}
-use Rattle.asm_cli.specs.Command.{usage_text}
-use Rattle.asm_cli.specs.Outcome.{Outcome, usage, missing, refused, object, object_name}
+use Rattle.asm_cli.specs.Words.{usage_text}
+use Rattle.asm_cli.specs.Outcome.{Outcome, usage, missing, refused, object}
 
 -- what the console and the output tell before the run and after it
 pub record Effects : Type 0 where
@@ -63,12 +63,12 @@ MakesObject name bytes messages e = Says messages e × MakesFile name bytes e.ma
 abbrev pub MakesInPart : List ℕ → List ℕ → List ℕ → Effects → Type 0
 MakesInPart name bytes messages e = RefusesInPart messages e ⊎ (Says messages e × BeginsFile name bytes e.made e.made_after)
 
-abbrev pub IsDone : Option Outcome → Effects → Type 0
-IsDone None e = (bytes messages : List ℕ) × MakesObject object_name bytes messages e
-IsDone (Some usage) e = ⊥
-IsDone (Some missing) e = ⊥
-IsDone (Some (refused messages)) e = ⊥
-IsDone (Some (object name bytes messages)) e = MakesObject name bytes messages e
+abbrev pub IsDone : List ℕ → Option Outcome → Effects → Type 0
+IsDone output None e = (bytes messages : List ℕ) × MakesObject output bytes messages e
+IsDone output (Some usage) e = ⊥
+IsDone output (Some missing) e = ⊥
+IsDone output (Some (refused messages)) e = ⊥
+IsDone output (Some (object name bytes messages)) e = MakesObject name bytes messages e
 
 abbrev pub IsSourceFault : Option Outcome → Effects → Type 0
 IsSourceFault None e = (messages : List ℕ) × Refuses messages e
@@ -91,34 +91,33 @@ IsReadFault (Some missing) e = LeavesAll e
 IsReadFault (Some (refused messages)) e = LeavesAll e
 IsReadFault (Some (object name bytes messages)) e = LeavesAll e
 
-abbrev pub IsWriteFault : Option Outcome → Effects → Type 0
-IsWriteFault None e = (bytes messages : List ℕ) × MakesInPart object_name bytes messages e
-IsWriteFault (Some usage) e = RefusesInPart usage_text e
-IsWriteFault (Some missing) e = ⊥
-IsWriteFault (Some (refused messages)) e = RefusesInPart messages e
-IsWriteFault (Some (object name bytes messages)) e = MakesInPart name bytes messages e
+abbrev pub IsWriteFault : List ℕ → Option Outcome → Effects → Type 0
+IsWriteFault output None e = (bytes messages : List ℕ) × MakesInPart output bytes messages e
+IsWriteFault output (Some usage) e = RefusesInPart usage_text e
+IsWriteFault output (Some missing) e = ⊥
+IsWriteFault output (Some (refused messages)) e = RefusesInPart messages e
+IsWriteFault output (Some (object name bytes messages)) e = MakesInPart name bytes messages e
 
--- the usage text takes no memory
 abbrev pub IsNoMemory : Option Outcome → Effects → Type 0
 IsNoMemory None e = LeavesAll e
-IsNoMemory (Some usage) e = ⊥
+IsNoMemory (Some usage) e = LeavesAll e
 IsNoMemory (Some missing) e = LeavesAll e
 IsNoMemory (Some (refused messages)) e = LeavesAll e
 IsNoMemory (Some (object name bytes messages)) e = LeavesAll e
 
--- what the status promises; no outcome is told where the input tells no contents
-abbrev pub Answers : Option Outcome → Status → Effects → Type 0
-Answers outcome Done e = IsDone outcome e
-Answers outcome SourceFault e = IsSourceFault outcome e
-Answers outcome Usage e = IsUsage outcome e
-Answers outcome ReadFault e = IsReadFault outcome e
-Answers outcome WriteFault e = IsWriteFault outcome e
-Answers outcome NoMemory e = IsNoMemory outcome e
+-- what the status promises; where the input tells no contents no outcome is told, but the object's name is
+abbrev pub Answers : List ℕ → Option Outcome → Status → Effects → Type 0
+Answers output outcome Done e = IsDone output outcome e
+Answers output outcome SourceFault e = IsSourceFault outcome e
+Answers output outcome Usage e = IsUsage outcome e
+Answers output outcome ReadFault e = IsReadFault outcome e
+Answers output outcome WriteFault e = IsWriteFault output outcome e
+Answers output outcome NoMemory e = IsNoMemory outcome e
 
 -- the status where no call fails: that of the outcome, or want of memory
 abbrev pub Completes : Option Outcome → Status → Type 0
 Completes None status = (status ≡ Done) ⊎ (status ≡ SourceFault) ⊎ (status ≡ NoMemory)
-Completes (Some usage) status = status ≡ Usage
+Completes (Some usage) status = (status ≡ Usage) ⊎ (status ≡ NoMemory)
 Completes (Some missing) status = status ≡ NoMemory
 Completes (Some (refused messages)) status = (status ≡ SourceFault) ⊎ (status ≡ NoMemory)
 Completes (Some (object name bytes messages)) status = (status ≡ Done) ⊎ (status ≡ NoMemory)

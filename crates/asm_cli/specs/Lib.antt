@@ -1,5 +1,6 @@
 -- The definitions that the contracts cite, in reading order.
-pub mod Command
+pub mod Words
+pub mod Invoked
 pub mod Outcome
 pub mod Answers
 pub mod ReadsBack

@@ -5,35 +5,34 @@ ghost use Rattle.std.specs.Io.KnownBytes.{IsAtEnd};
 ghost use Rattle.asm_base.specs.Counts.{HasCause, HasRisen, IsQuiet};
 ghost use Rattle.asm_base.specs.Messages as messages;
 ghost use Rattle.asm_base.specs.WholeFile.{most_bytes};
-ghost use Rattle.asm_cli.specs.Command.{command_of};
-ghost use Rattle.asm_cli.specs.Outcome.{object_name, name_outcome, outcome};
+ghost use Rattle.asm_cli.specs.Words.{command_of, output_of};
+ghost use Rattle.asm_cli.specs.Outcome.{name_outcome, outcome};
 ghost use Rattle.asm_cli.specs.ReadsBack.{CommandReadsBack};
 ghost use Rattle.asm_cli.specs.Answers.{Answers, Completes, CountsMissingOutcome, MakesFile, MakesFileInPart};
 
-use crate::command::source_name;
 use crate::saying::say_all;
+use crate::words::{Invocation, read_command};
 use asm_base::{
     Channel, Console, Failed, Fault, Files, Inputs, NoMemory, Output, Pos, Status, heading, message,
 };
 use asm_front::{AsmFault, Object, Options, assemble, written_reads_back};
-use std::alloc::Global;
+use std::alloc::{AllocError, Global};
 
 /// What is said where the words are no command.
 const USAGE: &[u8] =
     b"usage: as [-o FILE] [--64] [--scfi=experimental] [-W|--no-warn] [--fatal-warnings] [--self-load N] [FILE]\n";
 
-/// The name of the object's file.
-const OBJECT_NAME: &str = "a.out";
-
-/// The options of a source by its name.
-fn options_for(alloc: Global, name: &str) -> Result<Options, NoMemory>
-    ensures { IfOk result (λ options. string_bytes options.file ≡ name.now) }
+/// What the assembler is asked for.
+fn options_for(alloc: Global, invocation: Invocation) -> Result<Options, NoMemory>
+    ensures file { IfOk result (λ options. string_bytes options.file ≡ invocation.entry.file.now) }
+    ensures no_warn { IfOk result (λ options. options.no_warn ≡ invocation.entry.no_warn) }
+    ensures fatal_warnings { IfOk result (λ options. options.fatal_warnings ≡ invocation.entry.fatal_warnings) }
 {
     Ok(Options {
-        file: String::from_str(alloc, name)?,
+        file: String::from_str(alloc, invocation.file)?,
         scfi: false,
-        no_warn: false,
-        fatal_warnings: false,
+        no_warn: invocation.no_warn,
+        fatal_warnings: invocation.fatal_warnings,
     })
 }
 
@@ -48,28 +47,28 @@ fn refusal(alloc: Global, fault: &Fault, pos: &Pos, files: &Files) -> Result<Vec
     Ok(text)
 }
 
-/// Creates, writes and finishes the file of the object. It takes no memory.
+/// Creates, writes and finishes the file of this name with the object. It takes no memory.
 #[tactic(auto, using(crate::proofs::MadeFiles::made_whole))]
-fn make_object<O: Output>(object: &Object, obj: &mut O) -> Result<(), Failed>
-    ensures ok { OnOk result (MakesFile object_name object.now (O.made obj.old) (O.made obj.new)) }
-    ensures err { OnErr result (MakesFileInPart object_name object.now (O.made obj.old) (O.made obj.new)) }
+fn make_object<O: Output>(name: &str, object: &Object, obj: &mut O) -> Result<(), Failed>
+    ensures ok { OnOk result (MakesFile name.now object.now (O.made obj.old) (O.made obj.new)) }
+    ensures err { OnErr result (MakesFileInPart name.now object.now (O.made obj.old) (O.made obj.new)) }
     ensures cause { HasCause (O.faults obj.old) (O.faults obj.new) result }
 {
-    obj.create(OBJECT_NAME)?;
+    obj.create(name)?;
     object.write_to(obj)?;
     obj.finish()
 }
 
-/// Assembles the source of this name.
+/// Assembles the source that is asked for.
 #[tactic(auto, using(crate::proofs::FaultyWrites::made_in_part, crate::proofs::FaultyWrites::said_in_part))]
 fn run_source<I: Inputs, O: Output, C: Console>(
     alloc: Global,
-    name: &str,
+    invocation: Invocation,
     ins: &mut I,
     obj: &mut O,
     con: &mut C,
 ) -> Status
-    ensures answer { Answers (name_outcome name.now (I.contents ins.old)) result (record {
+    ensures answer { Answers invocation.entry.object.now (name_outcome invocation.entry.object.now invocation.entry.file.now (I.contents ins.old)) result (record {
       said = C.said con.old;
       said_after = C.said con.new;
       made = O.made obj.old;
@@ -84,17 +83,17 @@ fn run_source<I: Inputs, O: Output, C: Console>(
     ensures input_count { I.faults ins.old ≤ I.faults ins.new }
     ensures output_count { O.faults obj.old ≤ O.faults obj.new }
     ensures console_count { C.faults con.old ≤ C.faults con.new }
-    ensures missing { CountsMissingOutcome (name_outcome name.now (I.contents ins.old)) (I.missing ins.old) (I.missing ins.new) }
+    ensures missing { CountsMissingOutcome (name_outcome invocation.entry.object.now invocation.entry.file.now (I.contents ins.old)) (I.missing ins.old) (I.missing ins.new) }
     ensures taken { I.taken ins.new ≤ I.taken ins.old + (most_bytes + 1) }
     ensures contents { I.contents ins.new ≡ I.contents ins.old }
     ensures whole { result ≡ Status.Done → IsAtEnd (I.rest ins.new) }
 {
-    let options = match options_for(alloc, name) {
+    let options = match options_for(alloc, invocation) {
         Ok(options) => options,
         Err(_) => return Status::NoMemory,
     };
     match assemble(alloc, &options, ins) {
-        Ok(made) => match make_object(&made.object, obj) {
+        Ok(made) => match make_object(invocation.object, &made.object, obj) {
             Ok(()) => Status::Done,
             Err(Failed) => Status::WriteFault,
         },
@@ -113,7 +112,7 @@ fn run_source<I: Inputs, O: Output, C: Console>(
 }
 
 /// Reads the words, assembles the source that they name, says the messages, and makes the object.
-#[tactic(auto, unfolding(crate::specs::Command::usage_text), using(crate::proofs::ReadsBackAgain::command_reads_back))]
+#[tactic(auto, unfolding(crate::specs::Words::usage_text), using(crate::proofs::ReadsBackAgain::command_reads_back))]
 pub fn run<I: Inputs, O: Output, C: Console>(
     alloc: Global,
     words: &Vec<String>,
@@ -121,7 +120,7 @@ pub fn run<I: Inputs, O: Output, C: Console>(
     obj: &mut O,
     con: &mut C,
 ) -> Status
-    ensures answer { Answers (outcome (map string_bytes words.now.items) (I.contents ins.old)) result (record {
+    ensures answer { Answers (output_of (command_of (map string_bytes words.now.items))) (outcome (map string_bytes words.now.items) (I.contents ins.old)) result (record {
       said = C.said con.old;
       said_after = C.said con.new;
       made = O.made obj.old;
@@ -142,7 +141,8 @@ pub fn run<I: Inputs, O: Output, C: Console>(
     // Where no call fails, the status is that of the outcome; told or not, that of the words where the console is quiet.
     ensures complete { IsQuiet (I.faults ins.old) (I.faults ins.new) → IsQuiet (O.faults obj.old) (O.faults obj.new) → IsQuiet (C.faults con.old) (C.faults con.new) →
         Completes (outcome (map string_bytes words.now.items) (I.contents ins.old)) result }
-    ensures usage { IsQuiet (C.faults con.old) (C.faults con.new) → (result ≡ Status.Usage) ↔ (command_of (map string_bytes words.now.items) ≡ None) }
+    ensures usage { result ≡ Status.Usage → command_of (map string_bytes words.now.items) ≡ None }
+    ensures usage_told { IsQuiet (C.faults con.old) (C.faults con.new) → command_of (map string_bytes words.now.items) ≡ None → (result ≡ Status.Usage) ⊎ (result ≡ Status.NoMemory) }
 
     // In the object that the words stand for, each instruction's place reads as the instruction of the source, and as no other.
     ensures reads_back { CommandReadsBack (command_of (map string_bytes words.now.items)) (I.contents ins.old) }
@@ -155,11 +155,12 @@ pub fn run<I: Inputs, O: Output, C: Console>(
     ensures usage_reads_nothing { command_of (map string_bytes words.now.items) ≡ None → ins.new ≡ ins.old }
 {
     written_reads_back();
-    match source_name(words.as_slice()) {
-        Some(name) => run_source(alloc, name, ins, obj, con),
-        None => match say_all(con, Channel::Err, USAGE) {
+    match read_command(alloc, words.as_slice()) {
+        Ok(Some(invocation)) => run_source(alloc, invocation, ins, obj, con),
+        Ok(None) => match say_all(con, Channel::Err, USAGE) {
             Ok(()) => Status::Usage,
             Err(Failed) => Status::WriteFault,
         },
+        Err(AllocError) => Status::NoMemory,
     }
 }

@@ -45,15 +45,20 @@ fn run_on(alloc: Global, words: &[&str], source: &[u8]) -> Result<Left, AllocErr
 fn commands(rt: HostRuntime) -> Result<(), Fail> {
     let usage =
         b"usage: as [-o FILE] [--64] [--scfi=experimental] [-W|--no-warn] [--fatal-warnings] [--self-load N] [FILE]\n";
-    let cases: [(&[&str], &[u8]); 8] = [
+    let cases: [(&[&str], &[u8]); 13] = [
         (&[], usage),
         (&["as"], b""),
         (&["as", "-"], b""),
         (&["as", ""], b""),
         (&["as", "x.s"], b""),
+        (&["as", "--64", "-W", "x.s"], b""),
         (&["as", "--zap"], usage),
         (&["as", "-x.s"], usage),
         (&["as", "x.s", "x.s"], usage),
+        (&["as", "-o"], usage),
+        (&["as", "-W", "--no-warn", "x.s"], usage),
+        (&["as", "--help"], usage),
+        (&["as", "--scfi=other", "x.s"], usage),
     ];
     for (words, said) in cases {
         let left = run_on(rt.alloc(), words, b"")?;
@@ -92,6 +97,27 @@ fn objects(rt: HostRuntime) -> Result<(), Fail> {
         );
         assert_eq!(rt; left.con.said(Channel::Err), b"".as_slice(), "{source:?}");
     }
+    Ok(())
+}
+
+#[test]
+fn object_names(rt: HostRuntime) -> Result<(), Fail> {
+    let cases: [(&[&str], &str); 5] = [
+        (&["as", "x.s"], "a.out"),
+        (&["as", "-o", "y.o", "x.s"], "y.o"),
+        (&["as", "-oy.o", "--fatal-warnings", "x.s"], "y.o"),
+        (&["as", "-o", "-", "--", "x.s"], "-"),
+        (&["as", "--", "x.s"], "a.out"),
+    ];
+    for (words, name) in cases {
+        let left = run_on(rt.alloc(), words, b"nop\n")?;
+        assert_eq!(rt; left.status, Status::Done, "{words:?}");
+        assert_eq!(rt; left.obj.name(), name, "{words:?}");
+        assert_eq!(rt; left.obj.bytes().len(), 592, "{words:?}");
+    }
+    let left = run_on(rt.alloc(), &["as", "--64", "-W", "-o", "z.o", "-"], b"foo")?;
+    assert_eq!(rt; left.status, Status::Done);
+    assert_eq!(rt; left.obj.name(), "z.o");
     Ok(())
 }
 
