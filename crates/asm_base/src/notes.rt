@@ -1,10 +1,10 @@
 //! What a run notes beside its object, each note with its place.
 
-ghost use Rattle.std.specs.Prelude.{◌≡◌, []};
+ghost use Rattle.std.specs.Prelude.{◌≡◌, [], ◌∷◌, ◌++◌, OnOk, OnErr};
 
 use crate::faults::Note;
 use crate::positions::Pos;
-use std::alloc::Global;
+use std::alloc::{AllocError, Global};
 use std::marker::Model;
 
 /// A note and where it was made.
@@ -37,6 +37,15 @@ impl Notes {
         Notes {
             items: Vec::new(alloc),
         }
+    }
+
+    /// Puts a note last.
+    pub fn add(&mut self, noted: Noted) -> Result<(), AllocError>
+        ensures ok { OnOk result (self.new ≡ self.old ++ noted ∷ []) }
+        ensures err { OnErr result (self.new ≡ self.old) }
+    {
+        self.items.push(noted)?;
+        Ok(())
     }
 
     /// All of them.

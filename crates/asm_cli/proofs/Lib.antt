@@ -1,7 +1,7 @@
 -- The proofs of this crate.
 pub mod SaidPieces
 pub mod MadeFiles
-pub mod FaultyWrites
+pub mod Deliveries
 mod CommandSamples
 pub mod ReadsBackAgain
 pub mod Reading

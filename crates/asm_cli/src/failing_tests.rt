@@ -11,6 +11,9 @@ use std::test::Fail;
 /// A source with an object.
 const GOOD: &[u8] = b".globl f\nf: .byte 1, 0x41\nret\n";
 
+/// A source with an object and a warning.
+const WARNED: &[u8] = b"nop\n.byte 256\n";
+
 /// A source with a fault.
 const FAULTY: &[u8] = b"foo\nbar\n";
 
@@ -100,7 +103,7 @@ fn rows(rt: HostRuntime) -> Result<(), Fail> {
 
 #[test]
 fn each_call_fails_in_turn(rt: HostRuntime) -> Result<(), Fail> {
-    for source in [GOOD, FAULTY] {
+    for source in [GOOD, WARNED, FAULTY] {
         let clean = run_on(rt.alloc(), "x.s", source, CLEAN)?;
         for call in 0..clean.ins {
             let plan = Plan {
@@ -142,7 +145,11 @@ fn one_byte_at_a_time(rt: HostRuntime) -> Result<(), Fail> {
         largest: 1,
         ..CLEAN
     };
-    for (source, status) in [(GOOD, Status::Done), (FAULTY, Status::SourceFault)] {
+    for (source, status) in [
+        (GOOD, Status::Done),
+        (WARNED, Status::Done),
+        (FAULTY, Status::SourceFault),
+    ] {
         let clean = run_on(rt.alloc(), "x.s", source, CLEAN)?;
         let left = run_on(rt.alloc(), "x.s", source, small)?;
         assert_eq!(rt; left.status, status);

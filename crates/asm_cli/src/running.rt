@@ -3,18 +3,16 @@
 ghost use Rattle.std.specs.Prelude.{◌≡◌, ◌≤◌, ◌+◌, ◌⊎◌, ◌↔◌, [], map, None, IfOk, OnOk, OnErr, string_bytes};
 ghost use Rattle.std.specs.Io.KnownBytes.{IsAtEnd};
 ghost use Rattle.asm_base.specs.Counts.{HasCause, HasRisen, IsQuiet};
-ghost use Rattle.asm_base.specs.Messages as messages;
 ghost use Rattle.asm_base.specs.WholeFile.{most_bytes};
 ghost use Rattle.asm_cli.specs.Words.{command_of, output_of};
-ghost use Rattle.asm_cli.specs.Outcome.{name_outcome, outcome};
+ghost use Rattle.asm_cli.specs.Invoked.{invoked};
+ghost use Rattle.asm_cli.specs.Outcome.{invocation_outcome, outcome};
 ghost use Rattle.asm_cli.specs.ReadsBack.{CommandReadsBack};
-ghost use Rattle.asm_cli.specs.Answers.{Answers, Completes, CountsMissingOutcome, MakesFile, MakesFileInPart};
+ghost use Rattle.asm_cli.specs.Answers.{Answers, Completes, CountsMissingOutcome, MakesFile, MakesFileInPart, MakesInPart, MakesObject};
 
 use crate::saying::say_all;
 use crate::words::{Invocation, read_command};
-use asm_base::{
-    Channel, Console, Failed, Fault, Files, Inputs, NoMemory, Output, Pos, Status, heading, message,
-};
+use asm_base::{Channel, Console, Failed, Inputs, NoMemory, Output, Status, refusal, remarks};
 use asm_front::{AsmFault, Object, Options, assemble, written_reads_back};
 use std::alloc::{AllocError, Global};
 
@@ -36,17 +34,6 @@ fn options_for(alloc: Global, invocation: Invocation) -> Result<Options, NoMemor
     })
 }
 
-/// The messages of a source that is refused.
-fn refusal(alloc: Global, fault: &Fault, pos: &Pos, files: &Files) -> Result<Vec<u8>, NoMemory>
-    ensures { IfOk result (λ text. text.items ≡ messages.refusal files.now [] fault.now pos.now) }
-{
-    let first = heading(alloc, pos, files)?;
-    let error = message(alloc, fault, pos, files)?;
-    let mut text = Vec::from_slice(alloc, first.as_slice())?;
-    text.extend_from_slice(error.as_slice())?;
-    Ok(text)
-}
-
 /// Creates, writes and finishes the file of this name with the object. It takes no memory.
 #[tactic(auto, using(crate::proofs::MadeFiles::made_whole))]
 fn make_object<O: Output>(name: &str, object: &Object, obj: &mut O) -> Result<(), Failed>
@@ -59,8 +46,39 @@ fn make_object<O: Output>(name: &str, object: &Object, obj: &mut O) -> Result<()
     obj.finish()
 }
 
+/// Says the messages, and only then makes the file of this name with the object. It takes no memory.
+#[tactic(auto, using(crate::proofs::Deliveries::delivered_in_part))]
+fn deliver<O: Output, C: Console>(
+    name: &str,
+    object: &Object,
+    messages: &[u8],
+    obj: &mut O,
+    con: &mut C,
+) -> Result<(), Failed>
+    ensures ok { OnOk result (MakesObject name.now object.now messages.now (record {
+      said = C.said con.old;
+      said_after = C.said con.new;
+      made = O.made obj.old;
+      made_after = O.made obj.new;
+    })) }
+    ensures err { OnErr result (MakesInPart name.now object.now messages.now (record {
+      said = C.said con.old;
+      said_after = C.said con.new;
+      made = O.made obj.old;
+      made_after = O.made obj.new;
+    })) }
+    ensures cause { OnErr result (HasRisen (O.faults obj.old) (O.faults obj.new) ⊎ HasRisen (C.faults con.old) (C.faults con.new)) }
+    ensures output_quiet { OnOk result (O.faults obj.new ≡ O.faults obj.old) }
+    ensures console_quiet { OnOk result (C.faults con.new ≡ C.faults con.old) }
+    ensures output_count { O.faults obj.old ≤ O.faults obj.new }
+    ensures console_count { C.faults con.old ≤ C.faults con.new }
+{
+    say_all(con, Channel::Err, messages)?;
+    make_object(name, object, obj)
+}
+
 /// Assembles the source that is asked for.
-#[tactic(auto, using(crate::proofs::FaultyWrites::made_in_part, crate::proofs::FaultyWrites::said_in_part))]
+#[tactic(auto, using(crate::proofs::Deliveries::delivered, crate::proofs::Deliveries::made_in_part, crate::proofs::Deliveries::told, crate::proofs::Deliveries::told_in_part))]
 fn run_source<I: Inputs, O: Output, C: Console>(
     alloc: Global,
     invocation: Invocation,
@@ -68,7 +86,7 @@ fn run_source<I: Inputs, O: Output, C: Console>(
     obj: &mut O,
     con: &mut C,
 ) -> Status
-    ensures answer { Answers invocation.entry.object.now (name_outcome invocation.entry.object.now invocation.entry.file.now (I.contents ins.old)) result (record {
+    ensures answer { Answers invocation.entry.object.now (invocation_outcome (invoked invocation.entry) (I.contents ins.old)) result (record {
       said = C.said con.old;
       said_after = C.said con.new;
       made = O.made obj.old;
@@ -83,7 +101,7 @@ fn run_source<I: Inputs, O: Output, C: Console>(
     ensures input_count { I.faults ins.old ≤ I.faults ins.new }
     ensures output_count { O.faults obj.old ≤ O.faults obj.new }
     ensures console_count { C.faults con.old ≤ C.faults con.new }
-    ensures missing { CountsMissingOutcome (name_outcome invocation.entry.object.now invocation.entry.file.now (I.contents ins.old)) (I.missing ins.old) (I.missing ins.new) }
+    ensures missing { CountsMissingOutcome (invocation_outcome (invoked invocation.entry) (I.contents ins.old)) (I.missing ins.old) (I.missing ins.new) }
     ensures taken { I.taken ins.new ≤ I.taken ins.old + (most_bytes + 1) }
     ensures contents { I.contents ins.new ≡ I.contents ins.old }
     ensures whole { result ≡ Status.Done → IsAtEnd (I.rest ins.new) }
@@ -93,12 +111,15 @@ fn run_source<I: Inputs, O: Output, C: Console>(
         Err(_) => return Status::NoMemory,
     };
     match assemble(alloc, &options, ins) {
-        Ok(made) => match make_object(invocation.object, &made.object, obj) {
-            Ok(()) => Status::Done,
-            Err(Failed) => Status::WriteFault,
+        Ok(made) => match remarks(alloc, made.notes.as_slice(), &made.files) {
+            Ok(text) => match deliver(invocation.object, &made.object, text.as_slice(), obj, con) {
+                Ok(()) => Status::Done,
+                Err(Failed) => Status::WriteFault,
+            },
+            Err(_) => Status::NoMemory,
         },
-        Err(AsmFault::Source(fault, pos, _notes, files)) => {
-            match refusal(alloc, &fault, &pos, &files) {
+        Err(AsmFault::Source(fault, pos, notes, files)) => {
+            match refusal(alloc, &fault, &pos, notes.as_slice(), &files) {
                 Ok(text) => match say_all(con, Channel::Err, text.as_slice()) {
                     Ok(()) => Status::SourceFault,
                     Err(Failed) => Status::WriteFault,

@@ -122,6 +122,74 @@ fn object_names(rt: HostRuntime) -> Result<(), Fail> {
 }
 
 #[test]
+fn warnings(rt: HostRuntime) -> Result<(), Fail> {
+    let heading = "x.s: Assembler messages:\n";
+    let cases: [(&str, &[u8], Status, &[&str]); 8] = [
+        ("--64", b".byte 255", Status::Done, &[]),
+        (
+            "--64",
+            b".byte 256",
+            Status::Done,
+            &["1: Warning: value is truncated"],
+        ),
+        ("-W", b".byte 256", Status::Done, &[]),
+        (
+            "--no-warn",
+            b".byte 256\nfoo",
+            Status::SourceFault,
+            &["2: Error: unknown mnemonic"],
+        ),
+        (
+            "--64",
+            b".byte 256, 257\nnop\n.byte 511",
+            Status::Done,
+            &[
+                "1: Warning: value is truncated",
+                "1: Warning: value is truncated",
+                "3: Warning: value is truncated",
+            ],
+        ),
+        (
+            "--64",
+            b".byte 256\n.byte 256, 08",
+            Status::SourceFault,
+            &["1: Warning: value is truncated", "2: Error: bad expression"],
+        ),
+        (
+            "--fatal-warnings",
+            b"nop\n.byte 256\n.byte 256",
+            Status::SourceFault,
+            &[
+                "2: Warning: value is truncated",
+                "3: Warning: value is truncated",
+                "2: Error: warnings are treated as errors",
+            ],
+        ),
+        ("--fatal-warnings", b".byte 255", Status::Done, &[]),
+    ];
+    for (flag, source, status, lines) in cases {
+        let left = run_on(rt.alloc(), &["as", flag, "x.s"], source)?;
+        assert_eq!(rt; left.status, status, "{source:?}");
+        let mut said = String::new(rt.alloc());
+        for line in lines {
+            if said.is_empty() {
+                said.push_str(heading)?;
+            }
+            said.push_str("x.s:")?;
+            said.push_str(line)?;
+            said.push_str("\n")?;
+        }
+        assert_eq!(rt; left.con.said(Channel::Err), said.as_bytes(), "{source:?}");
+        assert_eq!(rt;
+            left.obj.stage() == Stage::Finished,
+            status == Status::Done,
+            "{source:?}"
+        );
+    }
+    Ok(())
+}
+
+#[test]
 fn line_ends(rt: HostRuntime) -> Result<(), Fail> {
     let feeds = run_on(
         rt.alloc(),

@@ -5,6 +5,7 @@ use Rattle.std.specs.Result.{IfErr}
 use Rattle.std.proofs.lemmas.Result.{IfErr-at_err}
 use Rattle.asm_base.specs.declared.faults.StatementFault.{StatementFault}
 use Rattle.asm_base.specs.declared.faults.Fault.{Fault}
+use Rattle.asm_base.specs.declared.notes.Noted.{Noted}
 use Rattle.asm_base.specs.declared.positions.Pos.{Pos}
 use Rattle.asm_base.specs.Tokens.{SpelledToken, tokens_of}
 use Rattle.asm_lines.specs.Statements.{StatementAt, statements_of}
@@ -16,10 +17,10 @@ use Rattle.asm_front.specs.Results.{◌>>=◌}
 use Rattle.asm_front.specs.Numbers.{numeral, spelled_number}
 use Rattle.asm_base.specs.declared.tokens.TokenKind.{TokenKind}
 use Rattle.asm_base.specs.declared.tokens.TokenKind.TheVariants.{Name, Digits, Character, String, Operator, Other}
-use Rattle.asm_front.specs.Operands.{is_name, character_code, number_by_kind, token_number, numbers, number_list, as_bytes, checked_name, name_by_kind, symbol_name, name_list}
+use Rattle.asm_front.specs.Operands.{is_name, character_code, number_by_kind, token_number, numbers, number_list, checked_name, name_by_kind, symbol_name, name_list}
 use Rattle.asm_front.specs.SymbolMap.{labelled, symbol_named}
 use Rattle.asm_front.specs.Placing.{Placed, nothing_placed, place_symbol, place_label, place_text, place_byte, with_globals, place_globl, place_directive, place_row, place_instruction, is_assignment, place_body, place_tokens}
-use Rattle.asm_front.specs.Assembly.{FaultAt, fault_at, pos_at, place, place_all, end_answer, placed_whole, finished, lines_answer, assembly_of_lines}
+use Rattle.asm_front.specs.Assembly.{Flags, FaultAt, fault_at, pos_at, standing, place, place_all, end_answer, placed_whole, warnings_answer, unless_warned, finished, lines_answer, assembly_of_lines}
 use Rattle.asm_front.specs.Outcome.{is_too_large_fault, is_too_large}
 
 -- what is known of the fault, if there is one
@@ -95,10 +96,6 @@ unfolding number_list
 number_list_fine [] = no_fault _
 number_list_fine (token ∷ rest) = numbers_fine (token ∷ rest)
 
-bytes_fine : (ns : List ℕ) → NotTooLarge (as_bytes ns)
-unfolding as_bytes
-bytes_fine ns = either _ (no_fault _) (a_fault _ refl)
-
 checked_fine : (name : List ℕ) → NotTooLarge (checked_name name)
 unfolding checked_name
 checked_fine name = either _ (no_fault _) (a_fault _ refl)
@@ -145,10 +142,9 @@ unfolding place_text
 text_fine [] placed = no_fault _
 text_fine (token ∷ rest) placed = a_fault _ refl
 
-byte_fine : (operands : List SpelledToken) (placed : Placed) → NotTooLarge (place_byte operands placed)
+byte_fine : (pos : Pos) (operands : List SpelledToken) (placed : Placed) → NotTooLarge (place_byte pos operands placed)
 unfolding place_byte
-byte_fine operands placed =
-    step (number_list_fine operands) (λ ns. step (bytes_fine ns) (λ bytes. no_fault _))
+byte_fine pos operands placed = step (number_list_fine operands) (λ values. no_fault _)
 
 globl_fine : (pos : Pos) (operands : List SpelledToken) (placed : Placed) → NotTooLarge (place_globl pos operands placed)
 unfolding place_globl with_globals
@@ -159,7 +155,7 @@ directive_fine : (pos : Pos) (name : List ℕ) (operands : List SpelledToken) (p
 unfolding place_directive
 directive_fine pos name operands placed =
     either _ (text_fine operands placed)
-    (either _ (byte_fine operands placed)
+    (either _ (byte_fine pos operands placed)
     (either _ (globl_fine pos operands placed) (a_fault _ refl)))
 
 row_fine : (row : Option Row) (operands : List SpelledToken) (placed : Placed) → NotTooLarge (place_row row operands placed)
@@ -187,14 +183,13 @@ tokens_fine pos (first ∷ second ∷ rest) placed =
     (body_fine pos first (second ∷ rest) placed)
 
 -- the answer for the tokens of a statement is fine, and so is that for the statement
-stands_fine : (s : StatementAt) (placed : Placed) (answer : Result Placed StatementFault) → place_tokens (pos_at s.file s.line) (tokens_of s.bytes) placed ≡ answer
-    → NotTooLarge answer → NotTooLargeAt (place s placed)
-unfolding place
-stands_fine s placed (Ok more) is fine = rw is (no_fault more)
-stands_fine s placed (Err fault) is fine = rw is (a_fault _ fine.holds)
+stands_fine : (pos : Pos) (notes : List Noted) (answer : Result Placed StatementFault) → NotTooLarge answer → NotTooLargeAt (standing pos notes answer)
+stands_fine pos notes (Ok more) fine = no_fault more
+stands_fine pos notes (Err fault) fine = a_fault _ fine.holds
 
 statement_fine : (s : StatementAt) (placed : Placed) → NotTooLargeAt (place s placed)
-statement_fine s placed = stands_fine s placed _ refl (tokens_fine (pos_at s.file s.line) (tokens_of s.bytes) placed)
+unfolding place
+statement_fine s placed = stands_fine (pos_at s.file s.line) placed.notes _ (tokens_fine (pos_at s.file s.line) (tokens_of s.bytes) placed)
 
 all_fine : (statements : List StatementAt) (placed : Placed) → NotTooLargeAt (place_all statements placed)
 unfolding place_all
@@ -205,9 +200,17 @@ end_fine : (entry : Option (List ℕ × NamedSymbol)) (placed : Placed) → NotT
 end_fine None placed = no_fault _
 end_fine (Some entry) placed = a_fault _ refl
 
-finished_fine : (placed : Placed) → NotTooLargeAt (finished placed)
+warnings_fine : (notes : List Noted) (placed : Placed) → NotTooLargeAt (warnings_answer notes placed)
+warnings_fine [] placed = no_fault _
+warnings_fine (first ∷ others) placed = a_fault _ refl
+
+warned_fine : (fatal : Bool) (placed : Placed) → NotTooLargeAt (unless_warned fatal placed)
+unfolding unless_warned
+warned_fine fatal placed = either fatal (warnings_fine placed.notes placed) (no_fault _)
+
+finished_fine : (fatal : Bool) (placed : Placed) → NotTooLargeAt (finished fatal placed)
 unfolding finished placed_whole
-finished_fine placed = step (end_fine _ placed) (λ whole. no_fault _)
+finished_fine fatal placed = step (step (end_fine _ placed) (warned_fine fatal)) (λ whole. no_fault _)
 
 lines_fine : (file : ℕ) (lines : Result (List StatementAt) LineFault) → NotTooLargeAt (lines_answer file lines)
 lines_fine file (Ok statements) = no_fault _
@@ -217,12 +220,13 @@ lines_fine file (Err (line.UnclosedComment number)) = a_fault _ refl
 lines_fine file (Err (line.StatementTooLong number)) = a_fault _ refl
 lines_fine file (Err line.NoMemory) = no_fault _
 
-assembly_fine : (file : ℕ) (source : List ℕ) → NotTooLargeAt (assembly_of_lines file source)
+assembly_fine : (flags : Flags) (file : ℕ) (source : List ℕ) → NotTooLargeAt (assembly_of_lines flags file source)
 unfolding assembly_of_lines
-assembly_fine file source =
+assembly_fine flags file source =
     step (lines_fine file (statements_of file source))
-    (λ statements. step (all_fine statements nothing_placed) finished_fine)
+    (λ statements. step (all_fine statements (nothing_placed flags.no_warn)) (finished_fine flags.fatal_warnings))
 
 -- what is answered for the lines of a file is never that the file is too large
-pub not_too_large : (file : ℕ) (source : List ℕ) (fault : Fault) (pos : Pos) → assembly_of_lines file source ≡ Err (fault_at fault pos) → is_too_large fault ≡ false
-not_too_large file source fault pos is = IfErr-at_err (λ at. is_too_large at.fault ≡ false) is (assembly_fine file source).holds
+pub not_too_large : (flags : Flags) (file : ℕ) (source : List ℕ) (fault : Fault) (pos : Pos) (notes : List Noted)
+    → assembly_of_lines flags file source ≡ Err (fault_at fault pos notes) → is_too_large fault ≡ false
+not_too_large flags file source fault pos notes is = IfErr-at_err (λ at. is_too_large at.fault ≡ false) is (assembly_fine flags file source).holds

@@ -1,11 +1,11 @@
 -- Written bytes read back: what is placed stays in front of what is placed later, and stands behind the header.
-use Rattle.std.proofs.Common.{◌||◌, ◌≡◌, ℕ, ◌+◌, ◌++◌, ◌&&◌, not, Bool, true, false, cond, List, [], ◌∷◌, Option, None, Some, Result, Ok, Err, length, drop, find, refl, sym, ap, ◌∙◌, append_assoc, append-nil}
+use Rattle.std.proofs.Common.{◌||◌, ◌≡◌, ℕ, ◌+◌, ◌++◌, ◌&&◌, not, Bool, true, false, cond, List, [], ◌∷◌, Option, None, Some, Result, Ok, Err, length, drop, find, map, refl, sym, ap, ◌∙◌, append_assoc, append-nil}
 use Rattle.std.proofs.lemmas.List.{drop_at, drop-drop}
 use Rattle.std.proofs.lemmas.Result.{IfOk-at_ok}
 use Rattle.std.specs.Prelude.{codes, nat_lt, filter_map}
 use Rattle.std.specs.Result.{IfOk}
 use Rattle.std.specs.Str.{bytes_eq}
-use Rattle.asm_base.specs.declared.faults.Fault.TheVariants.{Statement}
+use Rattle.asm_base.specs.declared.notes.Noted.{Noted}
 use Rattle.asm_base.specs.declared.faults.StatementFault.{StatementFault}
 use Rattle.asm_base.specs.declared.faults.StatementFault.TheVariants.{UnknownMnemonic, UnknownDirective}
 use Rattle.asm_base.specs.declared.positions.Pos.{Pos}
@@ -18,12 +18,13 @@ use Rattle.asm_front.specs.Rows.{the_rows, has_name, bytes_of}
 use Rattle.asm_front.specs.Reads.{Reads}
 use Rattle.asm_front.specs.Results.{◌>>=◌}
 use Rattle.asm_front.specs.SymbolMap.{symbol_named, with_symbol, labelled}
-use Rattle.asm_front.specs.Operands.{is_name, number_list, as_bytes, symbol_name, name_list}
-use Rattle.asm_front.specs.Placing.{Placed, nothing_placed, with_text, with_globals, is_assignment, begins_with_dot, is_label, place_symbol, place_label, place_text, place_byte, place_globl, place_directive, place_row, place_instruction, place_body, place_tokens}
+use Rattle.asm_front.specs.DataItems.{low_byte}
+use Rattle.asm_front.specs.Operands.{is_name, number_list, symbol_name, name_list}
+use Rattle.asm_front.specs.Placing.{Placed, nothing_placed, with_text, with_bytes, with_globals, is_assignment, begins_with_dot, is_label, place_symbol, place_label, place_text, place_byte, place_globl, place_directive, place_row, place_instruction, place_body, place_tokens}
 use Rattle.asm_front.specs.Fields.{half, word, xword}
 use Rattle.asm_front.specs.Symbols.{SymbolEntry}
 use Rattle.asm_front.specs.Image.{header_end, elf_header, header_table, file_of, with_tables, image_of}
-use Rattle.asm_front.specs.Assembly.{FaultAt, fault_at, pos_at, place, place_all, is_undefined_local, end_answer, placed_whole, symbol_of, sections_of, object_of, finished, lines_answer, assembly_of_lines, assembly_of}
+use Rattle.asm_front.specs.Assembly.{Flags, FaultAt, NotedObject, fault_at, pos_at, standing, place, place_all, is_undefined_local, end_answer, placed_whole, warnings_answer, unless_warned, symbol_of, sections_of, object_of, finished, lines_answer, assembly_of_lines, assembly_of}
 use Rattle.asm_front.specs.Outcome.{main_file}
 use Rattle.asm_front.specs.ReadsBack.{behind_labels, row_written, instruction_of, ReadsAt, ReadsBack}
 use Rattle.asm_front.proofs.Readings.{found_reads, one_instruction}
@@ -57,7 +58,7 @@ symbol_text : (pos : Pos) (name : List ℕ) (p : Placed) → IfOk (place_symbol 
 unfolding place_symbol
 symbol_text pos name p =
     after_step (λ q. q.text ≡ p.text) (labelled (symbol_named name p.symbols) (length p.text) pos)
-    (λ symbol. Ok (record { text = p.text; symbols = with_symbol p.symbols name symbol })) (λ symbol. refl)
+    (λ symbol. Ok (record p { symbols = with_symbol p.symbols name symbol })) (λ symbol. refl)
 
 label_text : (pos : Pos) (token : SpelledToken) (p : Placed) → IfOk (place_label pos token p) (λ q. q.text ≡ p.text)
 unfolding place_label
@@ -70,23 +71,22 @@ unfolding place_text
 text_extends [] p = extends_same p p refl
 text_extends (token ∷ rest) p = tt
 
-byte_extends : (operands : List SpelledToken) (p : Placed) → IfOk (place_byte operands p) (Extends p)
-unfolding place_byte
-byte_extends operands p =
-    after_step (Extends p) (number_list operands) (λ ns. as_bytes ns >>= λ bytes. Ok (with_text bytes p))
-    (λ ns. after_step (Extends p) (as_bytes ns) (λ bytes. Ok (with_text bytes p)) (λ bytes. record { more = bytes; text = refl }))
+byte_extends : (pos : Pos) (operands : List SpelledToken) (p : Placed) → IfOk (place_byte pos operands p) (Extends p)
+unfolding place_byte with_bytes
+byte_extends pos operands p =
+    after_step (Extends p) (number_list operands) (λ values. Ok (with_bytes pos values p)) (λ values. record { more = map low_byte values; text = refl })
 
 globl_extends : (pos : Pos) (operands : List SpelledToken) (p : Placed) → IfOk (place_globl pos operands p) (Extends p)
 unfolding place_globl
 globl_extends pos operands p =
     after_step (Extends p) (with_globals pos p.symbols (name_list operands))
-    (λ symbols. Ok (record { text = p.text; symbols = symbols })) (λ symbols. extends_same p (record { text = p.text; symbols = symbols }) refl)
+    (λ symbols. Ok (record p { symbols = symbols })) (λ symbols. extends_same p (record p { symbols = symbols }) refl)
 
 directive_extends : (pos : Pos) (name : List ℕ) (operands : List SpelledToken) (p : Placed) → IfOk (place_directive pos name operands p) (Extends p)
 unfolding place_directive
 directive_extends pos name operands p =
     either (Extends p) (bytes_eq name (codes ".text")) _ _ (text_extends operands p)
-    (either (Extends p) (bytes_eq name (codes ".byte")) _ _ (byte_extends operands p)
+    (either (Extends p) (bytes_eq name (codes ".byte")) _ _ (byte_extends pos operands p)
     (either (Extends p) (bytes_eq name (codes ".globl") || bytes_eq name (codes ".global")) _ (Err UnknownDirective) (globl_extends pos operands p) tt))
 
 row_extends : (row : Option Row) (operands : List SpelledToken) (p : Placed) → IfOk (place_row row operands p) (Extends p)
@@ -126,23 +126,18 @@ tokens_extend pos (first ∷ second ∷ rest) p =
     (λ q same. further p q (place_tokens pos rest q) (extends_same p q same) (tokens_extend pos rest q)))
     (body_extends pos first (second ∷ rest) p)
 
--- where the fault of a statement stands
-abbrev standing : Pos → Result Placed StatementFault → Result Placed FaultAt
-standing pos (Ok more) = Ok more
-standing pos (Err fault) = Err (fault_at (Statement fault) pos)
-
-place_is : (s : StatementAt) (p : Placed) → place s p ≡ standing (pos_at s.file s.line) (place_tokens (pos_at s.file s.line) (tokens_of s.bytes) p)
+place_is : (s : StatementAt) (p : Placed) → place s p ≡ standing (pos_at s.file s.line) p.notes (place_tokens (pos_at s.file s.line) (tokens_of s.bytes) p)
 unfolding place
 place_is s p = refl
 
-standing_keeps : (P : Placed → Type 0) (pos : Pos) (r : Result Placed StatementFault) → IfOk r P → IfOk (standing pos r) P
-standing_keeps P pos (Ok more) h = h
-standing_keeps P pos (Err fault) h = tt
+standing_keeps : (P : Placed → Type 0) (pos : Pos) (notes : List Noted) (r : Result Placed StatementFault) → IfOk r P → IfOk (standing pos notes r) P
+standing_keeps P pos notes (Ok more) h = h
+standing_keeps P pos notes (Err fault) h = tt
 
 place_extends : (s : StatementAt) (p : Placed) → IfOk (place s p) (Extends p)
 place_extends s p =
     let pos = pos_at s.file s.line in
-    rw (place_is s p) (standing_keeps (Extends p) pos (place_tokens pos (tokens_of s.bytes) p) (tokens_extend pos (tokens_of s.bytes) p))
+    rw (place_is s p) (standing_keeps (Extends p) pos p.notes (place_tokens pos (tokens_of s.bytes) p) (tokens_extend pos (tokens_of s.bytes) p))
 
 all_extend : (statements : List StatementAt) (p : Placed) → IfOk (place_all statements p) (Extends p)
 unfolding place_all
@@ -211,7 +206,7 @@ place_written : (s : StatementAt) (row : Row) (p : Placed) → instruction_of s 
 place_written s row p e =
     let pos = pos_at s.file s.line in
     rw (place_is s p)
-    (standing_keeps (Adds p (bytes_of row)) pos (place_tokens pos (tokens_of s.bytes) p) (tokens_written pos (tokens_of s.bytes) row p e))
+    (standing_keeps (Adds p (bytes_of row)) pos p.notes (place_tokens pos (tokens_of s.bytes) p) (tokens_written pos (tokens_of s.bytes) row p e))
 
 -- the text has these bytes, and more behind them
 record Holds (front bytes : List ℕ) (whole : Placed) : Type 0 where
@@ -267,41 +262,59 @@ unfolding image_of file_of with_tables
 image_text text symbols = (_, text_behind (elf_header _ _) text _ (header_table _ _) (header_length _ _))
 
 -- at the end of a source nothing is placed any more
-object_is : (placed : Placed) (object : List ℕ) → finished placed ≡ Ok object → object ≡ object_of placed
-unfolding finished placed_whole
-object_is placed object e = ended (find is_undefined_local placed.symbols) e
+whole_is : (placed whole : Placed) → placed_whole placed ≡ Ok whole → whole ≡ placed
+unfolding placed_whole
+whole_is placed whole e = ended (find is_undefined_local placed.symbols) e
   where
-    ended : (first : Option (List ℕ × NamedSymbol)) → (end_answer first placed >>= λ whole. Ok (object_of whole)) ≡ Ok object → object ≡ object_of placed
+    ended : (first : Option (List ℕ × NamedSymbol)) → end_answer first placed ≡ Ok whole → whole ≡ placed
     ended None h = cc
     ended (Some entry) h = absurd (cc)
+
+warned_is : (fatal : Bool) (placed whole : Placed) → unless_warned fatal placed ≡ Ok whole → whole ≡ placed
+unfolding unless_warned
+warned_is false placed whole e = cc
+warned_is true placed whole e = ended placed.notes e
+  where
+    ended : (notes : List Noted) → warnings_answer notes placed ≡ Ok whole → whole ≡ placed
+    ended [] h = cc
+    ended (first ∷ others) h = absurd (cc)
 
 -- a step that succeeded goes on from what the step before gave
 bind_ok : {A B E : Type 0} (r : Result A E) (f : A → Result B E) (y : B) → (r >>= f) ≡ Ok y → (x : A) × (r ≡ Ok x) × (f x ≡ Ok y)
 bind_ok (Ok x) f y e = (x, refl, e)
 bind_ok (Err fault) f y e = absurd (cc)
 
+object_is : (fatal : Bool) (placed : Placed) (made : NotedObject) → finished fatal placed ≡ Ok made → made.object ≡ object_of placed
+unfolding finished
+object_is fatal placed made e =
+    let (whole, quiet, is) = bind_ok (placed_whole placed >>= unless_warned fatal) (λ whole. Ok (record { object = object_of whole; notes = whole.notes })) made e in
+    let (first, named, unwarned) = bind_ok (placed_whole placed) (unless_warned fatal) whole quiet in
+    let same : whole ≡ placed = warned_is fatal first whole unwarned ∙ whole_is placed first named in
+    let object : object_of whole ≡ made.object = cc in
+    sym object ∙ ap object_of same
+
 -- an object is that of what the statements of its source placed
-lines_is : (source object : List ℕ) (statements : List StatementAt) → statements_of main_file source ≡ Ok statements
-    → assembly_of_lines main_file source ≡ Ok object → (whole : Placed) × (place_all statements nothing_placed ≡ Ok whole) × (object ≡ object_of whole)
+lines_is : (flags : Flags) (source : List ℕ) (made : NotedObject) (statements : List StatementAt) → statements_of main_file source ≡ Ok statements
+    → assembly_of_lines flags main_file source ≡ Ok made → (whole : Placed) × (place_all statements (nothing_placed flags.no_warn) ≡ Ok whole) × (made.object ≡ object_of whole)
 unfolding assembly_of_lines
-lines_is source object statements are e =
-    let from_lines = λ (r : Result (List StatementAt) FaultAt). r >>= λ these. place_all these nothing_placed >>= λ placed. finished placed in
-    let placed_as : (place_all statements nothing_placed >>= λ placed. finished placed) ≡ Ok object =
+lines_is flags source made statements are e =
+    let from_lines = λ (r : Result (List StatementAt) FaultAt). r >>= λ these. place_all these (nothing_placed flags.no_warn) >>= λ placed. finished flags.fatal_warnings placed in
+    let placed_as : (place_all statements (nothing_placed flags.no_warn) >>= λ placed. finished flags.fatal_warnings placed) ≡ Ok made =
     sym (ap (λ r. from_lines (lines_answer main_file r)) are) ∙ e in
-    let (whole, all, ends) = bind_ok (place_all statements nothing_placed) (λ placed. finished placed) object placed_as in
-    (whole, all, object_is whole object ends)
+    let (whole, all, ends) = bind_ok (place_all statements (nothing_placed flags.no_warn)) (λ placed. finished flags.fatal_warnings placed) made placed_as in
+    (whole, all, object_is flags.fatal_warnings whole made ends)
 
 -- a source that has an object is not too large
 not_too_large : {B E : Type 0} (large : Bool) (fault : E) (r : Result B E) (y : B) → cond large (Err fault) r ≡ Ok y → r ≡ Ok y
 not_too_large true fault r y e = absurd (cc)
 not_too_large false fault r y e = e
 
-assembly_is : (source object : List ℕ) (statements : List StatementAt) → statements_of main_file source ≡ Ok statements
-    → assembly_of main_file source ≡ Ok object → (whole : Placed) × (place_all statements nothing_placed ≡ Ok whole) × (object ≡ object_of whole)
+assembly_is : (flags : Flags) (source : List ℕ) (made : NotedObject) (statements : List StatementAt) → statements_of main_file source ≡ Ok statements
+    → assembly_of flags main_file source ≡ Ok made → (whole : Placed) × (place_all statements (nothing_placed flags.no_warn) ≡ Ok whole) × (made.object ≡ object_of whole)
 unfolding assembly_of
-assembly_is source object statements are e =
-    lines_is source object statements are
-    (not_too_large (nat_lt most_bytes (length source)) _ (assembly_of_lines main_file source) object e)
+assembly_is flags source made statements are e =
+    lines_is flags source made statements are
+    (not_too_large (nat_lt most_bytes (length source)) _ (assembly_of_lines flags main_file source) made e)
 
 -- what the text holds stands in the object
 object_holds : (front bytes : List ℕ) (whole : Placed) → Holds front bytes whole
@@ -330,10 +343,10 @@ reads_row bytes rest at row stands reads = record {
 }
 
 -- each instruction that was written reads back
-pub reads_back : (source object : List ℕ) → assembly_of main_file source ≡ Ok object → ReadsBack source object
-reads_back source object e before after s row placed are front is =
-    let (whole, all, object_whole) = assembly_is source object (before ++ s ∷ after) are e in
-    let holds : Holds placed.text (bytes_of row) whole = written_stands before after s row nothing_placed placed whole front is all in
+pub reads_back : (flags : Flags) (source : List ℕ) (made : NotedObject) → assembly_of flags main_file source ≡ Ok made → ReadsBack flags source made.object
+reads_back flags source made e before after s row placed are front is =
+    let (whole, all, object_whole) = assembly_is flags source made (before ++ s ∷ after) are e in
+    let holds : Holds placed.text (bytes_of row) whole = written_stands before after s row (nothing_placed flags.no_warn) placed whole front is all in
     let (rest, stands) = object_holds placed.text (bytes_of row) whole holds in
     let at = header_end + length placed.text in
-    reads_row object rest at row (ap (drop at) object_whole ∙ stands) (written_reads (behind_labels (tokens_of s.bytes)) row is)
+    reads_row made.object rest at row (ap (drop at) object_whole ∙ stands) (written_reads (behind_labels (tokens_of s.bytes)) row is)

@@ -1,5 +1,6 @@
 -- The answer of a call of `assemble` for an object that was made, or a fault of the source.
-use Rattle.std.specs.Prelude.{◌≡◌, List, ℕ, [], Result, Ok, Err}
+use Rattle.std.specs.Prelude.{◌≡◌, List, ℕ, Result, Ok, Err}
+use Rattle.asm_base.specs.declared.notes.Noted.{Noted}
 use Rattle.asm_front.specs.Outcome.{files_of}
 use Rattle.asm_front.specs.declared.answers.Assembled.{Assembled}
 use Rattle.asm_front.specs.declared.answers.AsmFault.{AsmFault}
@@ -7,17 +8,17 @@ use Rattle.asm_front.specs.declared.answers.AsmFault.TheVariants.{Source, Read, 
 use Rattle.asm_front.specs.declared.steps.Stop.{Stop}
 use Rattle.asm_front.specs.declared.steps.Stop.TheVariants as stop
 
--- what was made is handed on with the files and without notes, unless memory is refused
-abbrev pub IsAnswered : List ℕ → Result (List ℕ) Stop → Result Assembled AsmFault → Type 0
-IsAnswered name (Ok object) (Ok made) = (made.object ≡ object) × (made.notes ≡ []) × (made.files ≡ files_of name)
-IsAnswered name (Ok object) (Err (Source fault pos notes files)) = ⊥
-IsAnswered name (Ok object) (Err Read) = ⊥
-IsAnswered name (Ok object) (Err NoMemory) = Unit {0}
-IsAnswered name (Err (stop.Source fault pos)) (Ok made) = ⊥
-IsAnswered name (Err (stop.Source fault pos)) (Err (Source told at notes files)) = (told ≡ fault) × (at ≡ pos) × (notes ≡ []) × (files ≡ files_of name)
-IsAnswered name (Err (stop.Source fault pos)) (Err Read) = ⊥
-IsAnswered name (Err (stop.Source fault pos)) (Err NoMemory) = Unit {0}
-IsAnswered name (Err stop.NoMemory) (Ok made) = ⊥
-IsAnswered name (Err stop.NoMemory) (Err (Source fault pos notes files)) = ⊥
-IsAnswered name (Err stop.NoMemory) (Err Read) = ⊥
-IsAnswered name (Err stop.NoMemory) (Err NoMemory) = Unit {0}
+-- what was made is handed on with the files and the notes, unless memory is refused
+abbrev pub IsAnswered : List ℕ → List Noted → Result (List ℕ) Stop → Result Assembled AsmFault → Type 0
+IsAnswered name notes (Ok object) (Ok made) = (made.object ≡ object) × (made.notes ≡ notes) × (made.files ≡ files_of name)
+IsAnswered name notes (Ok object) (Err (Source fault pos told_notes files)) = ⊥
+IsAnswered name notes (Ok object) (Err Read) = ⊥
+IsAnswered name notes (Ok object) (Err NoMemory) = Unit {0}
+IsAnswered name notes (Err (stop.Source fault pos)) (Ok made) = ⊥
+IsAnswered name notes (Err (stop.Source fault pos)) (Err (Source told at told_notes files)) = (told ≡ fault) × (at ≡ pos) × (told_notes ≡ notes) × (files ≡ files_of name)
+IsAnswered name notes (Err (stop.Source fault pos)) (Err Read) = ⊥
+IsAnswered name notes (Err (stop.Source fault pos)) (Err NoMemory) = Unit {0}
+IsAnswered name notes (Err stop.NoMemory) (Ok made) = ⊥
+IsAnswered name notes (Err stop.NoMemory) (Err (Source fault pos told_notes files)) = ⊥
+IsAnswered name notes (Err stop.NoMemory) (Err Read) = ⊥
+IsAnswered name notes (Err stop.NoMemory) (Err NoMemory) = Unit {0}

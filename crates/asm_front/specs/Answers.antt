@@ -1,6 +1,7 @@
 -- What a call of a step answers, by what the step's definition answers.
-use Rattle.std.specs.Prelude.{◌≡◌, Result, Ok, Err}
+use Rattle.std.specs.Prelude.{◌≡◌, List, Result, Ok, Err}
 use Rattle.asm_base.specs.declared.faults.StatementFault.{StatementFault}
+use Rattle.asm_base.specs.declared.notes.Noted.{Noted}
 use Rattle.asm_front.specs.declared.steps.StepFault.{StepFault}
 use Rattle.asm_front.specs.declared.steps.StepFault.TheVariants.{Source, NoMemory}
 
@@ -18,3 +19,9 @@ Gives made (Err e) answer = Fails e answer
 abbrev pub GivesBy : {A T : Type 0} → (T → A) → Result T StepFault → Result A StatementFault → Type 0
 GivesBy view (Ok t) answer = answer ≡ Ok (view t)
 GivesBy view (Err e) answer = Fails e answer
+
+-- a step that refuses the source makes no note
+abbrev pub KeepsNotes : {T : Type 0} → Result T StepFault → List Noted → List Noted → Type 0
+KeepsNotes (Ok t) old new = Unit {0}
+KeepsNotes (Err (Source fault)) old new = new ≡ old
+KeepsNotes (Err NoMemory) old new = Unit {0}

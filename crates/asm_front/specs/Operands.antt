@@ -1,9 +1,9 @@
 -- The operands of directives: numbers and names, separated by commas.
-use Rattle.std.specs.Prelude.{ℕ, ◌-◌, ◌==◌, ◌&&◌, not, Bool, true, false, List, [], ◌∷◌, ◌++◌, length, take, drop, nat_lt, if◌then◌else◌, Result, Ok, Err}
-use Rattle.std.specs.List.{list_all, list_any}
+use Rattle.std.specs.Prelude.{ℕ, ◌-◌, ◌==◌, ◌&&◌, not, Bool, true, false, List, [], ◌∷◌, ◌++◌, length, take, drop, if◌then◌else◌, Result, Ok, Err}
+use Rattle.std.specs.List.{list_any}
 use Rattle.std.specs.Str.{bytes_eq}
 use Rattle.asm_base.specs.declared.faults.StatementFault.{StatementFault}
-use Rattle.asm_base.specs.declared.faults.StatementFault.TheVariants.{BadExpression, BadOperand, OutOfRange}
+use Rattle.asm_base.specs.declared.faults.StatementFault.TheVariants.{BadExpression, BadOperand}
 use Rattle.asm_base.specs.declared.tokens.TokenKind.{TokenKind}
 use Rattle.asm_base.specs.declared.tokens.TokenKind.TheVariants.{Name, Digits, Character, String}
 use Rattle.asm_base.specs.Tokens.{SpelledToken}
@@ -62,10 +62,6 @@ numbers (token ∷ comma ∷ rest) =
 unfoldable pub number_list : List SpelledToken → Result (List ℕ) StatementFault
 number_list [] = Ok []
 number_list (token ∷ rest) = numbers (token ∷ rest)
-
--- numbers as bytes
-unfoldable pub as_bytes : List ℕ → Result (List ℕ) StatementFault
-as_bytes ns = if list_all (λ n. nat_lt n 256) ns then Ok ns else Err OutOfRange
 
 -- what stands between the quotes of a string
 abbrev pub between_quotes : List ℕ → List ℕ

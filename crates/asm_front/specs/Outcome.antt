@@ -7,7 +7,8 @@ use Rattle.asm_base.specs.declared.faults.StatementFault.TheVariants as statemen
 use Rattle.asm_base.specs.declared.faults.Fault.{Fault}
 use Rattle.asm_base.specs.declared.faults.Fault.TheVariants.{Statement, End, Scfi}
 use Rattle.asm_base.specs.Inputs.{Contents}
-use Rattle.asm_front.specs.Assembly.{FaultAt, fault_at, assembly_of}
+use Rattle.asm_front.specs.Assembly.{Flags, FaultAt, NotedObject, fault_at, assembly_of}
+use Rattle.asm_front.specs.declared.answers.Options.{Options}
 use Rattle.asm_front.specs.declared.answers.Assembled.{Assembled}
 use Rattle.asm_front.specs.declared.answers.AsmFault.{AsmFault}
 use Rattle.asm_front.specs.declared.answers.AsmFault.TheVariants.{Source, Read, NoMemory}
@@ -25,25 +26,29 @@ files_of name = shown_name name ∷ []
 abbrev pub main_file : ℕ
 main_file = 0
 
--- the answer for a source of this assembly: its object or its first fault, and no notes
-abbrev pub AssemblesAs : List ℕ → Result (List ℕ) FaultAt → Result Assembled AsmFault → Type 0
-AssemblesAs name assembly (Ok made) = (assembly ≡ Ok made.object) × (made.notes ≡ []) × (made.files ≡ files_of name)
-AssemblesAs name assembly (Err (Source fault pos notes files)) = (assembly ≡ Err (fault_at fault pos)) × (notes ≡ []) × (files ≡ files_of name)
+-- what the options ask of the assembly
+abbrev pub flags_of : Options → Flags
+flags_of options = record { no_warn = options.no_warn; fatal_warnings = options.fatal_warnings }
+
+-- the answer for a source of this assembly: its object or its first fault, with the notes
+abbrev pub AssemblesAs : List ℕ → Result NotedObject FaultAt → Result Assembled AsmFault → Type 0
+AssemblesAs name assembly (Ok made) = (assembly ≡ Ok (record { object = made.object; notes = made.notes })) × (made.files ≡ files_of name)
+AssemblesAs name assembly (Err (Source fault pos notes files)) = (assembly ≡ Err (fault_at fault pos notes)) × (files ≡ files_of name)
 AssemblesAs name assembly (Err Read) = Unit {0}
 AssemblesAs name assembly (Err NoMemory) = Unit {0}
 
 -- a source that is not there gives neither
-abbrev pub AssemblesFile : List ℕ → Option (List ℕ) → Result Assembled AsmFault → Type 0
-AssemblesFile name (Some source) result = AssemblesAs name (assembly_of main_file source) result
-AssemblesFile name None (Ok made) = ⊥
-AssemblesFile name None (Err (Source fault pos notes files)) = ⊥
-AssemblesFile name None (Err Read) = Unit {0}
-AssemblesFile name None (Err NoMemory) = Unit {0}
+abbrev pub AssemblesFile : Flags → List ℕ → Option (List ℕ) → Result Assembled AsmFault → Type 0
+AssemblesFile flags name (Some source) result = AssemblesAs name (assembly_of flags main_file source) result
+AssemblesFile flags name None (Ok made) = ⊥
+AssemblesFile flags name None (Err (Source fault pos notes files)) = ⊥
+AssemblesFile flags name None (Err Read) = Unit {0}
+AssemblesFile flags name None (Err NoMemory) = Unit {0}
 
 -- what stands under the name, where the contents are told
-abbrev pub Assembles : Option Contents → List ℕ → Result Assembled AsmFault → Type 0
-Assembles None name result = Unit {0}
-Assembles (Some contents) name result = AssemblesFile name (contents name) result
+abbrev pub Assembles : Flags → Option Contents → List ℕ → Result Assembled AsmFault → Type 0
+Assembles flags None name result = Unit {0}
+Assembles flags (Some contents) name result = AssemblesFile flags name (contents name) result
 
 -- the count of failures has risen where the input failed, and is the same else
 abbrev pub HasAssemblyCause : Result Assembled AsmFault → ℕ → ℕ → Type 0

@@ -1,33 +1,41 @@
--- What each statement adds to the section and the symbols, or its fault.
-use Rattle.std.specs.Prelude.{ℕ, ◌&&◌, ◌||◌, Bool, false, not, List, [], ◌∷◌, ◌++◌, length, find, fold, codes, if◌then◌else◌, ◌==◌, Option, None, Some, Result, Ok, Err}
+-- What each statement adds to the section, the symbols and the notes, or its fault.
+use Rattle.std.specs.Prelude.{ℕ, ◌&&◌, ◌||◌, Bool, false, not, List, [], ◌∷◌, ◌++◌, length, map, find, fold, codes, if◌then◌else◌, ◌==◌, Option, None, Some, Result, Ok, Err}
 use Rattle.std.specs.Str.{bytes_eq}
 use Rattle.asm_base.specs.declared.faults.StatementFault.{StatementFault}
 use Rattle.asm_base.specs.declared.faults.StatementFault.TheVariants.{UnknownMnemonic, UnknownDirective, BadOperand}
+use Rattle.asm_base.specs.declared.notes.Noted.{Noted}
 use Rattle.asm_base.specs.declared.positions.Pos.{Pos}
 use Rattle.asm_base.specs.Tokens.{SpelledToken}
 use Rattle.asm_front.specs.declared.instructions.Row.{Row}
 use Rattle.asm_front.specs.Results.{◌>>=◌}
 use Rattle.asm_front.specs.Rows.{the_rows, has_name, bytes_of}
-use Rattle.asm_front.specs.Operands.{is_name, is_mark, number_list, as_bytes, names_symbol, symbol_name, name_list}
+use Rattle.asm_front.specs.DataItems.{low_byte, cut_notes}
+use Rattle.asm_front.specs.Operands.{is_name, is_mark, number_list, names_symbol, symbol_name, name_list}
 use Rattle.asm_front.specs.SymbolMap.{SymbolList, symbol_named, with_symbol, labelled, made_global}
 
--- what the statements so far have placed: the bytes of `.text`, and the symbols
+-- what the statements so far have placed: the bytes of `.text`, the symbols and the notes; and whether no warning is to be made
 pub record Placed : Type 0 where
   pub text : List ℕ
   pub symbols : SymbolList
+  pub no_warn : Bool
+  pub notes : List Noted
 
-abbrev pub nothing_placed : Placed
-nothing_placed = record { text = []; symbols = [] }
+abbrev pub nothing_placed : Bool → Placed
+nothing_placed no_warn = record { text = []; symbols = []; no_warn = no_warn; notes = [] }
 
 -- these bytes more in `.text`
 abbrev pub with_text : List ℕ → Placed → Placed
-with_text bytes placed = record { text = placed.text ++ bytes; symbols = placed.symbols }
+with_text bytes placed = record placed { text = placed.text ++ bytes }
+
+-- these notes more, unless no warning is to be made
+abbrev pub with_notes : List Noted → Placed → Placed
+with_notes notes placed = record placed { notes = placed.notes ++ (if placed.no_warn then [] else notes) }
 
 -- a symbol of this name is defined where the next byte goes
 unfoldable pub place_symbol : Pos → List ℕ → Placed → Result Placed StatementFault
 place_symbol pos name placed =
     labelled (symbol_named name placed.symbols) (length placed.text) pos
-    >>= λ symbol. Ok (record { text = placed.text; symbols = with_symbol placed.symbols name symbol })
+    >>= λ symbol. Ok (record placed { symbols = with_symbol placed.symbols name symbol })
 
 -- `name:`, by the token of the name
 unfoldable pub place_label : Pos → SpelledToken → Placed → Result Placed StatementFault
@@ -38,9 +46,13 @@ unfoldable pub place_text : List SpelledToken → Placed → Result Placed State
 place_text [] placed = Ok placed
 place_text (token ∷ rest) placed = Err BadOperand
 
+-- the low byte of each value, and a note for each that has more
+unfoldable pub with_bytes : Pos → List ℕ → Placed → Placed
+with_bytes pos values placed = with_notes (cut_notes pos values) (with_text (map low_byte values) placed)
+
 -- `.byte`
-unfoldable pub place_byte : List SpelledToken → Placed → Result Placed StatementFault
-place_byte operands placed = number_list operands >>= λ ns. as_bytes ns >>= λ bytes. Ok (with_text bytes placed)
+unfoldable pub place_byte : Pos → List SpelledToken → Placed → Result Placed StatementFault
+place_byte pos operands placed = number_list operands >>= λ values. Ok (with_bytes pos values placed)
 
 -- a name is made global
 abbrev pub with_global : Pos → SymbolList → List ℕ → SymbolList
@@ -53,13 +65,13 @@ with_globals pos symbols names = names >>= λ these. Ok (fold (with_global pos) 
 -- `.globl`
 unfoldable pub place_globl : Pos → List SpelledToken → Placed → Result Placed StatementFault
 place_globl pos operands placed =
-    with_globals pos placed.symbols (name_list operands) >>= λ symbols. Ok (record { text = placed.text; symbols = symbols })
+    with_globals pos placed.symbols (name_list operands) >>= λ symbols. Ok (record placed { symbols = symbols })
 
 -- a directive by its name
 unfoldable pub place_directive : Pos → List ℕ → List SpelledToken → Placed → Result Placed StatementFault
 place_directive pos name operands placed =
     if bytes_eq name (codes ".text") then place_text operands placed
-    else (if bytes_eq name (codes ".byte") then place_byte operands placed
+    else (if bytes_eq name (codes ".byte") then place_byte pos operands placed
     else (if bytes_eq name (codes ".globl") || bytes_eq name (codes ".global") then place_globl pos operands placed
     else Err UnknownDirective))
 

@@ -10,7 +10,7 @@ use Rattle.asm_front.specs.Reads.{Reads}
 use Rattle.asm_front.specs.Operands.{is_name}
 use Rattle.asm_front.specs.Placing.{Placed, nothing_placed, is_label, begins_with_dot}
 use Rattle.asm_front.specs.Image.{header_end}
-use Rattle.asm_front.specs.Assembly.{place_all}
+use Rattle.asm_front.specs.Assembly.{Flags, place_all}
 use Rattle.asm_front.specs.Outcome.{main_file}
 use Rattle.asm_front.specs.declared.answers.Assembled.{Assembled}
 use Rattle.asm_front.specs.declared.answers.AsmFault.{AsmFault}
@@ -42,18 +42,18 @@ pub record ReadsAt (bytes : List ℕ) (at : ℕ) (mnemonic : Mnemonic) : Type 0 
       → (other ≡ mnemonic) × (front ≡ instruction)
 
 -- each instruction of the source reads back behind the ELF header, where the statements before it end in `.text`
-abbrev pub ReadsBack : List ℕ → List ℕ → Type 0
-ReadsBack source object =
+abbrev pub ReadsBack : Flags → List ℕ → List ℕ → Type 0
+ReadsBack flags source object =
     (before after : List StatementAt) (s : StatementAt) (row : Row) (placed : Placed)
-    → statements_of main_file source ≡ Ok (before ++ s ∷ after) → place_all before nothing_placed ≡ Ok placed
+    → statements_of main_file source ≡ Ok (before ++ s ∷ after) → place_all before (nothing_placed flags.no_warn) ≡ Ok placed
     → instruction_of s ≡ Some row → ReadsAt object (header_end + length placed.text) row.mnemonic
 
 -- where the contents are told, an object that is answered reads back as its source
-abbrev pub AnswerReadsBack : Option (List ℕ) → Result Assembled AsmFault → Type 0
-AnswerReadsBack None result = Unit {0}
-AnswerReadsBack (Some source) (Ok made) = ReadsBack source made.object
-AnswerReadsBack (Some source) (Err fault) = Unit {0}
+abbrev pub AnswerReadsBack : Flags → Option (List ℕ) → Result Assembled AsmFault → Type 0
+AnswerReadsBack flags None result = Unit {0}
+AnswerReadsBack flags (Some source) (Ok made) = ReadsBack flags source made.object
+AnswerReadsBack flags (Some source) (Err fault) = Unit {0}
 
-abbrev pub ReadsBackFrom : Option Contents → List ℕ → Result Assembled AsmFault → Type 0
-ReadsBackFrom None name result = Unit {0}
-ReadsBackFrom (Some contents) name result = AnswerReadsBack (contents name) result
+abbrev pub ReadsBackFrom : Flags → Option Contents → List ℕ → Result Assembled AsmFault → Type 0
+ReadsBackFrom flags None name result = Unit {0}
+ReadsBackFrom flags (Some contents) name result = AnswerReadsBack flags (contents name) result

@@ -10,9 +10,9 @@ pub struct Options {
     pub file: String,
     /// Frame tables are to be synthesized. Nothing reads this yet.
     pub scfi: bool,
-    /// No warning is to be made. Nothing reads this yet.
+    /// No warning is to be made.
     pub no_warn: bool,
-    /// A warning is to refuse the run at its end. Nothing reads this yet.
+    /// A warning is to refuse the run at its end.
     pub fatal_warnings: bool,
 }
 

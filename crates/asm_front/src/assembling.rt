@@ -5,14 +5,17 @@ ghost use Rattle.std.specs.Io.KnownBytes.{IsAtEnd};
 ghost use Rattle.asm_base.specs.Inputs.{CountsMissing};
 ghost use Rattle.asm_base.specs.WholeFile.{most_bytes};
 ghost use Rattle.asm_front.specs.Assembly.{assembly_of_lines};
-ghost use Rattle.asm_front.specs.Outcome.{main_file, shown_name, files_of, AssemblesAs, Assembles, NamesFiles, HasAssemblyCause, KeepsCount, TakesSource};
+ghost use Rattle.asm_front.specs.Placing.{nothing_placed};
+ghost use Rattle.asm_front.specs.PlacedBy.{placed_by};
+ghost use Rattle.asm_front.specs.Outcome.{main_file, shown_name, files_of, flags_of, Assembles, NamesFiles, HasAssemblyCause, KeepsCount, TakesSource};
 ghost use Rattle.asm_front.specs.Answering.{IsAnswered};
 ghost use Rattle.asm_front.specs.ReadsBack.{ReadsBackFrom};
-ghost use Rattle.asm_front.specs.Stops.{MakesBy, line_stop, too_large_stop};
+ghost use Rattle.asm_front.specs.Stops.{MakesNoted, line_stop, too_large_stop};
 
 use crate::answers::{AsmFault, Assembled, Options};
 use crate::ending::finished;
 use crate::object::Object;
+use crate::placing::Assembler;
 use crate::sources::place_all;
 use crate::steps::Stop;
 use asm_base::{
@@ -61,15 +64,16 @@ fn line_stop(fault: LineFault) -> Stop
     }
 }
 
-/// The object of a text that is not too large.
+/// The object of a text that is not too large, by an assembler that has placed nothing. It keeps the notes.
 #[tactic(auto, unfolding(crate::specs::Assembly::assembly_of_lines))]
-fn object_of_text(alloc: Global, text: &Text) -> Result<Object, Stop>
-    ensures { MakesBy (λ object. object) result (assembly_of_lines main_file text.now) }
+fn object_of_text(options: &Options, assembler: &mut Assembler, text: &Text) -> Result<Object, Stop>
+    requires { placed_by assembler.old ≡ nothing_placed options.now.no_warn }
+    ensures { MakesNoted assembler.new.notes result (assembly_of_lines (flags_of options.now) main_file text.now) }
 {
-    match read_statements(alloc, text, MAIN_FILE) {
+    match read_statements(assembler.alloc, text, MAIN_FILE) {
         Ok(statements) => {
-            let assembler = place_all(alloc, statements.as_slice())?;
-            finished(alloc, &assembler)
+            place_all(assembler, statements.as_slice())?;
+            finished(assembler.alloc, options.fatal_warnings, assembler)
         }
         Err(fault) => Err(line_stop(fault)),
     }
@@ -95,15 +99,19 @@ fn started_files(alloc: Global, name: &str) -> Result<Files, NoMemory>
     Ok(files)
 }
 
-/// The answer for an object or a fault of the source, with the names of the files.
-fn answered(alloc: Global, name: &str, made: Result<Object, Stop>) -> Result<Assembled, AsmFault>
-    ensures { IsAnswered name.now made result }
+/// The answer for an object or a fault of the source, with the notes and the names of the files.
+fn answered(
+    alloc: Global,
+    name: &str,
+    notes: Notes,
+    made: Result<Object, Stop>,
+) -> Result<Assembled, AsmFault>
+    ensures { IsAnswered name.now notes made result }
 {
     let files = match started_files(alloc, name) {
         Ok(files) => files,
         Err(_) => return Err(AsmFault::NoMemory),
     };
-    let notes = Notes::new(alloc);
     match made {
         Ok(object) => Ok(Assembled {
             notes,
@@ -135,8 +143,8 @@ pub fn assemble<I: Inputs>(
     options: &Options,
     ins: &mut I,
 ) -> Result<Assembled, AsmFault>
-    ensures outcome { Assembles (I.contents ins.old) (string_bytes options.now.file) result }
-    ensures reads_back { ReadsBackFrom (I.contents ins.old) (string_bytes options.now.file) result }
+    ensures outcome { Assembles (flags_of options.now) (I.contents ins.old) (string_bytes options.now.file) result }
+    ensures reads_back { ReadsBackFrom (flags_of options.now) (I.contents ins.old) (string_bytes options.now.file) result }
     ensures names { NamesFiles (string_bytes options.now.file) result }
     ensures cause { HasAssemblyCause result (I.faults ins.old) (I.faults ins.new) }
     ensures missing { CountsMissing (I.contents ins.old) (string_bytes options.now.file) (I.missing ins.old) (I.missing ins.new) }
@@ -148,8 +156,12 @@ pub fn assemble<I: Inputs>(
 {
     let name = options.file.as_str();
     match read_text(alloc, ins, name) {
-        Ok(text) => answered(alloc, name, object_of_text(alloc, &text)),
-        Err(TextFault::TooLarge) => answered(alloc, name, Err(too_large())),
+        Ok(text) => {
+            let mut assembler = Assembler::new(alloc, options.no_warn);
+            let made = object_of_text(options, &mut assembler, &text);
+            answered(alloc, name, assembler.into_notes(), made)
+        }
+        Err(TextFault::TooLarge) => answered(alloc, name, Notes::new(alloc), Err(too_large())),
         Err(TextFault::Read) => Err(AsmFault::Read),
         Err(TextFault::NoMemory) => Err(AsmFault::NoMemory),
     }

@@ -1,13 +1,13 @@
 //! What is found and made at the end of a source: undefined local symbols, and the object.
 
-ghost use Rattle.std.specs.Prelude.{◌≡◌, ◌++◌, map, find, filter_map, IfOk, OnOk, option_map};
+ghost use Rattle.std.specs.Prelude.{◌≡◌, ◌++◌, map, find, filter_map, IfOk, OnOk, option_map, option_copied, slice_get, if◌then◌else◌};
 ghost use Rattle.std.specs.Option.{option_to_list};
 ghost use Rattle.asm_front.specs.SymbolEntries.{listed};
 ghost use Rattle.asm_front.specs.Symbols.{symbol_view};
 ghost use Rattle.asm_front.specs.Sections.{section_view};
 ghost use Rattle.asm_front.specs.Assembly.{is_file_local, is_undefined_local, symbol_of, sections_of, object_of, finished};
 ghost use Rattle.asm_front.specs.PlacedBy.{placed_by};
-ghost use Rattle.asm_front.specs.Stops.{MakesBy, undefined_stop};
+ghost use Rattle.asm_front.specs.Stops.{MakesNoted, undefined_stop, warning_stop};
 
 use crate::image::image;
 use crate::named_symbols::NamedEntry;
@@ -18,7 +18,7 @@ use crate::sections::{
 };
 use crate::steps::Stop;
 use crate::symbols::{Binding, Kind, Symbol, Visibility};
-use asm_base::{EndFault, Fault};
+use asm_base::{EndFault, Fault, Noted};
 use std::alloc::{AllocError, Global};
 
 /// The index of `.text` in the header table, behind the null section.
@@ -134,18 +134,46 @@ fn sections_of(text: &[u8]) -> [Section<'_>; 3]
     ]
 }
 
-/// The object of what was placed, or the first fault at the end of the source.
-#[tactic(auto, unfolding(crate::specs::Assembly::placed_whole, crate::specs::Assembly::object_of), using(crate::proofs::EndingLemmas::found_none, crate::proofs::EndingLemmas::found_one))]
-pub(crate) fn finished(alloc: Global, assembler: &Assembler) -> Result<Object, Stop>
-    ensures { MakesBy (λ object. object) result (finished (placed_by assembler.now)) }
+/// The fault of the first warning.
+fn warned(noted: &Noted) -> Stop
+    ensures { result ≡ warning_stop noted.now }
+{
+    Stop::Source(Fault::End(EndFault::WarningsAreErrors), noted.pos)
+}
+
+/// The first warning, where warnings are to refuse the run.
+fn fatal_warning(fatal: bool, notes: &[Noted]) -> Option<&Noted>
+    ensures { option_copied result ≡ (if fatal then slice_get notes.now 0 else None) }
+{
+    if fatal { notes.first() } else { None }
+}
+
+/// The object of what was placed, whose symbols are these entries.
+#[tactic(auto, unfolding(crate::specs::Assembly::object_of))]
+fn object_of(
+    alloc: Global,
+    assembler: &Assembler,
+    entries: &[NamedEntry],
+) -> Result<Object, AllocError>
+    requires { map listed entries.now ≡ assembler.now.symbols }
+    ensures { IfOk result (λ object. object ≡ object_of (placed_by assembler.now)) }
+{
+    let symbols = table_symbols(alloc, entries)?;
+    let bytes = image(alloc, &sections_of(&assembler.text), &symbols)?;
+    Ok(Object::new(bytes))
+}
+
+/// The object of what was placed, or the first fault at the end of the source: that of warnings comes last.
+#[tactic(auto, using(crate::proofs::EndingLemmas::found_none, crate::proofs::EndingLemmas::found_one, crate::proofs::EndingLemmas::found_warning))]
+pub(crate) fn finished(alloc: Global, fatal: bool, assembler: &Assembler) -> Result<Object, Stop>
+    ensures { MakesNoted assembler.now.notes result (finished fatal (placed_by assembler.now)) }
 {
     let entries = assembler.symbols.entries(alloc)?;
     match first_undefined(&entries) {
         Some(entry) => Err(undefined(entry)),
-        None => {
-            let symbols = table_symbols(alloc, &entries)?;
-            let bytes = image(alloc, &sections_of(&assembler.text), &symbols)?;
-            Ok(Object::new(bytes))
-        }
+        None => match fatal_warning(fatal, assembler.notes.as_slice()) {
+            Some(noted) => Err(warned(noted)),
+            None => Ok(object_of(alloc, assembler, &entries)?),
+        },
     }
 }

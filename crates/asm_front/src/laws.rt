@@ -2,20 +2,21 @@
 
 ghost use Rattle.std.specs.Prelude.{◌≡◌, ℕ, List, Ok, Err, false};
 ghost use Rattle.asm_base.specs.declared.faults.Fault.{Fault};
+ghost use Rattle.asm_base.specs.declared.notes.Noted.{Noted};
 ghost use Rattle.asm_base.specs.declared.positions.Pos.{Pos};
-ghost use Rattle.asm_front.specs.Assembly.{fault_at, assembly_of, assembly_of_lines};
+ghost use Rattle.asm_front.specs.Assembly.{Flags, NotedObject, fault_at, assembly_of, assembly_of_lines};
 ghost use Rattle.asm_front.specs.Outcome.{main_file, is_too_large};
 ghost use Rattle.asm_front.specs.ReadsBack.{ReadsBack};
 
 /// Only the reading of a file calls it too large: no step behind that does.
 #[tactic(auto, using(crate::proofs::FaultLaws::not_too_large))]
 pub fn never_too_large()
-    ensures { (file : ℕ) (source : List ℕ) (fault : Fault) (pos : Pos)
-        → assembly_of_lines file source ≡ Err (fault_at fault pos) → is_too_large fault ≡ false }
+    ensures { (flags : Flags) (file : ℕ) (source : List ℕ) (fault : Fault) (pos : Pos) (notes : List Noted)
+        → assembly_of_lines flags file source ≡ Err (fault_at fault pos notes) → is_too_large fault ≡ false }
 {}
 
 /// Each instruction of a source stands in the object, where the statements before it end, as bytes that read as it and as nothing else.
 #[tactic(auto, using(crate::proofs::ReadsBackLemmas::reads_back))]
 pub fn written_reads_back()
-    ensures { (source object : List ℕ) → assembly_of main_file source ≡ Ok object → ReadsBack source object }
+    ensures { (flags : Flags) (source : List ℕ) (made : NotedObject) → assembly_of flags main_file source ≡ Ok made → ReadsBack flags source made.object }
 {}

@@ -3,6 +3,7 @@
 
 mod answers;
 mod assembling;
+mod data_items;
 mod ending;
 mod fields;
 mod globals;

@@ -3,7 +3,7 @@
 ghost use Rattle.std.specs.Prelude.{◌≡◌, ◌≤◌, length, map, IsTrue};
 ghost use Rattle.asm_base.specs.Tokens.{spelled};
 ghost use Rattle.asm_front.specs.Answers.{GivesBy};
-ghost use Rattle.asm_front.specs.Operands.{is_name, names_symbol, is_mark, character_code, token_number, numbers, number_list, as_bytes, between_quotes, is_symbol_name, checked_name, symbol_name};
+ghost use Rattle.asm_front.specs.Operands.{is_name, names_symbol, is_mark, character_code, token_number, numbers, number_list, between_quotes, is_symbol_name, checked_name, symbol_name};
 ghost use Rattle.asm_front.specs.Placing.{is_assignment, begins_with_dot, begins_with_label};
 
 use crate::numbers::spelled_number;
@@ -88,21 +88,6 @@ pub(crate) fn number_list(alloc: Global, operands: &[Token]) -> Result<Vec<u64>,
     } else {
         numbers(alloc, operands)
     }
-}
-
-/// The numbers as bytes.
-#[tactic(auto, unfolding(crate::specs::Operands::as_bytes))]
-pub(crate) fn as_bytes(alloc: Global, numbers: &[u64]) -> Result<Vec<u8>, StepFault>
-    ensures { GivesBy (λ bytes. bytes.items) result (as_bytes numbers.now) }
-{
-    let mut bytes = Vec::new(alloc);
-    for number in numbers {
-        if *number > 255 {
-            return Err(StepFault::Source(StatementFault::OutOfRange));
-        }
-        bytes.push(*number as u8)?;
-    }
-    Ok(bytes)
 }
 
 /// What stands between the quotes of a string.

@@ -2,16 +2,14 @@
 
 ghost use Rattle.std.specs.Prelude.{◌≡◌, map};
 ghost use Rattle.asm_lines.specs.Seen.{seen};
-ghost use Rattle.asm_front.specs.Placing.{nothing_placed};
 ghost use Rattle.asm_front.specs.PlacedBy.{placed_by};
 ghost use Rattle.asm_front.specs.Assembly.{place, place_all};
-ghost use Rattle.asm_front.specs.Stops.{Makes, MakesBy, stop_at};
+ghost use Rattle.asm_front.specs.Stops.{Places, stop_at};
 
 use crate::placing::Assembler;
 use crate::steps::{StepFault, Stop};
 use asm_base::{Fault, Pos, Tokens};
 use asm_lines::Statement;
-use std::alloc::Global;
 
 /// A fault of the statement at this place.
 fn stands_at(fault: StepFault, pos: Pos) -> Stop
@@ -26,7 +24,7 @@ fn stands_at(fault: StepFault, pos: Pos) -> Stop
 /// Places one statement.
 #[tactic(auto, unfolding(crate::specs::Assembly::place))]
 fn place(assembler: &mut Assembler, statement: &Statement) -> Result<(), Stop>
-    ensures { Makes (placed_by assembler.new) result (place (seen statement.now) (placed_by assembler.old)) }
+    ensures { Places (placed_by assembler.new) result (place (seen statement.now) (placed_by assembler.old)) }
 {
     let tokens = Tokens::read(assembler.alloc, statement.bytes)?;
     match assembler.place_tokens(statement.pos, tokens.as_slice()) {
@@ -36,12 +34,11 @@ fn place(assembler: &mut Assembler, statement: &Statement) -> Result<(), Stop>
 }
 
 /// Places all statements in order, up to the first that has a fault.
-pub(crate) fn place_all(alloc: Global, statements: &[Statement]) -> Result<Assembler, Stop>
-    ensures { MakesBy placed_by result (place_all (map seen statements.now) nothing_placed) }
+pub(crate) fn place_all(assembler: &mut Assembler, statements: &[Statement]) -> Result<(), Stop>
+    ensures { Places (placed_by assembler.new) result (place_all (map seen statements.now) (placed_by assembler.old)) }
 {
-    let mut assembler = Assembler::new(alloc);
     for statement in statements {
-        place(&mut assembler, statement)?;
+        place(assembler, statement)?;
     }
-    Ok(assembler)
+    Ok(())
 }

@@ -106,8 +106,36 @@ fn characters(rt: HostRuntime) -> Result<(), Fail> {
 }
 
 #[test]
+fn cut_values(rt: HostRuntime) -> Result<(), Fail> {
+    // GNU as manual, ".byte": a value is a number from -2^7 to 2^8 - 1, or is cut with a warning at its line.
+    let cases: [(&[u8], &[u8], &[u32]); 5] = [
+        (b".byte 255, 0", &[0xff, 0x00], &[]),
+        (b"nop\n.byte 256", &[0x90, 0x00], &[2]),
+        (
+            b".byte 0x1ff, 257\n.byte 511",
+            &[0xff, 0x01, 0xff],
+            &[1, 1, 2],
+        ),
+        (b".byte 0xffffffffffffff80", &[0x80], &[]),
+        (b".byte 0xffffffffffffff7f", &[0x7f], &[1]),
+    ];
+    for (source, bytes, lines) in cases {
+        let object = object_of(rt.alloc(), source)?;
+        assert!(rt;
+            object.iter().skip(64).take(bytes.len()).eq(bytes),
+            "{source:?}"
+        );
+        if let Ok(made) = assembled(rt.alloc(), source)? {
+            let noted = made.notes.as_slice().iter().map(|noted| &noted.pos.line);
+            assert!(rt; noted.eq(lines), "{source:?}");
+        }
+    }
+    Ok(())
+}
+
+#[test]
 fn faults(rt: HostRuntime) -> Result<(), Fail> {
-    let cases: [(&[u8], &[u8]); 32] = [
+    let cases: [(&[u8], &[u8]); 30] = [
         (b"foo", b"x.s:1: Error: unknown mnemonic\n"),
         (b"nop\n1:", b"x.s:2: Error: unknown mnemonic\n"),
         (b"s = 5", b"x.s:1: Error: unknown mnemonic\n"),
@@ -124,11 +152,6 @@ fn faults(rt: HostRuntime) -> Result<(), Fail> {
             b".byte 0x10000000000000000",
             b"x.s:1: Error: number is too wide\n",
         ),
-        (
-            b".byte 0xffffffffffffffff",
-            b"x.s:1: Error: value out of range\n",
-        ),
-        (b".byte 255, 256", b"x.s:1: Error: value out of range\n"),
         (
             b"a: nop\n\na: foo",
             b"x.s:3: Error: symbol is already defined\n",

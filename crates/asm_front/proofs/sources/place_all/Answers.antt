@@ -13,7 +13,7 @@ pub returns-in_err-place : goal.returns-in_err-place
 returns-in_err-place c =
     let inside : c.loop-statement.statement-index < length c.args.statements.now = omega arith in
     let p = err_from_is_err_and c.from_residual.result c.from_residual.ensures.1 in
-    rw (p.1, p.2) (places_fail c.args.statements.now c.loop-statement.statement-index _ _ _ _ inside c.in_err-place.ensures c.loop-statement.invariant)
+    rw (p.1, p.2) (places_fail c.args.statements.now c.loop-statement.statement-index _ _ _ _ _ inside c.in_err-place.ensures c.loop-statement.invariant)
 
 pub returns : goal.returns
 returns c =

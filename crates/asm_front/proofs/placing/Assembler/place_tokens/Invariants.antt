@@ -8,6 +8,7 @@ use Rattle.asm_front.proofs.placing.Assembler.place_tokens.Given as goal
 abbrev pub invariant-labels : goal.invariant-labels
 invariant-labels l = record {
   inside : l.at ≤ length l.tokens;
+  notes : l.self.notes ≡ l.fn.self.notes;
   left : place_tokens l.fn.pos (map spelled (drop l.at l.tokens)) (placed_by l.self) ≡ place_tokens l.fn.pos (map spelled l.tokens) (placed_by l.fn.self);
 }
 
