@@ -13,18 +13,18 @@ abbrev pub file_name : List (List ℕ) → ℕ → List ℕ
 file_name files file = slice_index_or files file []
 
 -- `FILE:LINE: `
-abbrev pub place_text : List (List ℕ) → Pos → List ℕ
-place_text files pos = file_name files pos.file ++ codes ":" ++ decimal pos.line ++ codes ": "
+abbrev pub position_text : List (List ℕ) → Pos → List ℕ
+position_text files pos = file_name files pos.file ++ codes ":" ++ decimal pos.line ++ codes ": "
 
 -- `FILE: Assembler messages:`, which stands before the first message
 abbrev pub heading : List (List ℕ) → Pos → List ℕ
 heading files pos = file_name files pos.file ++ codes ": Assembler messages:\n"
 
 abbrev pub error_line : List (List ℕ) → Fault → Pos → List ℕ
-error_line files fault pos = place_text files pos ++ codes "Error: " ++ fault_text fault ++ codes "\n"
+error_line files fault pos = position_text files pos ++ codes "Error: " ++ fault_text fault ++ codes "\n"
 
 abbrev pub warning_line : List (List ℕ) → Note → Pos → List ℕ
-warning_line files note pos = place_text files pos ++ codes "Warning: " ++ note_text note ++ codes "\n"
+warning_line files note pos = position_text files pos ++ codes "Warning: " ++ note_text note ++ codes "\n"
 
 abbrev pub noted_line : List (List ℕ) → Noted → List ℕ
 noted_line files noted = warning_line files noted.note noted.pos

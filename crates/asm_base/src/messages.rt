@@ -2,7 +2,7 @@
 
 ghost use Rattle.std.specs.Prelude.{◌≡◌, ◌++◌, IfOk, OnOk, Ok, codes, string_bytes};
 ghost use Rattle.asm_base.specs.FaultTexts.{register_name, statement_text, end_text, scfi_text, fault_text, note_text};
-ghost use Rattle.asm_base.specs.Messages.{heading, place_text, error_line, warning_line};
+ghost use Rattle.asm_base.specs.Messages.{heading, position_text, error_line, warning_line};
 
 use crate::faults::{EndFault, Fault, Note, SavedRegister, ScfiFault, StatementFault};
 use crate::positions::{Files, Pos};
@@ -135,7 +135,7 @@ fn put_fault(alloc: Global, bytes: &mut Vec<u8>, fault: &Fault) -> Result<(), No
 
 /// How a message begins: `FILE:LINE: ` and this label.
 fn message_front(alloc: Global, pos: &Pos, files: &Files, label: &[u8]) -> Result<Vec<u8>, NoMemory>
-    ensures { IfOk result (λ front. front.items ≡ place_text files.now pos.now ++ label.now) }
+    ensures { IfOk result (λ front. front.items ≡ position_text files.now pos.now ++ label.now) }
 {
     let mut bytes = Vec::from_slice(alloc, files.name(pos.file).as_bytes())?;
     let line = pos.line.to_string(alloc)?;

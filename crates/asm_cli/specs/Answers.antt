@@ -105,7 +105,7 @@ IsNoMemory (Some missing) e = LeavesAll e
 IsNoMemory (Some (refused messages)) e = LeavesAll e
 IsNoMemory (Some (object name bytes messages)) e = LeavesAll e
 
--- what the status promises; where the input tells no contents no outcome is told, but the object's name is
+-- what the status promises; where the words are a command and the input tells no contents no outcome is told, but the object's name is
 abbrev pub Answers : List ℕ → Option Outcome → Status → Effects → Type 0
 Answers output outcome Done e = IsDone output outcome e
 Answers output outcome SourceFault e = IsSourceFault outcome e

@@ -22,7 +22,7 @@ unfoldable pub as_app : App
 as_app = with_rule (with_rule (with_rule (with_rule (with_rule (new_app (codes "as")) object_rule) (flag_rule (codes "64"))) no_warn_rule)
     (flag_rule (codes "fatal-warnings"))) (new_rule (codes "file"))
 
--- why the words are no command, or nothing where they are one
+-- the kind of the first fault for which the words are no command, or nothing where they are one
 unfoldable pub faults_of : List (List ℕ) → Kinds
 faults_of words = fault_of as_app words
 
@@ -71,7 +71,7 @@ command_of (program ∷ words) = asked_by (program ∷ words)
 unfoldable pub usage_text : List ℕ
 usage_text = codes "usage: as [-o FILE] [--64] [--scfi=experimental] [-W|--no-warn] [--fatal-warnings] [--self-load N] [FILE]\n"
 
--- the object's name of an invocation
+-- the object's name of a command, and no name where the words are none
 abbrev pub output_of : Option Invocation → List ℕ
 output_of None = []
 output_of (Some invocation) = invocation.object

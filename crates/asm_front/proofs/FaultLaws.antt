@@ -17,9 +17,9 @@ use Rattle.asm_front.specs.Results.{◌>>=◌}
 use Rattle.asm_front.specs.Numbers.{numeral, spelled_number}
 use Rattle.asm_base.specs.declared.tokens.TokenKind.{TokenKind}
 use Rattle.asm_base.specs.declared.tokens.TokenKind.TheVariants.{Name, Digits, Character, String, Operator, Other}
-use Rattle.asm_front.specs.Operands.{is_name, character_code, number_by_kind, token_number, numbers, number_list, checked_name, name_by_kind, symbol_name, name_list}
+use Rattle.asm_front.specs.Operands.{is_name, character_code, number_by_kind, token_number, alone, number_of, checked_name, name_by_kind, symbol_name, name_of, string_by_kind, string_of, operands_of, each, joined_strings}
 use Rattle.asm_front.specs.SymbolMap.{labelled, symbol_named}
-use Rattle.asm_front.specs.Placing.{Placed, nothing_placed, place_symbol, place_label, place_text, place_byte, with_globals, place_globl, place_directive, place_row, place_instruction, is_assignment, place_body, place_tokens}
+use Rattle.asm_front.specs.Placing.{Placed, nothing_placed, place_symbol, place_label, place_text, place_byte, place_ascii, with_globals, place_globl, place_directive, place_row, place_instruction, is_assignment, place_body, place_tokens}
 use Rattle.asm_front.specs.Assembly.{Flags, FaultAt, fault_at, pos_at, standing, place, place_all, end_answer, placed_whole, warnings_answer, unless_warned, finished, lines_answer, assembly_of_lines}
 use Rattle.asm_front.specs.Outcome.{is_too_large_fault, is_too_large}
 
@@ -84,17 +84,14 @@ token_fine : (token : SpelledToken) → NotTooLarge (token_number token)
 unfolding token_number
 token_fine token = by_kind_fine token.kind token.bytes
 
-numbers_fine : (tokens : List SpelledToken) → NotTooLarge (numbers tokens)
-unfolding numbers
-numbers_fine [] = a_fault _ refl
-numbers_fine (token ∷ []) = step (token_fine token) (λ n. no_fault _)
-numbers_fine (token ∷ comma ∷ rest) =
-    step (token_fine token) (λ n. either _ (step (numbers_fine rest) (λ ns. no_fault _)) (a_fault _ refl))
+alone_fine : (rest : List SpelledToken) (n : ℕ) → NotTooLarge (alone rest n)
+alone_fine [] n = no_fault _
+alone_fine (token ∷ rest) n = a_fault _ refl
 
-number_list_fine : (tokens : List SpelledToken) → NotTooLarge (number_list tokens)
-unfolding number_list
-number_list_fine [] = no_fault _
-number_list_fine (token ∷ rest) = numbers_fine (token ∷ rest)
+number_fine : (operand : List SpelledToken) → NotTooLarge (number_of operand)
+unfolding number_of
+number_fine [] = a_fault _ refl
+number_fine (token ∷ rest) = step (token_fine token) (alone_fine rest)
 
 checked_fine : (name : List ℕ) → NotTooLarge (checked_name name)
 unfolding checked_name
@@ -112,12 +109,36 @@ symbol_name_fine : (token : SpelledToken) → NotTooLarge (symbol_name token)
 unfolding symbol_name
 symbol_name_fine token = name_fine token.kind token.bytes
 
-names_fine : (tokens : List SpelledToken) → NotTooLarge (name_list tokens)
-unfolding name_list
-names_fine [] = a_fault _ refl
-names_fine (token ∷ []) = step (symbol_name_fine token) (λ name. no_fault _)
-names_fine (token ∷ comma ∷ rest) =
-    step (symbol_name_fine token) (λ name. either _ (step (names_fine rest) (λ names. no_fault _)) (a_fault _ refl))
+name_of_fine : (operand : List SpelledToken) → NotTooLarge (name_of operand)
+unfolding name_of
+name_of_fine [] = a_fault _ refl
+name_of_fine (token ∷ []) = symbol_name_fine token
+name_of_fine (token ∷ more ∷ rest) = a_fault _ refl
+
+string_kind_fine : (kind : TokenKind) (bytes : List ℕ) → NotTooLarge (string_by_kind kind bytes)
+string_kind_fine Name bytes = a_fault _ refl
+string_kind_fine Digits bytes = a_fault _ refl
+string_kind_fine Character bytes = a_fault _ refl
+string_kind_fine String bytes = no_fault _
+string_kind_fine Operator bytes = a_fault _ refl
+string_kind_fine Other bytes = a_fault _ refl
+
+string_of_fine : (operand : List SpelledToken) → NotTooLarge (string_of operand)
+unfolding string_of
+string_of_fine [] = a_fault _ refl
+string_of_fine (token ∷ []) = string_kind_fine token.kind token.bytes
+string_of_fine (token ∷ more ∷ rest) = a_fault _ refl
+
+each_fine : {A : Type 0} (give : List SpelledToken → Result A StatementFault) → ((operand : List SpelledToken) → NotTooLarge (give operand))
+    → (operands : List (List SpelledToken)) → NotTooLarge (each give operands)
+unfolding each
+each_fine give fine [] = no_fault _
+each_fine give fine (operand ∷ operands) = step (fine operand) (λ first. step (each_fine give fine operands) (λ others. no_fault _))
+
+strings_fine : (operands : List (List SpelledToken)) → NotTooLarge (joined_strings operands)
+unfolding joined_strings
+strings_fine [] = no_fault _
+strings_fine (operand ∷ operands) = step (string_of_fine operand) (λ string. step (strings_fine operands) (λ others. no_fault _))
 
 -- of a symbol that is known
 known_fine : (is_global : Bool) (known : Option ℕ) (first : Pos) (offset : ℕ) (pos : Pos)
@@ -144,19 +165,25 @@ text_fine (token ∷ rest) placed = a_fault _ refl
 
 byte_fine : (pos : Pos) (operands : List SpelledToken) (placed : Placed) → NotTooLarge (place_byte pos operands placed)
 unfolding place_byte
-byte_fine pos operands placed = step (number_list_fine operands) (λ values. no_fault _)
+byte_fine pos tokens placed = step (each_fine number_of number_fine (operands_of tokens)) (λ values. no_fault _)
+
+ascii_fine : (tokens : List SpelledToken) (placed : Placed) → NotTooLarge (place_ascii tokens placed)
+unfolding place_ascii
+ascii_fine tokens placed = step (strings_fine (operands_of tokens)) (λ bytes. no_fault _)
 
 globl_fine : (pos : Pos) (operands : List SpelledToken) (placed : Placed) → NotTooLarge (place_globl pos operands placed)
 unfolding place_globl with_globals
-globl_fine pos operands placed =
-    step (step (names_fine operands) (λ names. no_fault _)) (λ symbols. no_fault _)
+globl_fine pos [] placed = a_fault _ refl
+globl_fine pos (token ∷ rest) placed =
+    step (step (each_fine name_of name_of_fine (operands_of (token ∷ rest))) (λ names. no_fault _)) (λ symbols. no_fault _)
 
 directive_fine : (pos : Pos) (name : List ℕ) (operands : List SpelledToken) (placed : Placed) → NotTooLarge (place_directive pos name operands placed)
 unfolding place_directive
 directive_fine pos name operands placed =
     either _ (text_fine operands placed)
     (either _ (byte_fine pos operands placed)
-    (either _ (globl_fine pos operands placed) (a_fault _ refl)))
+    (either _ (ascii_fine operands placed)
+    (either _ (globl_fine pos operands placed) (a_fault _ refl))))
 
 row_fine : (row : Option Row) (operands : List SpelledToken) (placed : Placed) → NotTooLarge (place_row row operands placed)
 row_fine None operands placed = a_fault _ refl

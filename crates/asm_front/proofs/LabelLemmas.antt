@@ -12,7 +12,7 @@ use Rattle.asm_front.specs.declared.steps.StepFault.{StepFault}
 use Rattle.asm_front.specs.declared.steps.StepFault.TheVariants.{Source, NoMemory}
 use Rattle.asm_front.specs.Results.{◌>>=◌}
 use Rattle.asm_front.specs.Placing.{Placed, place_label, place_body, place_unlabelled, begins_with_label, is_label, place_tokens}
-use Rattle.asm_front.proofs.NumberLists.{two_left}
+use Rattle.asm_front.proofs.TokenLists.{two_left}
 
 -- no label is in front
 pub unlabelled : (pos : Pos) (tokens : List SpelledToken) (placed : Placed) → begins_with_label tokens ≡ false

@@ -7,8 +7,7 @@ pub mod SymbolLemmas
 pub mod NextSection
 mod ImageSamples
 pub mod TokenLists
-pub mod NumberLists
-pub mod NameLists
+pub mod OperandSplits
 mod OperandSamples
 pub mod LabelLemmas
 pub mod StatementLists

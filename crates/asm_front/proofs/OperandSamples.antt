@@ -10,10 +10,10 @@ use Rattle.asm_base.specs.Tokens.{is_long_operator, token_kind, token_length, to
 use Rattle.asm_base.specs.Digits.{digit_of, number_after}
 use Rattle.asm_base.specs.Strings.{low_byte, escape_length, control_byte, escaped_byte, string_value_from}
 use Rattle.asm_front.specs.Numbers.{numeral, spelled_number}
-use Rattle.asm_front.specs.Operands.{character_code, token_number, numbers, number_list, checked_name, symbol_name, name_list}
+use Rattle.asm_front.specs.Operands.{character_code, token_number, number_of, each, checked_name, symbol_name, name_of, string_of, joined_strings}
 use Rattle.asm_front.specs.SymbolMap.{symbol_named, with_symbol}
 use Rattle.asm_front.specs.DataItems.{fits_byte, cut_note}
-use Rattle.asm_front.specs.Placing.{Placed, nothing_placed, with_bytes, place_symbol, place_label, place_byte, with_globals, place_globl, place_directive, place_body, place_tokens}
+use Rattle.asm_front.specs.Placing.{Placed, nothing_placed, with_bytes, place_symbol, place_label, place_byte, place_ascii, with_globals, place_globl, place_directive, place_body, place_tokens}
 use Rattle.asm_front.specs.Assembly.{pos_at}
 
 -- what a statement adds to nothing
@@ -28,7 +28,7 @@ only_text bytes = Ok (record (nothing_placed false) { text = bytes })
 characters : (placed_alone (codes ".byte ' ,1") ≡ only_text (0x20 ∷ 1 ∷ [])) × (placed_alone (codes ".byte '/,'#") ≡ only_text (0x2f ∷ 0x23 ∷ []))
     × (placed_alone (codes ".byte '/','#") ≡ Err BadOperand) × (placed_alone (codes ".byte '") ≡ Err BadExpression)
 unfolding is_blank is_name_start is_name_byte is_operator_byte is_long_operator comment_length quoted_length piece_kind piece_length token_kind token_length tokens_from
-    digit_of number_after numeral spelled_number character_code token_number numbers number_list fits_byte cut_note with_bytes
+    digit_of number_after numeral spelled_number character_code token_number number_of each fits_byte cut_note with_bytes
     place_byte place_directive place_body place_tokens
 characters = (refl, refl, refl, refl)
 
@@ -41,9 +41,18 @@ cut_values : (placed_alone (codes ".byte 256") ≡ one_cut (0 ∷ [])) × (place
     × (placed_alone (codes ".byte 0xffffffffffffff80, 1") ≡ only_text (0x80 ∷ 1 ∷ [])) × (placed_alone (codes ".byte 1, 0xffffffffffffff7f") ≡ one_cut (1 ∷ 0x7f ∷ []))
     × (place_tokens (pos_at 0 1) (tokens_of (codes ".byte 0x1ff")) (nothing_placed true) ≡ Ok (record (nothing_placed true) { text = 0xff ∷ [] }))
 unfolding is_blank is_name_start is_name_byte is_operator_byte is_long_operator comment_length quoted_length piece_kind piece_length token_kind token_length tokens_from
-    digit_of number_after numeral spelled_number character_code token_number numbers number_list fits_byte cut_note with_bytes
+    digit_of number_after numeral spelled_number character_code token_number number_of each fits_byte cut_note with_bytes
     place_byte place_directive place_body place_tokens
 cut_values = (refl, refl, refl, refl, refl)
+
+-- strings are joined, and there may be none
+strings : (placed_alone (codes ".ascii \"\\101\\x41\\n\"") ≡ only_text (0x41 ∷ 0x41 ∷ 0x0a ∷ [])) × (placed_alone (codes ".ascii \"a\", \"b\"") ≡ only_text (0x61 ∷ 0x62 ∷ []))
+    × (placed_alone (codes ".ascii \"\\1234\"") ≡ only_text (0x53 ∷ 0x34 ∷ [])) × (placed_alone (codes ".ascii") ≡ only_text [])
+    × (placed_alone (codes ".ascii 5") ≡ Err BadOperand) × (placed_alone (codes ".ascii \"a\" \"b\"") ≡ Err BadOperand) × (placed_alone (codes ".ascii \"a\",") ≡ Err BadOperand)
+unfolding is_blank is_name_start is_name_byte is_operator_byte is_long_operator comment_length quoted_length piece_kind piece_length token_kind token_length tokens_from
+    digit_of number_after low_byte escape_length control_byte escaped_byte string_value_from string_of joined_strings
+    place_ascii place_directive place_body place_tokens
+strings = (refl, refl, refl, refl, refl, refl, refl)
 
 -- the name of a symbol that is defined at the beginning
 abbrev one_label : List ℕ → Result Placed StatementFault
@@ -65,6 +74,6 @@ one_global name = Ok (record (nothing_placed false) { symbols = (name, record { 
 quoted_globals : (placed_alone (codes ".globl \"a b\"") ≡ one_global (codes "a b")) × (placed_alone (codes ".globl \"a\", a") ≡ one_global (codes "a"))
     × (placed_alone (codes ".globl \"a\\0b\"") ≡ Err BadOperand) × (placed_alone (codes ".globl a \"b\"") ≡ Err BadOperand)
 unfolding is_blank is_name_start is_name_byte is_operator_byte is_long_operator comment_length quoted_length piece_kind piece_length token_kind token_length tokens_from
-    digit_of number_after low_byte escape_length control_byte escaped_byte string_value_from checked_name symbol_name name_list
+    digit_of number_after low_byte escape_length control_byte escaped_byte string_value_from checked_name symbol_name name_of each
     symbol_named with_symbol with_globals place_globl place_directive place_body place_tokens
 quoted_globals = (refl, refl, refl, refl)

@@ -19,8 +19,8 @@ use Rattle.asm_front.specs.Reads.{Reads}
 use Rattle.asm_front.specs.Results.{◌>>=◌}
 use Rattle.asm_front.specs.SymbolMap.{symbol_named, with_symbol, labelled}
 use Rattle.asm_front.specs.DataItems.{low_byte}
-use Rattle.asm_front.specs.Operands.{is_name, number_list, symbol_name, name_list}
-use Rattle.asm_front.specs.Placing.{Placed, nothing_placed, with_text, with_bytes, with_globals, is_assignment, begins_with_dot, is_label, place_symbol, place_label, place_text, place_byte, place_globl, place_directive, place_row, place_instruction, place_body, place_tokens}
+use Rattle.asm_front.specs.Operands.{is_name, symbol_name, number_of, operands_of, name_of, each, joined_strings}
+use Rattle.asm_front.specs.Placing.{Placed, nothing_placed, with_text, with_bytes, with_globals, is_assignment, begins_with_dot, is_label, place_symbol, place_label, place_text, place_byte, place_ascii, place_globl, place_directive, place_row, place_instruction, place_body, place_tokens}
 use Rattle.asm_front.specs.Fields.{half, word, xword}
 use Rattle.asm_front.specs.Symbols.{SymbolEntry}
 use Rattle.asm_front.specs.Image.{header_end, elf_header, header_table, file_of, with_tables, image_of}
@@ -74,12 +74,18 @@ text_extends (token ∷ rest) p = tt
 byte_extends : (pos : Pos) (operands : List SpelledToken) (p : Placed) → IfOk (place_byte pos operands p) (Extends p)
 unfolding place_byte with_bytes
 byte_extends pos operands p =
-    after_step (Extends p) (number_list operands) (λ values. Ok (with_bytes pos values p)) (λ values. record { more = map low_byte values; text = refl })
+    after_step (Extends p) (each number_of (operands_of operands)) (λ values. Ok (with_bytes pos values p)) (λ values. record { more = map low_byte values; text = refl })
+
+ascii_extends : (operands : List SpelledToken) (p : Placed) → IfOk (place_ascii operands p) (Extends p)
+unfolding place_ascii
+ascii_extends operands p =
+    after_step (Extends p) (joined_strings (operands_of operands)) (λ bytes. Ok (with_text bytes p)) (λ bytes. record { more = bytes; text = refl })
 
 globl_extends : (pos : Pos) (operands : List SpelledToken) (p : Placed) → IfOk (place_globl pos operands p) (Extends p)
 unfolding place_globl
-globl_extends pos operands p =
-    after_step (Extends p) (with_globals pos p.symbols (name_list operands))
+globl_extends pos [] p = tt
+globl_extends pos (token ∷ rest) p =
+    after_step (Extends p) (with_globals pos p.symbols (each name_of (operands_of (token ∷ rest))))
     (λ symbols. Ok (record p { symbols = symbols })) (λ symbols. extends_same p (record p { symbols = symbols }) refl)
 
 directive_extends : (pos : Pos) (name : List ℕ) (operands : List SpelledToken) (p : Placed) → IfOk (place_directive pos name operands p) (Extends p)
@@ -87,7 +93,8 @@ unfolding place_directive
 directive_extends pos name operands p =
     either (Extends p) (bytes_eq name (codes ".text")) _ _ (text_extends operands p)
     (either (Extends p) (bytes_eq name (codes ".byte")) _ _ (byte_extends pos operands p)
-    (either (Extends p) (bytes_eq name (codes ".globl") || bytes_eq name (codes ".global")) _ (Err UnknownDirective) (globl_extends pos operands p) tt))
+    (either (Extends p) (bytes_eq name (codes ".ascii")) _ _ (ascii_extends operands p)
+    (either (Extends p) (bytes_eq name (codes ".globl") || bytes_eq name (codes ".global")) _ (Err UnknownDirective) (globl_extends pos operands p) tt)))
 
 row_extends : (row : Option Row) (operands : List SpelledToken) (p : Placed) → IfOk (place_row row operands p) (Extends p)
 row_extends None operands p = tt

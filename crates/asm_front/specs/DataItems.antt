@@ -1,4 +1,4 @@
--- The bytes of a value in a data item, and the note of a value that is cut (GNU as manual, ".byte").
+-- The bytes of a value in a data item (GNU as manual, ".byte"), and the note of a value that is cut.
 use Rattle.std.specs.Prelude.{ℕ, ◌-◌, ◌%◌, ◌^◌, ◌||◌, Bool, nat_lt, nat_le, List, [], ◌∷◌, flat_map, if◌then◌else◌}
 use Rattle.asm_base.specs.declared.faults.Note.TheVariants.{ValueTruncated}
 use Rattle.asm_base.specs.declared.notes.Noted.{Noted}

@@ -7,6 +7,7 @@ pub mod Numbers
 pub mod SymbolMap
 pub mod SymbolEntries
 pub mod Operands
+pub mod OperandParts
 pub mod DataItems
 pub mod Placing
 pub mod PlacedBy

@@ -1,6 +1,6 @@
--- The operands of directives: numbers and names, separated by commas.
+-- The operands of directives: what stands between commas, and the numbers, names and strings that operands are.
 use Rattle.std.specs.Prelude.{ℕ, ◌-◌, ◌==◌, ◌&&◌, not, Bool, true, false, List, [], ◌∷◌, ◌++◌, length, take, drop, if◌then◌else◌, Result, Ok, Err}
-use Rattle.std.specs.List.{list_any}
+use Rattle.std.specs.List.{list_any, slice_split}
 use Rattle.std.specs.Str.{bytes_eq}
 use Rattle.asm_base.specs.declared.faults.StatementFault.{StatementFault}
 use Rattle.asm_base.specs.declared.faults.StatementFault.TheVariants.{BadExpression, BadOperand}
@@ -51,17 +51,15 @@ number_by_kind _ bytes = Err BadExpression
 unfoldable pub token_number : SpelledToken → Result ℕ StatementFault
 token_number token = number_by_kind token.kind token.bytes
 
--- numbers, at least one
-unfoldable pub numbers : List SpelledToken → Result (List ℕ) StatementFault
-numbers [] = Err BadExpression
-numbers (token ∷ []) = token_number token >>= λ n. Ok (n ∷ [])
-numbers (token ∷ comma ∷ rest) =
-    token_number token >>= λ n. (if is_comma comma then numbers rest >>= (λ ns. Ok (n ∷ ns)) else Err BadOperand)
+-- nothing stands behind a number
+abbrev pub alone : List SpelledToken → ℕ → Result ℕ StatementFault
+alone [] n = Ok n
+alone (token ∷ rest) n = Err BadOperand
 
--- numbers, or none
-unfoldable pub number_list : List SpelledToken → Result (List ℕ) StatementFault
-number_list [] = Ok []
-number_list (token ∷ rest) = numbers (token ∷ rest)
+-- a number alone
+unfoldable pub number_of : List SpelledToken → Result ℕ StatementFault
+number_of [] = Err BadExpression
+number_of (token ∷ rest) = token_number token >>= alone rest
 
 -- what stands between the quotes of a string
 abbrev pub between_quotes : List ℕ → List ℕ
@@ -85,13 +83,38 @@ name_by_kind _ bytes = Err BadOperand
 unfoldable pub symbol_name : SpelledToken → Result (List ℕ) StatementFault
 symbol_name token = name_by_kind token.kind token.bytes
 
--- names, at least one
-unfoldable pub name_list : List SpelledToken → Result (List (List ℕ)) StatementFault
-name_list [] = Err BadOperand
-name_list (token ∷ []) = symbol_name token >>= λ name. Ok (name ∷ [])
-name_list (token ∷ comma ∷ rest) =
-    symbol_name token >>= λ name. (if is_comma comma then name_list rest >>= (λ names. Ok (name ∷ names)) else Err BadOperand)
+-- a name alone
+unfoldable pub name_of : List SpelledToken → Result (List ℕ) StatementFault
+name_of [] = Err BadOperand
+name_of (token ∷ []) = symbol_name token
+name_of (token ∷ more ∷ rest) = Err BadOperand
 
--- numbers behind those that stand before them
-unfoldable pub numbers_behind : List ℕ → Result (List ℕ) StatementFault → Result (List ℕ) StatementFault
-numbers_behind front rest = rest >>= λ ns. Ok (front ++ ns)
+-- what the string of a token stands for
+abbrev pub string_by_kind : TokenKind → List ℕ → Result (List ℕ) StatementFault
+string_by_kind String bytes = Ok (string_value (between_quotes bytes))
+string_by_kind _ bytes = Err BadOperand
+
+-- a string alone (GNU as manual, "Strings")
+unfoldable pub string_of : List SpelledToken → Result (List ℕ) StatementFault
+string_of [] = Err BadOperand
+string_of (token ∷ []) = string_by_kind token.kind token.bytes
+string_of (token ∷ more ∷ rest) = Err BadOperand
+
+-- the operands of a directive: what stands between commas, or none where nothing stands
+abbrev pub operands_of : List SpelledToken → List (List SpelledToken)
+operands_of [] = []
+operands_of (token ∷ rest) = slice_split is_comma (token ∷ rest)
+
+-- what each operand gives, or the first fault
+unfoldable pub each : {A : Type 0} → (List SpelledToken → Result A StatementFault) → List (List SpelledToken) → Result (List A) StatementFault
+each give [] = Ok []
+each give (operand ∷ operands) = give operand >>= λ first. each give operands >>= λ others. Ok (first ∷ others)
+
+-- what operands give, behind what stands before it
+unfoldable pub behind : {A : Type 0} → List A → Result (List A) StatementFault → Result (List A) StatementFault
+behind front rest = rest >>= λ others. Ok (front ++ others)
+
+-- the bytes that strings stand for, one after the other
+unfoldable pub joined_strings : List (List SpelledToken) → Result (List ℕ) StatementFault
+joined_strings [] = Ok []
+joined_strings (operand ∷ operands) = string_of operand >>= λ string. joined_strings operands >>= λ others. Ok (string ++ others)

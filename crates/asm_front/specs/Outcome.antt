@@ -26,7 +26,7 @@ files_of name = shown_name name ∷ []
 abbrev pub main_file : ℕ
 main_file = 0
 
--- what the options ask of the assembly
+-- what the options ask of the assembly; the synthesis of frame tables is not there yet
 abbrev pub flags_of : Options → Flags
 flags_of options = record { no_warn = options.no_warn; fatal_warnings = options.fatal_warnings }
 

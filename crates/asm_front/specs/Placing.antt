@@ -10,7 +10,7 @@ use Rattle.asm_front.specs.declared.instructions.Row.{Row}
 use Rattle.asm_front.specs.Results.{◌>>=◌}
 use Rattle.asm_front.specs.Rows.{the_rows, has_name, bytes_of}
 use Rattle.asm_front.specs.DataItems.{low_byte, cut_notes}
-use Rattle.asm_front.specs.Operands.{is_name, is_mark, number_list, names_symbol, symbol_name, name_list}
+use Rattle.asm_front.specs.Operands.{is_name, is_mark, names_symbol, symbol_name, number_of, name_of, operands_of, each, joined_strings}
 use Rattle.asm_front.specs.SymbolMap.{SymbolList, symbol_named, with_symbol, labelled, made_global}
 
 -- what the statements so far have placed: the bytes of `.text`, the symbols and the notes; and whether no warning is to be made
@@ -52,7 +52,11 @@ with_bytes pos values placed = with_notes (cut_notes pos values) (with_text (map
 
 -- `.byte`
 unfoldable pub place_byte : Pos → List SpelledToken → Placed → Result Placed StatementFault
-place_byte pos operands placed = number_list operands >>= λ values. Ok (with_bytes pos values placed)
+place_byte pos tokens placed = each number_of (operands_of tokens) >>= λ values. Ok (with_bytes pos values placed)
+
+-- `.ascii`
+unfoldable pub place_ascii : List SpelledToken → Placed → Result Placed StatementFault
+place_ascii tokens placed = joined_strings (operands_of tokens) >>= λ bytes. Ok (with_text bytes placed)
 
 -- a name is made global
 abbrev pub with_global : Pos → SymbolList → List ℕ → SymbolList
@@ -62,18 +66,20 @@ with_global pos symbols name = with_symbol symbols name (made_global (symbol_nam
 unfoldable pub with_globals : Pos → SymbolList → Result (List (List ℕ)) StatementFault → Result SymbolList StatementFault
 with_globals pos symbols names = names >>= λ these. Ok (fold (with_global pos) symbols these)
 
--- `.globl`
+-- `.globl`, with a name at least
 unfoldable pub place_globl : Pos → List SpelledToken → Placed → Result Placed StatementFault
-place_globl pos operands placed =
-    with_globals pos placed.symbols (name_list operands) >>= λ symbols. Ok (record placed { symbols = symbols })
+place_globl pos [] placed = Err BadOperand
+place_globl pos (token ∷ rest) placed =
+    with_globals pos placed.symbols (each name_of (operands_of (token ∷ rest))) >>= λ symbols. Ok (record placed { symbols = symbols })
 
 -- a directive by its name
 unfoldable pub place_directive : Pos → List ℕ → List SpelledToken → Placed → Result Placed StatementFault
 place_directive pos name operands placed =
     if bytes_eq name (codes ".text") then place_text operands placed
     else (if bytes_eq name (codes ".byte") then place_byte pos operands placed
+    else (if bytes_eq name (codes ".ascii") then place_ascii operands placed
     else (if bytes_eq name (codes ".globl") || bytes_eq name (codes ".global") then place_globl pos operands placed
-    else Err UnknownDirective))
+    else Err UnknownDirective)))
 
 -- an instruction of this row, which takes no operands
 abbrev pub place_row : Option Row → List SpelledToken → Placed → Result Placed StatementFault

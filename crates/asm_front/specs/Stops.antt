@@ -20,7 +20,7 @@ abbrev pub Stops : {A : Type 0} → Stop → List Noted → Result A FaultAt →
 Stops (Source fault pos) notes answer = answer ≡ Err (fault_at fault pos notes)
 Stops NoMemory notes answer = Unit {0}
 
--- this was placed
+-- this was placed, or a fault with the notes that were made before
 abbrev pub Places : {T : Type 0} → Placed → Result T Stop → Result Placed FaultAt → Type 0
 Places placed (Ok t) answer = answer ≡ Ok placed
 Places placed (Err stop) answer = Stops stop placed.notes answer

@@ -1,4 +1,4 @@
-//! The bytes of values in data items, and the notes of those that are cut (GNU as manual, ".byte").
+//! The bytes of values in data items (GNU as manual, ".byte"), and which values are cut.
 
 ghost use Rattle.std.specs.Prelude.{◌≡◌};
 ghost use Rattle.asm_front.specs.DataItems.{fits_byte, low_byte};

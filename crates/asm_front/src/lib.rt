@@ -13,6 +13,7 @@ mod laws;
 mod named_symbols;
 mod numbers;
 mod object;
+mod operand_lists;
 mod operands;
 mod placing;
 pub mod sections;

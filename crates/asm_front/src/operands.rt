@@ -1,15 +1,77 @@
-//! The operands of directives: numbers and names, separated by commas.
+//! The operands of directives: what stands between commas, and the numbers, names and strings that operands are.
 
 ghost use Rattle.std.specs.Prelude.{◌≡◌, ◌≤◌, length, map, IsTrue};
 ghost use Rattle.asm_base.specs.Tokens.{spelled};
 ghost use Rattle.asm_front.specs.Answers.{GivesBy};
-ghost use Rattle.asm_front.specs.Operands.{is_name, names_symbol, is_mark, character_code, token_number, numbers, number_list, between_quotes, is_symbol_name, checked_name, symbol_name};
+ghost use Rattle.std.specs.List.{position_or_len};
+ghost use Rattle.asm_front.specs.Operands.{is_name, names_symbol, is_mark, is_comma, character_code, token_number, alone, number_of, between_quotes, is_symbol_name, checked_name, symbol_name, name_of, string_of};
 ghost use Rattle.asm_front.specs.Placing.{is_assignment, begins_with_dot, begins_with_label};
 
 use crate::numbers::spelled_number;
 use crate::steps::StepFault;
 use asm_base::{StatementFault, Token, TokenKind, string_value};
 use std::alloc::Global;
+
+/// The operands of a directive, one after the other: what stands between its commas, or none where nothing stands.
+#[derive(Clone, Copy)]
+pub(crate) struct Operands<'t, 'a> {
+    /// What is left, from behind a comma on.
+    left: Option<&'t [Token<'a>]>,
+}
+
+impl<'t, 'a> Operands<'t, 'a> {
+    ghost use Rattle.std.specs.Prelude.{◌≡◌, map};
+    ghost use Rattle.asm_base.specs.Tokens.{spelled};
+    ghost use Rattle.asm_front.specs.Operands.{operands_of};
+    ghost use Rattle.asm_front.specs.OperandParts.{operands_left};
+
+    /// The operands that these tokens are.
+    pub(crate) fn new(tokens: &'t [Token<'a>]) -> Operands<'t, 'a>
+        ensures { operands_left result ≡ operands_of (map spelled tokens.now) }
+    {
+        match tokens {
+            [] => Operands { left: None },
+            _ => Operands { left: Some(tokens) },
+        }
+    }
+}
+
+impl<'t, 'a> Iterator for Operands<'t, 'a> {
+    ghost use Rattle.std.specs.Prelude.{map};
+    ghost use Rattle.std.specs.Iterator.{YieldsFirstBy, item_count};
+    ghost use Rattle.asm_base.specs.Tokens.{spelled};
+    ghost use Rattle.asm_front.specs.OperandParts.{operands_left};
+
+    type Item = &'t [Token<'a>];
+
+    ghost next_gives = { YieldsFirstBy (λ operand. map spelled operand.now) operands_left };
+
+    ghost remaining = { item_count operands_left };
+
+    fn next(&mut self) -> Option<&'t [Token<'a>]> {
+        let tokens = self.left?;
+        let end = operand_length(tokens);
+        if end < tokens.len() {
+            self.left = Some(&tokens[end + 1..]);
+            Some(&tokens[..end])
+        } else {
+            self.left = None;
+            Some(tokens)
+        }
+    }
+}
+
+/// How many tokens stand before the first comma, or all.
+fn operand_length(tokens: &[Token]) -> usize
+    ensures { result ≡ position_or_len is_comma (map spelled tokens.now) }
+{
+    for (at, token) in tokens.iter().enumerate() {
+        if is_mark(token, b',') {
+            return at;
+        }
+    }
+    tokens.len()
+}
 
 /// Whether the token is a name.
 pub(crate) fn is_name(token: &Token) -> bool
@@ -55,38 +117,25 @@ fn token_number(token: &Token) -> Result<u64, StatementFault>
     }
 }
 
-/// The numbers, at least one, separated by commas.
-#[tactic(auto, unfolding(crate::specs::Operands::numbers, crate::specs::Operands::numbers_behind))]
-fn numbers(alloc: Global, operands: &[Token]) -> Result<Vec<u64>, StepFault>
-    ensures { GivesBy (λ ns. ns.items) result (numbers (map spelled operands.now)) }
+/// The number, where nothing stands behind it.
+fn alone(number: u64, rest: &[Token]) -> Result<u64, StatementFault>
+    ensures { result ≡ alone (map spelled rest.now) number }
 {
-    let mut numbers = Vec::new(alloc);
-    let mut at = 0;
-    while operands.len() - at >= 2 {
-        numbers.push(token_number(&operands[at])?)?;
-        if !is_mark(&operands[at + 1], b',') {
-            return Err(StepFault::Source(StatementFault::BadOperand));
-        }
-        at += 2;
-    }
-    match operands.get(at) {
-        Some(token) => {
-            numbers.push(token_number(token)?)?;
-            Ok(numbers)
-        }
-        None => Err(StepFault::Source(StatementFault::BadExpression)),
+    if rest.is_empty() {
+        Ok(number)
+    } else {
+        Err(StatementFault::BadOperand)
     }
 }
 
-/// The numbers, or none, separated by commas.
-#[tactic(auto, unfolding(crate::specs::Operands::number_list))]
-pub(crate) fn number_list(alloc: Global, operands: &[Token]) -> Result<Vec<u64>, StepFault>
-    ensures { GivesBy (λ ns. ns.items) result (number_list (map spelled operands.now)) }
+/// The number that an operand is.
+#[tactic(auto, unfolding(crate::specs::Operands::number_of))]
+pub(crate) fn number_of(operand: &[Token]) -> Result<u64, StatementFault>
+    ensures { result ≡ number_of (map spelled operand.now) }
 {
-    if operands.is_empty() {
-        Ok(Vec::new(alloc))
-    } else {
-        numbers(alloc, operands)
+    match operand.split_first() {
+        None => Err(StatementFault::BadExpression),
+        Some((token, rest)) => alone(token_number(token)?, rest),
     }
 }
 
@@ -160,5 +209,29 @@ pub(crate) fn begins_with_label(tokens: &[Token]) -> bool
     match tokens {
         [first, second, ..] => names_symbol(first) && is_mark(second, b':'),
         _ => false,
+    }
+}
+
+/// The name that an operand gives a symbol, quoted or not.
+#[tactic(auto, unfolding(crate::specs::Operands::name_of))]
+pub(crate) fn name_of(alloc: Global, operand: &[Token]) -> Result<Vec<u8>, StepFault>
+    ensures { GivesBy (λ name. name.items) result (name_of (map spelled operand.now)) }
+{
+    match operand {
+        [token] => symbol_name(alloc, token),
+        _ => Err(StepFault::Source(StatementFault::BadOperand)),
+    }
+}
+
+/// What the string that an operand is stands for.
+#[tactic(auto, unfolding(crate::specs::Operands::string_of))]
+pub(crate) fn string_of(alloc: Global, operand: &[Token]) -> Result<Vec<u8>, StepFault>
+    ensures { GivesBy (λ bytes. bytes.items) result (string_of (map spelled operand.now)) }
+{
+    match operand {
+        [token] if token.kind == TokenKind::String => {
+            Ok(string_value(alloc, between_quotes(token.bytes))?)
+        }
+        _ => Err(StepFault::Source(StatementFault::BadOperand)),
     }
 }

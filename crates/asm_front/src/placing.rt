@@ -4,8 +4,9 @@ use crate::data_items::{fits_byte, low_byte};
 use crate::globals::put_globals;
 use crate::instructions::{find_row, put_instruction};
 use crate::named_symbols::{NamedSymbols, labelled};
+use crate::operand_lists::{numbers, strings};
 use crate::operands::{
-    begins_assignment, begins_with_dot, begins_with_label, is_name, number_list, symbol_name,
+    Operands, begins_assignment, begins_with_dot, begins_with_label, is_name, symbol_name,
 };
 use crate::steps::StepFault;
 use asm_base::{Note, Noted, Notes, Pos, StatementFault, Token};
@@ -30,7 +31,7 @@ impl Assembler {
     ghost use Rattle.asm_base.specs.declared.faults.Note.TheVariants.{ValueTruncated};
     ghost use Rattle.asm_front.specs.Answers.{Gives, KeepsNotes};
     ghost use Rattle.asm_front.specs.DataItems.{cut_note, low_byte};
-    ghost use Rattle.asm_front.specs.Placing.{nothing_placed, with_notes, with_bytes, place_symbol, place_label, place_text, place_byte, place_globl, place_directive, place_instruction, place_body, place_unlabelled, place_tokens};
+    ghost use Rattle.asm_front.specs.Placing.{nothing_placed, with_notes, with_bytes, place_symbol, place_label, place_text, place_byte, place_ascii, place_globl, place_directive, place_instruction, place_body, place_unlabelled, place_tokens};
     ghost use Rattle.asm_front.specs.PlacedBy.{placed_by};
 
     /// Nothing is placed yet.
@@ -131,8 +132,19 @@ impl Assembler {
         ensures placed { Gives (placed_by self.new) result (place_byte pos (map spelled operands.now) (placed_by self.old)) }
         ensures notes { KeepsNotes result self.old.notes self.new.notes }
     {
-        let values = number_list(self.alloc, operands)?;
+        let values = numbers(self.alloc, Operands::new(operands))?;
         self.put_bytes(pos, &values)?;
+        Ok(())
+    }
+
+    /// `.ascii`: the bytes that strings stand for.
+    #[tactic(auto, unfolding(crate::specs::Placing::place_ascii))]
+    fn place_ascii(&mut self, operands: &[Token]) -> Result<(), StepFault>
+        ensures placed { Gives (placed_by self.new) result (place_ascii (map spelled operands.now) (placed_by self.old)) }
+        ensures notes { self.new.notes ≡ self.old.notes }
+    {
+        let bytes = strings(self.alloc, Operands::new(operands))?;
+        self.text.extend_from_slice(&bytes)?;
         Ok(())
     }
 
@@ -142,7 +154,10 @@ impl Assembler {
         ensures placed { Gives (placed_by self.new) result (place_globl pos (map spelled operands.now) (placed_by self.old)) }
         ensures notes { self.new.notes ≡ self.old.notes }
     {
-        put_globals(self.alloc, &mut self.symbols, pos, operands)
+        match operands {
+            [] => Err(StepFault::Source(StatementFault::BadOperand)),
+            _ => put_globals(self.alloc, &mut self.symbols, pos, Operands::new(operands)),
+        }
     }
 
     /// A directive by its name.
@@ -160,6 +175,8 @@ impl Assembler {
             self.place_text(operands)
         } else if name == b".byte".as_slice() {
             self.place_byte(pos, operands)
+        } else if name == b".ascii".as_slice() {
+            self.place_ascii(operands)
         } else if name == b".globl".as_slice() || name == b".global".as_slice() {
             self.place_globl(pos, operands)
         } else {
