@@ -71,7 +71,7 @@ fn commands(rt: HostRuntime) -> Result<(), Fail> {
 
 #[test]
 fn objects(rt: HostRuntime) -> Result<(), Fail> {
-    let cases: [(&[u8], usize, &[u8]); 8] = [
+    let cases: [(&[u8], usize, &[u8]); 10] = [
         (b"", 584, b""),
         (b"nop\n", 592, b"\x90"),
         (b".globl f\nf: .byte 1, 0x41\nret\n", 616, b"\x01\x41\xc3"),
@@ -82,6 +82,8 @@ fn objects(rt: HostRuntime) -> Result<(), Fail> {
         ),
         (b".byte '/,'#;nop/*x*/;ret # c", 592, b"\x2f\x23\x90\xc3"),
         (b".byte ' ,1", 592, b"\x20\x01"),
+        (b".byte (1+2)*4 >> 1, 'x, -1, x-x", 592, b"\x06x\xff\x00"),
+        (b".ascii \"\\101\\x41\\n\", \"b\"", 592, b"AA\nb"),
         (b"\"a b\": nop\n.globl \"a b\"", 624, b"\x90"),
         (b"/* a */ a:/* b\n */ nop # c\n;;", 616, b"\x90"),
     ];
@@ -208,11 +210,17 @@ fn line_ends(rt: HostRuntime) -> Result<(), Fail> {
 
 #[test]
 fn refusals(rt: HostRuntime) -> Result<(), Fail> {
-    let cases: [(&[u8], &str); 11] = [
+    let cases: [(&[u8], &str); 14] = [
         (b"foo\nbar\n", "1: Error: unknown mnemonic"),
         (b"no/**/p", "1: Error: unknown mnemonic"),
         (b"/* a\nb */ foo", "2: Error: unknown mnemonic"),
         (b".byte '/','#", "1: Error: bad operand"),
+        (b".byte 1/0+x*y", "1: Error: division by zero"),
+        (
+            b"nop\n.byte x*y+1/0",
+            "2: Error: expression is not a sum of symbols",
+        ),
+        (b".byte x", "1: Error: value is not known here"),
         (b"\"\\0\": nop", "1: Error: bad operand"),
         (b"nop # c\n# \0 c\n", "2: Error: NUL byte in source"),
         (b"nop\n\n\0", "3: Error: NUL byte in source"),

@@ -8,16 +8,23 @@ use Rattle.asm_base.specs.declared.faults.Fault.{Fault}
 use Rattle.asm_base.specs.declared.notes.Noted.{Noted}
 use Rattle.asm_base.specs.declared.positions.Pos.{Pos}
 use Rattle.asm_base.specs.Tokens.{SpelledToken, tokens_of}
+use Rattle.asm_expr.specs.declared.faults.ExprFault.{ExprFault}
+use Rattle.asm_expr.specs.declared.faults.ExprFault.TheVariants.{BadExpression, NumberTooWide, ExpressionTooDeep, DivisionByZero, ValueNotKnown, NotASumOfSymbols, NoMemory}
+use Rattle.asm_expr.specs.Trees.{Tree}
+use Rattle.asm_expr.specs.Reading.{Reading}
+use Rattle.asm_expr.specs.Forms.{Form}
+use Rattle.asm_expr.specs.Knowledge.{Knowledge}
 use Rattle.asm_lines.specs.Statements.{StatementAt, statements_of}
 use Rattle.asm_lines.specs.declared.faults.LineFault.{LineFault}
 use Rattle.asm_lines.specs.declared.faults.LineFault.TheVariants as line
 use Rattle.asm_front.specs.declared.instructions.Row.{Row}
 use Rattle.asm_front.specs.declared.named_symbols.NamedSymbol.{NamedSymbol}
 use Rattle.asm_front.specs.Results.{◌>>=◌}
-use Rattle.asm_front.specs.Numbers.{numeral, spelled_number}
 use Rattle.asm_base.specs.declared.tokens.TokenKind.{TokenKind}
 use Rattle.asm_base.specs.declared.tokens.TokenKind.TheVariants.{Name, Digits, Character, String, Operator, Other}
-use Rattle.asm_front.specs.Operands.{is_name, character_code, number_by_kind, token_number, alone, number_of, checked_name, name_by_kind, symbol_name, name_of, string_by_kind, string_of, operands_of, each, joined_strings}
+use Rattle.asm_front.specs.Operands.{is_name, checked_name, name_by_kind, symbol_name, name_of, string_by_kind, string_of, operands_of, each, joined_strings}
+use Rattle.asm_front.specs.ExprFaults.{stated, in_statement}
+use Rattle.asm_front.specs.Expressions.{alone, expression_of, form_in, constant_in, values_of, nothing_known}
 use Rattle.asm_front.specs.SymbolMap.{labelled, symbol_named}
 use Rattle.asm_front.specs.Placing.{Placed, nothing_placed, place_symbol, place_label, place_text, place_byte, place_ascii, with_globals, place_globl, place_directive, place_row, place_instruction, is_assignment, place_body, place_tokens}
 use Rattle.asm_front.specs.Assembly.{Flags, FaultAt, fault_at, pos_at, standing, place, place_all, end_answer, placed_whole, warnings_answer, unless_warned, finished, lines_answer, assembly_of_lines}
@@ -52,46 +59,46 @@ either : {A E : Type 0} {P : E → Type 0} (test : Bool) {r s : Result A E} → 
 either true one other = one
 either false one other = other
 
--- each step is fine: from the digits of a number up to a whole source
-numeral_fine : (radix : ℕ) (digits : List ℕ) → NotTooLarge (numeral radix digits)
-unfolding numeral
-numeral_fine radix [] = a_fault _ refl
-numeral_fine radix (digit ∷ digits) = either _ (either _ (no_fault _) (a_fault _ refl)) (a_fault _ refl)
+-- no fault of an expression is one of a file
+stated_fine : (fault : ExprFault) → is_too_large_fault (stated fault) ≡ false
+stated_fine BadExpression = refl
+stated_fine NumberTooWide = refl
+stated_fine ExpressionTooDeep = refl
+stated_fine DivisionByZero = refl
+stated_fine ValueNotKnown = refl
+stated_fine NotASumOfSymbols = refl
+stated_fine NoMemory = refl
 
-spelled_fine : (bytes : List ℕ) → NotTooLarge (spelled_number bytes)
-unfolding spelled_number
-spelled_fine [] = numeral_fine 10 []
-spelled_fine (first ∷ []) = numeral_fine 10 (first ∷ [])
-spelled_fine (first ∷ second ∷ rest) =
-    either _ (either _ (numeral_fine 16 rest) (either _ (numeral_fine 2 rest) (numeral_fine 8 (second ∷ rest))))
-    (numeral_fine 10 (first ∷ second ∷ rest))
+in_statement_fine : {A : Type 0} (made : Result A ExprFault) → NotTooLarge (in_statement made)
+in_statement_fine (Ok made) = no_fault made
+in_statement_fine (Err fault) = a_fault _ (stated_fine fault)
 
-character_fine : (bytes : List ℕ) → NotTooLarge (character_code bytes)
-unfolding character_code
-character_fine [] = a_fault _ refl
-character_fine (quote ∷ []) = a_fault _ refl
-character_fine (quote ∷ byte ∷ rest) = no_fault _
+-- each step is fine: from an expression up to a whole source
+alone_fine : (rest : List SpelledToken) (tree : Tree) → NotTooLarge (alone rest tree)
+alone_fine [] tree = no_fault _
+alone_fine (token ∷ rest) tree = a_fault _ refl
 
-by_kind_fine : (kind : TokenKind) (bytes : List ℕ) → NotTooLarge (number_by_kind kind bytes)
-by_kind_fine Name bytes = a_fault _ refl
-by_kind_fine Digits bytes = spelled_fine bytes
-by_kind_fine Character bytes = character_fine bytes
-by_kind_fine String bytes = a_fault _ refl
-by_kind_fine Operator bytes = a_fault _ refl
-by_kind_fine Other bytes = a_fault _ refl
+expression_fine : (operand : List SpelledToken) → NotTooLarge (expression_of operand)
+unfolding expression_of
+expression_fine operand = step (in_statement_fine _) (λ (found : Reading). alone_fine found.rest found.tree)
 
-token_fine : (token : SpelledToken) → NotTooLarge (token_number token)
-unfolding token_number
-token_fine token = by_kind_fine token.kind token.bytes
+form_fine : (known : Knowledge) (tree : Tree) → NotTooLarge (form_in known tree)
+unfolding form_in
+form_fine known tree = in_statement_fine _
 
-alone_fine : (rest : List SpelledToken) (n : ℕ) → NotTooLarge (alone rest n)
-alone_fine [] n = no_fault _
-alone_fine (token ∷ rest) n = a_fault _ refl
+constant_fine : (form : Form) → NotTooLarge (constant_in form)
+unfolding constant_in
+constant_fine form = in_statement_fine _
 
-number_fine : (operand : List SpelledToken) → NotTooLarge (number_of operand)
-unfolding number_of
-number_fine [] = a_fault _ refl
-number_fine (token ∷ rest) = step (token_fine token) (alone_fine rest)
+each_fine : {A B : Type 0} (give : A → Result B StatementFault) → ((one : A) → NotTooLarge (give one)) → (all : List A) → NotTooLarge (each give all)
+unfolding each
+each_fine give fine [] = no_fault _
+each_fine give fine (one ∷ more) = step (fine one) (λ first. step (each_fine give fine more) (λ others. no_fault _))
+
+values_fine : (known : Knowledge) (operands : List (List SpelledToken)) → NotTooLarge (values_of known operands)
+unfolding values_of
+values_fine known operands =
+    step (each_fine expression_of expression_fine operands) (λ trees. step (each_fine (form_in known) (form_fine known) trees) (λ forms. each_fine constant_in constant_fine forms))
 
 checked_fine : (name : List ℕ) → NotTooLarge (checked_name name)
 unfolding checked_name
@@ -129,12 +136,6 @@ string_of_fine [] = a_fault _ refl
 string_of_fine (token ∷ []) = string_kind_fine token.kind token.bytes
 string_of_fine (token ∷ more ∷ rest) = a_fault _ refl
 
-each_fine : {A : Type 0} (give : List SpelledToken → Result A StatementFault) → ((operand : List SpelledToken) → NotTooLarge (give operand))
-    → (operands : List (List SpelledToken)) → NotTooLarge (each give operands)
-unfolding each
-each_fine give fine [] = no_fault _
-each_fine give fine (operand ∷ operands) = step (fine operand) (λ first. step (each_fine give fine operands) (λ others. no_fault _))
-
 strings_fine : (operands : List (List SpelledToken)) → NotTooLarge (joined_strings operands)
 unfolding joined_strings
 strings_fine [] = no_fault _
@@ -165,7 +166,7 @@ text_fine (token ∷ rest) placed = a_fault _ refl
 
 byte_fine : (pos : Pos) (operands : List SpelledToken) (placed : Placed) → NotTooLarge (place_byte pos operands placed)
 unfolding place_byte
-byte_fine pos tokens placed = step (each_fine number_of number_fine (operands_of tokens)) (λ values. no_fault _)
+byte_fine pos tokens placed = step (values_fine nothing_known (operands_of tokens)) (λ values. no_fault _)
 
 ascii_fine : (tokens : List SpelledToken) (placed : Placed) → NotTooLarge (place_ascii tokens placed)
 unfolding place_ascii

@@ -2,13 +2,13 @@
 pub mod Names
 pub mod Readings
 pub mod Samples
-pub mod NumberLemmas
 pub mod SymbolLemmas
 pub mod NextSection
 mod ImageSamples
 pub mod TokenLists
 pub mod OperandSplits
 mod OperandSamples
+mod ExpressionSamples
 pub mod LabelLemmas
 pub mod StatementLists
 pub mod EndingLemmas

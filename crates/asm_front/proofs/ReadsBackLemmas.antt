@@ -19,7 +19,8 @@ use Rattle.asm_front.specs.Reads.{Reads}
 use Rattle.asm_front.specs.Results.{◌>>=◌}
 use Rattle.asm_front.specs.SymbolMap.{symbol_named, with_symbol, labelled}
 use Rattle.asm_front.specs.DataItems.{low_byte}
-use Rattle.asm_front.specs.Operands.{is_name, symbol_name, number_of, operands_of, name_of, each, joined_strings}
+use Rattle.asm_front.specs.Operands.{is_name, symbol_name, operands_of, name_of, each, joined_strings}
+use Rattle.asm_front.specs.Expressions.{values_of, nothing_known}
 use Rattle.asm_front.specs.Placing.{Placed, nothing_placed, with_text, with_bytes, with_globals, is_assignment, begins_with_dot, is_label, place_symbol, place_label, place_text, place_byte, place_ascii, place_globl, place_directive, place_row, place_instruction, place_body, place_tokens}
 use Rattle.asm_front.specs.Fields.{half, word, xword}
 use Rattle.asm_front.specs.Symbols.{SymbolEntry}
@@ -74,7 +75,7 @@ text_extends (token ∷ rest) p = tt
 byte_extends : (pos : Pos) (operands : List SpelledToken) (p : Placed) → IfOk (place_byte pos operands p) (Extends p)
 unfolding place_byte with_bytes
 byte_extends pos operands p =
-    after_step (Extends p) (each number_of (operands_of operands)) (λ values. Ok (with_bytes pos values p)) (λ values. record { more = map low_byte values; text = refl })
+    after_step (Extends p) (values_of nothing_known (operands_of operands)) (λ values. Ok (with_bytes pos values p)) (λ values. record { more = map low_byte values; text = refl })
 
 ascii_extends : (operands : List SpelledToken) (p : Placed) → IfOk (place_ascii operands p) (Extends p)
 unfolding place_ascii

@@ -3,11 +3,12 @@ pub mod Rows
 pub mod Reads
 pub mod Results
 pub mod Answers
-pub mod Numbers
 pub mod SymbolMap
 pub mod SymbolEntries
 pub mod Operands
 pub mod OperandParts
+pub mod ExprFaults
+pub mod Expressions
 pub mod DataItems
 pub mod Placing
 pub mod PlacedBy

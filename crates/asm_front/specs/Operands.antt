@@ -1,4 +1,4 @@
--- The operands of directives: what stands between commas, and the numbers, names and strings that operands are.
+-- The operands of directives: what stands between commas, and the names and strings that operands are.
 use Rattle.std.specs.Prelude.{ℕ, ◌-◌, ◌==◌, ◌&&◌, not, Bool, true, false, List, [], ◌∷◌, ◌++◌, length, take, drop, if◌then◌else◌, Result, Ok, Err}
 use Rattle.std.specs.List.{list_any, slice_split}
 use Rattle.std.specs.Str.{bytes_eq}
@@ -9,7 +9,7 @@ use Rattle.asm_base.specs.declared.tokens.TokenKind.TheVariants.{Name, Digits, C
 use Rattle.asm_base.specs.Tokens.{SpelledToken}
 use Rattle.asm_base.specs.Strings.{string_value}
 use Rattle.asm_front.specs.Results.{◌>>=◌}
-use Rattle.asm_front.specs.Numbers.{spelled_number}
+use Rattle.asm_expr.specs.Leaves.{between_quotes, is_symbol_name}
 
 abbrev pub is_name_kind : TokenKind → Bool
 is_name_kind Name = true
@@ -34,40 +34,6 @@ is_mark mark token = bytes_eq token.bytes (mark ∷ [])
 
 abbrev pub is_comma : SpelledToken → Bool
 is_comma token = is_mark 44 token
-
--- the code of the byte behind the quote (GNU as manual, "Characters")
-unfoldable pub character_code : List ℕ → Result ℕ StatementFault
-character_code [] = Err BadExpression
-character_code (quote ∷ []) = Err BadExpression
-character_code (quote ∷ byte ∷ rest) = Ok byte
-
--- the number that a token of this class is
-abbrev pub number_by_kind : TokenKind → List ℕ → Result ℕ StatementFault
-number_by_kind Digits bytes = spelled_number bytes
-number_by_kind Character bytes = character_code bytes
-number_by_kind _ bytes = Err BadExpression
-
--- the number that a token is
-unfoldable pub token_number : SpelledToken → Result ℕ StatementFault
-token_number token = number_by_kind token.kind token.bytes
-
--- nothing stands behind a number
-abbrev pub alone : List SpelledToken → ℕ → Result ℕ StatementFault
-alone [] n = Ok n
-alone (token ∷ rest) n = Err BadOperand
-
--- a number alone
-unfoldable pub number_of : List SpelledToken → Result ℕ StatementFault
-number_of [] = Err BadExpression
-number_of (token ∷ rest) = token_number token >>= alone rest
-
--- what stands between the quotes of a string
-abbrev pub between_quotes : List ℕ → List ℕ
-between_quotes string = take (length string - 2) (drop 1 string)
-
--- a string table can hold the name: it has some bytes, and none of them is 0 (gABI, chapter 4, "String Table")
-abbrev pub is_symbol_name : List ℕ → Bool
-is_symbol_name name = not (length name == 0) && not (list_any (λ byte. byte == 0) name)
 
 -- the name, if it can stand in a string table
 unfoldable pub checked_name : List ℕ → Result (List ℕ) StatementFault
@@ -105,10 +71,10 @@ abbrev pub operands_of : List SpelledToken → List (List SpelledToken)
 operands_of [] = []
 operands_of (token ∷ rest) = slice_split is_comma (token ∷ rest)
 
--- what each operand gives, or the first fault
-unfoldable pub each : {A : Type 0} → (List SpelledToken → Result A StatementFault) → List (List SpelledToken) → Result (List A) StatementFault
+-- what each gives, or the first fault
+unfoldable pub each : {A B : Type 0} → (A → Result B StatementFault) → List A → Result (List B) StatementFault
 each give [] = Ok []
-each give (operand ∷ operands) = give operand >>= λ first. each give operands >>= λ others. Ok (first ∷ others)
+each give (one ∷ more) = give one >>= λ first. each give more >>= λ others. Ok (first ∷ others)
 
 -- what operands give, behind what stands before it
 unfoldable pub behind : {A : Type 0} → List A → Result (List A) StatementFault → Result (List A) StatementFault

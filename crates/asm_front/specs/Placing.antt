@@ -10,7 +10,8 @@ use Rattle.asm_front.specs.declared.instructions.Row.{Row}
 use Rattle.asm_front.specs.Results.{◌>>=◌}
 use Rattle.asm_front.specs.Rows.{the_rows, has_name, bytes_of}
 use Rattle.asm_front.specs.DataItems.{low_byte, cut_notes}
-use Rattle.asm_front.specs.Operands.{is_name, is_mark, names_symbol, symbol_name, number_of, name_of, operands_of, each, joined_strings}
+use Rattle.asm_front.specs.Operands.{is_name, is_mark, names_symbol, symbol_name, name_of, operands_of, each, joined_strings}
+use Rattle.asm_front.specs.Expressions.{values_of, nothing_known}
 use Rattle.asm_front.specs.SymbolMap.{SymbolList, symbol_named, with_symbol, labelled, made_global}
 
 -- what the statements so far have placed: the bytes of `.text`, the symbols and the notes; and whether no warning is to be made
@@ -52,7 +53,7 @@ with_bytes pos values placed = with_notes (cut_notes pos values) (with_text (map
 
 -- `.byte`
 unfoldable pub place_byte : Pos → List SpelledToken → Placed → Result Placed StatementFault
-place_byte pos tokens placed = each number_of (operands_of tokens) >>= λ values. Ok (with_bytes pos values placed)
+place_byte pos tokens placed = values_of nothing_known (operands_of tokens) >>= λ values. Ok (with_bytes pos values placed)
 
 -- `.ascii`
 unfoldable pub place_ascii : List SpelledToken → Placed → Result Placed StatementFault

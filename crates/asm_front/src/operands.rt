@@ -1,15 +1,15 @@
-//! The operands of directives: what stands between commas, and the numbers, names and strings that operands are.
+//! The operands of directives: what stands between commas, and the names and strings that operands are.
 
 ghost use Rattle.std.specs.Prelude.{◌≡◌, ◌≤◌, length, map, IsTrue};
 ghost use Rattle.asm_base.specs.Tokens.{spelled};
 ghost use Rattle.asm_front.specs.Answers.{GivesBy};
 ghost use Rattle.std.specs.List.{position_or_len};
-ghost use Rattle.asm_front.specs.Operands.{is_name, names_symbol, is_mark, is_comma, character_code, token_number, alone, number_of, between_quotes, is_symbol_name, checked_name, symbol_name, name_of, string_of};
+ghost use Rattle.asm_front.specs.Operands.{is_name, names_symbol, is_mark, is_comma, checked_name, symbol_name, name_of, string_of};
 ghost use Rattle.asm_front.specs.Placing.{is_assignment, begins_with_dot, begins_with_label};
 
-use crate::numbers::spelled_number;
 use crate::steps::StepFault;
 use asm_base::{StatementFault, Token, TokenKind, string_value};
+use asm_expr::{between_quotes, is_symbol_name};
 use std::alloc::Global;
 
 /// The operands of a directive, one after the other: what stands between its commas, or none where nothing stands.
@@ -92,69 +92,6 @@ pub(crate) fn is_mark(token: &Token, mark: u8) -> bool
     ensures { result ≡ is_mark mark (spelled token.now) }
 {
     token.bytes == [mark].as_slice()
-}
-
-/// The code of the byte behind the quote.
-#[tactic(auto, unfolding(crate::specs::Operands::character_code))]
-fn character_code(character: &[u8]) -> Result<u64, StatementFault>
-    ensures { result ≡ character_code character.now }
-{
-    match character {
-        [_, byte, ..] => Ok(u64::from(*byte)),
-        _ => Err(StatementFault::BadExpression),
-    }
-}
-
-/// The number that a token is.
-#[tactic(auto, unfolding(crate::specs::Operands::token_number))]
-fn token_number(token: &Token) -> Result<u64, StatementFault>
-    ensures { result ≡ token_number (spelled token.now) }
-{
-    match token.kind {
-        TokenKind::Digits => spelled_number(token.bytes),
-        TokenKind::Character => character_code(token.bytes),
-        _ => Err(StatementFault::BadExpression),
-    }
-}
-
-/// The number, where nothing stands behind it.
-fn alone(number: u64, rest: &[Token]) -> Result<u64, StatementFault>
-    ensures { result ≡ alone (map spelled rest.now) number }
-{
-    if rest.is_empty() {
-        Ok(number)
-    } else {
-        Err(StatementFault::BadOperand)
-    }
-}
-
-/// The number that an operand is.
-#[tactic(auto, unfolding(crate::specs::Operands::number_of))]
-pub(crate) fn number_of(operand: &[Token]) -> Result<u64, StatementFault>
-    ensures { result ≡ number_of (map spelled operand.now) }
-{
-    match operand.split_first() {
-        None => Err(StatementFault::BadExpression),
-        Some((token, rest)) => alone(token_number(token)?, rest),
-    }
-}
-
-/// What stands between the quotes of a string.
-fn between_quotes(string: &[u8]) -> &[u8]
-    ensures { result.now ≡ between_quotes string.now }
-{
-    if string.len() < 2 {
-        // No string that closes.
-        return &[];
-    }
-    &string[1..string.len() - 1]
-}
-
-/// Whether a string table can hold the name: it has some bytes, and none of them is 0.
-fn is_symbol_name(name: &[u8]) -> bool
-    ensures { result ≡ is_symbol_name name.now }
-{
-    !name.is_empty() && !name.contains(&0)
 }
 
 /// The name, if a string table can hold it.

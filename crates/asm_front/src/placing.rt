@@ -1,10 +1,12 @@
 //! Placing statements: what each adds to the section, the symbols and the notes.
 
 use crate::data_items::{fits_byte, low_byte};
+use crate::expressions::values_of;
 use crate::globals::put_globals;
 use crate::instructions::{find_row, put_instruction};
+use crate::joined_strings::strings;
+use crate::knowledge::NothingKnown;
 use crate::named_symbols::{NamedSymbols, labelled};
-use crate::operand_lists::{numbers, strings};
 use crate::operands::{
     Operands, begins_assignment, begins_with_dot, begins_with_label, is_name, symbol_name,
 };
@@ -126,13 +128,13 @@ impl Assembler {
         Ok(())
     }
 
-    /// `.byte`: one byte a number.
+    /// `.byte`: one byte an expression.
     #[tactic(auto, unfolding(crate::specs::Placing::place_byte))]
     fn place_byte(&mut self, pos: Pos, operands: &[Token]) -> Result<(), StepFault>
         ensures placed { Gives (placed_by self.new) result (place_byte pos (map spelled operands.now) (placed_by self.old)) }
         ensures notes { KeepsNotes result self.old.notes self.new.notes }
     {
-        let values = numbers(self.alloc, Operands::new(operands))?;
+        let values = values_of(self.alloc, &NothingKnown, Operands::new(operands))?;
         self.put_bytes(pos, &values)?;
         Ok(())
     }

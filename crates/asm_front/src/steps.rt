@@ -5,6 +5,7 @@ ghost use Rattle.asm_front.specs.declared.steps.StepFault.TheVariants.{Source, N
 ghost use Rattle.asm_front.specs.declared.steps.Stop.TheVariants as stop;
 
 use asm_base::{Fault, Pos, StatementFault};
+use asm_expr::ExprFault;
 use std::alloc::{AllocError, AllocFailed};
 
 /// A fault of the source, or want of memory.
@@ -19,6 +20,24 @@ impl From<StatementFault> for StepFault {
 
     fn from(fault: StatementFault) -> StepFault {
         StepFault::Source(fault)
+    }
+}
+
+impl From<ExprFault> for StepFault {
+    ghost use Rattle.asm_front.specs.ExprFaults.{step_fault};
+
+    ghost from_gives = { λ f e. e ≡ step_fault f };
+
+    fn from(fault: ExprFault) -> StepFault {
+        match fault {
+            ExprFault::BadExpression => StepFault::Source(StatementFault::BadExpression),
+            ExprFault::NumberTooWide => StepFault::Source(StatementFault::NumberTooWide),
+            ExprFault::ExpressionTooDeep => StepFault::Source(StatementFault::ExpressionTooDeep),
+            ExprFault::DivisionByZero => StepFault::Source(StatementFault::DivisionByZero),
+            ExprFault::ValueNotKnown => StepFault::Source(StatementFault::ValueNotKnown),
+            ExprFault::NotASumOfSymbols => StepFault::Source(StatementFault::NotASumOfSymbols),
+            ExprFault::NoMemory => StepFault::NoMemory,
+        }
     }
 }
 

@@ -134,8 +134,79 @@ fn cut_values(rt: HostRuntime) -> Result<(), Fail> {
 }
 
 #[test]
+fn expressions(rt: HostRuntime) -> Result<(), Fail> {
+    // Worked out by hand; `|` binds tighter than `+`, as the GNU as manual has it.
+    let cases: [(&[u8], &[u8]); 8] = [
+        (b".byte 1|2+4, 7>3, -1>>60, 9%4", &[0x07, 0xff, 0x0f, 0x01]),
+        (b".byte 10-3-2, 2*3+4, 2+3*4", &[0x05, 0x0a, 0x0e]),
+        (
+            b".byte 7&3|8, 6/4, -7/2, -7%3, 1<<63>>63, 1<<64",
+            &[0x0b, 0x01, 0xfd, 0xff, 0x01, 0x00],
+        ),
+        (
+            b".byte 2>1>0, 1==1, 1<>1, 5!=5, 0||3&&2",
+            &[0x00, 0xff, 0x00, 0x00, 0x01],
+        ),
+        (b".byte (1+2)*4 >> 1, 'x, -1", &[0x06, 0x78, 0xff]),
+        (b".byte x-x, .-.", &[0x00, 0x00]),
+        (b".ascii \"\\101\\x41\\n\"", &[0x41, 0x41, 0x0a]),
+        (
+            b".ascii \"a\", \"b\"; .ascii; .ascii \"\\1234\"",
+            &[0x61, 0x62, 0x53, 0x34],
+        ),
+    ];
+    for (source, bytes) in cases {
+        let object = object_of(rt.alloc(), source)?;
+        assert!(rt;
+            object.iter().skip(64).take(bytes.len()).eq(bytes),
+            "{source:?}"
+        );
+    }
+    Ok(())
+}
+
+/// `.byte` of one operand: so many times the front, and then the rest.
+fn byte_of(alloc: Global, front: &[u8], count: usize, rest: &[u8]) -> Result<Vec<u8>, AllocError> {
+    let mut source = Vec::from_slice(alloc, b".byte ")?;
+    for _ in 0..count {
+        source.extend_from_slice(front)?;
+    }
+    source.extend_from_slice(rest)?;
+    Ok(source)
+}
+
+#[test]
+fn depths(rt: HostRuntime) -> Result<(), Fail> {
+    let alloc = rt.alloc();
+    let too_deep = b"x.s:1: Error: expression is nested too deeply\n";
+    let cases: [(&[u8], usize, &[u8], &[u8]); 10] = [
+        (b"(", 64, b"1", b"x.s:1: Error: bad expression\n"),
+        (
+            b"(",
+            64,
+            b"1))))))))))))))))))))))))))))))))))))))))))))))))))))))))))))))))",
+            b"",
+        ),
+        (b"(", 65, b"1", too_deep),
+        (b"-", 64, b"1", b""),
+        (b"-", 65, b"1", too_deep),
+        (b"0+", 255, b"0", b""),
+        (b"0+", 256, b"0", too_deep),
+        (b"(-", 32, b"(1", too_deep),
+        (b"0*", 255, b"0", b""),
+        (b"0*", 256, b"0", too_deep),
+    ];
+    for (front, count, rest, line) in cases {
+        let source = byte_of(alloc, front, count, rest)?;
+        let told = message_of(alloc, &source)?;
+        assert_eq!(rt; told.as_slice(), line, "{front:?} {count}");
+    }
+    Ok(())
+}
+
+#[test]
 fn faults(rt: HostRuntime) -> Result<(), Fail> {
-    let cases: [(&[u8], &[u8]); 30] = [
+    let cases: [(&[u8], &[u8]); 45] = [
         (b"foo", b"x.s:1: Error: unknown mnemonic\n"),
         (b"nop\n1:", b"x.s:2: Error: unknown mnemonic\n"),
         (b"s = 5", b"x.s:1: Error: unknown mnemonic\n"),
@@ -145,8 +216,25 @@ fn faults(rt: HostRuntime) -> Result<(), Fail> {
         (b".globl", b"x.s:1: Error: bad operand\n"),
         (b".globl a,", b"x.s:1: Error: bad operand\n"),
         (b".byte 1 2", b"x.s:1: Error: bad operand\n"),
+        (b".byte 1)", b"x.s:1: Error: bad operand\n"),
+        (b".byte (1", b"x.s:1: Error: bad expression\n"),
+        (b".byte 1 +", b"x.s:1: Error: bad expression\n"),
+        (b".byte !0", b"x.s:1: Error: bad expression\n"),
+        (b".byte 1,,2", b"x.s:1: Error: bad expression\n"),
+        (b".byte 1/0", b"x.s:1: Error: division by zero\n"),
+        (b".byte 1/0+x*y", b"x.s:1: Error: division by zero\n"),
+        (
+            b".byte x*y+1/0",
+            b"x.s:1: Error: expression is not a sum of symbols\n",
+        ),
+        (b".byte x, 1/0", b"x.s:1: Error: division by zero\n"),
+        (b".byte x", b"x.s:1: Error: value is not known here\n"),
+        (b".byte 1b", b"x.s:1: Error: value is not known here\n"),
+        (b".ascii 5", b"x.s:1: Error: bad operand\n"),
+        (b".ascii \"a\" \"b\"", b"x.s:1: Error: bad operand\n"),
+        (b".ascii \"a\",", b"x.s:1: Error: bad operand\n"),
         (b".byte 1,", b"x.s:1: Error: bad expression\n"),
-        (b".byte 300, x", b"x.s:1: Error: bad expression\n"),
+        (b".byte 300, x", b"x.s:1: Error: value is not known here\n"),
         (b".byte 08", b"x.s:1: Error: bad expression\n"),
         (
             b".byte 0x10000000000000000",
@@ -165,7 +253,8 @@ fn faults(rt: HostRuntime) -> Result<(), Fail> {
         (b"nop\nnop /*", b"x.s:2: Error: comment is not closed\n"),
         (b".byte '/','#", b"x.s:1: Error: bad operand\n"),
         (b".byte '", b"x.s:1: Error: bad expression\n"),
-        (b".byte \"a\"", b"x.s:1: Error: bad expression\n"),
+        (b".byte \"a\"", b"x.s:1: Error: value is not known here\n"),
+        (b".byte \"\"", b"x.s:1: Error: bad expression\n"),
         (b"\"nop\"", b"x.s:1: Error: unknown mnemonic\n"),
         (b"\"\": nop", b"x.s:1: Error: bad operand\n"),
         (b"nop\n.globl \"a\\0b\"", b"x.s:2: Error: bad operand\n"),

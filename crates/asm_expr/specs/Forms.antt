@@ -1,0 +1,61 @@
+-- Linear forms: names with coefficients, and a constant, all modulo 2^64.
+use Rattle.std.specs.Prelude.{ℕ, ◌+◌, ◌-◌, ◌%◌, ◌^◌, ◌==◌, Bool, true, false, not, List, [], ◌∷◌, map, if◌then◌else◌}
+use Rattle.asm_expr.specs.declared.naming.Name.{Name}
+use Rattle.asm_expr.specs.declared.forms.Term.{Term}
+use Rattle.asm_expr.specs.Names.{same_name}
+
+-- a form as a value: its terms in the order in which names were mentioned, and its constant
+pub record Form : Type 0 where
+  pub terms : List Term
+  pub constant : ℕ
+
+abbrev pub wrapped : ℕ → ℕ
+wrapped n = n % 2 ^ 64
+
+abbrev pub term_of : Name → ℕ → Term
+term_of name coefficient = record { name = name; coefficient = coefficient }
+
+-- a term whose coefficient is 0 is left out
+abbrev pub is_kept : Term → Bool
+is_kept term = not (term.coefficient == 0)
+
+abbrev pub constant_form : ℕ → Form
+constant_form n = record { terms = []; constant = n }
+
+abbrev pub name_form : Name → Form
+name_form name = record { terms = term_of name 1 ∷ []; constant = 0 }
+
+abbrev pub before_terms : Term → List Term → List Term
+before_terms term rest = if is_kept term then (term ∷ rest) else rest
+
+-- the terms and one more, whose coefficient goes to its name's where that is there
+unfoldable pub with_term : List Term → Term → List Term
+with_term [] more = before_terms more []
+with_term (term ∷ rest) more =
+    if same_name term.name more.name then before_terms (term_of term.name (wrapped (term.coefficient + more.coefficient))) rest
+    else (term ∷ with_term rest more)
+
+unfoldable pub with_terms : List Term → List Term → List Term
+with_terms terms [] = terms
+with_terms terms (more ∷ others) = with_terms (with_term terms more) others
+
+-- the number, or minus the number
+abbrev pub signed : Bool → ℕ → ℕ
+signed false n = n
+signed true n = wrapped (2 ^ 64 - n)
+
+abbrev pub signed_term : Bool → Term → Term
+signed_term minus term = term_of term.name (signed minus term.coefficient)
+
+-- the sum of two forms, of which the second is taken with this sign
+abbrev pub joined : Bool → Form → Form → Form
+joined minus one other = record {
+  terms = with_terms one.terms (map (signed_term minus) other.terms);
+  constant = wrapped (one.constant + signed minus other.constant);
+}
+
+abbrev pub sum_of : Form → Form → Form
+sum_of = joined false
+
+abbrev pub difference_of : Form → Form → Form
+difference_of = joined true

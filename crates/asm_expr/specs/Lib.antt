@@ -1,0 +1,17 @@
+-- The definitions that contracts cite, in reading order.
+pub mod Trees
+pub mod Folds
+pub mod Names
+pub mod Forms
+pub mod Knowledge
+pub mod Raised
+pub mod Settled
+pub mod Arithmetic
+pub mod Gives
+pub mod Linear
+pub mod Evaluating
+pub mod Numbers
+pub mod Operators
+pub mod Leaves
+pub mod Reading
+pub mod Found

@@ -1,0 +1,86 @@
+//! Sums and differences of linear forms.
+
+ghost use Rattle.std.specs.Prelude.{◌≡◌, ◌<◌, ◌≤◌, length, map, IfOk};
+ghost use Rattle.std.specs.List.{position_or_len};
+ghost use Rattle.asm_expr.specs.Names.{same_name};
+ghost use Rattle.asm_expr.specs.Forms.{signed_term, with_term, with_terms, joined};
+ghost use Rattle.asm_expr.specs.Raised.{raised};
+
+use crate::arithmetic::signed;
+use crate::forms::{Linear, Term};
+use crate::naming::{Name, same_name};
+use smallvec::SmallVec;
+use std::alloc::AllocFailed;
+
+/// Where the name stands among the terms, or how many there are.
+fn place_of(terms: &[Term], name: &Name) -> usize
+    ensures value { result ≡ position_or_len (λ term. same_name term.name name.now) terms.now }
+    ensures within { result ≤ length terms.now }
+{
+    for (index, term) in terms.iter().enumerate() {
+        if same_name(&term.name, name) {
+            return index;
+        }
+    }
+    terms.len()
+}
+
+/// The terms where the one at this place counts so much more.
+#[tactic(auto, using(crate::proofs::Terms::raised_out, crate::proofs::Terms::raised_in))]
+fn raised(
+    terms: SmallVec<Term, 2>,
+    at: usize,
+    by: u64,
+) -> Result<SmallVec<Term, 2>, AllocFailed<Term>>
+    requires { at < length terms.items }
+    ensures { IfOk result (λ all. all.items ≡ raised terms.items at by) }
+{
+    let mut terms = terms;
+    let Term { name, coefficient } = terms.remove(at);
+    let coefficient = coefficient.wrapping_add(by);
+    if coefficient == 0 {
+        return Ok(terms);
+    }
+    terms.insert(at, Term { name, coefficient })?;
+    Ok(terms)
+}
+
+/// The terms and one more.
+#[tactic(auto, using(crate::proofs::Terms::with_term_at))]
+fn with_term(terms: SmallVec<Term, 2>, more: Term) -> Result<SmallVec<Term, 2>, AllocFailed<Term>>
+    ensures { IfOk result (λ all. all.items ≡ with_term terms.items more) }
+{
+    let at = place_of(terms.as_slice(), &more.name);
+    if at < terms.len() {
+        return raised(terms, at, more.coefficient);
+    }
+    if more.coefficient == 0 {
+        return Ok(terms);
+    }
+    let mut terms = terms;
+    terms.push(more)?;
+    Ok(terms)
+}
+
+/// The sum of two forms, of which the second is taken with this sign.
+pub(crate) fn joined(minus: bool, one: Linear, other: Linear) -> Result<Linear, AllocFailed<Term>>
+    ensures { IfOk result (λ form. form ≡ joined minus one other) }
+{
+    let Linear {
+        mut terms,
+        constant,
+    } = one;
+    let Linear {
+        terms: mut others,
+        constant: more,
+    } = other;
+    while !others.is_empty() {
+        let Term { name, coefficient } = others.remove(0);
+        let coefficient = signed(minus, coefficient);
+        terms = with_term(terms, Term { name, coefficient })?;
+    }
+    Ok(Linear {
+        terms,
+        constant: constant.wrapping_add(signed(minus, more)),
+    })
+}
