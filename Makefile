@@ -20,9 +20,10 @@ demo: build/as
 check:
 	rt ci
 
-# What no clause can say: the built program on files and devices that fail.
+# What no clause can say: the built program on files and devices that fail. And random expressions beside Python's integers.
 check-outside: build/as
 	checks/outside.sh build/as
+	checks/expressions.py build/as
 
 # No test, and no part of the gate: times build/as beside the machine's GNU as.
 bench: build/as

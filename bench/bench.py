@@ -44,8 +44,22 @@ def byte_lists() -> Iterator[str]:
         yield f"\t.byte {', '.join(operands)}\n"
 
 
+def expressions() -> Iterator[str]:
+    """`.byte` with four constant expressions, and now and then `.ascii` with two strings."""
+    state = 1
+    while True:
+        numbers = []
+        for _ in range(12):
+            state = (state * 1103515245 + 12345) % (1 << 31)
+            numbers.append(state >> 16 & 255)
+        a, b, c, d, e, f, g, h, i, j, k, m = numbers
+        yield f"\t.byte ({a}+{b})/2, {c}*{d}&255, -({e}-{f})&{g}|{h}, {i}>{j}\n"
+        if m < 32:
+            yield f'\t.ascii "string {k}\\n", "{j:x}"\n'
+
+
 # Each function yields lines without end, the same ones at each run; its name begins those of its cases.
-SOURCES: list[Callable[[], Iterator[str]]] = [nops, byte_lists]
+SOURCES: list[Callable[[], Iterator[str]]] = [nops, byte_lists, expressions]
 SIZES_IN_MIB = [1, 4, 16]
 
 
