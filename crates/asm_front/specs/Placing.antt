@@ -47,7 +47,7 @@ unfoldable pub place_text : List SpelledToken → Placed → Result Placed State
 place_text [] placed = Ok placed
 place_text (token ∷ rest) placed = Err BadOperand
 
--- the low byte of each value, and a note for each that has more
+-- the low byte of each value, and a note for each that does not fit
 unfoldable pub with_bytes : Pos → List ℕ → Placed → Placed
 with_bytes pos values placed = with_notes (cut_notes pos values) (with_text (map low_byte values) placed)
 
