@@ -162,6 +162,9 @@ pub reading_takes : Takes reading
 unfolding reading
 reading_takes level depth tokens found is = at_takes (length tokens) level depth tokens found is
 
+pub operand_takes_reading : (depth : ℕ) (token : SpelledToken) (rest : List SpelledToken) (found : Reading) → operand_of reading depth token rest ≡ Ok found → length found.rest ≤ length rest
+operand_takes_reading depth token rest found is = operand_takes reading reading_takes depth token rest found is
+
 pub reading_more_takes : TakesMore reading_more
 unfolding reading_more
 reading_more_takes level depth left tokens found is = more_takes (length tokens) level depth left tokens found is

@@ -11,7 +11,7 @@ use Rattle.asm_expr.specs.Gives.{◌>>=◌, Gives}
 use Rattle.asm_expr.specs.Evaluating.{Answer, Answers, NumGives, NameGives, HereGives, UnaryGives, BinaryGives}
 
 -- a step that gives what follows from an answer gives what follows from what was wanted
-gives_after : {A B : Type 0} (answer wanted : Result A ExprFault) (next : A → Result B ExprFault) (given : Result B ExprFault)
+pub gives_after : {A B : Type 0} (answer wanted : Result A ExprFault) (next : A → Result B ExprFault) (given : Result B ExprFault)
     → Gives answer wanted → Gives given (answer >>= next) → Gives given (wanted >>= next)
 gives_after (Ok made) wanted next given is step = rw is step
 gives_after (Err NoMemory) wanted next (Ok made) is step = cc
@@ -30,7 +30,7 @@ gives_after (Err ValueNotKnown) wanted next given is step = rw is step
 gives_after (Err NotASumOfSymbols) wanted next given is step = rw is step
 
 -- the same, where a second answer comes between
-gives_after_both : {A B C : Type 0} (left wanted_left : Result A ExprFault) (right wanted_right : Result B ExprFault) (next : A → B → Result C ExprFault) (given : Result C ExprFault)
+pub gives_after_both : {A B C : Type 0} (left wanted_left : Result A ExprFault) (right wanted_right : Result B ExprFault) (next : A → B → Result C ExprFault) (given : Result C ExprFault)
     → Gives left wanted_left → Gives right wanted_right → Gives given (left >>= (λ a. right >>= next a)) → Gives given (wanted_left >>= (λ a. wanted_right >>= next a))
 gives_after_both (Ok made) wanted_left right wanted_right next given is other step = rw is (gives_after right wanted_right (next made) given other step)
 gives_after_both (Err fault) wanted_left right wanted_right next given is other step = gives_after (Err fault) wanted_left (λ a. wanted_right >>= next a) given is step

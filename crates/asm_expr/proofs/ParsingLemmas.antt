@@ -71,7 +71,7 @@ reading_is level depth [] = reading_none level depth
 reading_is level depth (token ∷ rest) = reading_step level depth token rest
 
 -- it ends where no operator follows that binds tightly enough
-stops : (level depth : ℕ) (left : Tree) (tokens : List SpelledToken) → None ≡ operator_in level tokens → reading_more level depth left tokens ≡ Ok (read left tokens)
+pub stops : (level depth : ℕ) (left : Tree) (tokens : List SpelledToken) → None ≡ operator_in level tokens → reading_more level depth left tokens ≡ Ok (read left tokens)
 unfolding operator_in
 stops level depth left [] none = reading_more_none level depth left
 stops level depth left (token ∷ rest) none =

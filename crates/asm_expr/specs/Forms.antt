@@ -42,7 +42,7 @@ with_terms terms (more ∷ others) = with_terms (with_term terms more) others
 -- the number, or minus the number
 abbrev pub signed : Bool → ℕ → ℕ
 signed false n = n
-signed true n = wrapped (2 ^ 64 - n)
+signed true n = wrapped (2 ^ 64 - wrapped n)
 
 abbrev pub signed_term : Bool → Term → Term
 signed_term minus term = term_of term.name (signed minus term.coefficient)

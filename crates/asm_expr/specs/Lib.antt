@@ -14,4 +14,9 @@ pub mod Numbers
 pub mod Operators
 pub mod Leaves
 pub mod Reading
+pub mod Grammar
 pub mod Found
+pub mod Coefficients
+pub mod NamesOf
+pub mod Shown
+pub mod Showing

@@ -6,14 +6,22 @@ mod evaluating;
 mod faults;
 mod folding;
 mod forms;
+mod gathering;
 mod knowledge;
+mod laws;
 mod leaves;
 mod naming;
 mod numbers;
 mod operators;
 mod parsing;
 mod settling;
+mod showing;
+#[cfg(test)]
+mod shown_tests;
+mod spelling;
 mod summing;
+#[cfg(test)]
+mod tests;
 mod trees;
 mod visiting;
 mod visitors;
@@ -22,11 +30,17 @@ pub use evaluating::value_of;
 pub use faults::ExprFault;
 pub use folding::fold;
 pub use forms::{Linear, Term};
+pub use gathering::{Names, names_of};
 pub use knowledge::{Known, Look};
+pub use laws::{
+    coefficients_add, one_tree, read_is_written, shown_is_read, whole_stretches_cancel,
+    written_is_read,
+};
 pub use leaves::{between_quotes, character_code, is_symbol_name};
 pub use naming::Name;
 pub use numbers::spelled_number;
 pub use parsing::{parse, parse_front};
+pub use showing::{Piece, Shown, shown_text};
 pub use trees::{BinaryOp, Expr, UnaryOp, Written};
 pub use visiting::ExprFold;
 pub use visitors::{KnownNow, ToLinear, known_value, linear_form};

@@ -5,9 +5,11 @@ ghost use Rattle.asm_base.specs.Tokens.{spelled};
 ghost use Rattle.asm_expr.specs.Trees.{tree_of, unary, binary};
 ghost use Rattle.asm_expr.specs.Gives.{GivesBy};
 ghost use Rattle.asm_expr.specs.Reading.{closed_by, operator_from, reading, reading_of};
+ghost use Rattle.asm_expr.specs.Grammar.{IsFoundIn};
 ghost use Rattle.asm_expr.specs.Found.{tokens_from, front_of, placed, operand_in, operator_in, IsLow, Finds, Completes};
 
 use crate::faults::ExprFault;
+use crate::laws::read_is_written;
 use crate::leaves::leaf_of;
 use crate::operators::{closes, level_of, opens, operator_of, prefix_of};
 use crate::trees::{BinaryOp, Expr, UnaryOp};
@@ -171,7 +173,9 @@ pub fn parse_front(alloc: Global, tokens: &[Token]) -> Result<(Expr, usize), Exp
 /// The expression that begins at this token, and the index of the first token behind it.
 pub fn parse(alloc: Global, tokens: &Tokens, at: usize) -> Result<(Expr, usize), ExprFault>
     ensures value { GivesBy placed result (reading_of tokens.now at) }
+    ensures grammar { IfOk result (λ found. IsFoundIn tokens.now at (placed found)) }
 {
+    read_is_written();
     let found = read_at(alloc, tokens.as_slice(), at, 1, 0)?;
     Ok((found.expr, found.next))
 }

@@ -23,6 +23,12 @@ pub struct ToLinear<'a, K> {
     pub known: &'a K,
 }
 
+impl<'a, K> Drop for ToLinear<'a, K> {
+    fn drop(self) {
+        let ToLinear { alloc: _, known: _ } = self;
+    }
+}
+
 impl<'a, K: Known> ExprFold for ToLinear<'a, K> {
     type Out = Result<Linear, ExprFault>;
 
@@ -70,6 +76,12 @@ impl<'a, K: Known> ExprFold for ToLinear<'a, K> {
 pub struct KnownNow<'a, K> {
     pub alloc: Global,
     pub known: &'a K,
+}
+
+impl<'a, K> Drop for KnownNow<'a, K> {
+    fn drop(self) {
+        let KnownNow { alloc: _, known: _ } = self;
+    }
 }
 
 impl<'a, K: Known> ExprFold for KnownNow<'a, K> {
@@ -129,9 +141,7 @@ pub fn linear_form<K: Known>(alloc: Global, expr: &Expr, known: &K) -> Result<Li
     ensures { Gives result (linear (knowledge_by K.told K.counted K.place known.now) (tree_of expr.now)) }
 {
     let mut visitor = ToLinear { alloc, known };
-    let answer = fold(expr, &mut visitor);
-    let ToLinear { alloc: _, known: _ } = visitor;
-    answer
+    fold(expr, &mut visitor)
 }
 
 /// The value of an expression, where it is known.
@@ -139,7 +149,5 @@ pub fn known_value<K: Known>(alloc: Global, expr: &Expr, known: &K) -> Result<u6
     ensures { Gives result (known_now (knowledge_by K.told K.counted K.place known.now) (tree_of expr.now)) }
 {
     let mut visitor = KnownNow { alloc, known };
-    let folded = fold(expr, &mut visitor);
-    let KnownNow { alloc: _, known: _ } = visitor;
-    value_answer(folded)
+    value_answer(fold(expr, &mut visitor))
 }

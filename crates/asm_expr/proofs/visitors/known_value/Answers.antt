@@ -10,5 +10,5 @@ pub returns : goal.returns
 returns g c =
     let first : KnownNow g.row.K.Denot = record { alloc = c.args.alloc; known = c.args.known } in
     let known = knowledge_by g.K.Known.told g.K.Known.counted g.K.Known.place c.args.known.now in
-    let form = folds_linear (λ (visitor : KnownNow g.row.K.Denot). knowledge_by g.K.Known.told g.K.Known.counted g.K.Known.place visitor.known.now) (tree_of c.args.expr.now) first c.fold-folded.result c.fold-folded.new.visitor c.fold-folded.ensures in
-    value_given c.fold-folded.result (linear known (tree_of c.args.expr.now)) value_of c.value_answer.result form.given c.value_answer.ensures
+    let form = folds_linear (λ (visitor : KnownNow g.row.K.Denot). knowledge_by g.K.Known.told g.K.Known.counted g.K.Known.place visitor.known.now) (tree_of c.args.expr.now) first c.fold.result c.fold.new.visitor c.fold.ensures in
+    value_given c.fold.result (linear known (tree_of c.args.expr.now)) value_of c.value_answer.result form.given c.value_answer.ensures

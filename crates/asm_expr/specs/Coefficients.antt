@@ -1,0 +1,52 @@
+-- A form as a finite map from names to coefficients modulo 2^64.
+use Rattle.std.specs.Prelude.{◌≡◌, ℕ, ◌+◌, ◌-◌, ◌*◌, ◌^◌, ◌==◌, Bool, false, List, [], ◌∷◌, map, if◌then◌else◌, Option, Some, None}
+use Rattle.asm_expr.specs.declared.naming.Name.{Name}
+use Rattle.asm_expr.specs.declared.forms.Term.{Term}
+use Rattle.asm_expr.specs.Names.{same_name}
+use Rattle.asm_expr.specs.declared.settling.Spot.{Spot}
+use Rattle.asm_expr.specs.Forms.{Form, wrapped, sum_of, difference_of}
+use Rattle.asm_expr.specs.Knowledge.{Told, absent, constant, label, form}
+use Rattle.asm_expr.specs.Settled.{spot_of, stretch_sum, number_of, settled}
+
+-- how often a name counts in the terms
+abbrev pub counted_as : Name → Name → ℕ → ℕ
+counted_as own name coefficient = if same_name name own then coefficient else 0
+
+abbrev pub times : Name → List Term → ℕ
+times own [] = 0
+times own (term ∷ terms) = counted_as own term.name term.coefficient + times own terms
+
+-- the coefficient of a name, which is 0 where the form does not have it
+abbrev pub coefficient : Form → Name → ℕ
+coefficient made own = wrapped (times own made.terms)
+
+-- in a sum the coefficients are added, and so are the constants; in a difference those of the second form are taken off
+pub record AreAdded (one other : Form) : Type 0 where
+  pub sum : (own : Name) → coefficient (sum_of one other) own ≡ wrapped (coefficient one own + coefficient other own)
+  pub difference : (own : Name) → coefficient (difference_of one other) own ≡ wrapped (coefficient one own + (2 ^ 64 - coefficient other own))
+  pub sum_constant : (sum_of one other).constant ≡ wrapped (one.constant + other.constant)
+  pub difference_constant : (difference_of one other).constant ≡ wrapped (one.constant + (2 ^ 64 - wrapped other.constant))
+
+-- the name is a label of a stretch whose coefficients, all of them, sum to 0
+abbrev pub replaced : List (Option Spot) → Told → Bool
+replaced spots (label stretch at) = wrapped (stretch_sum stretch spots) == 0
+replaced spots absent = false
+replaced spots (constant number) = false
+replaced spots (form other) = false
+
+abbrev pub cancels : (Name → Told) → Form → Name → Bool
+cancels told made own = replaced (map (spot_of told) made.terms) (told own)
+
+-- the numbers that stand for labels in terms, each as often as its label counts
+abbrev pub number_by : Option ℕ → ℕ → ℕ
+number_by None coefficient = 0
+number_by (Some number) coefficient = coefficient * number
+
+abbrev pub numbers_in : List (Option Spot) → (Name → Told) → List Term → ℕ
+numbers_in spots told [] = 0
+numbers_in spots told (term ∷ terms) = number_by (number_of spots (spot_of told term)) term.coefficient + numbers_in spots told terms
+
+-- settling takes out the labels of whole stretches that cancel, and nothing else, and adds the numbers that stand for them
+pub record IsSettled (told : Name → Told) (made : Form) : Type 0 where
+  pub coefficients : (own : Name) → coefficient (settled told made) own ≡ (if cancels told made own then 0 else coefficient made own)
+  pub constant : wrapped (settled told made).constant ≡ wrapped (made.constant + numbers_in (map (spot_of told) made.terms) told made.terms)

@@ -1,0 +1,41 @@
+-- The names of an expression, from left to right, and what a visitor answers part by part that gathers them.
+use Rattle.std.specs.Prelude.{◌≡◌, ℕ, List, [], ◌∷◌, ◌++◌, Result, Ok, Err}
+use Rattle.asm_expr.specs.declared.faults.ExprFault.{ExprFault}
+use Rattle.asm_expr.specs.declared.faults.ExprFault.TheVariants.{NoMemory}
+use Rattle.asm_expr.specs.declared.trees.Written.{Written}
+use Rattle.asm_expr.specs.declared.trees.UnaryOp.{UnaryOp}
+use Rattle.asm_expr.specs.declared.trees.BinaryOp.{BinaryOp}
+use Rattle.asm_expr.specs.Trees.{Tree, number, name, here, unary, binary}
+use Rattle.asm_expr.specs.Gives.{◌>>=◌}
+
+abbrev pub names_of : Tree → List Written
+names_of (number value) = []
+names_of (name written) = written ∷ []
+names_of here = []
+names_of (unary op operand) = names_of operand
+names_of (binary op left right) = names_of left ++ names_of right
+
+-- whether memory sufficed so far
+abbrev pub Gathered : Type 0
+Gathered = Result (Unit {0}) ExprFault
+
+-- the names stand behind those that were there, unless memory ran out
+abbrev pub Gathers : List Written → Gathered → List Written → List Written → Type 0
+Gathers before (Ok done) after more = after ≡ before ++ more
+Gathers before (Err fault) after more = fault ≡ NoMemory
+
+module _ {V : Type 0} (has : V → List Written) where
+  abbrev pub NumGathers : V → ℕ → Gathered → V → Type 0
+  NumGathers before value answer after = Gathers (has before) answer (has after) []
+
+  abbrev pub NameGathers : V → Written → Gathered → V → Type 0
+  NameGathers before written answer after = Gathers (has before) answer (has after) (written ∷ [])
+
+  abbrev pub HereGathers : V → Gathered → V → Type 0
+  HereGathers before answer after = Gathers (has before) answer (has after) []
+
+  abbrev pub UnaryGathers : V → UnaryOp → Gathered → Gathered → V → Type 0
+  UnaryGathers before op operand answer after = (has after ≡ has before) × (answer ≡ operand)
+
+  abbrev pub BinaryGathers : V → BinaryOp → Gathered → Gathered → Gathered → V → Type 0
+  BinaryGathers before op left right answer after = (has after ≡ has before) × (answer ≡ (left >>= (λ _. right)))

@@ -1,0 +1,34 @@
+-- What a visitor answers part by part that shows an expression.
+use Rattle.std.specs.Prelude.{ℕ, Result, Ok}
+use Rattle.asm_expr.specs.declared.faults.ExprFault.{ExprFault}
+use Rattle.asm_expr.specs.declared.trees.Written.{Written}
+use Rattle.asm_expr.specs.declared.trees.UnaryOp.{UnaryOp}
+use Rattle.asm_expr.specs.declared.trees.BinaryOp.{BinaryOp}
+use Rattle.asm_expr.specs.Trees.{number, name, here}
+use Rattle.asm_expr.specs.Gives.{◌>>=◌, Gives}
+use Rattle.asm_expr.specs.Shown.{ShownPiece, piece_of, unary_piece, binary_piece}
+
+abbrev pub ShownAnswer : Type 0
+ShownAnswer = Result ShownPiece ExprFault
+
+abbrev pub unary_shown : UnaryOp → ShownAnswer → ShownAnswer
+unary_shown op operand = operand >>= (λ below. Ok (unary_piece op below))
+
+abbrev pub binary_shown : BinaryOp → ShownAnswer → ShownAnswer → ShownAnswer
+binary_shown op left right = left >>= (λ one. right >>= (λ other. Ok (binary_piece op one other)))
+
+module _ {V : Type 0} where
+  abbrev pub NumShows : V → ℕ → ShownAnswer → V → Type 0
+  NumShows before value answer after = Gives answer (Ok (piece_of (number value)))
+
+  abbrev pub NameShows : V → Written → ShownAnswer → V → Type 0
+  NameShows before written answer after = Gives answer (Ok (piece_of (name written)))
+
+  abbrev pub HereShows : V → ShownAnswer → V → Type 0
+  HereShows before answer after = Gives answer (Ok (piece_of here))
+
+  abbrev pub UnaryShows : V → UnaryOp → ShownAnswer → ShownAnswer → V → Type 0
+  UnaryShows before op operand answer after = Gives answer (unary_shown op operand)
+
+  abbrev pub BinaryShows : V → BinaryOp → ShownAnswer → ShownAnswer → ShownAnswer → V → Type 0
+  BinaryShows before op left right answer after = Gives answer (binary_shown op left right)
