@@ -9,7 +9,6 @@ pub mod TokenLists
 pub mod LeafLemmas
 pub mod ParsingLemmas
 pub mod PlacedLemmas
-pub mod Numbered
 pub mod Marks
 pub mod WrittenIsRead
 pub mod ReadIsWritten
@@ -24,3 +23,4 @@ pub mod QuotedTexts
 pub mod ShownLeaves
 pub mod ShownIsRead
 pub mod SettledLaws
+pub mod GoodTokens

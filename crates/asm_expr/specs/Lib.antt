@@ -20,3 +20,4 @@ pub mod Coefficients
 pub mod NamesOf
 pub mod Shown
 pub mod Showing
+pub mod Numbered

@@ -2,7 +2,8 @@
 
 ghost use Rattle.std.specs.Prelude.{◌≡◌, IfOk, IsTrue};
 ghost use Rattle.std.specs.List.{list_all};
-ghost use Rattle.asm_expr.specs.Forms.{Form, is_kept, constant_form, name_form};
+ghost use Rattle.asm_expr.specs.declared.naming.Name.TheVariants.{Place};
+ghost use Rattle.asm_expr.specs.Forms.{is_kept, constant_form, name_form};
 
 use crate::naming::{Name, copied_name};
 use smallvec::SmallVec;
@@ -17,6 +18,8 @@ pub struct Term {
 }
 
 impl Default for Term {
+    ghost is_default = { λ term. (term.name ≡ Place 0 0) × (term.coefficient ≡ 0) };
+
     fn default() -> Term {
         Term {
             name: Name::Place {

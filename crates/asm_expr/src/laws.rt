@@ -1,7 +1,8 @@
 //! What holds of the texts and trees of all expressions.
 
-ghost use Rattle.std.specs.Prelude.{◌≡◌, ℕ, false, List, Ok};
-ghost use Rattle.asm_base.specs.Tokens.{SpelledToken};
+ghost use Rattle.std.specs.Prelude.{◌≡◌, ℕ, true, false, List, Ok};
+ghost use Rattle.std.specs.List.{list_all};
+ghost use Rattle.asm_base.specs.Tokens.{SpelledToken, tokens_of};
 ghost use Rattle.asm_expr.specs.Trees.{Tree};
 ghost use Rattle.asm_expr.specs.Reading.{Placed, reading_of};
 ghost use Rattle.asm_expr.specs.Forms.{Form};
@@ -9,7 +10,7 @@ ghost use Rattle.asm_expr.specs.Coefficients.{AreAdded, IsSettled};
 ghost use Rattle.asm_expr.specs.Knowledge.{Told};
 ghost use Rattle.asm_expr.specs.declared.naming.Name.{Name};
 ghost use Rattle.asm_expr.specs.Grammar.{IsTextOf, IsFoundIn, IsReadAs, goes_on};
-ghost use Rattle.asm_expr.specs.Shown.{IsShowable, IsReadBack};
+ghost use Rattle.asm_expr.specs.Shown.{is_byte, IsShowable, IsReadBack};
 
 use asm_base::one_value;
 
@@ -42,9 +43,10 @@ pub fn whole_stretches_cancel()
     ensures { (told : Name → Told) (made : Form) → IsSettled told made }
 {}
 
-/// The shown text of an expression that has any text is read as the expression, whole.
+/// The shown text of an expression that has any text is read as the expression, whole; so is that of what was read from the bytes of a statement.
 pub fn shown_is_read()
-    ensures { (tree : Tree) (text : List SpelledToken) → IsTextOf tree text → IsShowable tree → IsReadBack tree }
+    ensures any { (tree : Tree) (text : List SpelledToken) → IsTextOf tree text → IsShowable tree → IsReadBack tree }
+    ensures read { (statement : List ℕ) (at : ℕ) (found : Placed) → list_all is_byte statement ≡ true → reading_of (tokens_of statement) at ≡ Ok found → IsReadBack found.tree }
 {
     one_value();
 }

@@ -1,6 +1,6 @@
 //! Expressions with values that were worked out by hand, and expressions that are refused.
 
-ghost use Rattle.asm_expr.proofs.Numbered.{numbered};
+ghost use Rattle.asm_expr.specs.Numbered.{numbered};
 ghost use Rattle.asm_expr.specs.declared.naming.Name.TheVariants.{Place};
 
 use crate::{ExprFault, Known, KnownNow, Look, Name, fold, known_value, parse};
@@ -250,5 +250,23 @@ fn limits(rt: HostRuntime) -> Result<(), Fail> {
     assert_eq!(rt; value(alloc, higher.as_slice()), Err(ExpressionTooDeep));
     let open_minus = repeated(alloc, 32, b"(-", b"1")?;
     assert_eq!(rt; value(alloc, open_minus.as_slice()), Err(BadExpression));
+    Ok(())
+}
+
+#[test]
+fn stops_where_no_operator_follows(rt: HostRuntime) -> Result<(), Fail> {
+    let cases: [(&[u8], usize, usize); 6] = [
+        (b"1)", 0, 1),
+        (b"2 3", 0, 1),
+        (b"1,,2", 0, 1),
+        (b"1, 2+3, 4", 2, 5),
+        (b"(1)(2)", 0, 3),
+        (b"a b", 1, 2),
+    ];
+    for (text, at, want) in cases {
+        let tokens = Tokens::read(rt.alloc(), text)?;
+        let (_expr, next) = parse(rt.alloc(), &tokens, at)?;
+        assert_eq!(rt; next, want);
+    }
     Ok(())
 }
