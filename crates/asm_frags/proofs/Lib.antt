@@ -1,0 +1,11 @@
+-- The proofs of this crate.
+pub mod Units
+pub mod Powers
+pub mod Repeats
+pub mod BytesGiven
+pub mod DataLemmas
+pub mod AlignmentLemmas
+pub mod NamedLemmas
+pub mod PushLemmas
+pub mod ContentLemmas
+pub mod Samples

@@ -1,0 +1,11 @@
+-- What a visitor answers for an item, by cases of what it holds.
+use Rattle.asm_frags.specs.declared.contents.Content.{Content}
+use Rattle.asm_frags.specs.declared.contents.Content.TheVariants.{Bytes, Fill, Align}
+use Rattle.asm_frags.specs.DataOf.{DataOf, FillOf, AlignOf}
+
+-- the visitor at first, the answer, and the visitor at last
+abbrev pub Visits : {V Out : Type 0} (bytes_gives : V → DataOf → Out → V → Type 0) (fill_gives : V → FillOf → Out → V → Type 0)
+    (align_gives : V → AlignOf → Out → V → Type 0) → Content → V → Out → V → Type 0
+Visits bytes_gives fill_gives align_gives (Bytes held) first answer last = bytes_gives first held answer last
+Visits bytes_gives fill_gives align_gives (Fill held) first answer last = fill_gives first held answer last
+Visits bytes_gives fill_gives align_gives (Align held) first answer last = align_gives first held answer last

@@ -1,0 +1,42 @@
+//! The alignments that items ask for.
+
+ghost use Rattle.std.specs.Prelude.{◌≡◌, ◌≤◌, ◌^◌};
+ghost use Rattle.asm_frags.specs.Contents.{alignment_of};
+
+use crate::contents::{Align, Content, Data, Fill};
+use crate::visiting::FragVisit;
+use crate::walking::visit;
+
+/// Tells the alignment that an item asks its section for.
+#[derive(Clone, Copy, Debug)]
+pub struct AskedAlignment;
+
+impl FragVisit for AskedAlignment {
+    type Out = u64;
+
+    ghost bytes_gives = { λ before held answer after. answer ≡ 1 };
+
+    ghost fill_gives = { λ before held answer after. answer ≡ 1 };
+
+    ghost align_gives = { λ before held answer after. answer ≡ 2 ^ held.log };
+
+    fn bytes(&mut self, _held: &Data) -> u64 {
+        1
+    }
+
+    fn fill(&mut self, _held: &Fill) -> u64 {
+        1
+    }
+
+    fn align(&mut self, held: &Align) -> u64 {
+        1 << held.log()
+    }
+}
+
+/// The alignment that the item asks its section for: 1 unless it aligns.
+pub fn asked_alignment(content: &Content) -> u64
+    ensures { result ≡ alignment_of content.now }
+{
+    let mut visitor = AskedAlignment;
+    visit(content, &mut visitor)
+}

@@ -1,0 +1,55 @@
+//! Fields of items: what is written over zeros once its value is known.
+
+ghost use Rattle.std.specs.Prelude.{◌≡◌, replicate};
+ghost use Rattle.asm_frags.specs.Fields.{width};
+
+use asm_expr::Linear;
+
+/// How long a field is.
+#[derive(Clone, Copy, PartialEq, Eq, Debug)]
+pub enum FieldSize {
+    /// 1 byte.
+    One,
+    /// 2 bytes.
+    Two,
+    /// 4 bytes.
+    Four,
+    /// 8 bytes.
+    Eight,
+}
+
+impl FieldSize {
+    /// The size in bytes.
+    pub fn bytes(self) -> usize
+        ensures { result ≡ width self }
+    {
+        match self {
+            FieldSize::One => 1,
+            FieldSize::Two => 2,
+            FieldSize::Four => 4,
+            FieldSize::Eight => 8,
+        }
+    }
+
+    /// What stands at a field.
+    pub(crate) fn blank(self) -> &'static [u8]
+        ensures { result.now ≡ replicate (width self) 0 }
+    {
+        match self {
+            FieldSize::One => &[0],
+            FieldSize::Two => &[0, 0],
+            FieldSize::Four => &[0, 0, 0, 0],
+            FieldSize::Eight => &[0, 0, 0, 0, 0, 0, 0, 0],
+        }
+    }
+}
+
+/// A field of an item.
+#[derive(Drop)]
+pub struct Field {
+    /// Where it begins in the item, in bytes.
+    pub offset: usize,
+    pub size: FieldSize,
+    /// What its value is made of.
+    pub form: Linear,
+}

@@ -1,0 +1,37 @@
+//! Sections and their items, before and after they have addresses.
+#![tactic(auto)]
+
+mod alignments;
+mod collecting;
+mod contents;
+mod faults;
+mod fields;
+mod flags;
+mod items;
+mod laws;
+mod parts;
+mod phases;
+mod pieces;
+mod section_list;
+mod sizes;
+#[cfg(test)]
+mod tests;
+mod visiting;
+mod walking;
+mod zeros;
+
+pub use alignments::{AskedAlignment, asked_alignment};
+pub use contents::{Align, Content, Data, Fill};
+pub use faults::FragFault;
+pub use fields::{Field, FieldSize};
+pub use flags::{SHT_NOBITS, SHT_PROGBITS, SectionFlags};
+pub use items::Frag;
+pub use laws::{bytes_are_sized, padding_is_least, zeros_are_known};
+pub use parts::Section;
+pub use phases::{Laid, Loose, Phase};
+pub use pieces::{BytesAt, TakesBytes, put_bytes};
+pub use section_list::Sections;
+pub use sizes::{SizeAt, size};
+pub use visiting::FragVisit;
+pub use walking::visit;
+pub use zeros::{KnownZeros, is_known_zeros};

@@ -1,0 +1,66 @@
+//! The bytes of items, piece by piece.
+
+ghost use Rattle.std.specs.Prelude.{◌≡◌, ℕ, ◌^◌, List, replicate};
+ghost use Rattle.asm_frags.specs.Contents.{repeated, unit_of, bytes_at, padding};
+
+use crate::contents::{Align, Content, Data, Fill};
+use crate::sizes::padding;
+use crate::visiting::FragVisit;
+use crate::walking::visit;
+
+/// What takes bytes, piece by piece.
+pub trait TakesBytes {
+    /// Whether a piece was taken.
+    type Out;
+
+    /// What takes before, the bytes, the answer, and what takes after.
+    ghost takes: { Self → List ℕ → Self.Out → Self → Type 0 };
+
+    /// Takes these bytes.
+    fn bytes(&mut self, bytes: &[u8]) -> Self::Out
+        ensures { takes self.old bytes.now result self.new };
+
+    /// Takes the unit so many times.
+    fn repeated(&mut self, unit: &[u8], count: u64) -> Self::Out
+        ensures { takes self.old (repeated count unit.now) result self.new };
+}
+
+/// Hands out the bytes of an item at its address.
+pub struct BytesAt<'a, T> {
+    pub at: u64,
+    pub taker: &'a mut T,
+}
+
+impl<'a, T: TakesBytes> FragVisit for BytesAt<'a, T> {
+    type Out = T::Out;
+
+    ghost bytes_gives = { λ before held answer after. (after.taker.ghost_name ≡ before.taker.ghost_name) × T.takes before.taker.now held.bytes answer after.taker.now };
+
+    ghost fill_gives = { λ before held answer after. (after.taker.ghost_name ≡ before.taker.ghost_name) × T.takes before.taker.now (repeated held.count (unit_of held)) answer after.taker.now };
+
+    ghost align_gives = { λ before held answer after. (after.taker.ghost_name ≡ before.taker.ghost_name) × T.takes before.taker.now (replicate (padding (2 ^ held.log) before.at) 0) answer after.taker.now };
+
+    fn bytes(&mut self, held: &Data) -> T::Out {
+        self.taker.bytes(held.bytes())
+    }
+
+    fn fill(&mut self, held: &Fill) -> T::Out {
+        let unit = held.unit();
+        self.taker
+            .repeated(&unit[..held.size() as usize], held.count())
+    }
+
+    fn align(&mut self, held: &Align) -> T::Out {
+        self.taker.repeated(&[0], padding(held.log(), self.at))
+    }
+}
+
+/// Hands out the bytes of an item at this address.
+pub fn put_bytes<T: TakesBytes>(content: &Content, at: u64, taker: &mut T) -> T::Out
+    ensures { T.takes taker.old (bytes_at content.now at) result taker.new }
+{
+    let mut visitor = BytesAt { at, taker };
+    let answer = visit(content, &mut visitor);
+    let BytesAt { at: _, taker: _ } = visitor;
+    answer
+}

@@ -1,0 +1,180 @@
+//! The sections of a source in the order in which they are first seen.
+
+ghost use Rattle.std.specs.Prelude.{◌≡◌, ◌==◌, ◌≤◌, ◌<◌, ◌^◌, [], ◌∷◌, ◌++◌, length, false, slice_get, Some, IfOk, IfErr, IfSome, OnOk, is_some};
+ghost use Rattle.std.specs.List.{list_any};
+
+use crate::faults::FragFault;
+use crate::flags::{SHT_NOBITS, SHT_PROGBITS, SectionFlags};
+use crate::items::Frag;
+use crate::parts::Section;
+use crate::phases::{Loose, Phase};
+use asm_base::Text;
+use bitflags::Flags;
+use indexmap::IndexSet;
+use std::alloc::Global;
+use std::marker::Model;
+
+/// The most sections: 30,000 that a source makes, and the three that are there from the beginning.
+const MOST_SECTIONS: usize = 30_003;
+
+/// The sections of a source, each with its number.
+#[derive(Drop)]
+pub struct Sections<P: Phase = Loose> {
+    alloc: Global,
+    names: IndexSet<Vec<u8>>,
+    sections: Vec<Section<P>>,
+}
+
+impl<P: Phase> Model for Sections<P> {
+    ghost use Rattle.std.specs.Prelude.{List};
+    ghost use Rattle.asm_frags.specs.declared.items.Frag.{Frag};
+    ghost use Rattle.asm_frags.specs.SectionOf.{SectionOf};
+    ghost use Rattle.asm_frags.specs.Sound.{AreNamed, plain_names};
+
+    ghost Value = { List (SectionOf (Frag P P.Address)) };
+
+    ghost view = { λ inside. inside.sections.items };
+
+    ghost invariant = { λ inside. AreNamed (plain_names inside.names.keys) inside.sections.items };
+}
+
+impl<P: Phase> Sections<P> {
+    ghost use Rattle.asm_frags.specs.SectionOf.{is_named, number_of};
+
+    /// How many sections there are.
+    pub fn len(&self) -> usize
+        ensures len { result ≡ length self.now }
+        ensures few { result ≤ 30003 }
+    {
+        self.sections.len()
+    }
+
+    /// Whether there is none.
+    pub fn is_empty(&self) -> bool
+        ensures { result ≡ (length self.now == 0) }
+    {
+        self.sections.is_empty()
+    }
+
+    /// The number of the section of this name.
+    pub fn find(&self, name: &[u8]) -> Option<u32>
+        ensures number { result ≡ number_of name.now self.now }
+        ensures within { IfSome result (λ number. number < length self.now) }
+        ensures found { is_some result ≡ list_any (is_named name.now) self.now }
+    {
+        match self.names.get_index_of(name) {
+            Some(number) => Some(number as u32),
+            None => None,
+        }
+    }
+
+    /// The section of this number.
+    pub fn section(&self, number: u32) -> &Section<P>
+        requires { number < length self.now }
+        ensures section { slice_get self.now number ≡ Some result.now }
+        ensures short { length result.now.name ≤ 2 ^ 16 }
+    {
+        &self.sections[number as usize]
+    }
+}
+
+impl Sections<Loose> {
+    ghost use Rattle.asm_frags.specs.Sections.{first_sections, entered, Enters, pushed, new_last};
+    ghost use Rattle.asm_frags.specs.SectionOf.{new_section, is_named, number_of};
+    ghost use Rattle.asm_frags.specs.Answers.{Changes};
+    ghost use Rattle.asm_frags.specs.declared.faults.FragFault.TheVariants.{NoMemory};
+
+    /// A section more of the three that are there from the beginning.
+    fn begin(&mut self, name: &[u8], flags: SectionFlags, kind: u32) -> Result<(), FragFault>
+        requires new { list_any (is_named name.now) self.old ≡ false }
+        requires short { length name.now ≤ 2 ^ 16 }
+        requires few { length self.old < 3 }
+        ensures ok { OnOk result (self.new ≡ self.old ++ new_section name.now flags kind 0 ∷ []) }
+        ensures err { IfErr result (λ fault. fault ≡ NoMemory) }
+    {
+        let name = Text::new(Vec::from_slice(self.alloc, name)?);
+        match self.add(name, flags, kind, 0) {
+            Ok(_) => Ok(()),
+            Err(_) => Err(FragFault::NoMemory),
+        }
+    }
+
+    /// `.text`, `.data` and `.bss`, as numbers 0, 1 and 2.
+    #[tactic(auto, unfolding(crate::specs::Sections::first_sections))]
+    pub fn new(alloc: Global) -> Result<Sections<Loose>, FragFault>
+        ensures ok { IfOk result (λ sections. sections ≡ first_sections) }
+        ensures err { IfErr result (λ fault. fault ≡ NoMemory) }
+    {
+        let mut sections = Sections {
+            alloc,
+            names: IndexSet::new(alloc),
+            sections: Vec::new(alloc),
+        };
+        let written = SectionFlags::WRITE.union(SectionFlags::ALLOC);
+        let executed = SectionFlags::ALLOC.union(SectionFlags::EXECINSTR);
+        sections.begin(b".text", executed, SHT_PROGBITS)?;
+        sections.begin(b".data", written, SHT_PROGBITS)?;
+        sections.begin(b".bss", written, SHT_NOBITS)?;
+        Ok(sections)
+    }
+
+    /// A section more, whose name is new.
+    fn add(
+        &mut self,
+        name: Text,
+        flags: SectionFlags,
+        kind: u32,
+        entry_size: u64,
+    ) -> Result<u32, FragFault>
+        requires new { list_any (is_named name) self.old ≡ false }
+        requires short { length name ≤ 2 ^ 16 }
+        ensures { Enters self.old self.new result (new_last self.old (new_section name flags kind entry_size)) }
+    {
+        let number = self.sections.len();
+        if number >= MOST_SECTIONS {
+            return Err(FragFault::BadSection);
+        }
+        let key = Vec::from_slice(self.alloc, name.as_bytes())?;
+        self.sections.reserve(1)?;
+        self.names.insert(key)?;
+        // There is room for one.
+        self.sections
+            .push(Section::new(self.alloc, name, flags, kind, entry_size))
+            .unwrap();
+        Ok(number as u32)
+    }
+
+    /// The number of the section of this name, which is made and put last if it is not there. `BadSection` comes exactly
+    /// where the section has other flags, another type or another entry size, or where 30,003 are there and it would be one more.
+    pub fn enter(
+        &mut self,
+        name: Text,
+        flags: SectionFlags,
+        kind: u32,
+        entry_size: u64,
+    ) -> Result<u32, FragFault>
+        requires { length name ≤ 2 ^ 16 }
+        ensures { Enters self.old self.new result (entered self.old name flags kind entry_size) }
+    {
+        match self.find(name.as_bytes()) {
+            Some(number) => {
+                if self.section(number).is_alike(flags, kind, entry_size) {
+                    Ok(number)
+                } else {
+                    Err(FragFault::BadSection)
+                }
+            }
+            None => self.add(name, flags, kind, entry_size),
+        }
+    }
+
+    /// Puts the item last in the section of this number. `BadSection` comes exactly where the item is not known to be
+    /// zeros and the section takes no bytes.
+    pub fn push(&mut self, section: u32, item: Frag<Loose>) -> Result<(), FragFault>
+        requires { section < length self.old }
+        ensures { Changes self.old self.new result (pushed self.old section item) }
+    {
+        let section = &mut self.sections[section as usize];
+        section.put(item)
+    }
+}

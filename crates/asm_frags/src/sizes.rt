@@ -1,0 +1,55 @@
+//! The sizes of items.
+
+ghost use Rattle.std.specs.Prelude.{◌≡◌, ◌≤◌, ◌*◌, ◌^◌, length};
+ghost use Rattle.asm_frags.specs.Contents as spec;
+
+use crate::contents::{Align, Content, Data, Fill};
+use crate::visiting::FragVisit;
+use crate::walking::visit;
+
+/// How many bytes there are from an address up to a multiple of 2^log.
+pub(crate) fn padding(log: u8, at: u64) -> u64
+    requires { log ≤ 30 }
+    ensures padding { result ≡ spec.padding (2 ^ log) at }
+    ensures small { result ≤ 2 ^ 30 }
+{
+    let alignment = 1u64 << log;
+    (alignment - at % alignment) % alignment
+}
+
+/// Counts the bytes of an item at its address.
+#[derive(Clone, Copy, Debug)]
+pub struct SizeAt {
+    pub at: u64,
+}
+
+impl FragVisit for SizeAt {
+    type Out = u64;
+
+    ghost bytes_gives = { λ before held answer after. (answer ≡ length held.bytes) × (answer ≤ 2 ^ 33) };
+
+    ghost fill_gives = { λ before held answer after. (answer ≡ held.count * held.size) × (answer ≤ 2 ^ 33) };
+
+    ghost align_gives = { λ before held answer after. (answer ≡ spec.padding (2 ^ held.log) before.at) × (answer ≤ 2 ^ 33) };
+
+    fn bytes(&mut self, held: &Data) -> u64 {
+        held.bytes().len() as u64
+    }
+
+    fn fill(&mut self, held: &Fill) -> u64 {
+        held.count() * held.size()
+    }
+
+    fn align(&mut self, held: &Align) -> u64 {
+        padding(held.log(), self.at)
+    }
+}
+
+/// How many bytes the item has at this address.
+pub fn size(content: &Content, at: u64) -> u64
+    ensures size { result ≡ spec.size_at content.now at }
+    ensures most { result ≤ 2 ^ 33 }
+{
+    let mut visitor = SizeAt { at };
+    visit(content, &mut visitor)
+}

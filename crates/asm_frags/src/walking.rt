@@ -1,0 +1,17 @@
+//! One way over an item, for every visitor.
+
+ghost use Rattle.asm_frags.specs.Visits.{Visits};
+
+use crate::contents::Content;
+use crate::visiting::FragVisit;
+
+/// The visitor's answer for what the item holds.
+pub fn visit<V: FragVisit>(content: &Content, visitor: &mut V) -> V::Out
+    ensures { Visits V.bytes_gives V.fill_gives V.align_gives content.now visitor.old result visitor.new }
+{
+    match content {
+        Content::Bytes(held) => visitor.bytes(held),
+        Content::Fill(held) => visitor.fill(held),
+        Content::Align(held) => visitor.align(held),
+    }
+}

@@ -1,0 +1,52 @@
+//! Items that are known to be zeros, which a section without bytes takes.
+
+ghost use Rattle.std.specs.Prelude.{◌≡◌, ◌==◌, ◌||◌, ◌&&◌, true};
+ghost use Rattle.std.specs.List.{list_all};
+ghost use Rattle.asm_frags.specs.DataOf.{is_zero};
+ghost use Rattle.asm_frags.specs.Contents as spec;
+
+use crate::contents::{Align, Content, Data, Fill};
+use crate::visiting::FragVisit;
+use crate::walking::visit;
+
+/// Whether all bytes are 0.
+fn are_zeros(bytes: &[u8]) -> bool
+    ensures { result ≡ list_all is_zero bytes.now }
+{
+    bytes.iter().all(|byte| *byte == 0)
+}
+
+/// Tells whether an item is known to be zeros.
+#[derive(Clone, Copy, Debug)]
+pub struct KnownZeros;
+
+impl FragVisit for KnownZeros {
+    type Out = bool;
+
+    ghost bytes_gives = { λ before held answer after. answer ≡ (spec.are_none held.fields && list_all is_zero held.bytes) };
+
+    ghost fill_gives = { λ before held answer after. answer ≡ ((held.count == 0) || list_all is_zero (spec.unit_of held)) };
+
+    ghost align_gives = { λ before held answer after. answer ≡ true };
+
+    fn bytes(&mut self, held: &Data) -> bool {
+        held.fields().is_empty() && are_zeros(held.bytes())
+    }
+
+    fn fill(&mut self, held: &Fill) -> bool {
+        let unit = held.unit();
+        held.count() == 0 || are_zeros(&unit[..held.size() as usize])
+    }
+
+    fn align(&mut self, _held: &Align) -> bool {
+        true
+    }
+}
+
+/// Whether the item is known to be zeros: each byte is 0, and none is a field's.
+pub fn is_known_zeros(content: &Content) -> bool
+    ensures { result ≡ spec.is_known_zeros content.now }
+{
+    let mut visitor = KnownZeros;
+    visit(content, &mut visitor)
+}

@@ -1,0 +1,12 @@
+pub mod SameNames
+pub mod IndexLemmas
+pub mod SoundLemmas
+pub mod RoomLemmas
+pub mod ChangeLemmas
+pub mod WriteLemmas
+pub mod CountLemmas
+pub mod DefineLemmas
+pub mod SeenLemmas
+pub mod SearchLemmas
+pub mod OrderLemmas
+pub mod Samples

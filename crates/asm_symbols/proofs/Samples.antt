@@ -1,0 +1,83 @@
+-- The definitions computed on small maps, for readers and as a guard against a definition that says nothing.
+use Rattle.std.proofs.Common.{◌≡◌, true, false, Some, None, Ok, Err, refl, codes}
+use Rattle.asm_expr.specs.declared.naming.Name.{Name}
+use Rattle.asm_expr.specs.declared.naming.Name.TheVariants as naming
+use Rattle.asm_symbols.specs.declared.entries.Spot.{Spot}
+use Rattle.asm_symbols.specs.declared.entries.Definition.TheVariants.{Label, Common}
+use Rattle.asm_symbols.specs.declared.entries.Binding.TheVariants.{Local, Global, Weak}
+use Rattle.asm_symbols.specs.declared.faults.SymFault.TheVariants.{SymbolAlreadyDefined, BadSymbolUse}
+use Rattle.asm_symbols.specs.SymbolMap.{SymbolMap, nothing_named, changed, with_symbol}
+use Rattle.asm_symbols.specs.Answering.{◌>>=◌}
+use Rattle.asm_symbols.specs.Interning.{with_name, named}
+use Rattle.asm_symbols.specs.Counting.{next_named, last_named}
+use Rattle.asm_symbols.specs.Defining.{defined}
+use Rattle.asm_symbols.specs.Assigning.{refusal_at}
+use Rattle.asm_symbols.specs.Saying.{with_binding, bound}
+
+abbrev word : Name
+word = naming.Plain (codes "w")
+
+abbrev first_instance : Name
+first_instance = naming.Numeric 7 1
+
+abbrev spot : Spot
+spot = record { section = 1; item = 2; stretch = 3; at = 4 }
+
+-- the map with one symbol
+abbrev one : Name → SymbolMap
+one name = with_name nothing_named name
+
+-- a name that comes again is the same symbol, and another comes last
+again : named (one word) word ≡ Ok (one word, 0)
+unfolding named
+again = refl
+
+another : named (one word) first_instance ≡ Ok (with_name (one word) first_instance, 1)
+unfolding named
+another = refl
+
+-- `.weak w` and `.globl w` make w weak
+weak_stays : (bound (one word) 0 Weak >>= λ map. bound map 0 Global) ≡ Ok (with_symbol (with_binding Weak) (one word) 0)
+unfolding bound changed
+weak_stays = refl
+
+-- `.local w` and `.globl w` are refused
+local_stays : (bound (one word) 0 Local >>= λ map. bound map 0 Global) ≡ Err BadSymbolUse
+unfolding bound changed
+local_stays = refl
+
+-- `w:` and `.comm w,4`, and the other way round
+label_first : (defined (one word) 0 (Label spot) >>= λ map. defined map 0 (Common 4 1)) ≡ Err SymbolAlreadyDefined
+unfolding defined changed
+label_first = refl
+
+common_first : (defined (one word) 0 (Common 4 1) >>= λ map. defined map 0 (Label spot)) ≡ Err BadSymbolUse
+unfolding defined changed
+common_first = refl
+
+-- a common symbol is never local
+common_local : (defined (one word) 0 (Common 4 1) >>= λ map. bound map 0 Local) ≡ Err BadSymbolUse
+unfolding defined bound changed
+common_local = refl
+
+-- `.equiv` of a symbol that is undefined, and an assignment to `.`
+equiv_first : refusal_at (one word) 0 true ≡ None
+unfolding refusal_at
+equiv_first = refl
+
+here_refused : refusal_at (one (naming.Plain (codes "."))) 0 false ≡ Some BadSymbolUse
+unfolding refusal_at
+here_refused = refl
+
+-- `7:` defines the first instance, `7b` is that, and `7f` the second
+back_none : last_named (one first_instance) 7 ≡ None
+unfolding last_named
+back_none = refl
+
+back_first : (defined (one first_instance) 0 (Label spot) >>= λ map. Ok (last_named map 7)) ≡ Ok (Some 0)
+unfolding defined last_named changed
+back_first = refl
+
+next_second : (defined (one first_instance) 0 (Label spot) >>= λ map. next_named map 7 >>= λ made. Ok made.1) ≡ Ok 1
+unfolding defined next_named named changed
+next_second = refl

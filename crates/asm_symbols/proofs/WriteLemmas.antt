@@ -1,0 +1,27 @@
+-- A symbol that is written, as code does it.
+use Rattle.std.proofs.Common.{◌≡◌, ℕ, ◌<◌, false, List, length, get_or, set, sym, ap, ◌∙◌}
+use Rattle.std.specs.Option.{option_map_or}
+use Rattle.asm_expr.specs.declared.naming.Name.{Name}
+use Rattle.asm_symbols.specs.declared.entries.Symbol.{Symbol}
+use Rattle.asm_symbols.specs.SymbolMap.{SymbolMap, with_symbol}
+use Rattle.asm_symbols.specs.NameIndex.{IndexedNames}
+use Rattle.asm_symbols.specs.Sound.{is_label, is_label_at, IsSound}
+use Rattle.asm_symbols.proofs.ChangeLemmas.{set_changed, KeepsLabels, IsSound-changed}
+
+module _ (change : Symbol → Symbol) (symbols : List Symbol) (at : ℕ) (old : Symbol) (there : at < length symbols) (is : old ≡ get_or symbols at old) where
+  -- the map has the change
+  pub written : (files : List Name) (counts : List (ℕ × ℕ))
+      → (let new : SymbolMap = record { symbols = set symbols at (change old); files = files; counts = counts } in new)
+      ≡ with_symbol change (record { symbols = symbols; files = files; counts = counts }) at
+  written files counts = ap (λ all. record { symbols = all; files = files; counts = counts }) (set_changed change symbols at old there is)
+
+  -- and is sound
+  pub written_sound : ((symbol : Symbol) → (change symbol).name ≡ symbol.name) → KeepsLabels change symbols at → (index : IndexedNames) (files : List Name) (counts : List (ℕ × ℕ)) (bytes : ℕ)
+      → IsSound index symbols files counts bytes → IsSound index (set symbols at (change old)) files counts bytes
+  written_sound keeps labels index files counts bytes sound = rw (set_changed change symbols at old there is) (IsSound-changed change keeps index symbols files counts bytes at labels sound)
+
+-- what is no label keeps nothing
+pub keeps_none : (change : Symbol → Symbol) (symbols : List Symbol) (at : ℕ) → is_label_at symbols at ≡ false → KeepsLabels change symbols at
+keeps_none change symbols at plain symbol there label =
+    let none : is_label symbol.meaning ≡ false = sym (ap (λ o. option_map_or (λ (s : Symbol). is_label s.meaning) o false) there) ∙ plain in
+    cc

@@ -1,0 +1,19 @@
+-- The symbol that is written keeps its name, and is no label.
+use Rattle.std.proofs.Common.{refl}
+use Rattle.asm_symbols.specs.SymbolMap.{with_meaning}
+use Rattle.asm_symbols.proofs.WriteLemmas.{written, written_sound, keeps_none}
+use Rattle.asm_symbols.proofs.symbol_map.Symbols.redefine.Goals as goal
+
+pub invariant_of-self : goal.invariant_of-self
+invariant_of-self c =
+    let there = rw (← c.self.view_is, ← c.index.ensures) at c.requires.there in
+    let plain = rw (← c.self.view_is, ← c.index.ensures) at c.requires.plain in
+    written_sound (with_meaning c.args.meaning) c.self.inside.symbols.items c.index.result c.index_mut-symbol.result.now there c.index_mut-symbol.ensures.value (λ _. refl)
+    (keeps_none (with_meaning c.args.meaning) c.self.inside.symbols.items c.index.result plain)
+    c.self.inside.index c.self.inside.files.items c.self.inside.counts.entries c.self.inside.bytes c.self.invariant
+
+pub returns-clause-made : goal.returns-clause-made
+returns-clause-made c =
+    let there = rw (← c.self.view_is, ← c.index.ensures) at c.requires.there in
+    let made = written (with_meaning c.args.meaning) c.self.inside.symbols.items c.index.result c.index_mut-symbol.result.now there c.index_mut-symbol.ensures.value c.self.inside.files.items c.self.inside.counts.entries in
+    rw (← c.self.view_is, ← c.index.ensures, made)

@@ -1,0 +1,66 @@
+-- How a symbol is assigned a form, and which forms lead back to it.
+use Rattle.std.specs.Prelude.{◌≡◌, ℕ, Bool, true, false, ◌⊎◌, List, [], ◌∷◌, Option, None, Some, Result, Ok, Err, slice_get, option_and_then, IsErrOf, codes, if◌then◌else◌}
+use Rattle.std.specs.Str.{bytes_eq}
+use Rattle.asm_expr.specs.declared.naming.Name.{Name}
+use Rattle.asm_expr.specs.declared.naming.Name.TheVariants as naming
+use Rattle.asm_expr.specs.declared.forms.Term.{Term}
+use Rattle.asm_expr.specs.Forms.{Form}
+use Rattle.asm_symbols.specs.declared.entries.Symbol.{Symbol}
+use Rattle.asm_symbols.specs.declared.entries.Meaning.{Meaning}
+use Rattle.asm_symbols.specs.declared.entries.Meaning.TheVariants as meaning
+use Rattle.asm_symbols.specs.declared.faults.SymFault.{SymFault}
+use Rattle.asm_symbols.specs.declared.faults.SymFault.TheVariants.{SymbolAlreadyDefined, BadSymbolUse, NoMemory}
+use Rattle.asm_symbols.specs.SymbolMap.{SymbolMap, names, index_of, with_symbol, with_meaning}
+
+-- whether the name is `.`, which is the place of a statement
+abbrev pub is_here : Name → Bool
+is_here (naming.Plain text) = bytes_eq text (codes ".")
+is_here _ = false
+
+-- why a symbol that is this takes no form; with `once` it takes one only if it is undefined
+abbrev pub refusal : Meaning → Bool → Option SymFault
+refusal meaning.Undefined once = None
+refusal (meaning.Assigned form) false = None
+refusal (meaning.Assigned form) true = Some SymbolAlreadyDefined
+refusal (meaning.Common size align) false = Some BadSymbolUse
+refusal (meaning.Common size align) true = Some SymbolAlreadyDefined
+refusal (meaning.Label spot) once = Some SymbolAlreadyDefined
+refusal (meaning.Space spot) once = Some SymbolAlreadyDefined
+
+-- why the symbol at this index takes no form
+unfoldable pub refusal_at : SymbolMap → ℕ → Bool → Option SymFault
+refusal_at map index once = option_and_then (λ symbol. if is_here symbol.name then Some BadSymbolUse else refusal symbol.meaning once) (slice_get map.symbols index)
+
+-- the form of an assigned symbol
+abbrev pub form_of : Meaning → Option Form
+form_of (meaning.Assigned form) = Some form
+form_of _ = None
+
+abbrev pub form_at : List Symbol → ℕ → Option Form
+form_at symbols index = option_and_then (λ symbol. form_of symbol.meaning) (slice_get symbols index)
+
+-- one of the terms has the name of the symbol at this index
+abbrev pub IsNamedIn : List Term → List Name → ℕ → Type 0
+IsNamedIn [] ns index = ⊥
+IsNamedIn (term ∷ terms) ns index = (index_of term.name ns ≡ Some index) ⊎ IsNamedIn terms ns index
+
+-- the form names the symbol at this index
+abbrev pub NamesSymbol : List Symbol → Form → ℕ → Type 0
+NamesSymbol symbols form index = IsNamedIn form.terms (names symbols) index
+
+-- the form leads to the symbol at this index: it names the symbol, or leads to an assigned one whose form does
+pub data Leads (symbols : List Symbol) (form : Form) : ℕ → Type 0 where
+  straight : (index : ℕ) → NamesSymbol symbols form index → Leads symbols form index
+  further : (middle index : ℕ) (next : Form) → Leads symbols form middle → form_at symbols middle ≡ Some next → NamesSymbol symbols next index → Leads symbols form index
+
+-- the map where the symbol stands for the form
+abbrev pub with_form : SymbolMap → ℕ → Form → SymbolMap
+with_form map index form = with_symbol (with_meaning (meaning.Assigned form)) map index
+
+-- what an assignment answers: the symbol's refusal, or else the form is taken exactly where it does not lead back to the symbol
+abbrev pub Assigns : {T : Type 0} → SymbolMap → SymbolMap → ℕ → Form → Option SymFault → Result T SymFault → Type 0
+Assigns old new index form (Some fault) result = IsErrOf result fault
+Assigns old new index form None (Ok t) = (Leads old.symbols form index → ⊥) × (new ≡ with_form old index form)
+Assigns old new index form None (Err BadSymbolUse) = Leads old.symbols form index
+Assigns old new index form None (Err NoMemory) = Unit {0}
+Assigns old new index form None (Err SymbolAlreadyDefined) = ⊥

@@ -1,0 +1,53 @@
+-- The instances of numeric labels, and the values of assigned symbols.
+use Rattle.std.specs.Prelude.{ℕ, ◌+◌, ◌-◌, ◌^◌, ◌==◌, nat_eq, min, List, [], ◌∷◌, Option, None, Some, Result, slice_get, unwrap_or, option_and_then, if◌then◌else◌, ℤ}
+use Rattle.std.specs.Int.{w64, cast_signed}
+use Rattle.std.specs.Map.{lookup}
+use Rattle.indexmap.specs.IndexMap.{insert_entry}
+use Rattle.asm_expr.specs.declared.naming.Name.{Name}
+use Rattle.asm_expr.specs.declared.naming.Name.TheVariants as naming
+use Rattle.asm_expr.specs.declared.forms.Term.{Term}
+use Rattle.asm_symbols.specs.declared.entries.Meaning.{Meaning}
+use Rattle.asm_symbols.specs.declared.entries.Meaning.TheVariants as meaning
+use Rattle.asm_symbols.specs.declared.entries.Definition.{Definition}
+use Rattle.asm_symbols.specs.declared.entries.Definition.TheVariants as definition
+use Rattle.asm_symbols.specs.declared.faults.SymFault.{SymFault}
+use Rattle.asm_symbols.specs.SymbolMap.{SymbolMap, names, index_of}
+use Rattle.asm_symbols.specs.Interning.{named}
+
+-- how often a numeric label is defined
+abbrev pub counted : List (ℕ × ℕ) → ℕ → ℕ
+counted counts number = unwrap_or (lookup (nat_eq number) counts) 0
+
+-- a definition of the next instance of a numeric label counts
+abbrev pub raised : Name → Definition → List (ℕ × ℕ) → List (ℕ × ℕ)
+raised (naming.Numeric number instance) (definition.Label spot) counts =
+    if instance == counted counts number + 1 then insert_entry nat_eq counts number instance else counts
+raised _ _ counts = counts
+
+-- the instance behind those that are defined; none is above the last u32
+abbrev pub next_instance : ℕ → ℕ
+next_instance count = min (count + 1) (2 ^ 32 - 1)
+
+-- the map where the next instance of the numeric label is a symbol's name, and the symbol's index
+unfoldable pub next_named : SymbolMap → ℕ → Result (SymbolMap × ℕ) SymFault
+next_named map number = named map (naming.Numeric number (next_instance (counted map.counts number)))
+
+-- the last instance that is defined
+unfoldable pub last_named : SymbolMap → ℕ → Option ℕ
+last_named map number = last_by (counted map.counts number)
+  where
+    last_by : ℕ → Option ℕ
+    last_by count = if count == 0 then None else index_of (naming.Numeric number count) (names map.symbols)
+
+-- the value of a form without names
+abbrev pub value_by : List Term → ℕ → Option ℤ
+value_by [] constant = Some (cast_signed w64 constant)
+value_by (term ∷ terms) constant = None
+
+-- the value of an assigned symbol whose form has no names
+abbrev pub value_of : Meaning → Option ℤ
+value_of (meaning.Assigned form) = value_by form.terms form.constant
+value_of _ = None
+
+unfoldable pub known_at : SymbolMap → ℕ → Option ℤ
+known_at map index = option_and_then (λ symbol. value_of symbol.meaning) (slice_get map.symbols index)

@@ -1,0 +1,13 @@
+-- The definitions that contracts cite, in reading order.
+pub mod SymbolMap
+pub mod Answering
+pub mod Interning
+pub mod Counting
+pub mod Defining
+pub mod Assigning
+pub mod Searching
+pub mod Saying
+pub mod Looking
+pub mod Order
+pub mod NameIndex
+pub mod Sound

@@ -1,0 +1,52 @@
+-- The bindings, kinds, sizes and visibilities that are said of symbols.
+use Rattle.std.specs.Prelude.{ℕ, Option, None, Some, Result, Ok, Err, slice_get}
+use Rattle.asm_expr.specs.Forms.{Form}
+use Rattle.asm_symbols.specs.declared.entries.Symbol.{Symbol}
+use Rattle.asm_symbols.specs.declared.entries.Meaning.{Meaning}
+use Rattle.asm_symbols.specs.declared.entries.Meaning.TheVariants as meaning
+use Rattle.asm_symbols.specs.declared.entries.Binding.{Binding}
+use Rattle.asm_symbols.specs.declared.entries.Binding.TheVariants.{Local, Global, Weak}
+use Rattle.asm_symbols.specs.declared.entries.Kind.{Kind}
+use Rattle.asm_symbols.specs.declared.entries.Visibility.{Visibility}
+use Rattle.asm_symbols.specs.declared.faults.SymFault.{SymFault}
+use Rattle.asm_symbols.specs.declared.faults.SymFault.TheVariants.{BadSymbolUse}
+use Rattle.asm_symbols.specs.SymbolMap.{SymbolMap, with_symbol}
+use Rattle.asm_symbols.specs.Answering.{◌>>=◌}
+
+-- the binding of a symbol that has this one already: weak wins over global, and neither goes with local
+abbrev pub rebound : Option Binding → Binding → Result Binding SymFault
+rebound None binding = Ok binding
+rebound (Some Local) Local = Ok Local
+rebound (Some Local) Global = Err BadSymbolUse
+rebound (Some Local) Weak = Err BadSymbolUse
+rebound (Some Global) Local = Err BadSymbolUse
+rebound (Some Global) Global = Ok Global
+rebound (Some Global) Weak = Ok Weak
+rebound (Some Weak) Local = Err BadSymbolUse
+rebound (Some Weak) Global = Ok Weak
+rebound (Some Weak) Weak = Ok Weak
+
+-- a common symbol is never local
+abbrev pub bound_as : Meaning → Option Binding → Binding → Result Binding SymFault
+bound_as (meaning.Common size align) before Local = Err BadSymbolUse
+bound_as _ before binding = rebound before binding
+
+abbrev pub with_binding : Binding → Symbol → Symbol
+with_binding binding symbol = record symbol { binding = Some binding }
+
+abbrev pub with_kind : Kind → Symbol → Symbol
+with_kind kind symbol = record symbol { kind = Some kind }
+
+abbrev pub with_size : Form → Symbol → Symbol
+with_size size symbol = record symbol { size = Some size }
+
+abbrev pub with_visibility : Visibility → Symbol → Symbol
+with_visibility visibility symbol = record symbol { visibility = Some visibility }
+
+-- the map where the symbol is bound so
+abbrev pub bound_by : Option Symbol → SymbolMap → ℕ → Binding → Result SymbolMap SymFault
+bound_by None map index binding = Err BadSymbolUse
+bound_by (Some symbol) map index binding = bound_as symbol.meaning symbol.binding binding >>= λ made. Ok (with_symbol (with_binding made) map index)
+
+unfoldable pub bound : SymbolMap → ℕ → Binding → Result SymbolMap SymFault
+bound map index binding = bound_by (slice_get map.symbols index) map index binding

@@ -1,0 +1,46 @@
+-- What holds of the fields of a symbol map at all times.
+use Rattle.std.specs.Prelude.{◌≡◌, ℕ, ◌+◌, ◌^◌, ◌<◌, ◌≤◌, ◌&&◌, Bool, true, false, List, length, sum_by, Some, slice_get}
+use Rattle.std.specs.List.{list_any}
+use Rattle.std.specs.Option.{option_map_or}
+use Rattle.asm_expr.specs.declared.naming.Name.{Name}
+use Rattle.asm_expr.specs.declared.naming.Name.TheVariants as naming
+use Rattle.asm_expr.specs.Names.{same_name}
+use Rattle.asm_symbols.specs.declared.entries.Symbol.{Symbol}
+use Rattle.asm_symbols.specs.declared.entries.Meaning.{Meaning}
+use Rattle.asm_symbols.specs.declared.entries.Meaning.TheVariants as meaning
+use Rattle.asm_symbols.specs.SymbolMap.{names, index_of}
+use Rattle.asm_symbols.specs.Interning.{name_size}
+use Rattle.asm_symbols.specs.Counting.{counted}
+use Rattle.asm_symbols.specs.NameIndex.{IndexedNames, place_of}
+
+-- the index has the place of each name, and each name stands once
+pub record IsIndexed (index : IndexedNames) (ns : List Name) : Type 0 where
+  pub found : (name : Name) → place_of index name ≡ index_of name ns
+  pub apart : (at : ℕ) (name : Name) → slice_get ns at ≡ Some name → index_of name ns ≡ Some at
+
+-- there are no more names, and no more bytes of them, than the limits allow
+pub record IsWithin (ns files : List Name) (bytes : ℕ) : Type 0 where
+  pub sized : bytes ≡ sum_by name_size ns + sum_by name_size files
+  pub few : length ns + length files ≤ 2 ^ 24
+  pub small : bytes ≤ 2 ^ 31
+
+abbrev pub is_label : Meaning → Bool
+is_label (meaning.Label spot) = true
+is_label _ = false
+
+-- the symbol at this index is a label
+abbrev pub is_label_at : List Symbol → ℕ → Bool
+is_label_at symbols at = option_map_or (λ symbol. is_label symbol.meaning) (slice_get symbols at) false
+
+-- the symbol has this name and is a label
+abbrev pub is_label_of : Name → Symbol → Bool
+is_label_of name symbol = same_name name symbol.name && is_label symbol.meaning
+
+-- the instances of numeric labels that are counted are labels
+pub record AreCounted (symbols : List Symbol) (counts : List (ℕ × ℕ)) : Type 0 where
+  pub labels : (number instance : ℕ) → 0 < instance → instance ≤ counted counts number → list_any (is_label_of (naming.Numeric number instance)) symbols ≡ true
+
+pub record IsSound (index : IndexedNames) (symbols : List Symbol) (files : List Name) (counts : List (ℕ × ℕ)) (bytes : ℕ) : Type 0 where
+  pub indexed : IsIndexed index (names symbols)
+  pub within : IsWithin (names symbols) files bytes
+  pub instances : AreCounted symbols counts

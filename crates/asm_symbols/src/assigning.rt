@@ -1,0 +1,144 @@
+//! How a symbol is assigned a form that does not lead back to it.
+
+ghost use Rattle.std.specs.Prelude.{◌≡◌};
+ghost use Rattle.asm_symbols.specs.Assigning.{is_here, refusal};
+
+use crate::entries::Meaning;
+use crate::faults::SymFault;
+use crate::ids::SymId;
+use crate::symbol_map::Symbols;
+use asm_expr::{Linear, Name, Term};
+use indexmap::IndexSet;
+use std::alloc::Global;
+
+/// Whether the name is `.`, which is the place of a statement.
+fn is_here(name: &Name) -> bool
+    ensures { result ≡ is_here name.now }
+{
+    match name {
+        Name::Plain(text) => text.as_bytes() == b".".as_slice(),
+        _ => false,
+    }
+}
+
+/// Why a symbol that is this takes no form.
+fn refusal(meaning: &Meaning, once: bool) -> Option<SymFault>
+    ensures { result ≡ refusal meaning.now once }
+{
+    match (meaning, once) {
+        (Meaning::Undefined, _) | (Meaning::Assigned(_), false) => None,
+        (Meaning::Common { .. }, false) => Some(SymFault::BadSymbolUse),
+        _ => Some(SymFault::SymbolAlreadyDefined),
+    }
+}
+
+impl Symbols {
+    ghost use Rattle.std.specs.Prelude.{◌≡◌, ◌<◌, false, length, Some, None, OnErr, IfOk, IfErr, MatchBool, slice_get, if◌then◌else◌};
+    ghost use Rattle.asm_symbols.specs.SymbolMap.{names, with_symbol, with_meaning};
+    ghost use Rattle.asm_symbols.specs.Assigning.{refusal_at, form_at, Leads, Assigns};
+    ghost use Rattle.asm_symbols.specs.Searching.{seen_with, seen_behind};
+    ghost use Rattle.asm_symbols.specs.Sound.{is_label_at};
+    ghost use Rattle.asm_symbols.specs.declared.faults.SymFault.TheVariants.{NoMemory};
+
+    /// Why the symbol takes no form.
+    #[tactic(auto, unfolding(crate::specs::Assigning::refusal_at))]
+    fn refusal_at(&self, id: SymId, once: bool) -> Option<SymFault>
+        requires { id < length self.now.symbols }
+        ensures { result ≡ refusal_at self.now id once }
+    {
+        let symbol = self.symbol(id);
+        if is_here(&symbol.name) {
+            return Some(SymFault::BadSymbolUse);
+        }
+        refusal(&symbol.meaning, once)
+    }
+
+    /// Adds the symbols that the terms name to those that were seen. Answers whether the terms name the symbol.
+    #[tactic(auto, unfolding(crate::specs::Searching::seen_with))]
+    fn see(&self, terms: &[Term], id: SymId, seen: &mut IndexSet<u32>) -> Result<bool, SymFault>
+        ensures back { IfOk result (λ back. seen_with (names self.now.symbols) id terms.now seen.old.keys ≡ (if back then None else Some seen.new.keys)) }
+        ensures memory { IfErr result (λ fault. fault ≡ NoMemory) }
+    {
+        for term in terms {
+            if let Some(named) = self.find(&term.name) {
+                if named.index() == id.index() {
+                    return Ok(true);
+                }
+                seen.insert(named.index())?;
+            }
+        }
+        Ok(false)
+    }
+
+    /// The same of the form of a symbol, if it has one.
+    fn see_behind(
+        &self,
+        middle: SymId,
+        id: SymId,
+        seen: &mut IndexSet<u32>,
+    ) -> Result<bool, SymFault>
+        requires { middle < length self.now.symbols }
+        ensures back { IfOk result (λ back. seen_behind (names self.now.symbols) id (form_at self.now.symbols middle) seen.old.keys ≡ (if back then None else Some seen.new.keys)) }
+        ensures memory { IfErr result (λ fault. fault ≡ NoMemory) }
+    {
+        match &self.symbol(middle).meaning {
+            Meaning::Assigned(form) => self.see(form.terms(), id, seen),
+            _ => Ok(false),
+        }
+    }
+
+    /// The allocator.
+    fn allocator(&self) -> Global {
+        self.alloc
+    }
+
+    /// Whether the form leads to the symbol. Each symbol is looked at once.
+    fn leads_back(&self, form: &Linear, id: SymId) -> Result<bool, SymFault>
+        ensures back { IfOk result (λ back. MatchBool back (Leads self.now.symbols form.now id) (Leads self.now.symbols form.now id → ⊥)) }
+        ensures memory { IfErr result (λ fault. fault ≡ NoMemory) }
+    {
+        let mut seen = IndexSet::new(self.allocator());
+        if self.see(form.terms(), id, &mut seen)? {
+            return Ok(true);
+        }
+        let mut at = 0;
+        'symbols: while at < seen.len() {
+            // The index is below the length.
+            let middle = SymId::new(*seen.get_index(at).unwrap());
+            if self.see_behind(middle, id, &mut seen)? {
+                return Ok(true);
+            }
+            at += 1;
+        }
+        Ok(false)
+    }
+
+    /// The symbol stands for the form from now on; with `once` only if it is undefined.
+    #[tactic(auto, unfolding(crate::specs::Assigning::refusal_at))]
+    pub fn assign(&mut self, id: SymId, form: Linear, once: bool) -> Result<(), SymFault>
+        requires { id < length self.old.symbols }
+        ensures gives { Assigns self.old self.new id form (refusal_at self.old id once) result }
+        ensures unchanged { OnErr result (self.new ≡ self.old) }
+        ensures length { length self.new.symbols ≡ length self.old.symbols }
+    {
+        if let Some(fault) = self.refusal_at(id, once) {
+            return Err(fault);
+        }
+        if self.leads_back(&form, id)? {
+            return Err(SymFault::BadSymbolUse);
+        }
+        self.redefine(id, Meaning::Assigned(form));
+        Ok(())
+    }
+
+    /// The symbol, which is no label, is this from now on.
+    fn redefine(&mut self, id: SymId, meaning: Meaning)
+        requires there { id < length self.old.symbols }
+        requires plain { is_label_at self.old.symbols id ≡ false }
+        ensures made { self.new ≡ with_symbol (with_meaning meaning) self.old id }
+        ensures length { length self.new.symbols ≡ length self.old.symbols }
+    {
+        let symbol = &mut self.symbols[id.index() as usize];
+        symbol.meaning = meaning;
+    }
+}

@@ -1,0 +1,104 @@
+//! Changes of one symbol, each of one field.
+
+ghost use Rattle.std.specs.Prelude.{◌≡◌};
+ghost use Rattle.asm_symbols.specs.Saying.{rebound, bound_as};
+
+use crate::entries::{Binding, Kind, Meaning, Visibility};
+use crate::faults::SymFault;
+use crate::ids::SymId;
+use crate::symbol_map::Symbols;
+use asm_expr::Linear;
+
+/// The binding of a symbol that may have one already.
+fn rebound(before: Option<Binding>, binding: Binding) -> Result<Binding, SymFault>
+    ensures { result ≡ rebound before binding }
+{
+    match (before, binding) {
+        (None, _) => Ok(binding),
+        (Some(Binding::Local), Binding::Local) => Ok(Binding::Local),
+        (Some(Binding::Local), _) | (Some(_), Binding::Local) => Err(SymFault::BadSymbolUse),
+        (Some(Binding::Weak), _) => Ok(Binding::Weak),
+        (Some(Binding::Global), _) => Ok(binding),
+    }
+}
+
+/// The binding of a symbol that is this.
+fn bound_as(
+    meaning: &Meaning,
+    before: Option<Binding>,
+    binding: Binding,
+) -> Result<Binding, SymFault>
+    ensures { result ≡ bound_as meaning.now before binding }
+{
+    match (meaning, binding) {
+        (Meaning::Common { .. }, Binding::Local) => Err(SymFault::BadSymbolUse),
+        _ => rebound(before, binding),
+    }
+}
+
+impl Symbols {
+    ghost use Rattle.std.specs.Prelude.{◌≡◌, ◌<◌, length, Ok, OnErr};
+    ghost use Rattle.asm_symbols.specs.SymbolMap.{with_symbol};
+    ghost use Rattle.asm_symbols.specs.Answering.{Gives, GivesAlways};
+    ghost use Rattle.asm_symbols.specs.Saying.{with_binding, with_kind, with_size, with_visibility, bound};
+
+    /// The symbol has this binding from now on.
+    fn rebind(&mut self, id: SymId, binding: Binding)
+        requires { id < length self.old.symbols }
+        ensures made { self.new ≡ with_symbol (with_binding binding) self.old id }
+        ensures length { length self.new.symbols ≡ length self.old.symbols }
+    {
+        let symbol = &mut self.symbols[id.index() as usize];
+        symbol.binding = Some(binding);
+    }
+
+    /// The symbol is of this kind from now on.
+    pub fn kind(&mut self, id: SymId, kind: Kind) -> Result<(), SymFault>
+        requires { id < length self.old.symbols }
+        ensures gives { GivesAlways self.new result (Ok (with_symbol (with_kind kind) self.old id)) }
+        ensures unchanged { OnErr result (self.new ≡ self.old) }
+        ensures length { length self.new.symbols ≡ length self.old.symbols }
+    {
+        let symbol = &mut self.symbols[id.index() as usize];
+        symbol.kind = Some(kind);
+        Ok(())
+    }
+
+    /// The symbol has this size from now on.
+    pub fn size(&mut self, id: SymId, size: Linear) -> Result<(), SymFault>
+        requires { id < length self.old.symbols }
+        ensures gives { Gives self.new result (Ok (with_symbol (with_size size) self.old id)) }
+        ensures unchanged { OnErr result (self.new ≡ self.old) }
+        ensures length { length self.new.symbols ≡ length self.old.symbols }
+    {
+        let symbol = &mut self.symbols[id.index() as usize];
+        symbol.size = Some(size);
+        Ok(())
+    }
+
+    /// The symbol is as visible as this from now on.
+    pub fn visibility(&mut self, id: SymId, visibility: Visibility) -> Result<(), SymFault>
+        requires { id < length self.old.symbols }
+        ensures gives { GivesAlways self.new result (Ok (with_symbol (with_visibility visibility) self.old id)) }
+        ensures unchanged { OnErr result (self.new ≡ self.old) }
+        ensures length { length self.new.symbols ≡ length self.old.symbols }
+    {
+        let symbol = &mut self.symbols[id.index() as usize];
+        symbol.visibility = Some(visibility);
+        Ok(())
+    }
+
+    /// The symbol is bound so: weak wins over global, and neither goes with local.
+    #[tactic(auto, unfolding(crate::specs::Saying::bound))]
+    pub fn bind(&mut self, id: SymId, binding: Binding) -> Result<(), SymFault>
+        requires { id < length self.old.symbols }
+        ensures gives { GivesAlways self.new result (bound self.old id binding) }
+        ensures unchanged { OnErr result (self.new ≡ self.old) }
+        ensures length { length self.new.symbols ≡ length self.old.symbols }
+    {
+        let symbol = self.symbol(id);
+        let made = bound_as(&symbol.meaning, symbol.binding, binding)?;
+        self.rebind(id, made);
+        Ok(())
+    }
+}

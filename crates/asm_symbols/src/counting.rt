@@ -1,0 +1,53 @@
+//! The instances of numeric labels, and the values of assigned symbols.
+
+ghost use Rattle.std.specs.Prelude.{◌≡◌};
+ghost use Rattle.asm_symbols.specs.Counting.{value_of};
+
+use crate::entries::Meaning;
+use crate::ids::SymId;
+use crate::symbol_map::Symbols;
+use asm_expr::Name;
+
+/// The value of an assigned symbol whose form has no names.
+fn value_of(meaning: &Meaning) -> Option<i64>
+    ensures { result ≡ value_of meaning.now }
+{
+    match meaning {
+        Meaning::Assigned(form) => {
+            if form.terms().is_empty() {
+                Some(form.constant().cast_signed())
+            } else {
+                None
+            }
+        }
+        _ => None,
+    }
+}
+
+impl Symbols {
+    ghost use Rattle.std.specs.Prelude.{◌≡◌, ◌<◌, ◌↔◌, length, IsNone};
+    ghost use Rattle.asm_symbols.specs.Counting.{counted, last_named, known_at};
+
+    /// The last instance of the numeric label that is defined.
+    #[tactic(auto, unfolding(crate::specs::Counting::last_named))]
+    pub fn numeric_back(&self, number: u64) -> Option<SymId>
+        ensures last { result ≡ last_named self.now number }
+        ensures none { IsNone result ↔ (counted self.now.counts number ≡ 0) }
+    {
+        let _ = &self.counts;
+        let instance = self.count(number);
+        if instance == 0 {
+            return None;
+        }
+        self.find(&Name::Numeric { number, instance })
+    }
+
+    /// The value of the symbol, where it is known: that of an assigned symbol whose form has no names.
+    #[tactic(auto, unfolding(crate::specs::Counting::known_at))]
+    pub fn known(&self, id: SymId) -> Option<i64>
+        requires { id < length self.now.symbols }
+        ensures { result ≡ known_at self.now id }
+    {
+        value_of(&self.symbol(id).meaning)
+    }
+}

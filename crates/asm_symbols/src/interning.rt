@@ -1,0 +1,120 @@
+//! How a name becomes a symbol, and what room there is for names.
+
+ghost use Rattle.std.specs.Prelude.{◌≡◌, Some, None, nat_le, if◌then◌else◌};
+ghost use Rattle.asm_symbols.specs.Interning.{name_size};
+
+use crate::copies::copied_name;
+use crate::entries::{Meaning, Symbol};
+use crate::faults::SymFault;
+use crate::ids::SymId;
+use crate::symbol_map::Symbols;
+use asm_expr::Name;
+
+/// The most symbols and files.
+const MOST_NAMES: usize = 0x100_0000;
+
+/// The most bytes of names.
+const MOST_BYTES: u64 = 0x8000_0000;
+
+/// The bytes that the name takes, if there is room for them.
+fn size_within(name: &Name, room: u64) -> Option<u64>
+    ensures { result ≡ (if nat_le (name_size name.now) room then Some (name_size name.now) else None) }
+{
+    match name {
+        Name::Plain(text) => {
+            let length = text.as_bytes().len() as u64;
+            if length < room {
+                Some(length + 1)
+            } else {
+                None
+            }
+        }
+        _ => Some(0),
+    }
+}
+
+impl Symbols {
+    ghost use Rattle.std.specs.Prelude.{◌≡◌, ◌<◌, ◌≤◌, length, Some, None, OnErr, IfOk, if◌then◌else◌, Ok, Err};
+    ghost use Rattle.asm_symbols.specs.SymbolMap.{names, index_of};
+    ghost use Rattle.asm_symbols.specs.Answering.{Gives, GivesSymbol};
+    ghost use Rattle.asm_symbols.specs.Interning.{name_size, has_room, with_name, named, with_file};
+    ghost use Rattle.asm_symbols.specs.Counting.{next_named};
+    ghost use Rattle.asm_symbols.specs.declared.faults.SymFault.TheVariants.{BadSymbolUse};
+
+    /// The bytes that the name takes, if there is room for one more.
+    fn room(&self, name: &Name) -> Option<u64>
+        ensures { result ≡ (if has_room self.now name.now then Some (name_size name.now) else None) }
+    {
+        if self.symbols.len() + self.files.len() < MOST_NAMES {
+            size_within(name, MOST_BYTES - self.bytes)
+        } else {
+            None
+        }
+    }
+
+    /// A symbol more, of which nothing is known.
+    fn add(&mut self, name: &Name) -> Result<SymId, SymFault>
+        requires { index_of name.now (names self.old.symbols) ≡ None }
+        ensures gives { GivesSymbol self.new result (if has_room self.old name.now then Ok (with_name self.old name.now, length self.old.symbols) else Err BadSymbolUse) }
+        ensures unchanged { OnErr result (self.new ≡ self.old) }
+    {
+        let Some(size) = self.room(name) else {
+            return Err(SymFault::BadSymbolUse);
+        };
+        let place = self.symbols.len() as u32;
+        let symbol = Symbol {
+            name: copied_name(self.alloc, name)?,
+            meaning: Meaning::Undefined,
+            binding: None,
+            kind: None,
+            size: None,
+            visibility: None,
+        };
+        self.symbols.reserve(1)?;
+        self.index.insert(self.alloc, name, place)?;
+        self.symbols.push_reserved(symbol);
+        self.bytes += size;
+        Ok(SymId::new(place))
+    }
+
+    /// The symbol of the name, which is put last if it is not there.
+    #[tactic(auto, unfolding(crate::specs::Interning::named))]
+    pub fn name_of(&mut self, name: &Name) -> Result<SymId, SymFault>
+        ensures gives { GivesSymbol self.new result (named self.old name.now) }
+        ensures there { IfOk result (λ id. id < length self.new.symbols) }
+        ensures length { length self.old.symbols ≤ length self.new.symbols }
+        ensures unchanged { OnErr result (self.new ≡ self.old) }
+    {
+        if let Some(id) = self.find(name) {
+            return Ok(id);
+        }
+        self.add(name)
+    }
+
+    /// The name of a file more.
+    #[tactic(auto, unfolding(crate::specs::Interning::with_file))]
+    pub fn file(&mut self, name: &Name) -> Result<(), SymFault>
+        ensures gives { Gives self.new result (with_file self.old name.now) }
+        ensures length { length self.new.symbols ≡ length self.old.symbols }
+        ensures unchanged { OnErr result (self.new ≡ self.old) }
+    {
+        let Some(size) = self.room(name) else {
+            return Err(SymFault::BadSymbolUse);
+        };
+        self.files.push(copied_name(self.alloc, name)?)?;
+        self.bytes += size;
+        Ok(())
+    }
+
+    /// The symbol of the instance of a numeric label that is defined next.
+    #[tactic(auto, unfolding(crate::specs::Counting::next_named))]
+    pub fn numeric_next(&mut self, number: u64) -> Result<SymId, SymFault>
+        ensures gives { GivesSymbol self.new result (next_named self.old number) }
+        ensures there { IfOk result (λ id. id < length self.new.symbols) }
+        ensures length { length self.old.symbols ≤ length self.new.symbols }
+        ensures unchanged { OnErr result (self.new ≡ self.old) }
+    {
+        let instance = self.count(number).saturating_add(1);
+        self.name_of(&Name::Numeric { number, instance })
+    }
+}

@@ -1,0 +1,24 @@
+//! The symbol map: the symbols of a source in the order in which they are first named, and what is known of each.
+#![tactic(auto)]
+
+mod assigning;
+mod changing;
+mod copies;
+mod counting;
+mod defining;
+mod entries;
+mod faults;
+mod ids;
+mod interning;
+mod laws;
+mod looking;
+mod name_index;
+mod symbol_map;
+#[cfg(test)]
+mod tests;
+
+pub use entries::{Binding, Definition, Kind, Meaning, Spot, Symbol, Visibility};
+pub use faults::SymFault;
+pub use ids::SymId;
+pub use laws::{counted_are_labels, names_are_apart, names_are_few, order_is_kept, weak_wins};
+pub use symbol_map::Symbols;

@@ -1,0 +1,46 @@
+//! What a name is known as, for the linear forms of expressions.
+
+ghost use Rattle.std.specs.Prelude.{◌≡◌};
+ghost use Rattle.asm_expr.specs.Knowledge.{told_by};
+ghost use Rattle.asm_symbols.specs.Looking.{meaning_told};
+
+use crate::entries::Meaning;
+use crate::symbol_map::Symbols;
+use asm_expr::{Look, Name};
+
+/// What a symbol is known as that is this.
+fn look_of(meaning: &Meaning) -> Look<'_>
+    ensures { told_by result ≡ meaning_told meaning.now }
+{
+    match meaning {
+        Meaning::Label(spot) | Meaning::Space(spot) => Look::Label {
+            stretch: spot.stretch,
+            at: spot.at,
+        },
+        Meaning::Assigned(form) => {
+            if form.terms().is_empty() {
+                Look::Constant(form.constant())
+            } else {
+                Look::Form(form)
+            }
+        }
+        Meaning::Undefined | Meaning::Common { .. } => Look::Absent,
+    }
+}
+
+impl Symbols {
+    ghost use Rattle.std.specs.Prelude.{◌≡◌};
+    ghost use Rattle.asm_expr.specs.Knowledge.{told_by};
+    ghost use Rattle.asm_symbols.specs.Looking.{told};
+
+    /// What the name is known as.
+    #[tactic(auto, unfolding(crate::specs::Looking::told))]
+    pub fn look(&self, name: &Name) -> Look<'_>
+        ensures { told_by result ≡ told self.now name.now }
+    {
+        match self.find(name) {
+            Some(id) => look_of(&self.symbol(id).meaning),
+            None => Look::Absent,
+        }
+    }
+}

@@ -1,0 +1,103 @@
+//! The index of names: where each name stands in a list. A text is looked up by its slice.
+
+use crate::faults::SymFault;
+use asm_expr::Name;
+use indexmap::IndexMap;
+use std::alloc::Global;
+use std::marker::Model;
+
+/// A name that is numbers alone.
+#[derive(Clone, Copy, PartialEq, Eq, Hash, Debug)]
+pub(crate) enum Numbered {
+    /// An instance of a numeric label.
+    Numeric { number: u64, instance: u32 },
+    /// An item of a section.
+    Place { section: u32, item: u64 },
+}
+
+/// Where each name stands.
+#[derive(Drop)]
+pub(crate) struct NameIndex {
+    texts: IndexMap<Vec<u8>, u32>,
+    numbered: IndexMap<Numbered, u32>,
+}
+
+impl Model for NameIndex {
+    ghost use Rattle.asm_symbols.specs.NameIndex.{IndexedNames, plain_entries};
+
+    ghost Value = { IndexedNames };
+
+    ghost view = { λ index. record { texts = plain_entries index.texts.entries; numbered = index.numbered.entries } };
+}
+
+impl NameIndex {
+    ghost use Rattle.std.specs.Prelude.{◌≡◌, OnOk, OnErr, IfErr};
+    ghost use Rattle.asm_symbols.specs.declared.faults.SymFault.TheVariants.{NoMemory};
+    ghost use Rattle.asm_symbols.specs.NameIndex.{no_names, place_of, with_place};
+
+    /// No names.
+    pub(crate) fn new(alloc: Global) -> NameIndex
+        ensures { result ≡ no_names }
+    {
+        NameIndex {
+            texts: IndexMap::new(alloc),
+            numbered: IndexMap::new(alloc),
+        }
+    }
+
+    /// Where the name stands.
+    pub(crate) fn find(&self, name: &Name) -> Option<u32>
+        ensures { result ≡ place_of self.now name.now }
+    {
+        match name {
+            Name::Plain(text) => self.texts.get(text.as_bytes()).copied(),
+            Name::Numeric { number, instance } => self
+                .numbered
+                .get(&Numbered::Numeric {
+                    number: *number,
+                    instance: *instance,
+                })
+                .copied(),
+            Name::Place { section, item } => self
+                .numbered
+                .get(&Numbered::Place {
+                    section: *section,
+                    item: *item,
+                })
+                .copied(),
+        }
+    }
+
+    /// The name stands here from now on.
+    pub(crate) fn insert(&mut self, alloc: Global, name: &Name, place: u32) -> Result<(), SymFault>
+        ensures ok { OnOk result (self.new ≡ with_place self.old name.now place) }
+        ensures memory { IfErr result (λ fault. fault ≡ NoMemory) }
+        ensures err { OnErr result (self.new ≡ self.old) }
+    {
+        match name {
+            Name::Plain(text) => {
+                self.texts
+                    .insert(Vec::from_slice(alloc, text.as_bytes())?, place)?;
+            }
+            Name::Numeric { number, instance } => {
+                self.numbered.insert(
+                    Numbered::Numeric {
+                        number: *number,
+                        instance: *instance,
+                    },
+                    place,
+                )?;
+            }
+            Name::Place { section, item } => {
+                self.numbered.insert(
+                    Numbered::Place {
+                        section: *section,
+                        item: *item,
+                    },
+                    place,
+                )?;
+            }
+        }
+        Ok(())
+    }
+}
