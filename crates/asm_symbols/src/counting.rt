@@ -25,13 +25,14 @@ fn value_of(meaning: &Meaning) -> Option<i64>
 }
 
 impl Symbols {
-    ghost use Rattle.std.specs.Prelude.{◌≡◌, ◌<◌, ◌↔◌, length, IsNone};
+    ghost use Rattle.std.specs.Prelude.{◌≡◌, ◌<◌, ◌↔◌, length, IsNone, IfSome};
     ghost use Rattle.asm_symbols.specs.Counting.{counted, last_named, known_at};
 
     /// The last instance of the numeric label that is defined.
     #[tactic(auto, unfolding(crate::specs::Counting::last_named))]
     pub fn numeric_back(&self, number: u64) -> Option<SymId>
         ensures last { result ≡ last_named self.now number }
+        ensures there { IfSome result (λ id. id < length self.now.symbols) }
         ensures none { IsNone result ↔ (counted self.now.counts number ≡ 0) }
     {
         let _ = &self.counts;

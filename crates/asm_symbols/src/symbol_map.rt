@@ -33,7 +33,7 @@ impl Model for Symbols {
 }
 
 impl Symbols {
-    ghost use Rattle.std.specs.Prelude.{◌≡◌, ◌<◌, length, slice_get, Some};
+    ghost use Rattle.std.specs.Prelude.{◌≡◌, ◌<◌, length, slice_get, Some, IfSome};
     ghost use Rattle.asm_symbols.specs.SymbolMap.{nothing_named, names, index_of};
     ghost use Rattle.asm_symbols.specs.Counting.{counted, last_named, known_at};
 
@@ -60,7 +60,8 @@ impl Symbols {
 
     /// The symbol of the name.
     pub fn find(&self, name: &Name) -> Option<SymId>
-        ensures { result ≡ index_of name.now (names self.now.symbols) }
+        ensures value { result ≡ index_of name.now (names self.now.symbols) }
+        ensures there { IfSome result (λ id. id < length self.now.symbols) }
     {
         match self.index.find(name) {
             Some(place) => Some(SymId::new(place)),

@@ -51,9 +51,7 @@ fn number(alloc: Global, value: u64) -> Result<Linear, ExprFault> {
         alloc,
         known: &known,
     };
-    let form = visitor.num(value);
-    let ToLinear { alloc: _, known: _ } = visitor;
-    form
+    visitor.num(value)
 }
 
 /// The form of a name.
@@ -64,9 +62,7 @@ fn naming(alloc: Global, text: &[u8]) -> Result<Linear, ExprFault> {
         alloc,
         known: &known,
     };
-    let form = visitor.name(&written);
-    let ToLinear { alloc: _, known: _ } = visitor;
-    form
+    visitor.name(&written)
 }
 
 /// The place that the tests define symbols at.

@@ -1,0 +1,9 @@
+-- A symbol that is found is there.
+use Rattle.std.proofs.Common.{Some, sym, ap, ◌∙◌}
+use Rattle.asm_symbols.proofs.RoomLemmas.{index_of-within}
+use Rattle.asm_symbols.proofs.symbol_map.Symbols.find.Goals as goal
+
+pub returns-in-Some-clause-there : goal.returns-in-Some-clause-there
+returns-in-Some-clause-there c =
+    let place = sym (c.self.invariant.indexed.found c.args.name.now) ∙ sym c.in-Some.ensures ∙ ap Some (sym c.new.ensures) in
+    rw (← c.self.view_is) (index_of-within c.args.name.now c.self.inside.symbols.items c.new.result place)
