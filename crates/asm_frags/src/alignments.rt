@@ -1,6 +1,6 @@
 //! The alignments that items ask for.
 
-ghost use Rattle.std.specs.Prelude.{◌≡◌, ◌≤◌, ◌^◌};
+ghost use Rattle.std.specs.Prelude.{◌≡◌, ◌^◌};
 ghost use Rattle.asm_frags.specs.Contents.{alignment_of};
 
 use crate::contents::{Align, Content, Data, Fill};

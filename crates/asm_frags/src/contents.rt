@@ -1,7 +1,6 @@
 //! What items hold: bytes with fields, so many units, or zeros up to a multiple.
 
-ghost use Rattle.std.specs.Prelude.{◌≡◌, ◌≤◌, ◌^◌, OnOk, OnErr, [], ◌++◌, ◌∷◌, replicate, take, IsTrue};
-ghost use Rattle.asm_frags.specs.Fields.{width};
+ghost use Rattle.std.specs.Prelude.{◌≡◌, ◌≤◌, ◌^◌, OnOk, OnErr, take};
 ghost use Rattle.asm_frags.specs.DataOf.{IsData, no_data, with_bytes, with_field};
 
 use crate::fields::{Field, FieldSize};

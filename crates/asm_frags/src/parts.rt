@@ -1,6 +1,6 @@
 //! Sections: what a header says of them, and their items in order.
 
-ghost use Rattle.std.specs.Prelude.{◌≡◌, ◌≤◌, ◌^◌, ◌&&◌, ◌==◌, [], ◌∷◌, ◌++◌, OnOk, OnErr, length};
+ghost use Rattle.std.specs.Prelude.{◌≡◌};
 
 use crate::alignments::asked_alignment;
 use crate::faults::FragFault;
@@ -38,7 +38,7 @@ impl<P: Phase> Model for Section<P> {
 
 impl<P: Phase> Section<P> {
     ghost use Rattle.asm_frags.specs.Alignments.{alignment_of_all};
-    ghost use Rattle.asm_frags.specs.SectionOf.{new_section, with_item, is_alike};
+    ghost use Rattle.asm_frags.specs.SectionOf.{new_section, is_alike};
     ghost use Rattle.asm_frags.specs.Answers.{Changes, put};
 
     /// A section without items.
