@@ -58,8 +58,28 @@ def expressions() -> Iterator[str]:
             yield f'\t.ascii "string {k}\\n", "{j:x}"\n'
 
 
+def data() -> Iterator[str]:
+    """One item a line: numbers of each size, space, and strings; and now and then another section."""
+    state = 1
+    sections = itertools.cycle((".data", ".text", ".section .rodata"))
+    while True:
+        state = (state * 1103515245 + 12345) % (1 << 31)
+        number, form = state >> 8 & 0xffff, state >> 24 & 15
+        yield (f"\t.long {number}\n", f"\t.quad {number}\n", f"\t.byte {number & 255}\n", f"\t.short {number}\n", f"\t.long {number:#x}\n",
+               f"\t.zero {1 + (number & 15)}\n", f'\t.string "text {number}"\n', f"\t.int -{number}\n")[form & 7]
+        if number < 64:
+            yield f"\t{next(sections)}\n"
+
+
+def symbols() -> Iterator[str]:
+    """A function with its type and size, a local label, a distance, and an assigned number, in turn: a new symbol every other line or so."""
+    for n in itertools.count():
+        yield f"\t.globl function_{n}\n\t.type function_{n},@function\nfunction_{n}:\n\tnop\n.Lend_{n}:\n\tret\n"
+        yield f"\t.size function_{n},.-function_{n}\n\t.set number_{n},{n}*2\n\t.long .Lend_{n}-function_{n}, number_{n}\n1:\t.byte 1b-function_{n}\n"
+
+
 # Each function yields lines without end, the same ones at each run; its name begins those of its cases.
-SOURCES: list[Callable[[], Iterator[str]]] = [nops, byte_lists, expressions]
+SOURCES: list[Callable[[], Iterator[str]]] = [nops, byte_lists, expressions, data, symbols]
 SIZES_IN_MIB = [1, 4, 16]
 
 

@@ -13,7 +13,7 @@ use Rattle.asm_base.specs.declared.positions.Pos.{Pos}
 use Rattle.asm_front.specs.declared.answers.Assembled.{Assembled}
 use Rattle.asm_front.specs.declared.answers.AsmFault.{AsmFault}
 use Rattle.asm_front.specs.declared.answers.AsmFault.TheVariants.{Source}
-use Rattle.asm_front.specs.Assembly.{Flags}
+use Rattle.asm_front.specs.Ending.{Flags}
 use Rattle.asm_front.specs.Outcome.{Assembles, AssemblesFile}
 use Rattle.asm_cli.specs.Words.{Invocation}
 use Rattle.asm_cli.specs.Outcome.{Outcome, refused, object, flags_by, source_outcome, file_outcome, invocation_outcome}

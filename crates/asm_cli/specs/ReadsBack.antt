@@ -1,7 +1,7 @@
 -- The object that a command line stands for, read again.
 use Rattle.std.specs.Prelude.{ℕ, List, Option, None, Some}
 use Rattle.asm_base.specs.Inputs.{Contents}
-use Rattle.asm_front.specs.Assembly.{Flags}
+use Rattle.asm_front.specs.Ending.{Flags}
 use Rattle.asm_front.specs.ReadsBack.{ReadsBack}
 use Rattle.asm_cli.specs.Words.{Invocation}
 use Rattle.asm_cli.specs.Outcome.{Outcome, usage, missing, refused, object, flags_by, file_outcome}

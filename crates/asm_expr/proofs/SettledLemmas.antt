@@ -1,5 +1,5 @@
 -- A form whose labels that cancel are replaced, term by term.
-use Rattle.std.proofs.Common.{◌≡◌, ℕ, suc, ◌+◌, ◌==◌, ◌<◌, ◌≤◌, Bool, true, false, not, cond, ◌&&◌, List, [], ◌∷◌, Option, Some, None, length, get_or, drop, map, refl, arith, add-one, drop-cons, length-drop}
+use Rattle.std.proofs.Common.{◌≡◌, ℕ, suc, ◌+◌, ◌*◌, ◌==◌, ◌<◌, ◌≤◌, Bool, true, false, not, cond, ◌&&◌, List, [], ◌∷◌, ◌++◌, Option, Some, None, length, get_or, drop, map, refl, sym, ap, ◌∙◌, arith, add-one, drop-cons, length-drop}
 use Rattle.std.proofs.lemmas.List.{nil_from_length}
 use Rattle.std.proofs.lemmas.Bool.Decides.{nat_tests}
 use Rattle.std.specs.List.{list_all}
@@ -8,7 +8,7 @@ use Rattle.asm_expr.specs.declared.forms.Term.{Term}
 use Rattle.asm_expr.specs.declared.settling.Spot.{Spot}
 use Rattle.asm_expr.specs.Forms.{Form, wrapped, is_kept, constant_form}
 use Rattle.asm_expr.specs.Knowledge.{Told, absent, constant, label, form}
-use Rattle.asm_expr.specs.Settled.{spot_by, spot_of, number_of, put, put_all, settled, cannot_cancel}
+use Rattle.asm_expr.specs.Settled.{spot_by, spot_of, number_of, put, put_all, settled, cannot_cancel, constant_left}
 
 -- one term alone has no number
 alone : (told : Told) (coefficient : ℕ) → not (wrapped coefficient == 0) ≡ true → number_of (spot_by told coefficient ∷ []) (spot_by told coefficient) ≡ None
@@ -78,3 +78,59 @@ pub all_put : (told : Name → Told) (spots : List (Option Spot)) (start whole :
     → put_all spots told start whole.terms ≡ settled told whole
 unfolding settled
 all_put told spots start whole is begins = rw (is, begins)
+
+put_more : (told : Name → Told) (spots : List (Option Spot)) (made : Form) (term : Term) (terms : List Term)
+    → put_all spots told made (term ∷ terms) ≡ put_all spots told (put made term (number_of spots (spot_of told term))) terms
+unfolding put_all
+put_more told spots made term terms = refl
+
+put_none : (told : Name → Told) (spots : List (Option Spot)) (made : Form) → put_all spots told made [] ≡ made
+unfolding put_all
+put_none told spots made = refl
+
+-- the next of the terms is put
+put_at : (told : Name → Told) (spots : List (Option Spot)) (terms : List Term) (at : ℕ) (item : Term) (made whole : Form) (number : Option ℕ) → at < length terms
+    → item ≡ get_or terms at item → number_of spots (spot_of told item) ≡ number → put_all spots told made (drop at terms) ≡ whole
+    → put_all spots told (put made item number) (drop (suc at) terms) ≡ whole
+put_at told spots terms at item made whole number inside is counts before =
+    let front = drop-cons terms at item inside in
+    let more = put_more told spots made item (drop (suc at) terms) in
+    cc
+
+-- a term that is left stays
+kept_on : (told : Name → Told) (spots : List (Option Spot)) (first : Term) (terms kept : List Term) (total : ℕ)
+    → constant_left (put_all spots told (record { terms = first ∷ kept; constant = total }) terms) ≡ None
+kept_on told spots first [] kept total = ap constant_left (put_none told spots (record { terms = first ∷ kept; constant = total }))
+kept_on told spots first (term ∷ terms) kept total =
+    ap constant_left (put_more told spots (record { terms = first ∷ kept; constant = total }) term terms) ∙ by_number (number_of spots (spot_of told term)) (kept_on told spots first terms)
+  where
+    by_number : (number : Option ℕ) → ((kept : List Term) (total : ℕ) → constant_left (put_all spots told (record { terms = first ∷ kept; constant = total }) terms) ≡ None)
+        → constant_left (put_all spots told (put (record { terms = first ∷ kept; constant = total }) term number) terms) ≡ None
+    by_number None later = later (kept ++ term ∷ []) total
+    by_number (Some at) later = later kept (wrapped (total + wrapped (term.coefficient * at)))
+
+-- the next term has no number
+pub left_in : (told : Name → Told) (spots : List (Option Spot)) (terms : List Term) (at total : ℕ) (item : Term) (whole : Form) → at < length terms → item ≡ get_or terms at item
+    → number_of spots (spot_of told item) ≡ None → put_all spots told (constant_form total) (drop at terms) ≡ whole → None ≡ constant_left whole
+left_in told spots terms at total item whole inside is none before =
+    sym (ap constant_left (sym (put_at told spots terms at item (constant_form total) whole None inside is none before)) ∙ kept_on told spots item (drop (suc at) terms) [] total)
+
+-- the next term has a number
+pub number_in : (told : Name → Told) (spots : List (Option Spot)) (terms : List Term) (at total number : ℕ) (item : Term) (whole : Form) → at < length terms → item ≡ get_or terms at item
+    → number_of spots (spot_of told item) ≡ Some number → put_all spots told (constant_form total) (drop at terms) ≡ whole
+    → put_all spots told (constant_form (wrapped (total + wrapped (item.coefficient * number)))) (drop (at + 1) terms) ≡ whole
+number_in told spots terms at total number item whole inside is some before =
+    let one : suc at ≡ at + 1 = omega arith in
+    rw one at (put_at told spots terms at item (constant_form total) whole (Some number) inside is some before)
+
+-- no term is left
+pub none_in : (told : Name → Told) (spots : List (Option Spot)) (terms : List Term) (at total : ℕ) (whole : Form) → length terms ≤ at
+    → put_all spots told (constant_form total) (drop at terms) ≡ whole → Some total ≡ constant_left whole
+none_in told spots terms at total whole all before =
+    let none : drop at terms ≡ [] = nil_from_length (drop at terms) (omega (arith, length-drop at terms)) in
+    ap constant_left (sym (put_none told spots (constant_form total)) ∙ rw none at before)
+
+-- no term is put yet
+pub none_put : (told : Name → Told) (made : Form) → put_all (map (spot_of told) made.terms) told (constant_form made.constant) made.terms ≡ settled told made
+unfolding settled
+none_put told made = refl

@@ -1,10 +1,11 @@
 -- Terms and one more, found by its place, and terms whose coefficients stay other than 0.
-use Rattle.std.proofs.Common.{◌≡◌, ◌≢◌, ℕ, zero, suc, ◌+◌, ◌==◌, ◌<◌, ◌≤◌, Bool, true, false, not, cond, ◌&&◌, List, [], ◌∷◌, ◌++◌, length, get_or, drop, map, refl, sym, ap, ◌∙◌, arith, append-nil}
+use Rattle.std.proofs.Common.{◌≡◌, ◌≢◌, ℕ, zero, suc, ◌+◌, ◌==◌, ◌<◌, ◌≤◌, Bool, true, false, not, cond, ◌&&◌, List, [], ◌∷◌, ◌++◌, length, get_or, drop, map, refl, sym, ap, ◌∙◌, arith, append-nil, drop-cons, length-drop}
 use Rattle.std.proofs.lemmas.Bool.Decides.{nat_tests}
+use Rattle.std.proofs.lemmas.List.{nil_from_length}
 use Rattle.std.specs.List.{position_or_len, list_all, remove, insert}
 use Rattle.asm_expr.specs.declared.forms.Term.{Term}
 use Rattle.asm_expr.specs.Names.{same_name}
-use Rattle.asm_expr.specs.Forms.{wrapped, term_of, is_kept, before_terms, with_term, with_terms, signed, signed_term}
+use Rattle.asm_expr.specs.Forms.{wrapped, term_of, is_kept, before_terms, with_term, with_terms, signed, signed_term, scaled_term}
 use Rattle.asm_expr.specs.Raised.{raised}
 
 -- what stands at the place is left out, or put in again with the other coefficient
@@ -119,3 +120,19 @@ pub joined_done : (minus : Bool) (terms all others : List Term) → (length othe
 unfolding with_terms
 joined_done minus terms all [] none is = is
 joined_done minus terms all (other ∷ others) none is = absurd (grind (arith, nat_tests))
+
+-- the next of the other terms goes to the terms so far
+pub scaled_step : (factor : ℕ) (terms new others all : List Term) (at : ℕ) (item made : Term) → at < length others → item ≡ get_or others at item
+    → made ≡ scaled_term factor item → new ≡ with_term terms made → with_terms terms (map (scaled_term factor) (drop at others)) ≡ all
+    → with_terms new (map (scaled_term factor) (drop (at + 1) others)) ≡ all
+unfolding with_terms
+scaled_step factor terms new others all at item made inside is times grown before =
+    let front = drop-cons others at item inside in
+    let one : suc at ≡ at + 1 = omega arith in
+    rw (grown, times, is, ← one) (rw front at before)
+
+pub scaled_done : (factor : ℕ) (terms others all : List Term) (at : ℕ) → length others ≤ at → with_terms terms (map (scaled_term factor) (drop at others)) ≡ all → terms ≡ all
+unfolding with_terms
+scaled_done factor terms others all at inside before =
+    let none : drop at others ≡ [] = nil_from_length (drop at others) (omega (arith, length-drop at others)) in
+    rw none at before

@@ -1,5 +1,5 @@
 -- Linear forms: names with coefficients, and a constant, all modulo 2^64.
-use Rattle.std.specs.Prelude.{ℕ, ◌+◌, ◌-◌, ◌%◌, ◌^◌, ◌==◌, Bool, true, false, not, List, [], ◌∷◌, map, if◌then◌else◌}
+use Rattle.std.specs.Prelude.{ℕ, ◌+◌, ◌-◌, ◌*◌, ◌%◌, ◌^◌, ◌==◌, Bool, true, false, not, List, [], ◌∷◌, map, if◌then◌else◌}
 use Rattle.asm_expr.specs.declared.naming.Name.{Name}
 use Rattle.asm_expr.specs.declared.forms.Term.{Term}
 use Rattle.asm_expr.specs.Names.{same_name}
@@ -59,3 +59,14 @@ sum_of = joined false
 
 abbrev pub difference_of : Form → Form → Form
 difference_of = joined true
+
+-- the term so many times
+abbrev pub scaled_term : ℕ → Term → Term
+scaled_term factor term = term_of term.name (wrapped (factor * term.coefficient))
+
+-- the form plus so many times another
+unfoldable pub plus_times : Form → ℕ → Form → Form
+plus_times made factor other = record {
+  terms = with_terms made.terms (map (scaled_term factor) other.terms);
+  constant = wrapped (made.constant + wrapped (factor * other.constant));
+}

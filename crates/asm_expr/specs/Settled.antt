@@ -48,3 +48,11 @@ abbrev pub cannot_cancel : List Term → Bool
 cannot_cancel [] = true
 cannot_cancel (only ∷ []) = not (wrapped only.coefficient == 0)
 cannot_cancel (first ∷ second ∷ others) = false
+
+-- the constant of a form where no name is left
+abbrev pub constant_by : List Term → ℕ → Option ℕ
+constant_by [] total = Some total
+constant_by (term ∷ terms) total = None
+
+abbrev pub constant_left : Form → Option ℕ
+constant_left made = constant_by made.terms made.constant

@@ -68,7 +68,7 @@ impl Linear {
 }
 
 /// The form of a number.
-pub(crate) fn constant_form(alloc: Global, constant: u64) -> Linear
+pub fn constant_form(alloc: Global, constant: u64) -> Linear
     ensures { result ≡ constant_form constant }
 {
     Linear {
@@ -78,7 +78,7 @@ pub(crate) fn constant_form(alloc: Global, constant: u64) -> Linear
 }
 
 /// The form of a name, once.
-pub(crate) fn name_form(alloc: Global, name: Name) -> Result<Linear, AllocFailed<Term>>
+pub fn name_form(alloc: Global, name: Name) -> Result<Linear, AllocFailed<Term>>
     ensures { IfOk result (λ form. form ≡ name_form name) }
 {
     let mut terms = SmallVec::new(alloc);
@@ -90,7 +90,7 @@ pub(crate) fn name_form(alloc: Global, name: Name) -> Result<Linear, AllocFailed
 }
 
 /// A form once more.
-pub(crate) fn copied_form(alloc: Global, form: &Linear) -> Result<Linear, AllocError>
+pub fn copied_form(alloc: Global, form: &Linear) -> Result<Linear, AllocError>
     ensures { IfOk result (λ copy. copy ≡ form.now) }
 {
     let list = form.terms.as_slice();

@@ -29,7 +29,7 @@ mod visitors;
 pub use evaluating::value_of;
 pub use faults::ExprFault;
 pub use folding::fold;
-pub use forms::{Linear, Term};
+pub use forms::{Linear, Term, constant_form, copied_form, name_form};
 pub use gathering::{Names, names_of};
 pub use knowledge::{Known, Look};
 pub use laws::{
@@ -37,10 +37,12 @@ pub use laws::{
     written_is_read,
 };
 pub use leaves::{between_quotes, character_code, is_symbol_name};
-pub use naming::Name;
-pub use numbers::spelled_number;
+pub use naming::{Name, copied_name};
+pub use numbers::{all_digits, decimal_number, spelled_number};
 pub use parsing::{parse, parse_front};
+pub use settling::{settled, settled_value};
 pub use showing::{Piece, Shown, shown_text};
+pub use summing::plus_times;
 pub use trees::{BinaryOp, Expr, UnaryOp, Written};
 pub use visiting::ExprFold;
 pub use visitors::{KnownNow, ToLinear, known_value, linear_form};

@@ -51,7 +51,7 @@ pub(crate) fn copied_text(alloc: Global, text: &Text) -> Result<Text, AllocError
 }
 
 /// A name once more.
-pub(crate) fn copied_name(alloc: Global, name: &Name) -> Result<Name, AllocError>
+pub fn copied_name(alloc: Global, name: &Name) -> Result<Name, AllocError>
     ensures { IfOk result (λ copy. copy ≡ name.now) }
 {
     match name {

@@ -9,7 +9,7 @@ use crate::faults::ExprFault;
 use asm_base::digit_of;
 
 /// Whether the radix has all these digits.
-pub(crate) fn all_digits(radix: u64, digits: &[u8]) -> bool
+pub fn all_digits(radix: u64, digits: &[u8]) -> bool
     ensures { result ≡ list_all (is_digit_of radix) digits.now }
 {
     digits.iter().all(|digit| digit_of(*digit) < radix)
@@ -48,6 +48,14 @@ pub(crate) fn numeral(radix: u64, digits: &[u8]) -> Result<u64, ExprFault>
         return Err(ExprFault::BadExpression);
     }
     number(radix, digits).ok_or(ExprFault::NumberTooWide)
+}
+
+/// The number of decimal digits, leading zeros among them. `BadExpression` comes where there are none or another byte
+/// is among them, and `NumberTooWide` where the number is above 2^64 - 1.
+pub fn decimal_number(digits: &[u8]) -> Result<u64, ExprFault>
+    ensures { result ≡ numeral 10 digits.now }
+{
+    numeral(10, digits)
 }
 
 /// The number that a token of digits spells.

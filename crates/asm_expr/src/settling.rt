@@ -2,7 +2,7 @@
 
 ghost use Rattle.std.specs.Prelude.{◌≡◌, ◌<◌, length, map, Ok, IfOk, IsTrue};
 ghost use Rattle.asm_expr.specs.Gives.{Gives};
-ghost use Rattle.asm_expr.specs.Settled.{spot_of, counted_in, stretch_sum, number_of, put, cannot_cancel, settled};
+ghost use Rattle.asm_expr.specs.Settled.{spot_of, counted_in, stretch_sum, number_of, put, cannot_cancel, settled, constant_left};
 ghost use Rattle.asm_expr.specs.Forms.{wrapped, is_kept};
 
 use crate::faults::ExprFault;
@@ -109,7 +109,7 @@ fn cannot_cancel(terms: &[Term]) -> bool
 }
 
 /// The form where the labels of each stretch that cancel are replaced by their numbers.
-pub(crate) fn settled<K: Known>(alloc: Global, known: &K, form: Linear) -> Result<Linear, ExprFault>
+pub fn settled<K: Known>(alloc: Global, known: &K, form: Linear) -> Result<Linear, ExprFault>
     ensures { Gives result (Ok (settled (K.told known.now) form)) }
 {
     if cannot_cancel(form.terms.as_slice()) {
@@ -126,4 +126,40 @@ pub(crate) fn settled<K: Known>(alloc: Global, known: &K, form: Linear) -> Resul
         made = put(made, term, number_of(spots.as_slice(), *spot))?;
     }
     Ok(made)
+}
+
+/// How often the labels of a stretch count in the terms.
+fn counted_among<K: Known>(known: &K, stretch: u64, terms: &[Term]) -> u64
+    ensures { result ≡ wrapped (stretch_sum stretch (map (spot_of (K.told known.now)) terms.now)) }
+{
+    let mut sum: u64 = 0;
+    for term in terms {
+        sum = sum.wrapping_add(counted_in(stretch, spot_of(known, term)));
+    }
+    sum
+}
+
+/// What stands for one of the terms: its number, where the labels of its stretch cancel.
+fn number_among<K: Known>(known: &K, terms: &[Term], term: &Term) -> Option<u64>
+    ensures { result ≡ number_of (map (spot_of (K.told known.now)) terms.now) (spot_of (K.told known.now) term.now) }
+{
+    let spot = spot_of(known, term)?;
+    if counted_among(known, spot.stretch, terms) == 0 {
+        Some(spot.at)
+    } else {
+        None
+    }
+}
+
+/// The constant of the settled form, where no name is left in it. It takes no memory.
+pub fn settled_value<K: Known>(known: &K, form: &Linear) -> Option<u64>
+    ensures { result ≡ constant_left (settled (K.told known.now) form.now) }
+{
+    let terms = form.terms();
+    let mut constant = form.constant();
+    for term in terms {
+        let number = number_among(known, terms, term)?;
+        constant = constant.wrapping_add(term.coefficient.wrapping_mul(number));
+    }
+    Some(constant)
 }

@@ -3,14 +3,14 @@
 ghost use Rattle.std.specs.Prelude.{◌≡◌, ◌<◌, ◌≤◌, length, map, IfOk};
 ghost use Rattle.std.specs.List.{position_or_len};
 ghost use Rattle.asm_expr.specs.Names.{same_name};
-ghost use Rattle.asm_expr.specs.Forms.{signed_term, with_term, with_terms, joined};
+ghost use Rattle.asm_expr.specs.Forms.{signed_term, scaled_term, with_term, with_terms, joined, plus_times};
 ghost use Rattle.asm_expr.specs.Raised.{raised};
 
 use crate::arithmetic::signed;
 use crate::forms::{Linear, Term};
-use crate::naming::{Name, same_name};
+use crate::naming::{Name, copied_name, same_name};
 use smallvec::SmallVec;
-use std::alloc::AllocFailed;
+use std::alloc::{AllocError, AllocFailed, Global};
 
 /// Where the name stands among the terms, or how many there are.
 fn place_of(terms: &[Term], name: &Name) -> usize
@@ -82,5 +82,39 @@ pub(crate) fn joined(minus: bool, one: Linear, other: Linear) -> Result<Linear, 
     Ok(Linear {
         terms,
         constant: constant.wrapping_add(signed(minus, more)),
+    })
+}
+
+/// The term so many times.
+fn scaled_term(alloc: Global, factor: u64, term: &Term) -> Result<Term, AllocError>
+    ensures { IfOk result (λ made. made ≡ scaled_term factor term.now) }
+{
+    Ok(Term {
+        name: copied_name(alloc, &term.name)?,
+        coefficient: factor.wrapping_mul(term.coefficient),
+    })
+}
+
+/// The form plus so many times another. Only want of memory refuses it.
+#[tactic(auto, unfolding(crate::specs::Forms::plus_times))]
+pub fn plus_times(
+    alloc: Global,
+    made: Linear,
+    factor: u64,
+    other: &Linear,
+) -> Result<Linear, AllocError>
+    ensures { IfOk result (λ form. form ≡ plus_times made factor other.now) }
+{
+    let Linear {
+        mut terms,
+        constant,
+    } = made;
+    let others = other.terms();
+    for term in others {
+        terms = with_term(terms, scaled_term(alloc, factor, term)?)?;
+    }
+    Ok(Linear {
+        terms,
+        constant: constant.wrapping_add(factor.wrapping_mul(other.constant())),
     })
 }

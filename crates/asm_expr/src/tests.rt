@@ -3,7 +3,10 @@
 ghost use Rattle.asm_expr.specs.Numbered.{numbered};
 ghost use Rattle.asm_expr.specs.declared.naming.Name.TheVariants.{Place};
 
-use crate::{ExprFault, Known, KnownNow, Look, Name, fold, known_value, parse};
+use crate::{
+    ExprFault, Known, KnownNow, Linear, Look, Name, constant_form, copied_name, fold, known_value,
+    name_form, parse, plus_times, settled, settled_value, value_of,
+};
 use ExprFault::{
     BadExpression, DivisionByZero, ExpressionTooDeep, NotASumOfSymbols, NumberTooWide,
     ValueNotKnown,
@@ -267,6 +270,41 @@ fn stops_where_no_operator_follows(rt: HostRuntime) -> Result<(), Fail> {
         let tokens = Tokens::read(rt.alloc(), text)?;
         let (_expr, next) = parse(rt.alloc(), &tokens, at)?;
         assert_eq!(rt; next, want);
+    }
+    Ok(())
+}
+
+/// The form plus so often an instance of numeric label 2.
+fn plus_label(
+    alloc: Global,
+    made: Linear,
+    factor: u64,
+    instance: u32,
+) -> Result<Linear, ExprFault> {
+    let name = Name::Numeric {
+        number: 2,
+        instance,
+    };
+    let other = name_form(alloc, copied_name(alloc, &name)?)?;
+    Ok(plus_times(alloc, made, factor, &other)?)
+}
+
+#[test]
+fn settled_values(rt: HostRuntime) -> Result<(), Fail> {
+    let cases: [(u64, u64, usize, Option<u64>); 4] = [
+        (1, 0xffff_ffff_ffff_ffff, 2, Some(9)),
+        (3, 0xffff_ffff_ffff_fffd, 2, Some(17)),
+        (2, 0xffff_ffff_ffff_ffff, 2, None),
+        (0, 0, 0, Some(5)),
+    ];
+    for (first, second, terms, want) in cases {
+        let alloc = rt.alloc();
+        let made = plus_label(alloc, constant_form(alloc, 5), first, 7)?;
+        let form = plus_label(alloc, made, second, 3)?;
+        assert_eq!(rt; form.terms().len(), terms, "{first} {second}");
+        assert_eq!(rt; settled_value(&Numbered, &form), want, "{first} {second}");
+        let whole = settled(alloc, &Numbered, form)?;
+        assert_eq!(rt; value_of(&whole).ok(), want, "{first} {second}");
     }
     Ok(())
 }

@@ -5,6 +5,9 @@ pub mod Repeats
 pub mod BytesGiven
 pub mod DataLemmas
 pub mod AlignmentLemmas
+pub mod ReachLemmas
+pub mod RefittingLemmas
+pub mod AddressLemmas
 pub mod NamedLemmas
 pub mod PushLemmas
 pub mod ContentLemmas

@@ -4,7 +4,11 @@ pub mod DataOf
 pub mod Contents
 pub mod Visits
 pub mod Alignments
+pub mod Reaches
 pub mod SectionOf
 pub mod Answers
 pub mod Sound
+pub mod SoundItems
 pub mod Sections
+pub mod Refitting
+pub mod Addresses

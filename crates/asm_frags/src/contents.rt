@@ -1,9 +1,13 @@
 //! What items hold: bytes with fields, so many units, or zeros up to a multiple.
 
-ghost use Rattle.std.specs.Prelude.{◌≡◌, ◌≤◌, ◌^◌, OnOk, OnErr, take};
+ghost use Rattle.std.specs.Prelude.{◌≡◌, ◌≤◌, ◌^◌, OnOk, OnErr, IfOk, IfErr, take};
 ghost use Rattle.asm_frags.specs.DataOf.{IsData, no_data, with_bytes, with_field};
+ghost use Rattle.asm_frags.specs.Refitting.{refitted_data, refitted_content};
+ghost use Rattle.asm_frags.specs.declared.faults.FragFault.TheVariants.{NoMemory};
 
+use crate::faults::FragFault;
 use crate::fields::{Field, FieldSize};
+use crate::refitting::{Refits, refit_fields};
 use asm_expr::Linear;
 use std::alloc::{AllocError, Global};
 use std::marker::Model;
@@ -66,6 +70,16 @@ impl Data {
         // There is room for one.
         self.fields.push(Field { offset, size, form }).unwrap();
         Ok(())
+    }
+
+    /// The same with the form of each field replaced.
+    pub(crate) fn refitted<R: Refits>(self, refit: &R) -> Result<Data, FragFault>
+        ensures ok { IfOk result (λ made. made ≡ refitted_data (R.refit refit.now) self) }
+        ensures memory { IfErr result (λ fault. fault ≡ NoMemory) }
+    {
+        let Data { bytes, mut fields } = self;
+        refit_fields(&mut fields, refit)?;
+        Ok(Data { bytes, fields })
     }
 
     /// The bytes, which are 0 at each field.
@@ -190,4 +204,18 @@ pub enum Content {
     Bytes(Data),
     Fill(Fill),
     Align(Align),
+}
+
+impl Content {
+    /// The same with the form of each field replaced.
+    pub(crate) fn refitted<R: Refits>(self, refit: &R) -> Result<Content, FragFault>
+        ensures ok { IfOk result (λ made. made ≡ refitted_content (R.refit refit.now) self) }
+        ensures memory { IfErr result (λ fault. fault ≡ NoMemory) }
+    {
+        match self {
+            Content::Bytes(held) => Ok(Content::Bytes(held.refitted(refit)?)),
+            Content::Fill(held) => Ok(Content::Fill(held)),
+            Content::Align(held) => Ok(Content::Align(held)),
+        }
+    }
 }

@@ -7,8 +7,20 @@ use bitflags::{Flag, Flags, bitflag_items};
 /// `sh_type` of bytes that the source defines.
 pub const SHT_PROGBITS: u32 = 1;
 
+/// `sh_type` of notes.
+pub const SHT_NOTE: u32 = 7;
+
 /// `sh_type` of space that takes no bytes in the file.
 pub const SHT_NOBITS: u32 = 8;
+
+/// `sh_type` of pointers to functions that run before `main`.
+pub const SHT_INIT_ARRAY: u32 = 14;
+
+/// `sh_type` of pointers to functions that run at the end.
+pub const SHT_FINI_ARRAY: u32 = 15;
+
+/// `sh_type` of pointers to functions that run before all others.
+pub const SHT_PREINIT_ARRAY: u32 = 16;
 
 /// A set of flags.
 #[derive(Clone, Copy, PartialEq, Eq, Debug)]

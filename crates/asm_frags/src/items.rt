@@ -1,9 +1,11 @@
 //! Items of sections.
 
-ghost use Rattle.std.specs.Prelude.{◌≡◌};
+ghost use Rattle.std.specs.Prelude.{◌≡◌, IfOk, IfErr};
 
 use crate::contents::Content;
+use crate::faults::FragFault;
 use crate::phases::{Laid, Loose, Phase};
+use crate::refitting::Refits;
 use asm_base::Pos;
 
 /// An item of a section. `Frag::new` and `Frag::at` alone make one.
@@ -17,6 +19,9 @@ pub struct Frag<P: Phase> {
 }
 
 impl Frag<Loose> {
+    ghost use Rattle.asm_frags.specs.Refitting.{laid_item};
+    ghost use Rattle.asm_frags.specs.declared.faults.FragFault.TheVariants.{NoMemory};
+
     /// An item of a statement.
     pub fn new(pos: Pos, content: Content) -> Frag<Loose>
         ensures pos { result.pos ≡ pos }
@@ -29,7 +34,8 @@ impl Frag<Loose> {
         }
     }
 
-    /// The item with its address. Layout alone calls this: no other crate makes an item that is laid out.
+    /// The item with its address. Layout alone calls this: no other crate makes an item that is laid out. An address of 0
+    /// that stands there before layout is set means nothing yet.
     pub fn at(self, address: u64) -> Frag<Laid>
         ensures pos { result.pos ≡ self.pos }
         ensures content { result.content ≡ self.content }
@@ -45,5 +51,17 @@ impl Frag<Loose> {
             content,
             address,
         }
+    }
+    /// The item with the form of each field replaced, at address 0, which means nothing yet.
+    pub(crate) fn refitted<R: Refits>(self, refit: &R) -> Result<Frag<Laid>, FragFault>
+        ensures ok { IfOk result (λ made. made ≡ laid_item (R.refit refit.now) self) }
+        ensures memory { IfErr result (λ fault. fault ≡ NoMemory) }
+    {
+        let Frag {
+            pos,
+            content,
+            address: (),
+        } = self;
+        Ok(Frag::new(pos, content.refitted(refit)?).at(0))
     }
 }

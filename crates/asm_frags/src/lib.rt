@@ -12,6 +12,8 @@ mod laws;
 mod parts;
 mod phases;
 mod pieces;
+mod reaches;
+mod refitting;
 mod section_list;
 mod sizes;
 #[cfg(test)]
@@ -24,12 +26,17 @@ pub use alignments::{AskedAlignment, asked_alignment};
 pub use contents::{Align, Content, Data, Fill};
 pub use faults::FragFault;
 pub use fields::{Field, FieldSize};
-pub use flags::{SHT_NOBITS, SHT_PROGBITS, SectionFlags};
+pub use flags::{
+    SHT_FINI_ARRAY, SHT_INIT_ARRAY, SHT_NOBITS, SHT_NOTE, SHT_PREINIT_ARRAY, SHT_PROGBITS,
+    SectionFlags,
+};
 pub use items::Frag;
 pub use laws::{bytes_are_sized, padding_is_least, zeros_are_known};
 pub use parts::Section;
 pub use phases::{Laid, Loose, Phase};
 pub use pieces::{BytesAt, TakesBytes, put_bytes};
+pub use reaches::{FixedSize, Reach, fixed_size};
+pub use refitting::Refits;
 pub use section_list::Sections;
 pub use sizes::{SizeAt, size};
 pub use visiting::FragVisit;

@@ -1,16 +1,24 @@
 //! Sections: what a header says of them, and their items in order.
 
-ghost use Rattle.std.specs.Prelude.{◌≡◌};
+ghost use Rattle.std.specs.Prelude.{◌≡◌, ◌<◌, ◌≤◌, ◌^◌, length, map, IfOk, IfErr};
+ghost use Rattle.asm_frags.specs.Refitting.{laid_item, laid_section};
+ghost use Rattle.asm_frags.specs.Addresses.{section_with_address};
+ghost use Rattle.asm_frags.specs.declared.faults.FragFault.TheVariants.{NoMemory};
 
 use crate::alignments::asked_alignment;
 use crate::faults::FragFault;
 use crate::flags::{SHT_NOBITS, SectionFlags};
 use crate::items::Frag;
-use crate::phases::Phase;
+use crate::phases::{Laid, Loose, Phase};
+use crate::reaches::Reach;
+use crate::refitting::Refits;
 use crate::zeros::is_known_zeros;
 use asm_base::Text;
 use std::alloc::Global;
 use std::marker::Model;
+
+/// The most items of a section. Each has at most 2^33 bytes, so all have at most 2^61.
+const MOST_ITEMS: usize = 1 << 28;
 
 /// A section.
 #[derive(Drop)]
@@ -21,23 +29,24 @@ pub struct Section<P: Phase> {
     entry_size: u64,
     items: Vec<Frag<P>>,
     alignment: u64,
+    reach: Reach,
 }
 
 impl<P: Phase> Model for Section<P> {
-    ghost use Rattle.std.specs.Prelude.{◌≡◌};
     ghost use Rattle.asm_frags.specs.declared.items.Frag.{Frag};
     ghost use Rattle.asm_frags.specs.SectionOf.{SectionOf};
-    ghost use Rattle.asm_frags.specs.Alignments.{alignment_of_all};
+    ghost use Rattle.asm_frags.specs.SoundItems.{AreItems};
 
     ghost Value = { SectionOf (Frag P P.Address) };
 
     ghost view = { λ inside. record { name = inside.name; flags = inside.flags; kind = inside.kind; entry_size = inside.entry_size; items = inside.items.items } };
 
-    ghost invariant = { λ inside. inside.alignment ≡ alignment_of_all inside.items.items };
+    ghost invariant = { λ inside. AreItems inside.items.items inside.alignment inside.reach };
 }
 
 impl<P: Phase> Section<P> {
     ghost use Rattle.asm_frags.specs.Alignments.{alignment_of_all};
+    ghost use Rattle.asm_frags.specs.Reaches.{reach_of};
     ghost use Rattle.asm_frags.specs.SectionOf.{new_section, is_alike};
     ghost use Rattle.asm_frags.specs.Answers.{Changes, put};
 
@@ -58,6 +67,10 @@ impl<P: Phase> Section<P> {
             entry_size,
             items: Vec::new(alloc),
             alignment: 1,
+            reach: Reach {
+                breaks: 0,
+                bytes: 0,
+            },
         }
     }
 
@@ -91,7 +104,8 @@ impl<P: Phase> Section<P> {
 
     /// The items in order.
     pub fn items(&self) -> &[Frag<P>]
-        ensures { result.now ≡ self.now.items }
+        ensures items { result.now ≡ self.now.items }
+        ensures few { length result.now ≤ 2 ^ 28 }
     {
         self.items.as_slice()
     }
@@ -103,6 +117,15 @@ impl<P: Phase> Section<P> {
         self.alignment
     }
 
+    /// How far the section reaches.
+    pub fn reach(&self) -> Reach
+        ensures reach { result ≡ reach_of self.now.items }
+        ensures breaks { result.breaks ≤ 2 ^ 28 }
+        ensures bytes { result.bytes ≤ 2 ^ 61 }
+    {
+        self.reach
+    }
+
     /// Whether the section has these flags, this type and this entry size.
     pub(crate) fn is_alike(&self, flags: SectionFlags, kind: u32, entry_size: u64) -> bool
         ensures { result ≡ is_alike self.now flags kind entry_size }
@@ -111,15 +134,79 @@ impl<P: Phase> Section<P> {
     }
 
     /// Puts the item last. `BadSection` comes exactly where the item is not known to be zeros and the section takes no bytes.
+    /// More than 2^28 items can't be held.
     pub fn put(&mut self, item: Frag<P>) -> Result<(), FragFault>
         ensures { Changes self.old self.new result (put self.old item) }
     {
         if self.kind == SHT_NOBITS && !is_known_zeros(&item.content) {
             return Err(FragFault::BadSection);
         }
+        if self.items.len() >= MOST_ITEMS {
+            return Err(FragFault::NoMemory);
+        }
         let asked = asked_alignment(&item.content);
+        let reach = self.reach.advanced(&item);
         self.items.push(item)?;
         self.alignment = self.alignment.max(asked);
+        self.reach = reach;
         Ok(())
+    }
+}
+
+/// The items with the form of each field replaced, at address 0.
+fn refit_items<R: Refits>(
+    alloc: Global,
+    items: Vec<Frag<Loose>>,
+    refit: &R,
+) -> Result<Vec<Frag<Laid>>, FragFault>
+    ensures ok { IfOk result (λ made. made.items ≡ map (laid_item (R.refit refit.now)) items.items) }
+    ensures memory { IfErr result (λ fault. fault ≡ NoMemory) }
+{
+    let mut made = Vec::with_capacity(alloc, items.len())?;
+    for item in items {
+        made.push(item.refitted(refit)?)?;
+    }
+    Ok(made)
+}
+
+impl Section<Loose> {
+    /// The section with the form of each field replaced, each item at address 0, which means nothing yet.
+    pub(crate) fn refitted<R: Refits>(
+        self,
+        alloc: Global,
+        refit: &R,
+    ) -> Result<Section<Laid>, FragFault>
+        ensures ok { IfOk result (λ made. made ≡ laid_section (R.refit refit.now) self) }
+        ensures memory { IfErr result (λ fault. fault ≡ NoMemory) }
+    {
+        let Section {
+            name,
+            flags,
+            kind,
+            entry_size,
+            items,
+            alignment,
+            reach,
+        } = self;
+        let items = refit_items(alloc, items, refit)?;
+        Ok(Section {
+            name,
+            flags,
+            kind,
+            entry_size,
+            items,
+            alignment,
+            reach,
+        })
+    }
+}
+
+impl Section<Laid> {
+    /// Sets the address of the item of this index.
+    pub(crate) fn lay(&mut self, item: usize, address: u64)
+        requires { item < length self.old.items }
+        ensures { self.new ≡ section_with_address self.old item address }
+    {
+        self.items[item].address = address;
     }
 }

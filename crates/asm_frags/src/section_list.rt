@@ -1,13 +1,16 @@
 //! The sections of a source in the order in which they are first seen.
 
-ghost use Rattle.std.specs.Prelude.{◌≡◌, ◌==◌, ◌≤◌, ◌<◌, ◌^◌, [], ◌∷◌, ◌++◌, length, false, slice_get, Some, IfOk, IfErr, IfSome, OnOk, is_some};
+ghost use Rattle.std.specs.Prelude.{◌≡◌, ◌==◌, ◌≤◌, ◌<◌, ◌^◌, [], ◌∷◌, ◌++◌, length, false, map, slice_get, Some, IfOk, IfErr, IfSome, OnOk, is_some};
 ghost use Rattle.std.specs.List.{list_any};
+ghost use Rattle.asm_frags.specs.Refitting.{laid_section};
+ghost use Rattle.asm_frags.specs.declared.faults.FragFault.TheVariants.{NoMemory};
 
 use crate::faults::FragFault;
 use crate::flags::{SHT_NOBITS, SHT_PROGBITS, SectionFlags};
 use crate::items::Frag;
 use crate::parts::Section;
-use crate::phases::{Loose, Phase};
+use crate::phases::{Laid, Loose, Phase};
+use crate::refitting::Refits;
 use asm_base::Text;
 use bitflags::Flags;
 use indexmap::IndexSet;
@@ -56,6 +59,14 @@ impl<P: Phase> Sections<P> {
         self.sections.is_empty()
     }
 
+    /// The sections, in the order of their numbers.
+    pub fn as_slice(&self) -> &[Section<P>]
+        ensures sections { result.now ≡ self.now }
+        ensures few { length result.now ≤ 30003 }
+    {
+        self.sections.as_slice()
+    }
+
     /// The number of the section of this name.
     pub fn find(&self, name: &[u8]) -> Option<u32>
         ensures number { result ≡ number_of name.now self.now }
@@ -82,7 +93,6 @@ impl Sections<Loose> {
     ghost use Rattle.asm_frags.specs.Sections.{first_sections, entered, Enters, pushed, new_last};
     ghost use Rattle.asm_frags.specs.SectionOf.{new_section, is_named, number_of};
     ghost use Rattle.asm_frags.specs.Answers.{Changes};
-    ghost use Rattle.asm_frags.specs.declared.faults.FragFault.TheVariants.{NoMemory};
 
     /// A section more of the three that are there from the beginning.
     fn begin(&mut self, name: &[u8], flags: SectionFlags, kind: u32) -> Result<(), FragFault>
@@ -176,5 +186,58 @@ impl Sections<Loose> {
     {
         let section = &mut self.sections[section as usize];
         section.put(item)
+    }
+}
+
+/// The sections with the form of each field replaced, each item at address 0.
+fn refit_sections<R: Refits>(
+    alloc: Global,
+    sections: Vec<Section<Loose>>,
+    refit: &R,
+) -> Result<Vec<Section<Laid>>, FragFault>
+    ensures ok { IfOk result (λ made. made.items ≡ map (laid_section (R.refit refit.now)) sections.items) }
+    ensures memory { IfErr result (λ fault. fault ≡ NoMemory) }
+{
+    let mut made = Vec::with_capacity(alloc, sections.len())?;
+    for section in sections {
+        made.push(section.refitted(alloc, refit)?)?;
+    }
+    Ok(made)
+}
+
+impl Sections<Loose> {
+    ghost use Rattle.asm_frags.specs.Refitting.{laid_sections};
+
+    /// The sections as layout takes them over: the form of each field is replaced, and each item is at address 0, which
+    /// means nothing before `lay` sets it. The old items of a section are let go before the next section is made.
+    pub fn refitted<R: Refits>(self, refit: &R) -> Result<Sections<Laid>, FragFault>
+        ensures ok { IfOk result (λ laid. laid ≡ laid_sections (R.refit refit.now) self) }
+        ensures memory { IfErr result (λ fault. fault ≡ NoMemory) }
+    {
+        let Sections {
+            alloc,
+            names,
+            sections,
+        } = self;
+        let sections = refit_sections(alloc, sections, refit)?;
+        Ok(Sections {
+            alloc,
+            names,
+            sections,
+        })
+    }
+}
+
+impl Sections<Laid> {
+    ghost use Rattle.asm_frags.specs.Addresses.{HasItem, with_address};
+
+    /// Sets the address of the item of this index in the section of this number. It takes no memory.
+    pub fn lay(&mut self, section: u32, item: usize, address: u64)
+        requires section { section < length self.old }
+        requires item { HasItem self.old section item }
+        ensures sections { self.new ≡ with_address self.old section item address }
+        ensures same { length self.new ≡ length self.old }
+    {
+        self.sections[section as usize].lay(item, address);
     }
 }

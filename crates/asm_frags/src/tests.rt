@@ -3,8 +3,8 @@
 ghost use Rattle.std.specs.Prelude.{◌≡◌, IfOk};
 
 use crate::{
-    Align, Content, Data, FieldSize, Fill, Frag, FragFault, Laid, Loose, SectionFlags, Sections,
-    asked_alignment, is_known_zeros, put_bytes, size,
+    Align, Content, Data, FieldSize, Fill, Frag, FragFault, Laid, Loose, Refits, SectionFlags,
+    Sections, asked_alignment, fixed_size, is_known_zeros, put_bytes, size,
 };
 use FragFault::BadSection;
 use asm_base::{Pos, Text};
@@ -46,6 +46,26 @@ impl Known for Nothing {
 /// The form of the place.
 fn form(alloc: Global) -> Result<Linear, ExprFault> {
     linear_form(alloc, &Expr::Here, &Nothing)
+}
+
+/// Each form becomes the number 7.
+#[derive(Drop)]
+struct Seven {
+    alloc: Global,
+}
+
+impl Refits for Seven {
+    ghost use Rattle.asm_expr.specs.Forms.{constant_form};
+
+    ghost refit = { λ _ _. constant_form 7 };
+
+    #[tactic(auto, unfolding(asm_expr::specs::Linear::linear))]
+    fn refit(&self, _form: &Linear) -> Result<Linear, FragFault> {
+        match linear_form(self.alloc, &Expr::Num(7), &Nothing) {
+            Ok(made) => Ok(made),
+            Err(_) => Err(FragFault::NoMemory),
+        }
+    }
 }
 
 /// Bytes without a field.
@@ -272,6 +292,82 @@ fn pushes(rt: HostRuntime) -> Result<(), Fail> {
     expect(&rt, &sections, 0, b".text", (6, 1, 0), (4, 16));
     expect(&rt, &sections, 1, b".data", (3, 1, 0), (0, 1));
     expect(&rt, &sections, 2, b".bss", (3, 8, 0), (2, 32));
+    Ok(())
+}
+
+/// The size of the content where it is known, and the breaks and bytes of `.text` once it is put there.
+fn reach_after(
+    rt: &impl Abort,
+    sections: &mut Sections,
+    content: Content,
+) -> Result<(Option<u64>, u64, u64), FragFault> {
+    let known = fixed_size(&content);
+    push(rt, sections, 0, content)?;
+    assert!(rt; !sections.is_empty());
+    let reach = sections.section(0).reach();
+    Ok((known, reach.breaks, reach.bytes))
+}
+
+#[test]
+fn reaches(rt: HostRuntime) -> Result<(), Fail> {
+    let mut sections = Sections::new(rt.alloc())?;
+    let bytes = plain(rt.alloc(), b"\x01\x02\x03")?;
+    let reach = reach_after(&rt, &mut sections, bytes)?;
+    assert_eq!(rt; reach, (Some(3), 0, 3));
+    let fill = Content::Fill(Fill::new(2, 4, 7));
+    let reach = reach_after(&rt, &mut sections, fill)?;
+    assert_eq!(rt; reach, (Some(8), 0, 11));
+    let align = Content::Align(Align::new(4));
+    let reach = reach_after(&rt, &mut sections, align)?;
+    assert_eq!(rt; reach, (None, 1, 0));
+    let bytes = plain(rt.alloc(), b"\x90")?;
+    let reach = reach_after(&rt, &mut sections, bytes)?;
+    assert_eq!(rt; reach, (Some(1), 1, 1));
+    Ok(())
+}
+
+/// Sets the address of an item that is there.
+fn lay(rt: &impl Abort, sections: &mut Sections<Laid>, number: u32, item: usize, address: u64) {
+    assert!(rt; (number as usize) < sections.len());
+    assert!(rt; item < sections.section(number).items().len());
+    sections.lay(number, item, address);
+}
+
+#[test]
+fn lays(rt: HostRuntime) -> Result<(), Fail> {
+    let mut sections = Sections::new(rt.alloc())?;
+    let held = with_fields(rt.alloc())?;
+    push(&rt, &mut sections, 0, Content::Align(Align::new(4)))?;
+    push(&rt, &mut sections, 0, Content::Bytes(held))?;
+    push(&rt, &mut sections, 1, plain(rt.alloc(), b"\x01")?)?;
+    let mut laid = sections.refitted(&Seven { alloc: rt.alloc() })?;
+    assert_eq!(rt; laid.len(), 3);
+    assert_eq!(rt; laid.find(b".data"), Some(1));
+    lay(&rt, &mut laid, 0, 1, 0x20);
+    lay(&rt, &mut laid, 1, 0, 0x30);
+    let want: [(usize, u64, u64); 3] = [(2, 0, 0x20), (1, 0x30, 0x30), (0, 0, 0)];
+    for (section, (items, first, last)) in laid.as_slice().iter().zip(want) {
+        assert_eq!(rt; section.items().len(), items);
+        if let Some(item) = section.items().first() {
+            assert_eq!(rt; item.address, first);
+        }
+        if let Some(item) = section.items().last() {
+            assert_eq!(rt; item.address, last);
+        }
+    }
+    assert!(rt; laid.len() == 3);
+    let text = laid.section(0);
+    assert_eq!(rt; text.alignment(), 16);
+    assert_eq!(rt; (text.reach().breaks, text.reach().bytes), (1, 23));
+    assert!(rt; text.items().len() == 2);
+    if let Content::Bytes(held) = &text.items()[1].content {
+        assert_eq!(rt; held.fields().len(), 4);
+        for (field, offset) in held.fields().iter().zip([2, 8, 11, 21]) {
+            assert_eq!(rt; field.offset, offset);
+            assert_eq!(rt; field.form.terms().len(), 0);
+            assert_eq!(rt; field.form.constant(), 7);
+        }
+    }
     Ok(())
 }
 

@@ -1,5 +1,5 @@
 -- From what was read and what was made of it to the answer of a call of `assemble`.
-use Rattle.std.proofs.Common.{◌≡◌, ℕ, ◌<◌, ◌≤◌, true, false, cond, nat_lt, List, [], length, Option, None, Some, Result, Ok, Err, sym, ap, ◌∙◌, subst, arith}
+use Rattle.std.proofs.Common.{◌≡◌, ℕ, ◌<◌, ◌≤◌, Bool, true, false, cond, nat_lt, List, [], length, Option, None, Some, Result, Ok, Err, sym, ap, ◌∙◌, subst, arith}
 use Rattle.std.proofs.lemmas.Bool.Decides.{nat_tests}
 use Rattle.asm_base.specs.Inputs.{Contents}
 use Rattle.asm_base.specs.WholeFile.{most_bytes, ReadsFile, ReadsName}
@@ -7,15 +7,24 @@ use Rattle.asm_base.specs.declared.reading.TextFault.TheVariants.{TooLarge}
 use Rattle.asm_base.specs.declared.faults.Fault.TheVariants.{Statement}
 use Rattle.asm_base.specs.declared.faults.StatementFault.TheVariants as statement
 use Rattle.asm_base.specs.declared.notes.Noted.{Noted}
-use Rattle.asm_front.specs.Assembly.{Flags, FaultAt, NotedObject, fault_at, pos_at, assembly_of_lines, assembly_of}
+use Rattle.asm_place.specs.State.{Placed}
+use Rattle.asm_place.specs.Sources.{FaultAt, fault_at, pos_at}
+use Rattle.asm_place.specs.Stops.{Stops}
+use Rattle.asm_front.specs.Ending.{Flags, NotedObject}
+use Rattle.asm_front.specs.Assembly.{placed_end, assembly_of_lines, assembly_of}
 use Rattle.asm_front.specs.Stops.{MakesNoted, too_large_stop}
 use Rattle.asm_front.specs.Answering.{IsAnswered}
 use Rattle.asm_front.specs.Outcome.{main_file, AssemblesAs, AssemblesFile, Assembles}
-use Rattle.asm_front.specs.declared.steps.Stop.{Stop}
-use Rattle.asm_front.specs.declared.steps.Stop.TheVariants as stop
+use Rattle.asm_place.specs.declared.steps.Stop.{Stop}
+use Rattle.asm_place.specs.declared.steps.Stop.TheVariants as stop
 use Rattle.asm_front.specs.declared.answers.Assembled.{Assembled}
 use Rattle.asm_front.specs.declared.answers.AsmFault.{AsmFault}
 use Rattle.asm_front.specs.declared.answers.AsmFault.TheVariants.{Source, Read, NoMemory}
+
+-- what ends the placing ends the assembly
+pub stopped : (fatal : Bool) (end : Stop) (notes : List Noted) (placed : Result Placed FaultAt) → Stops end notes placed → Stops end notes (placed_end fatal placed)
+stopped fatal (stop.Source fault pos) notes placed is = ap (placed_end fatal) is
+stopped fatal stop.NoMemory notes placed is = tt
 
 -- what was made by the definition is answered by the definition
 pub answered : (name : List ℕ) (assembly : Result NotedObject FaultAt) (notes : List Noted) (made : Result (List ℕ) Stop) (result : Result Assembled AsmFault)

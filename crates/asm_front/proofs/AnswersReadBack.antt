@@ -1,12 +1,12 @@
 -- The object of an answer reads back as its source.
 use Rattle.std.proofs.Common.{ℕ, List, Option, None, Some, Result, Ok, Err}
 use Rattle.asm_base.specs.Inputs.{Contents}
-use Rattle.asm_front.specs.Assembly.{Flags}
+use Rattle.asm_front.specs.Ending.{Flags}
 use Rattle.asm_front.specs.Outcome.{AssemblesFile, Assembles}
 use Rattle.asm_front.specs.ReadsBack.{AnswerReadsBack, ReadsBackFrom}
 use Rattle.asm_front.specs.declared.answers.Assembled.{Assembled}
 use Rattle.asm_front.specs.declared.answers.AsmFault.{AsmFault}
-use Rattle.asm_front.proofs.ReadsBackLemmas.{reads_back}
+use Rattle.asm_front.proofs.ObjectReads.{reads_back}
 
 file_reads_back : (flags : Flags) (name : List ℕ) (file : Option (List ℕ)) (result : Result Assembled AsmFault) → AssemblesFile flags name file result → AnswerReadsBack flags file result
 file_reads_back flags name None result so = tt

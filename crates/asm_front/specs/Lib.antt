@@ -1,22 +1,14 @@
 -- The definitions that the contracts cite, in reading order.
-pub mod Rows
-pub mod Reads
-pub mod Results
-pub mod Answers
-pub mod SymbolMap
-pub mod SymbolEntries
-pub mod Operands
-pub mod OperandParts
-pub mod ExprFaults
-pub mod Expressions
-pub mod DataItems
-pub mod Placing
-pub mod PlacedBy
 pub mod Fields
 pub mod StringTable
 pub mod Sections
 pub mod Symbols
 pub mod Image
+pub mod FileLocals
+pub mod Contents
+pub mod HeldEntries
+pub mod TableSymbols
+pub mod Ending
 pub mod Assembly
 pub mod Stops
 pub mod Outcome

@@ -1,13 +1,12 @@
 -- What a call of `assemble` answers, by what the input tells of the source.
-use Rattle.std.specs.Prelude.{◌≡◌, ℕ, ◌+◌, ◌≤◌, min, Bool, true, false, IsTrue, List, [], ◌∷◌, codes, Option, None, Some, Result, Ok, Err}
+use Rattle.std.specs.Prelude.{◌≡◌, ℕ, ◌+◌, ◌≤◌, min, IsTrue, List, [], ◌∷◌, codes, Option, None, Some, Result, Ok, Err}
 use Rattle.asm_base.specs.Counts.{HasRisen, last_count}
 use Rattle.asm_base.specs.WholeFile.{most_bytes}
-use Rattle.asm_base.specs.declared.faults.StatementFault.{StatementFault}
-use Rattle.asm_base.specs.declared.faults.StatementFault.TheVariants as statement
-use Rattle.asm_base.specs.declared.faults.Fault.{Fault}
-use Rattle.asm_base.specs.declared.faults.Fault.TheVariants.{Statement, End, Scfi}
 use Rattle.asm_base.specs.Inputs.{Contents}
-use Rattle.asm_front.specs.Assembly.{Flags, FaultAt, NotedObject, fault_at, assembly_of}
+use Rattle.asm_place.specs.Faults.{is_file_too_large}
+use Rattle.asm_place.specs.Sources.{FaultAt, fault_at}
+use Rattle.asm_front.specs.Ending.{Flags, NotedObject}
+use Rattle.asm_front.specs.Assembly.{assembly_of}
 use Rattle.asm_front.specs.declared.answers.Options.{Options}
 use Rattle.asm_front.specs.declared.answers.Assembled.{Assembled}
 use Rattle.asm_front.specs.declared.answers.AsmFault.{AsmFault}
@@ -71,18 +70,9 @@ KeepsCount (Err (Source fault pos notes files)) before now = now ≡ before
 KeepsCount (Err Read) before now = Unit {0}
 KeepsCount (Err NoMemory) before now = Unit {0}
 
-abbrev pub is_too_large_fault : StatementFault → Bool
-is_too_large_fault statement.FileTooLarge = true
-is_too_large_fault _ = false
-
-abbrev pub is_too_large : Fault → Bool
-is_too_large (Statement fault) = is_too_large_fault fault
-is_too_large (End fault) = false
-is_too_large (Scfi fault) = false
-
 -- a file is called too large only where more than the most bytes were taken
 abbrev pub TakesSource : Result Assembled AsmFault → ℕ → ℕ → Type 0
 TakesSource (Ok made) before now = Unit {0}
-TakesSource (Err (Source fault pos notes files)) before now = IsTrue (is_too_large fault) → min (before + (most_bytes + 1)) last_count ≤ now
+TakesSource (Err (Source fault pos notes files)) before now = IsTrue (is_file_too_large fault) → min (before + (most_bytes + 1)) last_count ≤ now
 TakesSource (Err Read) before now = Unit {0}
 TakesSource (Err NoMemory) before now = Unit {0}

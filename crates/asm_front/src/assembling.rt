@@ -1,28 +1,28 @@
 //! From the name of a source to its object.
 
-ghost use Rattle.std.specs.Prelude.{◌≡◌, ◌≤◌, ◌+◌, string_bytes, IfOk, OnOk};
+ghost use Rattle.std.specs.Prelude.{◌≡◌, ◌≤◌, ◌+◌, map, string_bytes, IfOk, OnOk};
 ghost use Rattle.std.specs.Io.KnownBytes.{IsAtEnd};
 ghost use Rattle.asm_base.specs.Inputs.{CountsMissing};
 ghost use Rattle.asm_base.specs.WholeFile.{most_bytes};
-ghost use Rattle.asm_front.specs.Assembly.{assembly_of_lines};
-ghost use Rattle.asm_front.specs.Placing.{nothing_placed};
-ghost use Rattle.asm_front.specs.PlacedBy.{placed_by};
+ghost use Rattle.asm_front.specs.Assembly.{placed_end, assembly_of_lines};
+ghost use Rattle.asm_lines.specs.Seen.{seen};
+ghost use Rattle.asm_place.specs.State.{nothing_placed};
+ghost use Rattle.asm_place.specs.Sources.{place_all};
+ghost use Rattle.asm_place.specs.PlacedBy.{placed_by};
 ghost use Rattle.asm_front.specs.Outcome.{main_file, shown_name, files_of, flags_of, Assembles, NamesFiles, HasAssemblyCause, KeepsCount, TakesSource};
 ghost use Rattle.asm_front.specs.Answering.{IsAnswered};
 ghost use Rattle.asm_front.specs.ReadsBack.{ReadsBackFrom};
 ghost use Rattle.asm_front.specs.Stops.{MakesNoted, line_stop, too_large_stop};
 
 use crate::answers::{AsmFault, Assembled, Options};
-use crate::ending::finished;
+use crate::ending::{Made, finished};
 use crate::object::Object;
-use crate::placing::Assembler;
-use crate::sources::place_all;
-use crate::steps::Stop;
 use asm_base::{
     Fault, Files, Inputs, NoMemory, Notes, Pos, StatementFault, Text, TextFault, read_text,
 };
-use asm_lines::{LineFault, read_statements};
-use std::alloc::Global;
+use asm_lines::{LineFault, Statement, read_statements};
+use asm_place::{Assembler, Stop, place_all};
+use std::alloc::{AllocError, Global};
 
 /// The number of the source file, which is the only one.
 const MAIN_FILE: u32 = 0;
@@ -64,18 +64,48 @@ fn line_stop(fault: LineFault) -> Stop
     }
 }
 
-/// The object of a text that is not too large, by an assembler that has placed nothing. It keeps the notes.
-#[tactic(auto, unfolding(crate::specs::Assembly::assembly_of_lines))]
-fn object_of_text(options: &Options, assembler: &mut Assembler, text: &Text) -> Result<Object, Stop>
-    requires { placed_by assembler.old ≡ nothing_placed options.now.no_warn }
-    ensures { MakesNoted assembler.new.notes result (assembly_of_lines (flags_of options.now) main_file text.now) }
+/// What is made of these statements, by an assembler.
+#[tactic(auto, using(crate::proofs::AnswerLemmas::stopped))]
+fn made_of(alloc: Global, fatal: bool, statements: &[Statement], assembler: Assembler) -> Made
+    ensures { MakesNoted result.notes result.object (placed_end fatal (place_all (map seen statements.now) (placed_by assembler))) }
 {
-    match read_statements(assembler.alloc, text, MAIN_FILE) {
-        Ok(statements) => {
-            place_all(assembler, statements.as_slice())?;
-            finished(assembler.alloc, options.fatal_warnings, assembler)
-        }
-        Err(fault) => Err(line_stop(fault)),
+    let mut assembler = assembler;
+    match place_all(&mut assembler, statements) {
+        Ok(()) => finished(alloc, fatal, assembler.into_parts()),
+        Err(stop) => Made {
+            notes: assembler.into_parts().notes,
+            object: Err(stop),
+        },
+    }
+}
+
+/// What is made of a text that is not too large, by an assembler that has placed nothing.
+#[tactic(auto, unfolding(crate::specs::Assembly::assembly_of_lines))]
+fn made_of_text(alloc: Global, options: &Options, assembler: Assembler, text: &Text) -> Made
+    requires { placed_by assembler ≡ nothing_placed options.now.no_warn }
+    ensures { MakesNoted result.notes result.object (assembly_of_lines (flags_of options.now) main_file text.now) }
+{
+    match read_statements(alloc, text, MAIN_FILE) {
+        Ok(statements) => made_of(
+            alloc,
+            options.fatal_warnings,
+            statements.as_slice(),
+            assembler,
+        ),
+        Err(fault) => Made {
+            notes: Notes::new(alloc),
+            object: Err(line_stop(fault)),
+        },
+    }
+}
+
+/// What is made of a text, unless memory is refused.
+fn begun(alloc: Global, options: &Options, text: &Text) -> Result<Made, NoMemory>
+    ensures { IfOk result (λ made. MakesNoted made.notes made.object (assembly_of_lines (flags_of options.now) main_file text.now)) }
+{
+    match Assembler::new(alloc, options.no_warn) {
+        Ok(assembler) => Ok(made_of_text(alloc, options, assembler, text)),
+        Err(_) => Err(AllocError),
     }
 }
 
@@ -156,11 +186,10 @@ pub fn assemble<I: Inputs>(
 {
     let name = options.file.as_str();
     match read_text(alloc, ins, name) {
-        Ok(text) => {
-            let mut assembler = Assembler::new(alloc, options.no_warn);
-            let made = object_of_text(options, &mut assembler, &text);
-            answered(alloc, name, assembler.into_notes(), made)
-        }
+        Ok(text) => match begun(alloc, options, &text) {
+            Ok(made) => answered(alloc, name, made.notes, made.object),
+            Err(_) => Err(AsmFault::NoMemory),
+        },
         Err(TextFault::TooLarge) => answered(alloc, name, Notes::new(alloc), Err(too_large())),
         Err(TextFault::Read) => Err(AsmFault::Read),
         Err(TextFault::NoMemory) => Err(AsmFault::NoMemory),

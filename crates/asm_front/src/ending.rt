@@ -1,179 +1,297 @@
-//! What is found and made at the end of a source: undefined local symbols, and the object.
+//! The end of a source: the layout of what was placed, and its object, or the first fault that shows there.
 
-ghost use Rattle.std.specs.Prelude.{◌≡◌, ◌++◌, map, find, filter_map, IfOk, OnOk, option_map, option_copied, slice_get, if◌then◌else◌};
-ghost use Rattle.std.specs.Option.{option_to_list};
-ghost use Rattle.asm_front.specs.SymbolEntries.{listed};
-ghost use Rattle.asm_front.specs.Symbols.{symbol_view};
-ghost use Rattle.asm_front.specs.Sections.{section_view};
-ghost use Rattle.asm_front.specs.Assembly.{is_file_local, is_undefined_local, symbol_of, sections_of, object_of, finished};
-ghost use Rattle.asm_front.specs.PlacedBy.{placed_by};
-ghost use Rattle.asm_front.specs.Stops.{MakesNoted, undefined_stop, warning_stop};
+ghost use Rattle.std.specs.Prelude.{◌≡◌, ◌≤◌, find, length, IfOk, Ok, option_map};
+ghost use Rattle.std.specs.List.{position_or_len};
+ghost use Rattle.asm_front.specs.Ending as spec;
+ghost use Rattle.asm_front.specs.Stops.{MakesNoted};
 
+use crate::contents::{Placement, held_sections, section_list};
 use crate::image::image;
-use crate::named_symbols::NamedEntry;
 use crate::object::Object;
-use crate::placing::Assembler;
-use crate::sections::{
-    Body, SHF_ALLOC, SHF_EXECINSTR, SHF_WRITE, SHT_NOBITS, SHT_PROGBITS, Section,
-};
-use crate::steps::Stop;
-use crate::symbols::{Binding, Kind, Symbol, Visibility};
-use asm_base::{EndFault, Fault, Noted};
-use std::alloc::{AllocError, Global};
+use crate::table_symbols::{field_value, is_file_local, symbols_of};
+use asm_base::{EndFault, Fault, NoMemory, Noted, Notes, Pos};
+use asm_expr::Linear;
+use asm_frags::{Content, Frag, Laid, Section, Sections};
+use asm_place::{NamedSymbols, Parts, Stop};
+use asm_relax::{LayoutFault, Plan, laid_value};
+use asm_symbols::{Meaning, Symbol};
+use std::alloc::Global;
 
-/// The index of `.text` in the header table, behind the null section.
-const TEXT_SECTION: u16 = 1;
+/// A fault that shows at the end, and where it stands.
+#[derive(Clone, Copy, Drop)]
+pub(crate) struct Ended {
+    pub(crate) fault: EndFault,
+    pub(crate) pos: Pos,
+}
 
-/// Whether a symbol of this name is local to the file.
-fn is_file_local(name: &[u8]) -> bool
-    ensures { result ≡ is_file_local name.now }
+/// The first line of the source file.
+const SOURCE_START: Pos = Pos { file: 0, line: 1 };
+
+/// The fault of the layout.
+fn layout_end(fault: LayoutFault) -> Ended
+    ensures { result ≡ spec.layout_end fault }
 {
-    name.starts_with(b".L")
+    match fault {
+        LayoutFault::SectionTooLarge { pos, .. } => Ended {
+            fault: EndFault::SectionTooLarge,
+            pos,
+        },
+        LayoutFault::DistanceOutOfRange { pos, .. } => Ended {
+            fault: EndFault::DistanceOutOfRange,
+            pos,
+        },
+    }
 }
 
 /// Whether a symbol is named that must be defined and is not.
-fn is_undefined_local(entry: &NamedEntry) -> bool
-    ensures { result ≡ is_undefined_local (listed entry.now) }
+fn is_undefined_local(symbol: &Symbol) -> bool
+    ensures { result ≡ spec.is_undefined_local symbol.now }
 {
-    is_file_local(entry.name) && entry.symbol.offset.is_none()
+    is_file_local(&symbol.name) && matches!(symbol.meaning, Meaning::Undefined)
 }
 
-/// The first symbol that is named, must be defined and is not.
-fn first_undefined<'e, 'a>(entries: &'e [NamedEntry<'a>]) -> Option<&'e NamedEntry<'a>>
-    ensures { option_map (λ entry. entry.now) result ≡ find (λ entry. is_undefined_local (listed entry)) entries.now }
+/// Where the first symbol that must be defined and is not stands among them, or how many there are.
+fn undefined_index(symbols: &[Symbol]) -> usize
+    ensures index { result ≡ position_or_len spec.is_undefined_local symbols.now }
+    ensures within { result ≤ length symbols.now }
 {
-    entries.iter().find(|entry| is_undefined_local(entry))
+    for (index, symbol) in symbols.iter().enumerate() {
+        if is_undefined_local(symbol) {
+            return index;
+        }
+    }
+    symbols.len()
 }
 
-/// The fault of a symbol that is not defined.
-fn undefined(entry: &NamedEntry) -> Stop
-    ensures { result ≡ undefined_stop (listed entry.now) }
+/// Where a symbol is first named.
+fn named_at(named: &[Pos], index: usize) -> Pos
+    ensures { result ≡ spec.named_at named.now index }
 {
-    Stop::Source(Fault::End(EndFault::UndefinedLocalSymbol), entry.symbol.pos)
+    named.get(index).copied().unwrap_or(SOURCE_START)
 }
 
-/// The symbol as it stands in the table, if it does.
-fn symbol_of<'a>(entry: &NamedEntry<'a>) -> Option<Symbol<'a>>
-    ensures { option_map symbol_view result ≡ symbol_of (listed entry.now) }
+/// Where the first symbol that must be defined and is not is first named.
+#[tactic(auto, unfolding(crate::specs::Ending::first_undefined))]
+fn first_undefined(table: &NamedSymbols) -> Option<Pos>
+    ensures { result ≡ spec.first_undefined table.now }
 {
-    let offset = entry.symbol.offset?;
-    let binding = if entry.symbol.is_global {
-        Binding::Global
-    } else if is_file_local(entry.name) {
-        return None;
+    let symbols = table.symbols().as_slice();
+    let index = undefined_index(symbols);
+    if index < symbols.len() {
+        Some(named_at(table.named(), index))
     } else {
-        Binding::Local
-    };
-    Some(Symbol {
-        name: entry.name,
-        binding,
-        kind: Kind::NoType,
-        visibility: Visibility::Default,
-        section: TEXT_SECTION,
-        value: offset,
-        size: 0,
-    })
-}
-
-/// Appends the symbol, if there is one.
-fn put_symbol<'a>(
-    symbols: &mut Vec<Symbol<'a>>,
-    symbol: Option<Symbol<'a>>,
-) -> Result<(), AllocError>
-    ensures { OnOk result (map symbol_view symbols.new.items ≡ map symbol_view symbols.old.items ++ option_to_list (option_map symbol_view symbol.entry)) }
-{
-    if let Some(symbol) = symbol {
-        symbols.push(symbol)?;
+        None
     }
-    Ok(())
 }
 
-/// The symbols that stand in the table.
-fn table_symbols<'a>(
-    alloc: Global,
-    entries: &[NamedEntry<'a>],
-) -> Result<Vec<Symbol<'a>>, AllocError>
-    ensures { IfOk result (λ symbols. map symbol_view symbols.items ≡ filter_map symbol_of (map listed entries.now)) }
+/// Whether a field of the item has no value.
+fn has_unknown(at: Placement, item: &Frag<Laid>) -> bool
+    ensures { result ≡ spec.has_unknown at.entry.symbols.now at.entry.sections.now item.now }
 {
-    let mut symbols = Vec::new(alloc);
-    for entry in entries {
-        put_symbol(&mut symbols, symbol_of(entry))?;
+    match &item.content {
+        Content::Bytes(data) => data.fields().iter().any(|field| laid_value(
+            at.symbols,
+            at.sections,
+            &field.form,
+        ).is_none()),
+        _ => false,
     }
-    Ok(symbols)
 }
 
-/// The sections (gABI, chapter 4, "Special Sections").
-fn sections_of(text: &[u8]) -> [Section<'_>; 3]
-    ensures { map section_view result ≡ sections_of text.now }
+/// The first item with a field that has no value.
+fn unknown_item<'a>(at: Placement, items: &'a [Frag<Laid>]) -> Option<&'a Frag<Laid>>
+    ensures { option_map (λ item. item.now) result ≡ find (spec.has_unknown at.entry.symbols.now at.entry.sections.now) items.now }
 {
-    [
-        Section {
-            name: b".text",
-            kind: SHT_PROGBITS,
-            flags: SHF_ALLOC + SHF_EXECINSTR,
-            alignment: 1,
-            entry_size: 0,
-            body: Body::Bytes(text),
-        },
-        Section {
-            name: b".data",
-            kind: SHT_PROGBITS,
-            flags: SHF_WRITE + SHF_ALLOC,
-            alignment: 1,
-            entry_size: 0,
-            body: Body::Bytes(b""),
-        },
-        Section {
-            name: b".bss",
-            kind: SHT_NOBITS,
-            flags: SHF_WRITE + SHF_ALLOC,
-            alignment: 1,
-            entry_size: 0,
-            body: Body::NoBits(0),
-        },
-    ]
+    items.iter().find(|item| has_unknown(at, item))
 }
 
-/// The fault of the first warning.
-fn warned(noted: &Noted) -> Stop
-    ensures { result ≡ warning_stop noted.now }
+/// Where the first item of these sections with a field that has no value stands.
+#[tactic(auto, unfolding(crate::specs::Ending::first_unknown))]
+fn first_unknown(at: Placement, sections: &[Section<Laid>]) -> Option<Pos>
+    ensures { result ≡ spec.first_unknown at.entry.symbols.now at.entry.sections.now sections.now }
 {
-    Stop::Source(Fault::End(EndFault::WarningsAreErrors), noted.pos)
+    for section in sections {
+        if let Some(item) = unknown_item(at, section.items()) {
+            return Some(item.pos);
+        }
+    }
+    None
 }
 
-/// The first warning, where warnings are to refuse the run.
-fn fatal_warning(fatal: bool, notes: &[Noted]) -> Option<&Noted>
-    ensures { option_copied result ≡ (if fatal then slice_get notes.now 0 else None) }
+/// Whether the size was said and has no value.
+fn unknown_size(alloc: Global, at: Placement, size: &Option<Linear>) -> Result<bool, NoMemory>
+    ensures { IfOk result (λ unknown. unknown ≡ spec.unknown_size at.entry.symbols.now at.entry.sections.now size.now) }
 {
-    if fatal { notes.first() } else { None }
+    match size {
+        None => Ok(false),
+        Some(form) => Ok(field_value(alloc, at, form)?.is_none()),
+    }
 }
 
-/// The object of what was placed, whose symbols are these entries.
-#[tactic(auto, unfolding(crate::specs::Assembly::object_of))]
-fn object_of(
+/// Where the first symbol whose size has no value stands among them, or how many there are.
+fn unsized_index(alloc: Global, at: Placement, symbols: &[Symbol]) -> Result<usize, NoMemory>
+    ensures index { IfOk result (λ index. index ≡ position_or_len (λ symbol. spec.unknown_size at.entry.symbols.now at.entry.sections.now symbol.size) symbols.now) }
+    ensures within { IfOk result (λ index. index ≤ length symbols.now) }
+{
+    for (index, symbol) in symbols.iter().enumerate() {
+        if unknown_size(alloc, at, &symbol.size)? {
+            return Ok(index);
+        }
+    }
+    Ok(symbols.len())
+}
+
+/// Where the size of a symbol is said.
+fn sized_at(table: &NamedSymbols, index: usize) -> Pos
+    ensures { result ≡ spec.sized_at table.now.sized index }
+{
+    if index < 0x1_0000_0000 {
+        table.sized(index as u32).unwrap_or(SOURCE_START)
+    } else {
+        SOURCE_START
+    }
+}
+
+/// Where the first symbol whose size has no value is said to have it.
+#[tactic(auto, unfolding(crate::specs::Ending::first_unsized))]
+fn first_unsized(
     alloc: Global,
-    assembler: &Assembler,
-    entries: &[NamedEntry],
-) -> Result<Object, AllocError>
-    requires { map listed entries.now ≡ assembler.now.symbols }
-    ensures { IfOk result (λ object. object ≡ object_of (placed_by assembler.now)) }
+    at: Placement,
+    table: &NamedSymbols,
+) -> Result<Option<Pos>, NoMemory>
+    requires { at.symbols.now ≡ table.now.symbols }
+    ensures { IfOk result (λ place. place ≡ spec.first_unsized table.now at.entry.sections.now) }
 {
-    let symbols = table_symbols(alloc, entries)?;
-    let bytes = image(alloc, &sections_of(&assembler.text), &symbols)?;
+    let index = unsized_index(alloc, at, at.symbols.as_slice())?;
+    if index < at.symbols.len() {
+        Ok(Some(sized_at(table, index)))
+    } else {
+        Ok(None)
+    }
+}
+
+/// Where the first warning stands, where warnings are to refuse the run.
+fn first_warning(fatal: bool, notes: &[Noted]) -> Option<Pos>
+    ensures { result ≡ spec.first_warning fatal notes.now }
+{
+    if !fatal {
+        return None;
+    }
+    match notes.first() {
+        Some(noted) => Some(noted.pos),
+        None => None,
+    }
+}
+
+/// The first fault behind the layout.
+#[tactic(auto, unfolding(crate::specs::Ending::first_end))]
+fn first_end(
+    alloc: Global,
+    fatal: bool,
+    at: Placement,
+    table: &NamedSymbols,
+    notes: &[Noted],
+) -> Result<Option<Ended>, NoMemory>
+    requires { at.symbols.now ≡ table.now.symbols }
+    ensures { IfOk result (λ ended. ended ≡ spec.first_end fatal table.now notes.now at.entry.sections.now) }
+{
+    if let Some(pos) = first_undefined(table) {
+        return Ok(Some(Ended {
+            fault: EndFault::UndefinedLocalSymbol,
+            pos,
+        }));
+    }
+    if let Some(pos) = first_unknown(at, at.sections.as_slice()) {
+        return Ok(Some(Ended {
+            fault: EndFault::NoRelocation,
+            pos,
+        }));
+    }
+    if let Some(pos) = first_unsized(alloc, at, table)? {
+        return Ok(Some(Ended {
+            fault: EndFault::NoRelocation,
+            pos,
+        }));
+    }
+    match first_warning(fatal, notes) {
+        Some(pos) => Ok(Some(Ended {
+            fault: EndFault::WarningsAreErrors,
+            pos,
+        })),
+        None => Ok(None),
+    }
+}
+
+/// The object of what is laid out.
+#[tactic(auto, unfolding(crate::specs::Ending::object_of))]
+fn object_of(alloc: Global, at: Placement) -> Result<Object, NoMemory>
+    ensures { IfOk result (λ object. object ≡ spec.object_of at.entry.symbols.now at.entry.sections.now) }
+{
+    let held = held_sections(alloc, at)?;
+    let sections = section_list(alloc, &held)?;
+    let symbols = symbols_of(alloc, at)?;
+    let bytes = image(alloc, &sections, &symbols)?;
     Ok(Object::new(bytes))
 }
 
-/// The object of what was placed, or the first fault at the end of the source: that of warnings comes last.
-#[tactic(auto, using(crate::proofs::EndingLemmas::found_none, crate::proofs::EndingLemmas::found_one, crate::proofs::EndingLemmas::found_warning))]
-pub(crate) fn finished(alloc: Global, fatal: bool, assembler: &Assembler) -> Result<Object, Stop>
-    ensures { MakesNoted assembler.now.notes result (finished fatal (placed_by assembler.now)) }
+/// The object of what is laid out, or the first fault there.
+fn laid_end(
+    alloc: Global,
+    fatal: bool,
+    sections: &Sections<Laid>,
+    table: &NamedSymbols,
+    notes: &[Noted],
+) -> Result<Object, Stop>
+    ensures { MakesNoted notes.now result (spec.laid_end fatal table.now notes.now (Ok sections.now)) }
 {
-    let entries = assembler.symbols.entries(alloc)?;
-    match first_undefined(&entries) {
-        Some(entry) => Err(undefined(entry)),
-        None => match fatal_warning(fatal, assembler.notes.as_slice()) {
-            Some(noted) => Err(warned(noted)),
-            None => Ok(object_of(alloc, assembler, &entries)?),
-        },
+    let at = Placement {
+        symbols: table.symbols(),
+        sections,
+    };
+    match first_end(alloc, fatal, at, table, notes)? {
+        Some(ended) => Err(Stop::Source(Fault::End(ended.fault), ended.pos)),
+        None => Ok(object_of(alloc, at)?),
     }
+}
+
+/// What is made at the end: the notes, and the object or why there is none.
+#[derive(Drop)]
+pub(crate) struct Made {
+    pub(crate) notes: Notes,
+    pub(crate) object: Result<Object, Stop>,
+}
+
+/// The object of sections that have no addresses yet, or the first fault at the end of the source.
+#[tactic(auto, unfolding(crate::specs::Ending::finished))]
+fn finished_object(
+    alloc: Global,
+    fatal: bool,
+    sections: Sections,
+    table: &NamedSymbols,
+    notes: &[Noted],
+) -> Result<Object, Stop>
+    ensures { MakesNoted notes.now result (spec.finished fatal sections table.now notes.now) }
+{
+    let mut plan = Plan::new(alloc, sections, table.symbols())?;
+    match plan.settle() {
+        Ok(_) => laid_end(alloc, fatal, &plan.laid(), table, notes),
+        Err(fault) => {
+            let ended = layout_end(fault);
+            Err(Stop::Source(Fault::End(ended.fault), ended.pos))
+        }
+    }
+}
+
+/// The object of what was placed, or the first fault at the end of the source, with the notes.
+pub(crate) fn finished(alloc: Global, fatal: bool, parts: Parts) -> Made
+    ensures made { MakesNoted result.notes result.object (spec.finished fatal parts.sections parts.table parts.notes) }
+    ensures notes { result.notes ≡ parts.notes }
+{
+    let Parts {
+        sections,
+        table,
+        notes,
+    } = parts;
+    let object = finished_object(alloc, fatal, sections, &table, notes.as_slice());
+    Made { notes, object }
 }

@@ -8,5 +8,6 @@ pub mod CountLemmas
 pub mod DefineLemmas
 pub mod SeenLemmas
 pub mod SearchLemmas
+pub mod LeadsBackLemmas
 pub mod OrderLemmas
 pub mod Samples

@@ -1,7 +1,8 @@
 -- The definitions computed on small maps, for readers and as a guard against a definition that says nothing.
-use Rattle.std.proofs.Common.{◌≡◌, true, false, Some, None, Ok, Err, refl, codes}
+use Rattle.std.proofs.Common.{◌≡◌, true, false, [], ◌∷◌, Some, None, Ok, Err, refl, codes}
 use Rattle.asm_expr.specs.declared.naming.Name.{Name}
 use Rattle.asm_expr.specs.declared.naming.Name.TheVariants as naming
+use Rattle.asm_expr.specs.Forms.{Form}
 use Rattle.asm_symbols.specs.declared.entries.Spot.{Spot}
 use Rattle.asm_symbols.specs.declared.entries.Definition.TheVariants.{Label, Common}
 use Rattle.asm_symbols.specs.declared.entries.Binding.TheVariants.{Local, Global, Weak}
@@ -11,7 +12,9 @@ use Rattle.asm_symbols.specs.Answering.{◌>>=◌}
 use Rattle.asm_symbols.specs.Interning.{with_name, named}
 use Rattle.asm_symbols.specs.Counting.{next_named, last_named}
 use Rattle.asm_symbols.specs.Defining.{defined}
-use Rattle.asm_symbols.specs.Assigning.{refusal_at}
+use Rattle.asm_symbols.specs.Assigning.{refusal_at, with_form}
+use Rattle.asm_symbols.specs.Searching.{seen_with}
+use Rattle.asm_symbols.specs.LeadsBack.{searched, leads_back, assigned}
 use Rattle.asm_symbols.specs.Saying.{with_binding, bound}
 
 abbrev word : Name
@@ -68,6 +71,36 @@ equiv_first = refl
 here_refused : refusal_at (one (naming.Plain (codes "."))) 0 false ≡ Some BadSymbolUse
 unfolding refusal_at
 here_refused = refl
+
+-- three symbols, and the forms of a symbol and of a number
+abbrev letters : SymbolMap
+letters = with_name (with_name (one (naming.Plain (codes "a"))) (naming.Plain (codes "b"))) (naming.Plain (codes "c"))
+
+abbrev of_name : Name → Form
+of_name name = record { terms = record { name = name; coefficient = 1 } ∷ []; constant = 0 }
+
+abbrev of_number : Form
+of_number = record { terms = []; constant = 3 }
+
+-- `a=a`, `a=b` before `b=a`, and `a=b` before `b=c` and `c=a` lead back
+itself_refused : assigned letters 0 (of_name (naming.Plain (codes "a"))) false ≡ Err BadSymbolUse
+unfolding assigned leads_back searched seen_with refusal_at changed
+itself_refused = refl
+
+two_refused : (assigned letters 0 (of_name (naming.Plain (codes "b"))) false >>= λ map. assigned map 1 (of_name (naming.Plain (codes "a"))) false) ≡ Err BadSymbolUse
+unfolding assigned leads_back searched seen_with refusal_at changed
+two_refused = refl
+
+three_refused : (assigned letters 0 (of_name (naming.Plain (codes "b"))) false >>= λ map. assigned map 1 (of_name (naming.Plain (codes "c"))) false
+    >>= λ map. assigned map 2 (of_name (naming.Plain (codes "a"))) false) ≡ Err BadSymbolUse
+unfolding assigned leads_back searched seen_with refusal_at changed
+three_refused = refl
+
+-- `a=b` before `b=3` does not
+number_taken : (assigned letters 0 (of_name (naming.Plain (codes "b"))) false >>= λ map. assigned map 1 of_number false)
+    ≡ Ok (with_form (with_form letters 0 (of_name (naming.Plain (codes "b")))) 1 of_number)
+unfolding assigned leads_back searched seen_with refusal_at changed
+number_taken = refl
 
 -- `7:` defines the first instance, `7b` is that, and `7f` the second
 back_none : last_named (one first_instance) 7 ≡ None

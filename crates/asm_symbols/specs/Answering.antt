@@ -28,3 +28,10 @@ GivesSymbol made (Err e) answer = Fails e answer
 abbrev pub GivesAlways : {A T : Type 0} → A → Result T SymFault → Result A SymFault → Type 0
 GivesAlways made (Ok t) answer = answer ≡ Ok made
 GivesAlways made (Err e) answer = answer ≡ Err e
+
+-- the call made this; want of memory may stand in place of any answer
+abbrev pub GivesUnlessFull : {A T : Type 0} → A → Result T SymFault → Result A SymFault → Type 0
+GivesUnlessFull made (Ok t) answer = answer ≡ Ok made
+GivesUnlessFull made (Err NoMemory) answer = Unit {0}
+GivesUnlessFull made (Err SymbolAlreadyDefined) answer = answer ≡ Err SymbolAlreadyDefined
+GivesUnlessFull made (Err BadSymbolUse) answer = answer ≡ Err BadSymbolUse

@@ -6,6 +6,7 @@ pub mod Counting
 pub mod Defining
 pub mod Assigning
 pub mod Searching
+pub mod LeadsBack
 pub mod Saying
 pub mod Looking
 pub mod Order

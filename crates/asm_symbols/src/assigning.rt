@@ -36,7 +36,9 @@ impl Symbols {
     ghost use Rattle.std.specs.Prelude.{◌≡◌, ◌<◌, false, length, Some, None, OnErr, IfOk, IfErr, MatchBool, slice_get, if◌then◌else◌};
     ghost use Rattle.asm_symbols.specs.SymbolMap.{names, with_symbol, with_meaning};
     ghost use Rattle.asm_symbols.specs.Assigning.{refusal_at, form_at, Leads, Assigns};
+    ghost use Rattle.asm_symbols.specs.Answering.{GivesUnlessFull};
     ghost use Rattle.asm_symbols.specs.Searching.{seen_with, seen_behind};
+    ghost use Rattle.asm_symbols.specs.LeadsBack.{leads_back, assigned};
     ghost use Rattle.asm_symbols.specs.Sound.{is_label_at};
     ghost use Rattle.asm_symbols.specs.declared.faults.SymFault.TheVariants.{NoMemory};
 
@@ -95,6 +97,7 @@ impl Symbols {
     /// Whether the form leads to the symbol. Each symbol is looked at once.
     fn leads_back(&self, form: &Linear, id: SymId) -> Result<bool, SymFault>
         ensures back { IfOk result (λ back. MatchBool back (Leads self.now.symbols form.now id) (Leads self.now.symbols form.now id → ⊥)) }
+        ensures value { IfOk result (λ back. leads_back self.now.symbols form.now id ≡ back) }
         ensures memory { IfErr result (λ fault. fault ≡ NoMemory) }
     {
         let mut seen = IndexSet::new(self.allocator());
@@ -114,10 +117,11 @@ impl Symbols {
     }
 
     /// The symbol stands for the form from now on; with `once` only if it is undefined.
-    #[tactic(auto, unfolding(crate::specs::Assigning::refusal_at))]
+    #[tactic(auto, unfolding(crate::specs::Assigning::refusal_at, crate::specs::LeadsBack::assigned))]
     pub fn assign(&mut self, id: SymId, form: Linear, once: bool) -> Result<(), SymFault>
         requires { id < length self.old.symbols }
         ensures gives { Assigns self.old self.new id form (refusal_at self.old id once) result }
+        ensures made { GivesUnlessFull self.new result (assigned self.old id form once) }
         ensures unchanged { OnErr result (self.new ≡ self.old) }
         ensures length { length self.new.symbols ≡ length self.old.symbols }
     {

@@ -1,6 +1,6 @@
 //! What holds of every symbol map and of every call.
 
-ghost use Rattle.std.specs.Prelude.{◌≡◌, ◌<◌, ◌≤◌, ◌+◌, ◌^◌, true, length, ℕ, Ok, Err, Option, Some, None, slice_get};
+ghost use Rattle.std.specs.Prelude.{◌≡◌, ◌<◌, ◌≤◌, ◌+◌, ◌^◌, true, length, ℕ, List, Ok, Err, Option, Some, None, slice_get};
 ghost use Rattle.asm_expr.specs.declared.naming.Name.{Name as NameValue};
 ghost use Rattle.asm_expr.specs.declared.naming.Name.TheVariants.{Numeric};
 ghost use Rattle.std.specs.List.{list_any};
@@ -17,7 +17,8 @@ ghost use Rattle.asm_symbols.specs.SymbolMap.{SymbolMap, names, index_of, with_s
 ghost use Rattle.asm_symbols.specs.Interning.{names_size, named, with_file};
 ghost use Rattle.asm_symbols.specs.Counting.{counted, next_named};
 ghost use Rattle.asm_symbols.specs.Defining.{defined};
-ghost use Rattle.asm_symbols.specs.Assigning.{with_form};
+ghost use Rattle.asm_symbols.specs.Assigning.{with_form, Leads};
+ghost use Rattle.asm_symbols.specs.LeadsBack.{leads_back};
 ghost use Rattle.asm_symbols.specs.Saying.{bound_as, bound, with_kind, with_size, with_visibility};
 ghost use Rattle.asm_symbols.specs.Order.{KeepsOrder};
 ghost use Rattle.asm_symbols.specs.Sound.{is_label_of};
@@ -59,6 +60,12 @@ pub fn order_is_kept()
     ensures kind { (map : SymbolMap) (at : ℕ) (kind : KindValue) → KeepsOrder map (with_symbol (with_kind kind) map at) }
     ensures size { (map : SymbolMap) (at : ℕ) (size : Form) → KeepsOrder map (with_symbol (with_size size) map at) }
     ensures visibility { (map : SymbolMap) (at : ℕ) (visibility : VisibilityValue) → KeepsOrder map (with_symbol (with_visibility visibility) map at) }
+{}
+
+/// The program that decides whether a form leads back to a symbol answers true exactly where it does.
+pub fn leads_is_decided()
+    ensures back { (symbols : List SymbolValue) (form : Form) (at : ℕ) → leads_back symbols form at ≡ true → Leads symbols form at }
+    ensures leads { (symbols : List SymbolValue) (form : Form) (at : ℕ) → Leads symbols form at → leads_back symbols form at ≡ true }
 {}
 
 /// Weak wins over global in either order, and neither goes with local.

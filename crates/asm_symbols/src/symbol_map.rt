@@ -77,6 +77,13 @@ impl Symbols {
         &self.symbols[id.index() as usize]
     }
 
+    /// The symbols, in the order in which they were first named.
+    pub fn as_slice(&self) -> &[Symbol]
+        ensures { result.now ≡ self.now.symbols }
+    {
+        self.symbols.as_slice()
+    }
+
     /// The names of files, in order.
     pub fn files(&self) -> &[Name]
         ensures { result.now ≡ self.now.files }

@@ -112,6 +112,7 @@ fn check_order<R: Abort>(rt: &R, alloc: Global, symbols: &mut Symbols) -> Result
     assert_eq!(rt; place.index(), 2);
     assert_eq!(rt; found(alloc, symbols, b"a")?, Some(a));
     assert_eq!(rt; found(alloc, symbols, b"c")?, None);
+    assert_eq!(rt; symbols.as_slice().len(), 3);
     Ok(())
 }
 

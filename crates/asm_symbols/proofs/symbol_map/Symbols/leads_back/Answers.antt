@@ -1,6 +1,7 @@
 -- The search finds the symbol, or sees all that the form leads to.
 use Rattle.std.proofs.Common.{◌≤◌, ◌<◌, length, sym, ap, ◌∙◌, arith, option_copied}
 use Rattle.asm_symbols.proofs.SearchLemmas.{searching_start, starting_back, searching_step, searching_back, searching_within, searching_few, searching_done}
+use Rattle.asm_symbols.proofs.LeadsBackLemmas.{leads_is_back, leads_not_back}
 use Rattle.asm_symbols.proofs.symbol_map.Symbols.leads_back.Goals as goal
 
 pub returns-then-branch-clause-back : goal.returns-then-branch-clause-back
@@ -38,3 +39,12 @@ pub returns-clause-back : goal.returns-clause-back
 returns-clause-back c =
     let all : length c.symbols.seen.keys ≤ c.symbols.at = omega (arith, c.len.ensures.len) in
     searching_done c.args.self.now.symbols c.args.form.now c.args.id c.symbols.seen.keys c.symbols.at c.symbols.invariant all
+
+pub returns-then-branch-clause-value : goal.returns-then-branch-clause-value
+returns-then-branch-clause-value c = leads_is_back c.args.self.now.symbols c.args.form.now c.args.id (returns-then-branch-clause-back c)
+
+pub returns-then-branch-2-clause-value : goal.returns-then-branch-2-clause-value
+returns-then-branch-2-clause-value c = leads_is_back c.args.self.now.symbols c.args.form.now c.args.id (returns-then-branch-2-clause-back c)
+
+pub returns-clause-value : goal.returns-clause-value
+returns-clause-value c = leads_not_back c.args.self.now.symbols c.args.form.now c.args.id (returns-clause-back c)

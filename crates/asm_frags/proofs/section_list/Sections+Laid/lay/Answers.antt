@@ -1,0 +1,17 @@
+-- The section keeps its name, and one item of it has the address.
+use Rattle.std.proofs.Common.{◌<◌, length, ap, ◌∙◌}
+use Rattle.asm_frags.specs.Addresses.{section_with_address}
+use Rattle.asm_frags.proofs.NamedLemmas.{replaced_there}
+use Rattle.asm_frags.proofs.AddressLemmas.{changed_is}
+use Rattle.asm_frags.proofs.section_list.Sections+Laid.lay.Goals as goal
+
+pub invariant_of-self : goal.invariant_of-self
+invariant_of-self c =
+    replaced_there _ c.self.inside.sections.items c.args.section c.lay.new.self c.index_mut.result.now c.self.invariant
+    (ap (λ section. section.name) c.lay.ensures ∙ ap (λ section. section.name) c.index_mut.ensures.value)
+
+pub returns-clause-sections : goal.returns-clause-sections
+returns-clause-sections c =
+    let within : c.args.section < length c.self.inside.sections.items = rw c.self.view_is c.requires.section in
+    rw (← c.self.view_is, c.lay.ensures)
+    (changed_is (λ section. section_with_address section c.args.item c.args.address) c.self.inside.sections.items c.args.section c.index_mut.result.now within c.index_mut.ensures.value)

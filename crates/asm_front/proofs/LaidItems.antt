@@ -1,0 +1,42 @@
+-- What a layout keeps of an item, and where the item stands.
+use Rattle.std.proofs.Common.{◌≡◌, ℕ, zero, suc, ◌+◌, List, [], ◌∷◌, Option, Some, None, Ok, sym, ◌∙◌}
+use Rattle.std.specs.Prelude.{slice_get, map}
+use Rattle.asm_symbols.specs.SymbolMap.{SymbolMap}
+use Rattle.asm_frags.specs.declared.items.Frag.{Frag}
+use Rattle.asm_frags.specs.declared.phases.Loose.{Loose}
+use Rattle.asm_frags.specs.declared.phases.Laid.{Laid}
+use Rattle.asm_frags.specs.Contents.{size_at}
+use Rattle.asm_frags.specs.SectionOf.{SectionOf}
+use Rattle.asm_frags.specs.Addresses.{item_with_address}
+use Rattle.asm_frags.specs.Refitting.{laid_item, laid_section}
+use Rattle.asm_relax.specs.Judging.{fault_of}
+use Rattle.asm_relax.specs.Placing.{placed_from, placed_section}
+use Rattle.asm_relax.specs.Resolving.{resolved}
+use Rattle.asm_relax.specs.Settling.{LooseSections, LaidSections, planned, unless, settled_sections, layout_of}
+use Rattle.asm_relax.specs.Placing.{behind}
+use Rattle.asm_relax.proofs.SettlingLemmas.{placed_is_settled}
+
+-- the item of this index stands behind those before it
+pub placed_get : {P : Type 0} (xs : List (Frag P ℕ)) (i at : ℕ) (x : Frag P ℕ) → slice_get xs i ≡ Some x
+    → slice_get (placed_from at xs) i ≡ Some (item_with_address (behind i at xs) x)
+unfolding placed_from
+placed_get [] i at x is = absurd cc
+placed_get (y ∷ ys) zero at x is = let same : y ≡ x = cc in rw same
+placed_get (y ∷ ys) (suc i) at x is = placed_get ys i (at + size_at y.content at) x is
+
+-- what an answer without a fault holds
+unless_is : {A E : Type 0} (fault : Option E) (made answer : A) → unless fault made ≡ Ok answer → answer ≡ made
+unless_is None made answer e = cc
+unless_is (Some fault) made answer e = absurd cc
+
+-- the sections as they are placed
+abbrev pub items_of : SymbolMap → SectionOf (Frag Loose (Unit {0})) → List (Frag Laid ℕ)
+items_of symbols section = map (laid_item (resolved symbols)) section.items
+
+-- a layout is that of its sections, one by one
+pub layout_is : (symbols : SymbolMap) (sections : LooseSections) (laid : LaidSections) → layout_of symbols sections ≡ Ok laid
+    → laid ≡ map placed_section (map (laid_section (resolved symbols)) sections)
+unfolding planned
+layout_is symbols sections laid e =
+    unless_is (fault_of symbols (settled_sections (planned symbols sections))) (settled_sections (planned symbols sections)) laid e
+    ∙ sym (placed_is_settled (planned symbols sections))

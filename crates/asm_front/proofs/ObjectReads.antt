@@ -1,0 +1,199 @@
+-- Written bytes read back: an instruction's item stands in the object.
+use Rattle.std.proofs.Common.{◌≡◌, ℕ, ◌==◌, ◌&&◌, not, nat_lt, Bool, true, false, cond, List, [], ◌∷◌, ◌++◌, Option, Some, None, Result, Ok, Err, find, length, map, drop, refl, sym, ap, ◌∙◌}
+use Rattle.std.proofs.lemmas.Option.{slice_get-map}
+use Rattle.std.specs.Prelude.{slice_get, option_map}
+use Rattle.asm_base.specs.Tokens.{SpelledToken, tokens_of}
+use Rattle.asm_base.specs.WholeFile.{most_bytes}
+use Rattle.asm_base.specs.declared.notes.Noted.{Noted}
+use Rattle.asm_lines.specs.Statements.{StatementAt, statements_of}
+use Rattle.asm_symbols.specs.SymbolMap.{SymbolMap}
+use Rattle.asm_frags.specs.Addresses.{item_with_address}
+use Rattle.asm_frags.specs.Refitting.{laid_item, laid_section}
+use Rattle.asm_relax.specs.Final.{address_in, address_of}
+use Rattle.asm_relax.specs.Placing.{placed_section}
+use Rattle.asm_relax.specs.Resolving.{resolved}
+use Rattle.asm_relax.specs.Settling.{layout_of}
+use Rattle.asm_relax.specs.declared.faults.LayoutFault.{LayoutFault}
+use Rattle.asm_relax.specs.Placing.{behind}
+use Rattle.asm_place.specs.declared.instructions.Row.{Row}
+use Rattle.asm_place.specs.Rows.{the_rows, has_name, bytes_of}
+use Rattle.asm_place.specs.Reads.{Reads}
+use Rattle.asm_place.specs.Results.{◌>>=◌}
+use Rattle.asm_place.specs.Idents.{plain_item}
+use Rattle.asm_place.specs.Operands.{is_name}
+use Rattle.asm_place.specs.Placing.{begins_with_dot}
+use Rattle.asm_place.specs.Places.{Item, LooseSection}
+use Rattle.asm_place.specs.State.{Placed, nothing_placed}
+use Rattle.asm_place.specs.Tables.{Table}
+use Rattle.asm_place.specs.Sources.{FaultAt, place_all}
+use Rattle.asm_place.specs.Instructions.{behind_labels, row_written, next_item, StandsAt}
+use Rattle.asm_place.proofs.InstructionLaws.{instruction_there}
+use Rattle.asm_place.proofs.Readings.{found_reads, one_instruction}
+use Rattle.asm_front.specs.Sections.{file_bytes}
+use Rattle.asm_front.specs.Contents.{LaidItem, LaidSection, filled, item_bytes, section_bytes, section_entry, sections_of}
+use Rattle.asm_front.specs.TableSymbols.{symbols_of}
+use Rattle.asm_front.specs.Image.{header_end, image_of}
+use Rattle.asm_front.specs.declared.ending.Ended.{Ended}
+use Rattle.asm_front.specs.Ending.{Flags, NotedObject, first_end, stop_if, object_of, laid_end, finished}
+use Rattle.asm_front.specs.Assembly.{lines_answer, assembly_of_lines, assembly_of}
+use Rattle.asm_front.specs.Outcome.{main_file}
+use Rattle.asm_front.specs.ReadsBack.{ReadsAt, body_offset, file_place, ReadsBack}
+use Rattle.asm_front.proofs.LaidItems.{items_of, placed_get, layout_is}
+use Rattle.asm_front.proofs.ItemBytes.{item_length}
+use Rattle.asm_front.proofs.FilePlaces.{PieceAt, drop_stands, stands_in, item_stands, image_stands}
+
+-- the section of an item, as it is laid out
+abbrev kept_section : SymbolMap → LooseSection → LaidSection
+kept_section symbols section = placed_section (laid_section (resolved symbols) section)
+
+abbrev kept_item : SymbolMap → LooseSection → ℕ → Item → LaidItem
+kept_item symbols section index item = item_with_address (behind index 0 (items_of symbols section)) (laid_item (resolved symbols) item)
+
+section_kept : (symbols : SymbolMap) (sections : List LooseSection) (laid : List LaidSection) (n : ℕ) (section : LooseSection) → layout_of symbols sections ≡ Ok laid
+    → slice_get sections n ≡ Some section → slice_get laid n ≡ Some (kept_section symbols section)
+section_kept symbols sections laid n section e there =
+    let refitted = laid_section (resolved symbols) in
+    ap (λ (all : List LaidSection). slice_get all n) (layout_is symbols sections laid e) ∙ slice_get-map placed_section (map refitted sections) n
+    ∙ ap (option_map placed_section) (slice_get-map refitted sections n ∙ ap (option_map refitted) there)
+
+item_there : (symbols : SymbolMap) (section : LooseSection) (i : ℕ) (item : Item) → slice_get section.items i ≡ Some item
+    → slice_get (items_of symbols section) i ≡ Some (laid_item (resolved symbols) item)
+item_there symbols section i item at = slice_get-map (laid_item (resolved symbols)) section.items i ∙ ap (option_map (laid_item (resolved symbols))) at
+
+item_kept : (symbols : SymbolMap) (section : LooseSection) (i : ℕ) (item : Item) → slice_get section.items i ≡ Some item
+    → slice_get (kept_section symbols section).items i ≡ Some (kept_item symbols section i item)
+item_kept symbols section i item at = placed_get (items_of symbols section) i 0 (laid_item (resolved symbols) item) (item_there symbols section i item at)
+
+-- the address of an item is where those before it end
+address_is : (symbols : SymbolMap) (laid : List LaidSection) (n i : ℕ) (section : LooseSection) (item : Item) → slice_get laid n ≡ Some (kept_section symbols section)
+    → slice_get section.items i ≡ Some item → address_of laid n i ≡ behind i 0 (items_of symbols section)
+unfolding address_of address_in
+address_is symbols laid n i section item there at = rw (there, item_kept symbols section i item at) refl
+
+-- the bytes of an item without fields
+plain_bytes : (symbols : SymbolMap) (laid : List LaidSection) (section : LooseSection) (i : ℕ) (item : Item) (bytes : List ℕ) → item.content ≡ plain_item bytes
+    → item_bytes symbols laid (kept_item symbols section i item) ≡ bytes
+unfolding item_bytes filled
+plain_bytes symbols laid section i item bytes holds = rw holds refl
+
+-- the bytes of an item in its section
+section_stands : (symbols : SymbolMap) (laid : List LaidSection) (section : LooseSection) (i : ℕ) (item : Item) → slice_get section.items i ≡ Some item
+    → PieceAt (section_bytes symbols laid (kept_section symbols section)) (behind i 0 (items_of symbols section)) (item_bytes symbols laid (kept_item symbols section i item))
+unfolding section_bytes
+section_stands symbols laid section i item at =
+    item_stands (item_bytes symbols laid) (item_length symbols laid) (items_of symbols section) i 0 (laid_item (resolved symbols) item) []
+    (section_bytes symbols laid (kept_section symbols section)) (item_there symbols section i item at) refl refl
+
+-- the bytes of a section in the file
+entry_bytes : (symbols : SymbolMap) (laid : List LaidSection) (section : LooseSection) → (section.kind == 8) ≡ false
+    → file_bytes (section_entry symbols laid (kept_section symbols section)).content ≡ section_bytes symbols laid (kept_section symbols section)
+entry_bytes symbols laid section kind = rw kind refl
+
+entry_there : (symbols : SymbolMap) (laid : List LaidSection) (n : ℕ) (section : LaidSection) → slice_get laid n ≡ Some section
+    → slice_get (sections_of symbols laid) n ≡ Some (section_entry symbols laid section)
+unfolding sections_of
+entry_there symbols laid n section there = slice_get-map (section_entry symbols laid) laid n ∙ ap (option_map (section_entry symbols laid)) there
+
+object_is : (symbols : SymbolMap) (laid : List LaidSection) → object_of symbols laid ≡ image_of (sections_of symbols laid) (symbols_of symbols laid)
+unfolding object_of
+object_is symbols laid = refl
+
+-- an item of bytes alone stands in the object at its place
+pub object_stands : (symbols : SymbolMap) (sections : List LooseSection) (laid : List LaidSection) (n i : ℕ) (bytes : List ℕ) → layout_of symbols sections ≡ Ok laid
+    → StandsAt sections n i bytes → PieceAt (object_of symbols laid) (file_place symbols laid n i) bytes
+object_stands symbols sections laid n i bytes e holds =
+    let section = kept_section symbols holds.section in
+    let there : slice_get laid n ≡ Some section = section_kept symbols sections laid n holds.section e holds.found in
+    let address = address_is symbols laid n i holds.section holds.item there holds.there in
+    let plain = plain_bytes symbols laid holds.section i holds.item bytes holds.holds in
+    let body = entry_bytes symbols laid holds.section holds.takes_bytes in
+    let at = body_offset header_end (sections_of symbols laid) n in
+    let image = image_stands (sections_of symbols laid) (symbols_of symbols laid) n (section_entry symbols laid section) (entry_there symbols laid n section there) in
+    let outer : PieceAt (object_of symbols laid) at (section_bytes symbols laid section) = rw (object_is symbols laid, ← body) image in
+    let inner : PieceAt (section_bytes symbols laid section) (address_of laid n i) bytes =
+    rw (address, ← plain) (section_stands symbols laid holds.section i holds.item holds.there) in
+    stands_in (object_of symbols laid) (section_bytes symbols laid section) bytes at (address_of laid n i) outer inner
+
+row_of_one : (name plain : Bool) (found : Option Row) (row : Row) → cond (name && plain) found None ≡ Some row → found ≡ Some row
+row_of_one true true found row e = e
+row_of_one true false found row e = absurd cc
+row_of_one false plain found row e = absurd cc
+
+-- the bytes of the row that is written read as its instruction
+written_reads : (tokens : List SpelledToken) (row : Row) → row_written tokens ≡ Some row → Reads (bytes_of row) row.mnemonic
+unfolding row_written
+written_reads [] row e = absurd cc
+written_reads (name ∷ []) row e =
+    found_reads (λ row. has_name row name.bytes) row
+    (row_of_one (is_name name) (not (begins_with_dot name.bytes)) (find (λ row. has_name row name.bytes) the_rows) row e)
+written_reads (name ∷ operand ∷ rest) row e = absurd cc
+
+-- bytes that begin with those of a row read as its instruction, and as no other
+reads_row : (bytes rest : List ℕ) (at : ℕ) (row : Row) → drop at bytes ≡ bytes_of row ++ rest → Reads (bytes_of row) row.mnemonic
+    → ReadsAt bytes at row.mnemonic
+reads_row bytes rest at row stands reads = record {
+  instruction = bytes_of row;
+  rest = rest;
+  stands = stands;
+  reads = reads;
+  only = λ front after other begins as_other.
+      one_instruction front (bytes_of row) after rest other row.mnemonic as_other reads (sym begins ∙ stands);
+}
+
+-- a step that succeeded goes on from what the step before gave
+step_ok : {A B E : Type 0} (r : Result A E) (f : A → Result B E) (x : A) (answer : Result B E) → r ≡ Ok x → (r >>= f) ≡ answer → f x ≡ answer
+step_ok (Ok y) f x answer is e = let same : y ≡ x = cc in rw (← same) e
+step_ok (Err fault) f x answer is e = absurd cc
+
+stop_is : (ended : Option Ended) (notes : List Noted) (object : List ℕ) (made : NotedObject)
+    → stop_if ended notes (Ok (record { object = object; notes = notes })) ≡ Ok made → made.object ≡ object
+stop_is None notes object made e = cc
+stop_is (Some fault) notes object made e = absurd cc
+
+laid_is : (fatal : Bool) (table : Table) (notes : List Noted) (answer : Result (List LaidSection) LayoutFault) (laid : List LaidSection) (made : NotedObject)
+    → answer ≡ Ok laid → laid_end fatal table notes answer ≡ Ok made → made.object ≡ object_of table.symbols laid
+laid_is fatal table notes (Ok sections) laid made is e =
+    let same : sections ≡ laid = cc in
+    stop_is (first_end fatal table notes sections) notes (object_of table.symbols sections) made e ∙ ap (object_of table.symbols) same
+laid_is fatal table notes (Err fault) laid made is e = absurd cc
+
+-- the object that is made at the end is that of the layout
+finished_is : (fatal : Bool) (whole : Placed) (laid : List LaidSection) (made : NotedObject) → layout_of whole.table.symbols whole.sections ≡ Ok laid
+    → finished fatal whole.sections whole.table whole.notes ≡ Ok made → made.object ≡ object_of whole.table.symbols laid
+unfolding finished
+finished_is fatal whole laid made is e = laid_is fatal whole.table whole.notes (layout_of whole.table.symbols whole.sections) laid made is e
+
+lines_is : (flags : Flags) (source : List ℕ) (made : NotedObject) (statements : List StatementAt) (whole : Placed) → statements_of main_file source ≡ Ok statements
+    → place_all statements (nothing_placed flags.no_warn) ≡ Ok whole → assembly_of_lines flags main_file source ≡ Ok made
+    → finished flags.fatal_warnings whole.sections whole.table whole.notes ≡ Ok made
+unfolding assembly_of_lines
+lines_is flags source made statements whole are all e =
+    let end = λ (placed : Placed). finished flags.fatal_warnings placed.sections placed.table placed.notes in
+    let from_lines = λ (r : Result (List StatementAt) FaultAt). r >>= λ these. place_all these (nothing_placed flags.no_warn) >>= end in
+    let placed_as : (place_all statements (nothing_placed flags.no_warn) >>= end) ≡ Ok made = sym (ap (λ r. from_lines (lines_answer main_file r)) are) ∙ e in
+    step_ok (place_all statements (nothing_placed flags.no_warn)) end whole (Ok made) all placed_as
+
+-- a source that has an object is not too large
+not_too_large : {B E : Type 0} (large : Bool) (fault : E) (r : Result B E) (y : B) → cond large (Err fault) r ≡ Ok y → r ≡ Ok y
+not_too_large true fault r y e = absurd cc
+not_too_large false fault r y e = e
+
+-- an object is that of the layout of what the statements of its source placed
+pub assembly_is : (flags : Flags) (source : List ℕ) (made : NotedObject) (statements : List StatementAt) (whole : Placed) (laid : List LaidSection)
+    → statements_of main_file source ≡ Ok statements → place_all statements (nothing_placed flags.no_warn) ≡ Ok whole
+    → layout_of whole.table.symbols whole.sections ≡ Ok laid → assembly_of flags main_file source ≡ Ok made → made.object ≡ object_of whole.table.symbols laid
+unfolding assembly_of
+assembly_is flags source made statements whole laid are all is e =
+    finished_is flags.fatal_warnings whole laid made is
+    (lines_is flags source made statements whole are all (not_too_large (nat_lt most_bytes (length source)) _ (assembly_of_lines flags main_file source) made e))
+
+-- each instruction that was written reads back
+pub reads_back : (flags : Flags) (source : List ℕ) (made : NotedObject) → assembly_of flags main_file source ≡ Ok made → ReadsBack flags source made.object
+reads_back flags source made e before after s row placed whole laid are front all is row_is =
+    let holds = instruction_there before s after (nothing_placed flags.no_warn) placed whole row front all row_is in
+    let symbols = whole.table.symbols in
+    let at = file_place symbols laid placed.current (next_item placed) in
+    let same : made.object ≡ object_of symbols laid = assembly_is flags source made (before ++ s ∷ after) whole laid are all is e in
+    let stands = object_stands symbols whole.sections laid placed.current (next_item placed) (bytes_of row) is holds in
+    reads_row made.object stands.rest at row (ap (drop at) same ∙ drop_stands (object_of symbols laid) at (bytes_of row) stands)
+    (written_reads (behind_labels (tokens_of s.bytes)) row row_is)

@@ -1,8 +1,0 @@
--- The values so far, and those of the forms to come, are those of all.
-use Rattle.std.proofs.Common.{◌≡◌, drop}
-use Rattle.asm_front.specs.Operands.{each, behind}
-use Rattle.asm_front.specs.Expressions.{constant_in}
-use Rattle.asm_front.proofs.expressions.constants.Given as goal
-
-abbrev pub invariant-loop-form : goal.invariant-loop-form
-invariant-loop-form l = behind l.values.items (each constant_in (drop l.form-index l.forms)) ≡ each constant_in l.forms

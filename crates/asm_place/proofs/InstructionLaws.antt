@@ -1,0 +1,201 @@
+-- Where the items of instructions stand.
+use Rattle.std.proofs.Common.{◌≡◌, ℕ, Bool, true, false, cond, List, [], ◌∷◌, ◌++◌, length, Option, None, Some, Result, Ok, Err, refl, sym, ap, ◌∙◌, subst, slice_get}
+use Rattle.std.specs.Prelude.{◌&&◌, not, find}
+use Rattle.std.specs.List.{list_all}
+use Rattle.std.specs.Option.{option_map_or}
+use Rattle.std.proofs.lemmas.Bool.{false≢true}
+use Rattle.std.proofs.lemmas.Option.{none-some}
+use Rattle.asm_base.specs.declared.faults.StatementFault.{StatementFault}
+use Rattle.asm_base.specs.declared.faults.StatementFault.TheVariants.{UnknownMnemonic}
+use Rattle.asm_base.specs.declared.notes.Noted.{Noted}
+use Rattle.asm_base.specs.declared.positions.Pos.{Pos}
+use Rattle.asm_base.specs.Tokens.{SpelledToken, tokens_of}
+use Rattle.asm_lines.specs.Statements.{StatementAt}
+use Rattle.asm_frags.specs.declared.contents.Content.{Content}
+use Rattle.asm_frags.specs.declared.faults.FragFault.TheVariants as frag
+use Rattle.asm_frags.specs.SectionOf.{with_item}
+use Rattle.asm_frags.specs.DataOf.{is_zero}
+use Rattle.asm_frags.specs.Contents.{is_known_zeros}
+use Rattle.asm_frags.specs.Answers.{refuses}
+use Rattle.asm_frags.specs.Sections.{replaced, pushed_into}
+use Rattle.asm_place.specs.declared.instructions.Row.{Row}
+use Rattle.asm_place.specs.Results.{◌>>=◌}
+use Rattle.asm_place.specs.Rows.{the_rows, has_name, bytes_of}
+use Rattle.asm_place.specs.LayerFaults.{of_sections}
+use Rattle.asm_place.specs.Operands.{is_name, names_symbol}
+use Rattle.asm_place.specs.Places.{Item, LooseSection}
+use Rattle.asm_place.specs.State.{Placed, with_table, item_of, push_into}
+use Rattle.asm_place.specs.Idents.{plain_item, items_in}
+use Rattle.asm_place.specs.Placing.{place_row, place_instruction, begins_with_dot, place_body, is_label, place_label, place_tokens}
+use Rattle.asm_place.specs.Sources.{pos_at, standing, place, place_all}
+use Rattle.asm_place.specs.Instructions.{behind_labels, row_written, instruction_of, next_item, Grows, IsPut, StandsAt}
+use Rattle.asm_place.proofs.GrowthLemmas.{get_set, get_append}
+use Rattle.asm_place.proofs.PlacingLaws.{all_grow}
+use Rattle.asm_place.proofs.StatementSplits.{err-ok, same_Ok, both_ok, all_split}
+
+-- some byte of the row is not 0
+abbrev is_not_zeros : Row → Bool
+is_not_zeros row = not (list_all is_zero (bytes_of row))
+
+none_zeros : list_all is_not_zeros the_rows ≡ true
+unfolding the_rows
+none_zeros = refl
+
+module _ {X : Type 0} (test good : X → Bool) where
+  first_of_all : (passes : Bool) (x : X) (found : X) (rest : Option X) → cond passes (Some x) rest ≡ Some found → good x ≡ true → (rest ≡ Some found → good found ≡ true) → good found ≡ true
+  first_of_all true x found rest is fine later = subst (λ y. good y ≡ true) (ap (λ o. option_map_or (λ y. y) o x) is) fine
+  first_of_all false x found rest is fine later = later is
+
+  both_parts : (a b : Bool) → (a && b) ≡ true → (a ≡ true) × (b ≡ true)
+  both_parts true b is = (refl, is)
+  both_parts false b is = absurd (false≢true is)
+
+  -- what holds of all holds of what is found
+  holds_of_found : (xs : List X) (found : X) → list_all good xs ≡ true → find test xs ≡ Some found → good found ≡ true
+  holds_of_found [] found all is = absurd (none-some found is)
+  holds_of_found (x ∷ xs) found all is =
+      let parts = both_parts (good x) (list_all good xs) all in
+      first_of_all (test x) x found (find test xs) is parts.0 (holds_of_found xs found parts.1)
+
+false_of_not : (b : Bool) → not b ≡ true → b ≡ false
+false_of_not true is = absurd (false≢true is)
+false_of_not false is = refl
+
+row_not_zeros : (name : List ℕ) (row : Row) → find (λ row. has_name row name) the_rows ≡ Some row → is_known_zeros (plain_item (bytes_of row)) ≡ false
+row_not_zeros name row is = false_of_not _ (holds_of_found (λ row. has_name row name) is_not_zeros the_rows row none_zeros is)
+
+-- an item that some section takes
+left_false : (a b : Bool) → (a && not b) ≡ false → b ≡ false → a ≡ false
+left_false true true is not_b = absurd (false≢true (sym not_b))
+left_false true false is not_b = absurd (false≢true (sym is))
+left_false false b is not_b = refl
+
+module _ (pos : Pos) (number : ℕ) (item : Content) (known : is_known_zeros item ≡ false) where
+  put_test : (sections : List LooseSection) (section : LooseSection) (test : Bool) (new : List LooseSection) → slice_get sections number ≡ Some section → refuses section (item_of pos item) ≡ test
+      → of_sections (replaced sections number (cond test (Err frag.BadSection) (Ok (with_item section (item_of pos item))))) ≡ Ok new → IsPut sections new number (item_of pos item)
+  put_test sections section true new there test is = err-ok _ new is
+  put_test sections section false new there test is = record {
+    section = section;
+    there = there;
+    takes_bytes = left_false _ _ test known;
+    put = sym (same_Ok _ new is);
+  }
+
+  put_found : (sections : List LooseSection) (found : Option LooseSection) (new : List LooseSection) → slice_get sections number ≡ found
+      → of_sections (pushed_into sections number found (item_of pos item)) ≡ Ok new → IsPut sections new number (item_of pos item)
+  put_found sections None new there is = err-ok _ new is
+  put_found sections (Some section) new there is = put_test sections section (refuses section (item_of pos item)) new there refl is
+
+  put_last : (before placed : Placed) → push_into pos number item before ≡ Ok placed → IsPut before.sections placed.sections number (item_of pos item)
+  unfolding push_into
+  put_last before placed is =
+      both_ok _ _ placed is (λ sections pushed made.
+      subst (λ s. IsPut before.sections s number (item_of pos item)) (ap (λ (p : Placed). p.sections) (same_Ok _ placed made))
+      (put_found before.sections (slice_get before.sections number) sections refl pushed))
+
+-- the row that is named
+name_test : (named dotted : Bool) (found : Option Row) (row : Row) → cond (named && not dotted) found None ≡ Some row → (named ≡ true) × (dotted ≡ false) × (found ≡ Some row)
+name_test true true found row is = absurd (none-some row is)
+name_test true false found row is = (refl, refl, is)
+name_test false dotted found row is = absurd (none-some row is)
+
+body_test : (symbol named dotted : Bool) (assignment directive instruction : Result Placed StatementFault) → named ≡ true → dotted ≡ false
+    → cond (symbol && false) assignment (cond (not named) (Err UnknownMnemonic) (cond dotted directive instruction)) ≡ instruction
+body_test symbol false dotted assignment directive instruction named not_dotted = absurd (false≢true named)
+body_test symbol true true assignment directive instruction named not_dotted = absurd (false≢true (sym not_dotted))
+body_test true true false assignment directive instruction named not_dotted = refl
+body_test false true false assignment directive instruction named not_dotted = refl
+
+-- the item of an instruction
+abbrev Puts : Pos → Row → Placed → Placed → Type 0
+Puts pos row before placed = IsPut before.sections placed.sections before.current (item_of pos (plain_item (bytes_of row)))
+
+name_puts : (pos : Pos) (first : SpelledToken) (before placed : Placed) (row : Row) → row_written (first ∷ []) ≡ Some row → place_body pos first [] before ≡ Ok placed → Puts pos row before placed
+unfolding row_written place_body place_instruction
+name_puts pos first before placed row written is =
+    let parts = name_test (is_name first) (begins_with_dot first.bytes) (find (λ row. has_name row first.bytes) the_rows) row written in
+    put_last pos before.current (plain_item (bytes_of row)) (row_not_zeros first.bytes row parts.2) before placed
+    (ap (λ found. place_row pos found [] before) (sym parts.2)
+    ∙ (sym (body_test (names_symbol first) (is_name first) (begins_with_dot first.bytes) _ _ _ parts.0 parts.1) ∙ is))
+
+-- a label changes neither the sections nor which is the current one
+label_keeps : (pos : Pos) (token : SpelledToken) (before placed : Placed) → place_label pos token before ≡ Ok placed → (placed.sections ≡ before.sections) × (placed.current ≡ before.current)
+unfolding place_label
+label_keeps pos token before placed is =
+    both_ok _ _ placed is (λ table made is_placed.
+    let same : with_table before table ≡ placed = same_Ok _ placed is_placed in
+    (ap (λ (p : Placed). p.sections) (sym same), ap (λ (p : Placed). p.current) (sym same)))
+
+label_test : (pos : Pos) (test : Bool) (first second : SpelledToken) (rest : List SpelledToken) (before placed : Placed) (row : Row)
+    → ((labels : Placed) → row_written (behind_labels rest) ≡ Some row → place_tokens pos rest labels ≡ Ok placed → Puts pos row labels placed)
+    → row_written (cond test (behind_labels rest) (first ∷ second ∷ rest)) ≡ Some row
+    → cond test (place_label pos first before >>= (λ labels. place_tokens pos rest labels)) (place_body pos first (second ∷ rest) before) ≡ Ok placed
+    → Puts pos row before placed
+unfolding row_written
+label_test pos true first second rest before placed row again written is =
+    both_ok _ _ placed is (λ labels labelled later.
+    let keeps = label_keeps pos first before labels labelled in
+    subst (λ sections. IsPut sections placed.sections before.current (item_of pos (plain_item (bytes_of row)))) keeps.0
+    (subst (λ number. IsPut labels.sections placed.sections number (item_of pos (plain_item (bytes_of row)))) keeps.1 (again labels written later)))
+label_test pos false first second rest before placed row again written is = absurd (none-some row written)
+
+no_tokens : (row : Row) → row_written [] ≡ Some row → ⊥
+unfolding row_written
+no_tokens row written = none-some row written
+
+-- where the tokens are an instruction, its item is the next one of the current section, alone
+pub instruction_put : (pos : Pos) (tokens : List SpelledToken) (before placed : Placed) (row : Row) → row_written (behind_labels tokens) ≡ Some row
+    → place_tokens pos tokens before ≡ Ok placed → IsPut before.sections placed.sections before.current (item_of pos (plain_item (bytes_of row)))
+unfolding behind_labels place_tokens
+instruction_put pos [] before placed row written is = absurd (no_tokens row written)
+instruction_put pos (first ∷ []) before placed row written is = name_puts pos first before placed row written is
+instruction_put pos (first ∷ second ∷ rest) before placed row written is =
+    label_test pos (is_label first second) first second rest before placed row (λ labels. instruction_put pos rest labels placed row) written is
+
+-- what a statement adds, where the others before and behind it are placed too
+standing_ok : (pos : Pos) (notes : List Noted) (answer : Result Placed StatementFault) (next : Placed) → standing pos notes answer ≡ Ok next → answer ≡ Ok next
+standing_ok pos notes (Ok more) next is = ap Ok (same_Ok more next is)
+standing_ok pos notes (Err fault) next is = err-ok _ next is
+
+statement_put : (s : StatementAt) (before next : Placed) (row : Row) → instruction_of s ≡ Some row → place s before ≡ Ok next → Puts (pos_at s.file s.line) row before next
+unfolding place
+statement_put s before next row written is =
+    instruction_put (pos_at s.file s.line) (tokens_of s.bytes) before next row written
+    (standing_ok (pos_at s.file s.line) before.notes (place_tokens (pos_at s.file s.line) (tokens_of s.bytes) before) next is)
+
+first_placed : {C : Type 0} (s : StatementAt) (later : List StatementAt) (placed whole : Placed) → place_all (s ∷ later) placed ≡ Ok whole
+    → ((next : Placed) → place s placed ≡ Ok next → place_all later next ≡ Ok whole → C) → C
+unfolding place_all
+first_placed s later placed whole is go = both_ok (place s placed) (place_all later) whole is go
+
+get_last : {X : Type 0} (xs : List X) (x : X) → slice_get (xs ++ x ∷ []) (length xs) ≡ Some x
+get_last [] x = refl
+get_last (y ∷ xs) x = get_last xs x
+
+-- what is put stands there later
+put_stands : (before next whole : List LooseSection) (number : ℕ) (pos : Pos) (bytes : List ℕ) → IsPut before next number (item_of pos (plain_item bytes)) → Grows next whole
+    → StandsAt whole number (items_in before number) bytes
+put_stands before next whole number pos bytes put grows =
+    let item : Item = item_of pos (plain_item bytes) in
+    let there : slice_get next number ≡ Some (with_item put.section item) =
+    ap (λ sections. slice_get sections number) put.put ∙ get_set before number put.section (with_item put.section item) put.there in
+    let later = grows.kept number (with_item put.section item) there in
+    record {
+      section = record put.section { items = (put.section.items ++ item ∷ []) ++ later.0 };
+      found = later.1;
+      takes_bytes = put.takes_bytes;
+      item = item;
+      there = ap (slice_get ((put.section.items ++ item ∷ []) ++ later.0)) (ap (λ (found : Option LooseSection). option_map_or (λ section. length section.items) found 0) put.there)
+          ∙ get_append (put.section.items ++ item ∷ []) later.0 (length put.section.items) item (get_last put.section.items item);
+      holds = refl;
+    }
+
+-- the item of an instruction stands in the whole
+pub instruction_there : (front : List StatementAt) (s : StatementAt) (later : List StatementAt) (before placed whole : Placed) (row : Row)
+    → place_all front before ≡ Ok placed → place_all (front ++ s ∷ later) before ≡ Ok whole → instruction_of s ≡ Some row
+    → StandsAt whole.sections placed.current (next_item placed) (bytes_of row)
+instruction_there front s later before placed whole row is_front is_whole written =
+    first_placed s later placed whole (sym (all_split front (s ∷ later) before ∙ ap (λ r. r >>= place_all (s ∷ later)) is_front) ∙ is_whole)
+    (λ next is_next is_later.
+    put_stands placed.sections next.sections whole.sections placed.current (pos_at s.file s.line) (bytes_of row)
+    (statement_put s placed next row written is_next) (all_grow later next whole is_later))

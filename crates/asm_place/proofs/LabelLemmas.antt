@@ -1,0 +1,67 @@
+-- Labels in front of a statement, and what stands behind them.
+use Rattle.std.proofs.Common.{◌≡◌, ℕ, ◌+◌, ◌≤◌, true, false, cond, List, [], ◌∷◌, Result, Ok, Err, length, get_or, drop, map, refl, sym, ap, ◌∙◌, arith}
+use Rattle.std.proofs.lemmas.Bool.{false≢true}
+use Rattle.std.proofs.Common.{length-drop}
+use Rattle.std.proofs.lemmas.List.{length-map}
+use Rattle.asm_base.specs.declared.positions.Pos.{Pos}
+use Rattle.asm_base.specs.declared.tokens.Token.{Token}
+use Rattle.asm_base.specs.declared.faults.StatementFault.{StatementFault}
+use Rattle.asm_base.specs.Tokens.{spelled, SpelledToken}
+use Rattle.asm_place.specs.Answers.{Fails}
+use Rattle.asm_place.specs.declared.steps.StepFault.{StepFault}
+use Rattle.asm_place.specs.declared.steps.StepFault.TheVariants.{Source, NoMemory}
+use Rattle.asm_place.specs.Results.{◌>>=◌}
+use Rattle.asm_place.specs.State.{Placed}
+use Rattle.asm_place.specs.Placing.{place_label, place_body, place_unlabelled, begins_with_label, is_label, place_tokens}
+use Rattle.asm_place.proofs.TokenLists.{two_left}
+
+-- no label is in front
+pub unlabelled : (pos : Pos) (tokens : List SpelledToken) (placed : Placed) → begins_with_label tokens ≡ false
+    → place_tokens pos tokens placed ≡ place_unlabelled pos tokens placed
+unfolding place_tokens place_unlabelled
+unlabelled pos [] placed none = refl
+unlabelled pos (first ∷ []) placed none = refl
+unlabelled pos (first ∷ second ∷ rest) placed none =
+    ap (λ b. cond b (place_label pos first placed >>= (λ labels. place_tokens pos rest labels)) (place_body pos first (second ∷ rest) placed)) none
+
+label_two : (pos : Pos) (first second : SpelledToken) (rest : List SpelledToken) (placed : Placed) → is_label first second ≡ true
+    → place_tokens pos (first ∷ second ∷ rest) placed ≡ (place_label pos first placed >>= (λ labels. place_tokens pos rest labels))
+unfolding place_tokens
+label_two pos first second rest placed labelled =
+    ap (λ b. cond b (place_label pos first placed >>= (λ labels. place_tokens pos rest labels)) (place_body pos first (second ∷ rest) placed)) labelled
+
+-- what stands from the place on, where a label does
+label_left : (pos : Pos) (tokens : List Token) (at : ℕ) (d : Token) (placed : Placed) → at + 2 ≤ length tokens → begins_with_label (map spelled (drop at tokens)) ≡ true
+    → place_tokens pos (map spelled (drop at tokens)) placed ≡ (place_label pos (spelled (get_or tokens at d)) placed >>= (λ labels. place_tokens pos (map spelled (drop (at + 2) tokens)) labels))
+label_left pos tokens at d placed inside labelled =
+    let two = two_left tokens at d inside in
+    ap (λ ts. place_tokens pos ts placed) two
+    ∙ label_two pos (spelled (get_or tokens at d)) (spelled (get_or tokens (at + 1) d)) (map spelled (drop (at + 2) tokens)) placed (sym (ap begins_with_label two) ∙ labelled)
+
+pub label_step : (pos : Pos) (tokens : List Token) (at : ℕ) (d : Token) (placed more : Placed) (whole : Result Placed StatementFault)
+    → at + 2 ≤ length tokens → begins_with_label (map spelled (drop at tokens)) ≡ true → place_label pos (spelled (get_or tokens at d)) placed ≡ Ok more
+    → place_tokens pos (map spelled (drop at tokens)) placed ≡ whole → place_tokens pos (map spelled (drop (at + 2) tokens)) more ≡ whole
+label_step pos tokens at d placed more whole inside labelled is before =
+    sym (label_left pos tokens at d placed inside labelled ∙ ap (λ r. r >>= (λ labels. place_tokens pos (map spelled (drop (at + 2) tokens)) labels)) is) ∙ before
+
+pub label_stop : (pos : Pos) (tokens : List Token) (at : ℕ) (d : Token) (placed : Placed) (fault : StatementFault) (whole : Result Placed StatementFault)
+    → at + 2 ≤ length tokens → begins_with_label (map spelled (drop at tokens)) ≡ true → place_label pos (spelled (get_or tokens at d)) placed ≡ Err fault
+    → place_tokens pos (map spelled (drop at tokens)) placed ≡ whole → whole ≡ Err fault
+label_stop pos tokens at d placed fault whole inside labelled is before =
+    sym before ∙ label_left pos tokens at d placed inside labelled ∙ ap (λ r. r >>= (λ labels. place_tokens pos (map spelled (drop (at + 2) tokens)) labels)) is
+
+-- a label that can't be placed ends the statement
+pub label_fails : (pos : Pos) (tokens : List Token) (at : ℕ) (d : Token) (placed : Placed) (fault : StepFault) (whole : Result Placed StatementFault)
+    → at + 2 ≤ length tokens → begins_with_label (map spelled (drop at tokens)) ≡ true → Fails fault (place_label pos (spelled (get_or tokens at d)) placed)
+    → place_tokens pos (map spelled (drop at tokens)) placed ≡ whole → Fails fault whole
+label_fails pos tokens at d placed (Source fault) whole inside labelled is before = label_stop pos tokens at d placed fault whole inside labelled is before
+label_fails pos tokens at d placed NoMemory whole inside labelled is before = tt
+
+-- a label takes two tokens
+two_of : (tokens : List SpelledToken) → begins_with_label tokens ≡ true → 2 ≤ length tokens
+two_of [] labelled = absurd (false≢true labelled)
+two_of (first ∷ []) labelled = absurd (false≢true labelled)
+two_of (first ∷ second ∷ rest) labelled = omega arith
+
+pub room : (tokens : List Token) (at : ℕ) → begins_with_label (map spelled (drop at tokens)) ≡ true → at + 2 ≤ length tokens
+room tokens at labelled = omega (arith, two_of (map spelled (drop at tokens)) labelled, length-map (drop at tokens) spelled, length-drop at tokens)

@@ -1,0 +1,15 @@
+-- The proofs of this crate.
+pub mod Names
+pub mod Readings
+pub mod TokenLists
+pub mod OperandSplits
+pub mod NameParts
+pub mod StepLists
+pub mod LabelLemmas
+pub mod StatementLists
+pub mod GrowthLemmas
+pub mod Walks
+pub mod QuietSteps
+pub mod PlacingLaws
+pub mod StatementSplits
+pub mod InstructionLaws

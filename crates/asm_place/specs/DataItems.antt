@@ -1,0 +1,50 @@
+-- Items of data (GNU as manual, ".byte", ".short", ".long", ".quad"): the bytes of known values, fields for the others, and the notes of values that do not fit.
+use Rattle.std.specs.Prelude.{ℕ, ◌-◌, ◌^◌, ◌||◌, not, Bool, true, false, nat_lt, nat_le, List, [], ◌∷◌, take, fold, replicate}
+use Rattle.std.specs.Int.{w64, to_le_bytes}
+use Rattle.asm_base.specs.declared.faults.Note.TheVariants.{ValueTruncated}
+use Rattle.asm_base.specs.declared.notes.Noted.{Noted}
+use Rattle.asm_base.specs.declared.positions.Pos.{Pos}
+use Rattle.asm_expr.specs.declared.forms.Term.{Term}
+use Rattle.asm_expr.specs.Forms.{Form}
+use Rattle.asm_frags.specs.declared.fields.FieldSize.{FieldSize}
+use Rattle.asm_frags.specs.declared.fields.FieldSize.TheVariants.{One, Two, Four, Eight}
+use Rattle.asm_frags.specs.Fields.{width}
+use Rattle.asm_frags.specs.DataOf.{DataOf, no_data, with_bytes, with_field}
+
+-- a value modulo 2 ^ 64 is a number from -2 ^ (n - 1) to 2 ^ n - 1, n being the bits of the item
+unfoldable pub fits : FieldSize → ℕ → Bool
+fits One value = nat_lt value (2 ^ 8) || nat_le (2 ^ 64 - 2 ^ 7) value
+fits Two value = nat_lt value (2 ^ 16) || nat_le (2 ^ 64 - 2 ^ 15) value
+fits Four value = nat_lt value (2 ^ 32) || nat_le (2 ^ 64 - 2 ^ 31) value
+fits Eight value = true
+
+-- the low bytes of a value, low byte first
+unfoldable pub low_bytes : FieldSize → ℕ → List ℕ
+low_bytes size value = take (width size) (to_le_bytes w64 value)
+
+-- bytes for a form without names, and a field for another
+abbrev pub put_by : List Term → FieldSize → DataOf → Form → DataOf
+put_by [] size held form = with_bytes held (low_bytes size form.constant)
+put_by (term ∷ terms) size held form = with_field held size form
+
+abbrev pub put_form : FieldSize → DataOf → Form → DataOf
+put_form size held form = put_by form.terms size held form
+
+-- the item of these forms
+unfoldable pub data_of : FieldSize → List Form → DataOf
+data_of size forms = fold (put_form size) no_data forms
+
+-- a value that is known and does not fit
+abbrev pub cut_by : List Term → FieldSize → ℕ → Bool
+cut_by [] size constant = not (fits size constant)
+cut_by (term ∷ terms) size constant = false
+
+abbrev pub is_cut : FieldSize → Form → Bool
+is_cut size form = cut_by form.terms size form.constant
+
+abbrev pub cut_note : Pos → Noted
+cut_note pos = record { note = ValueTruncated; pos = pos }
+
+-- a note for each value that does not fit
+abbrev pub cut_notes : Pos → ℕ → List Noted
+cut_notes pos count = replicate count (cut_note pos)

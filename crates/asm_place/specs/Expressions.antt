@@ -1,0 +1,71 @@
+-- The expressions that operands are, and their values.
+use Rattle.std.specs.Prelude.{ℕ, nat_le, Bool, true, false, List, [], ◌∷◌, ◌++◌, Option, None, Some, Result, Ok, Err}
+use Rattle.std.specs.Option.{option_to_list}
+use Rattle.asm_base.specs.declared.faults.StatementFault.{StatementFault}
+use Rattle.asm_base.specs.declared.faults.StatementFault.TheVariants.{BadExpression, BadOperand}
+use Rattle.asm_base.specs.Tokens.{SpelledToken}
+use Rattle.asm_expr.specs.Trees.{Tree}
+use Rattle.asm_expr.specs.Forms.{Form}
+use Rattle.asm_expr.specs.Knowledge.{Knowledge}
+use Rattle.asm_expr.specs.Reading.{reading}
+use Rattle.asm_expr.specs.Linear.{linear, value_of}
+use Rattle.asm_place.specs.declared.few.Few.{Few}
+use Rattle.asm_place.specs.Results.{◌>>=◌, if_some}
+use Rattle.asm_place.specs.ExprFaults.{in_statement}
+
+-- nothing stands behind an expression
+abbrev pub alone : List SpelledToken → Tree → Result Tree StatementFault
+alone [] tree = Ok tree
+alone (token ∷ rest) tree = Err BadOperand
+
+-- an expression alone
+unfoldable pub expression_of : List SpelledToken → Result Tree StatementFault
+expression_of operand = in_statement (reading 1 0 operand) >>= λ found. alone found.rest found.tree
+
+-- its linear form
+unfoldable pub form_in : Knowledge → Tree → Result Form StatementFault
+form_in known tree = in_statement (linear known tree)
+
+-- its value, which has to be known
+unfoldable pub constant_in : Form → Result ℕ StatementFault
+constant_in form = in_statement (value_of form)
+
+abbrev pub few_listed : {A : Type 0} → Few A → List A
+few_listed few = few.first ∷ (option_to_list few.second ++ option_to_list few.third)
+
+-- what is given of each, from the first to the third
+abbrev pub each_few : {A B : Type 0} → (A → Result B StatementFault) → Few A → Result (Few B) StatementFault
+each_few give few =
+    give few.first >>= λ first. if_some give few.second >>= λ second. if_some give few.third >>= λ third.
+    Ok (record { first = first; second = second; third = third })
+
+-- an operand that has to be there
+unfoldable pub first_tree : List (List SpelledToken) → Result (Tree × List (List SpelledToken)) StatementFault
+first_tree [] = Err BadExpression
+first_tree (operand ∷ operands) = expression_of operand >>= λ tree. Ok (tree, operands)
+
+-- an operand that may be missing, or empty
+unfoldable pub next_tree : List (List SpelledToken) → Result (Option Tree × List (List SpelledToken)) StatementFault
+next_tree [] = Ok (None, [])
+next_tree ([] ∷ operands) = Ok (None, operands)
+next_tree ((token ∷ rest) ∷ operands) = expression_of (token ∷ rest) >>= λ tree. Ok (Some tree, operands)
+
+-- an operand that may be there only where so many may
+abbrev pub next_tree_if : Bool → List (List SpelledToken) → Result (Option Tree × List (List SpelledToken)) StatementFault
+next_tree_if true operands = next_tree operands
+next_tree_if false operands = Ok (None, operands)
+
+-- no operand is left
+abbrev pub no_more : {A : Type 0} → List (List SpelledToken) → A → Result A StatementFault
+no_more [] done = Ok done
+no_more (operand ∷ operands) done = Err BadOperand
+
+-- one expression, or as many more as there may be in all
+unfoldable pub few_trees : ℕ → List (List SpelledToken) → Result (Few Tree) StatementFault
+few_trees most operands =
+    first_tree operands >>= λ one. next_tree_if (nat_le 2 most) one.1 >>= λ two. next_tree_if (nat_le 3 most) two.1 >>= λ three.
+    no_more three.1 (record { first = one.0; second = two.0; third = three.0 })
+
+-- their values: first the forms of all are made, and then each value has to be known
+unfoldable pub few_values : Knowledge → Few Tree → Result (Few ℕ) StatementFault
+few_values known trees = each_few (form_in known) trees >>= each_few constant_in

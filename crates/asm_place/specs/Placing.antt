@@ -1,0 +1,185 @@
+-- What each statement adds to the sections, the symbols and the notes, or its fault.
+use Rattle.std.specs.Prelude.{ℕ, ◌&&◌, ◌||◌, ◌==◌, Bool, false, not, List, [], ◌∷◌, drop, find, Option, None, Some, unwrap_or, Result, Ok, Err, if◌then◌else◌}
+use Rattle.std.specs.List.{list_all, list_any}
+use Rattle.std.specs.List.{count_by}
+use Rattle.asm_base.specs.declared.faults.StatementFault.{StatementFault}
+use Rattle.asm_base.specs.declared.faults.StatementFault.TheVariants.{UnknownMnemonic, UnknownDirective, BadOperand}
+use Rattle.asm_base.specs.declared.positions.Pos.{Pos}
+use Rattle.asm_base.specs.declared.tokens.TokenKind.{TokenKind}
+use Rattle.asm_base.specs.declared.tokens.TokenKind.TheVariants.{Digits}
+use Rattle.asm_base.specs.Digits.{is_digit_of}
+use Rattle.asm_base.specs.Tokens.{SpelledToken}
+use Rattle.asm_expr.specs.declared.naming.Name.TheVariants as naming
+use Rattle.asm_expr.specs.Numbers.{numeral}
+use Rattle.asm_expr.specs.Trees.{Tree}
+use Rattle.asm_frags.specs.declared.contents.Content.{Content}
+use Rattle.asm_frags.specs.declared.contents.Content.TheVariants as content
+use Rattle.asm_frags.specs.declared.fields.FieldSize.{FieldSize}
+use Rattle.asm_symbols.specs.declared.entries.Definition.TheVariants.{Label}
+use Rattle.asm_symbols.specs.Defining.{defined}
+use Rattle.asm_place.specs.declared.directives.Directive.{Directive}
+use Rattle.asm_place.specs.declared.directives.Directive.TheVariants as directive
+use Rattle.asm_place.specs.declared.directives.Basic.{Basic}
+use Rattle.asm_place.specs.declared.directives.Basic.TheVariants.{Text, Data, Bss}
+use Rattle.asm_place.specs.declared.instructions.Row.{Row}
+use Rattle.asm_place.specs.Results.{◌>>=◌}
+use Rattle.asm_place.specs.Rows.{the_rows, has_name, bytes_of}
+use Rattle.asm_place.specs.ExprFaults.{in_statement}
+use Rattle.asm_place.specs.Tables.{Table, symbol_of, next_symbol, changed_by, name_trees}
+use Rattle.asm_place.specs.Places.{keeps_here, name_parts}
+use Rattle.asm_place.specs.State.{Placed, with_table, with_notes, here, known_here, push_item}
+use Rattle.asm_place.specs.Operands.{is_name, is_mark, names_symbol, symbol_name, operands_of, each, joined_strings}
+use Rattle.asm_place.specs.Expressions.{few_listed, expression_of, form_in, few_trees, few_values}
+use Rattle.asm_place.specs.DataItems.{data_of, is_cut, cut_notes}
+use Rattle.asm_place.specs.Spaces.{space_of, units_of, unit_size}
+use Rattle.asm_place.specs.SectionChanges.{with_current, place_section, place_pushed, popped}
+use Rattle.asm_place.specs.SymbolWords.{place_said, place_type, place_size}
+use Rattle.asm_place.specs.Assignments.{place_set, place_assignment}
+use Rattle.asm_place.specs.Commons.{place_comm, place_lcomm}
+use Rattle.asm_place.specs.Idents.{plain_item, place_ident, place_file}
+use Rattle.asm_place.specs.Directives.{directive_of}
+
+-- `.byte` and the others: an item of all values, of which those that are not known are fields, and a note for each that does not fit
+unfoldable pub place_data : Pos → FieldSize → List SpelledToken → Placed → Result Placed StatementFault
+place_data pos size tokens placed =
+    each expression_of (operands_of tokens) >>= λ trees. each (form_in (known_here placed)) trees >>= λ forms.
+    push_item pos (content.Bytes (data_of size forms)) placed >>= λ pushed.
+    name_parts pos (here placed) (list_any (keeps_here (here placed)) forms) trees pushed.table >>= λ table.
+    Ok (with_notes (cut_notes pos (count_by (is_cut size) forms)) (with_table pushed table))
+
+-- `.ascii` and the others: the bytes of all strings, each with a zero byte behind it where that is asked for
+unfoldable pub place_strings : Pos → Bool → List SpelledToken → Placed → Result Placed StatementFault
+place_strings pos ended tokens placed = joined_strings ended (operands_of tokens) >>= λ bytes. push_item pos (plain_item bytes) placed
+
+-- space, and the names of its operands
+abbrev pub with_item : Pos → List Tree → Content → Placed → Result Placed StatementFault
+with_item pos trees item placed = push_item pos item placed >>= λ pushed. name_trees pos trees pushed.table >>= λ table. Ok (with_table pushed table)
+
+-- `.zero`
+unfoldable pub place_zero : Pos → List SpelledToken → Placed → Result Placed StatementFault
+place_zero pos tokens placed =
+    few_trees 1 (operands_of tokens) >>= λ trees. few_values (known_here placed) trees >>= λ values.
+    space_of values.first 0 >>= λ item. with_item pos (few_listed trees) item placed
+
+-- `.skip`, `.space`
+unfoldable pub place_skip : Pos → List SpelledToken → Placed → Result Placed StatementFault
+place_skip pos tokens placed =
+    few_trees 2 (operands_of tokens) >>= λ trees. few_values (known_here placed) trees >>= λ values.
+    space_of values.first (unwrap_or values.second 0) >>= λ item. with_item pos (few_listed trees) item placed
+
+-- `.fill`
+unfoldable pub place_fill : Pos → List SpelledToken → Placed → Result Placed StatementFault
+place_fill pos tokens placed =
+    few_trees 3 (operands_of tokens) >>= λ trees. few_values (known_here placed) trees >>= λ values. unit_size values.second >>= λ size.
+    units_of values.first size (unwrap_or values.third 0) >>= λ item. with_item pos (few_listed trees) item placed
+
+-- a directive that stands alone
+abbrev pub bare : List SpelledToken → Result Placed StatementFault → Result Placed StatementFault
+bare [] answer = answer
+bare (token ∷ rest) answer = Err BadOperand
+
+-- the numbers of the sections that are there from the beginning
+abbrev pub basic_number : Basic → ℕ
+basic_number Text = 0
+basic_number Data = 1
+basic_number Bss = 2
+
+-- a directive, by what it is
+unfoldable pub place_by : Directive → Pos → List SpelledToken → Placed → Result Placed StatementFault
+place_by (directive.Data size) pos tokens placed = place_data pos size tokens placed
+place_by (directive.Strings ended) pos tokens placed = place_strings pos ended tokens placed
+place_by directive.Zero pos tokens placed = place_zero pos tokens placed
+place_by directive.Skip pos tokens placed = place_skip pos tokens placed
+place_by directive.Fill pos tokens placed = place_fill pos tokens placed
+place_by (directive.Enter basic) pos tokens placed = bare tokens (Ok (with_current (basic_number basic) placed))
+place_by directive.Section pos tokens placed = place_section pos tokens placed
+place_by directive.PushSection pos tokens placed = place_pushed pos tokens placed
+place_by directive.PopSection pos tokens placed = bare tokens (popped placed)
+place_by directive.Previous pos tokens placed = bare tokens (Ok (with_current placed.previous placed))
+place_by (directive.Say saying) pos tokens placed = place_said pos saying tokens placed
+place_by directive.Type pos tokens placed = place_type pos tokens placed
+place_by directive.Size pos tokens placed = place_size pos tokens placed
+place_by (directive.Assign once) pos tokens placed = place_set pos once tokens placed
+place_by directive.Comm pos tokens placed = place_comm pos tokens placed
+place_by directive.Lcomm pos tokens placed = place_lcomm pos tokens placed
+place_by directive.Ident pos tokens placed = place_ident pos tokens placed
+place_by directive.File pos tokens placed = place_file tokens placed
+
+abbrev pub place_found : Option Directive → Pos → List SpelledToken → Placed → Result Placed StatementFault
+place_found None pos tokens placed = Err UnknownDirective
+place_found (Some found) pos tokens placed = place_by found pos tokens placed
+
+-- a directive by its name
+unfoldable pub place_directive : Pos → List ℕ → List SpelledToken → Placed → Result Placed StatementFault
+place_directive pos name tokens placed = place_found (directive_of name) pos tokens placed
+
+-- an instruction of this row, which takes no operands
+abbrev pub place_row : Pos → Option Row → List SpelledToken → Placed → Result Placed StatementFault
+place_row pos None operands placed = Err UnknownMnemonic
+place_row pos (Some row) [] placed = push_item pos (plain_item (bytes_of row)) placed
+place_row pos (Some row) (token ∷ rest) placed = Err BadOperand
+
+-- an instruction by its name
+unfoldable pub place_instruction : Pos → List ℕ → List SpelledToken → Placed → Result Placed StatementFault
+place_instruction pos name operands placed = place_row pos (find (λ row. has_name row name) the_rows) operands placed
+
+-- an equals sign behind a name makes an assignment
+abbrev pub is_assignment : List SpelledToken → Bool
+is_assignment [] = false
+is_assignment (token ∷ rest) = is_mark 61 token
+
+abbrev pub begins_with_dot : List ℕ → Bool
+begins_with_dot [] = false
+begins_with_dot (byte ∷ bytes) = byte == 46
+
+-- what stands behind the labels: an assignment, a directive or an instruction
+unfoldable pub place_body : Pos → SpelledToken → List SpelledToken → Placed → Result Placed StatementFault
+place_body pos first rest placed =
+    if names_symbol first && is_assignment rest then place_assignment pos first (drop 1 rest) placed
+    else (if not (is_name first) then Err UnknownMnemonic
+    else (if begins_with_dot first.bytes then place_directive pos first.bytes rest placed
+    else place_instruction pos first.bytes rest placed))
+
+-- decimal digits, which name a numeric label
+abbrev pub number_by : TokenKind → List ℕ → Bool
+number_by Digits bytes = list_all (is_digit_of 10) bytes
+number_by _ bytes = false
+
+abbrev pub is_number : SpelledToken → Bool
+is_number token = number_by token.kind token.bytes
+
+-- a name, quoted or not, or a number, and a colon
+abbrev pub is_label : SpelledToken → SpelledToken → Bool
+is_label first second = (names_symbol first || is_number first) && is_mark 58 second
+
+-- the symbol of a label, by its token: that of the next instance of a number
+abbrev pub label_by : TokenKind → Pos → SpelledToken → Table → Result (Table × ℕ) StatementFault
+label_by Digits pos token table = in_statement (numeral 10 token.bytes) >>= λ number. next_symbol pos number table
+label_by _ pos token table = symbol_name token >>= λ name. symbol_of pos (naming.Plain name) table
+
+unfoldable pub label_symbol : Pos → SpelledToken → Table → Result (Table × ℕ) StatementFault
+label_symbol pos token table = label_by token.kind pos token table
+
+-- a label, by its token
+unfoldable pub place_label : Pos → SpelledToken → Placed → Result Placed StatementFault
+place_label pos token placed =
+    label_symbol pos token placed.table >>= changed_by (λ map index. defined map index (Label (here placed))) >>= λ table. Ok (with_table placed table)
+
+-- behind the labels, where anything is
+unfoldable pub place_unlabelled : Pos → List SpelledToken → Placed → Result Placed StatementFault
+place_unlabelled pos [] placed = Ok placed
+place_unlabelled pos (first ∷ rest) placed = place_body pos first rest placed
+
+-- a label stands in front
+abbrev pub begins_with_label : List SpelledToken → Bool
+begins_with_label [] = false
+begins_with_label (first ∷ []) = false
+begins_with_label (first ∷ second ∷ rest) = is_label first second
+
+-- the labels one after the other, and what stands behind them
+unfoldable pub place_tokens : Pos → List SpelledToken → Placed → Result Placed StatementFault
+place_tokens pos [] placed = Ok placed
+place_tokens pos (first ∷ []) placed = place_body pos first [] placed
+place_tokens pos (first ∷ second ∷ rest) placed =
+    if is_label first second then place_label pos first placed >>= (λ labels. place_tokens pos rest labels)
+    else place_body pos first (second ∷ rest) placed

@@ -1,0 +1,109 @@
+-- The operands of `.section` (GNU as manual, ".section", ELF version): a name, the letters of flags, a type, and the size of entries.
+use Rattle.std.specs.Prelude.{ℕ, ◌+◌, ◌==◌, ◌&&◌, ◌||◌, Bool, true, false, List, [], ◌∷◌, flat_map, length, codes, Option, None, Some, Result, Ok, Err, if◌then◌else◌}
+use Rattle.std.specs.List.{list_all, list_any}
+use Rattle.std.specs.Str.{bytes_eq}
+use Rattle.asm_base.specs.declared.faults.StatementFault.{StatementFault}
+use Rattle.asm_base.specs.declared.faults.StatementFault.TheVariants.{BadOperand, BadSection}
+use Rattle.asm_base.specs.Tokens.{SpelledToken}
+use Rattle.asm_expr.specs.Trees.{Tree}
+use Rattle.asm_place.specs.Results.{◌>>=◌}
+use Rattle.asm_place.specs.Operands.{is_name, is_mark, symbol_name, string_of}
+use Rattle.asm_place.specs.Expressions.{next_tree_if, no_more}
+
+-- the second token stands right behind the first
+abbrev pub follows : SpelledToken → SpelledToken → Bool
+follows first second = second.start == first.start + length first.bytes
+
+-- `-` and a name stand behind a name, without blanks between
+abbrev pub is_part : SpelledToken → SpelledToken → SpelledToken → Bool
+is_part last dash name = is_mark 45 dash && follows last dash && is_name name && follows dash name
+
+-- what may stand behind a name: such parts, so often as one likes
+unfoldable pub goes_on : SpelledToken → List SpelledToken → Bool
+goes_on last [] = true
+goes_on last (dash ∷ []) = false
+goes_on last (dash ∷ name ∷ rest) = is_part last dash name && goes_on name rest
+
+-- names with `-` between
+abbrev pub is_joined : List SpelledToken → Bool
+is_joined [] = false
+is_joined (token ∷ rest) = is_name token && goes_on token rest
+
+abbrev pub joined_bytes : List SpelledToken → List ℕ
+joined_bytes tokens = flat_map (λ part. part.bytes) tokens
+
+abbrev pub joined_name : List SpelledToken → Result (List ℕ) StatementFault
+joined_name tokens = if is_joined tokens then Ok (joined_bytes tokens) else Err BadOperand
+
+-- the name of a section, quoted or not
+unfoldable pub section_name : List SpelledToken → Result (List ℕ) StatementFault
+section_name [] = Err BadOperand
+section_name (token ∷ []) = symbol_name token
+section_name (token ∷ second ∷ rest) = joined_name (token ∷ second ∷ rest)
+
+-- a name behind `@` or `%`
+abbrev pub begins_type : SpelledToken → Bool
+begins_type token = is_mark 64 token || is_mark 37 token
+
+unfoldable pub type_name : List SpelledToken → Result (List ℕ) StatementFault
+type_name (mark ∷ name ∷ []) = if begins_type mark && is_name name then Ok name.bytes else Err BadOperand
+type_name _ = Err BadOperand
+
+-- an operand by what it has to be, where it has to be there
+abbrev pub needed : {A : Type 0} → (List SpelledToken → Result A StatementFault) → List (List SpelledToken) → Result (A × List (List SpelledToken)) StatementFault
+needed give [] = Err BadOperand
+needed give (operand ∷ operands) = give operand >>= λ made. Ok (made, operands)
+
+-- the same, where it may be missing or empty
+abbrev pub missing_or : {A : Type 0} → (List SpelledToken → Result A StatementFault) → List (List SpelledToken) → Result (Option A × List (List SpelledToken)) StatementFault
+missing_or give [] = Ok (None, [])
+missing_or give ([] ∷ operands) = Ok (None, operands)
+missing_or give ((token ∷ rest) ∷ operands) = give (token ∷ rest) >>= λ made. Ok (Some made, operands)
+
+-- what `.section` says
+pub record SectionWords : Type 0 where
+  pub name : List ℕ
+  pub flags : Option (List ℕ)
+  pub kind : Option (List ℕ)
+  pub entry_size : Option Tree
+
+abbrev pub has_letter : ℕ → List ℕ → Bool
+has_letter letter letters = list_any (λ byte. byte == letter) letters
+
+-- `M`: the section may be merged, and has entries of one size
+abbrev pub says_merge : Option (List ℕ) → Bool
+says_merge None = false
+says_merge (Some letters) = has_letter 77 letters
+
+unfoldable pub section_words : List (List SpelledToken) → Result SectionWords StatementFault
+section_words operands =
+    needed section_name operands >>= λ name. missing_or string_of name.1 >>= λ flags. missing_or type_name flags.1 >>= λ kind.
+    next_tree_if (says_merge flags.0) kind.1 >>= λ size.
+    no_more size.1 (record { name = name.0; flags = flags.0; kind = kind.0; entry_size = size.0 })
+
+-- `sh_flags` that a letter asks for (gABI, chapter 4, "sh_flags")
+abbrev pub flag_if : ℕ → ℕ → List ℕ → ℕ
+flag_if letter flag letters = if has_letter letter letters then flag else 0
+
+-- `a`, `w`, `x`, `M`, `S`, `T`
+abbrev pub is_flag_letter : ℕ → Bool
+is_flag_letter byte = (byte == 97) || (byte == 119) || (byte == 120) || (byte == 77) || (byte == 83) || (byte == 84)
+
+unfoldable pub letter_flags : List ℕ → ℕ
+letter_flags letters =
+    flag_if 119 1 letters + flag_if 97 2 letters + flag_if 120 4 letters + flag_if 77 16 letters + flag_if 83 32 letters + flag_if 84 1024 letters
+
+-- the flags that the letters ask for; another letter is no flag
+unfoldable pub said_flags : List ℕ → Result ℕ StatementFault
+said_flags letters = if list_all is_flag_letter letters then Ok (letter_flags letters) else Err BadSection
+
+-- `sh_type` by its name (gABI, chapter 4, "sh_type")
+unfoldable pub said_kind : List ℕ → Result ℕ StatementFault
+said_kind name =
+    if bytes_eq name (codes "progbits") then Ok 1
+    else (if bytes_eq name (codes "note") then Ok 7
+    else (if bytes_eq name (codes "nobits") then Ok 8
+    else (if bytes_eq name (codes "init_array") then Ok 14
+    else (if bytes_eq name (codes "fini_array") then Ok 15
+    else (if bytes_eq name (codes "preinit_array") then Ok 16
+    else Err BadSection)))))

@@ -1,0 +1,64 @@
+-- What the statements so far have placed.
+use Rattle.std.specs.Prelude.{ℕ, Bool, List, [], ◌++◌, Result, Ok, if◌then◌else◌}
+use Rattle.asm_base.specs.declared.faults.StatementFault.{StatementFault}
+use Rattle.asm_base.specs.declared.notes.Noted.{Noted}
+use Rattle.asm_base.specs.declared.positions.Pos.{Pos}
+use Rattle.asm_expr.specs.Knowledge.{Knowledge}
+use Rattle.asm_frags.specs.declared.contents.Content.{Content}
+use Rattle.asm_frags.specs.Sections.{first_sections, pushed}
+use Rattle.asm_symbols.specs.declared.entries.Spot.{Spot}
+use Rattle.asm_place.specs.declared.stacks.Entered.{Entered}
+use Rattle.asm_place.specs.Results.{◌>>=◌}
+use Rattle.asm_place.specs.LayerFaults.{of_sections}
+use Rattle.asm_place.specs.Tables.{Table, no_table}
+use Rattle.asm_place.specs.Places.{Item, LooseSection, spot_at, known_at}
+
+-- the sections with their items, the symbols, the section that items go into and the one before it, those that `.popsection` comes back to
+-- with the last one at the end, and the notes; and whether no warning is to be made
+pub record Placed : Type 0 where
+  pub sections : List LooseSection
+  pub table : Table
+  pub current : ℕ
+  pub previous : ℕ
+  pub stack : List Entered
+  pub no_warn : Bool
+  pub notes : List Noted
+
+-- items go into `.text` at first
+abbrev pub nothing_placed : Bool → Placed
+nothing_placed no_warn = record {
+  sections = first_sections;
+  table = no_table;
+  current = 0;
+  previous = 0;
+  stack = [];
+  no_warn = no_warn;
+  notes = [];
+}
+
+abbrev pub with_table : Placed → Table → Placed
+with_table placed table = record placed { table = table }
+
+-- these notes more, unless no warning is to be made
+abbrev pub with_notes : List Noted → Placed → Placed
+with_notes notes placed = record placed { notes = placed.notes ++ (if placed.no_warn then [] else notes) }
+
+-- where the next item of the current section goes
+abbrev pub here : Placed → Spot
+here placed = spot_at placed.sections placed.current
+
+-- what is known there
+abbrev pub known_here : Placed → Knowledge
+known_here placed = known_at placed.table.symbols (here placed)
+
+-- an item of a statement
+abbrev pub item_of : Pos → Content → Item
+item_of pos content = record { pos = pos; content = content; address = tt }
+
+-- the item last in the section of this number
+unfoldable pub push_into : Pos → ℕ → Content → Placed → Result Placed StatementFault
+push_into pos number content placed = of_sections (pushed placed.sections number (item_of pos content)) >>= λ sections. Ok (record placed { sections = sections })
+
+-- the item last in the current section
+abbrev pub push_item : Pos → Content → Placed → Result Placed StatementFault
+push_item pos content placed = push_into pos placed.current content placed

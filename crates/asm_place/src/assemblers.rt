@@ -1,0 +1,161 @@
+//! What the statements so far have placed, and the two steps of all: an item more, and a warning more.
+
+ghost use Rattle.std.specs.Prelude.{◌≡◌, ◌++◌, OnOk};
+ghost use Rattle.asm_frags.specs.Answers.{Changes};
+ghost use Rattle.asm_place.specs.DataItems.{cut_notes};
+ghost use Rattle.asm_frags.specs.Sections.{pushed};
+
+use crate::places::{View, spot_at};
+use crate::stacks::Entered;
+use crate::steps::StepFault;
+use crate::tables::NamedSymbols;
+use asm_base::{Note, Noted, Notes, Pos};
+use asm_frags::{Content, Frag, FragFault, Loose, Sections};
+use asm_symbols::Spot;
+use std::alloc::{AllocError, Global};
+
+/// What is placed so far.
+#[derive(Drop)]
+pub struct Assembler {
+    pub(crate) alloc: Global,
+    pub(crate) sections: Sections,
+    pub(crate) table: NamedSymbols,
+    /// The section that items go into, and the one before it.
+    pub(crate) current: u32,
+    pub(crate) previous: u32,
+    /// What `.popsection` comes back to, the last at the end.
+    pub(crate) stack: Vec<Entered>,
+    /// No warning is to be made.
+    pub(crate) no_warn: bool,
+    /// The warnings so far.
+    pub(crate) notes: Notes,
+}
+
+/// The parts of what is placed.
+#[derive(Drop)]
+pub struct Parts {
+    pub sections: Sections,
+    pub table: NamedSymbols,
+    pub notes: Notes,
+}
+
+/// Puts the item last in the section of this number. `BadSection` comes where there is none, too.
+fn push(sections: &mut Sections, number: u32, item: Frag<Loose>) -> Result<(), FragFault>
+    ensures { Changes sections.old sections.new result (pushed sections.old number item) }
+{
+    if (number as usize) < sections.len() {
+        sections.push(number, item)
+    } else {
+        Err(FragFault::BadSection)
+    }
+}
+
+/// Adds the note of a value that is cut so many times.
+#[tactic(auto, using(std::proofs::lemmas::List::replicate_more))]
+fn add_notes(notes: &mut Notes, pos: Pos, times: usize) -> Result<(), AllocError>
+    ensures { OnOk result (notes.new ≡ notes.old ++ cut_notes pos times) }
+{
+    for i in 0..times {
+        notes.add(Noted {
+            note: Note::ValueTruncated,
+            pos,
+        })?;
+    }
+    Ok(())
+}
+
+impl Assembler {
+    ghost use Rattle.std.specs.Prelude.{◌≡◌, IfOk, IfErr, OnOk};
+    ghost use Rattle.asm_frags.specs.declared.faults.FragFault.TheVariants.{NoMemory};
+    ghost use Rattle.asm_place.specs.Answers.{Gives};
+    ghost use Rattle.asm_place.specs.DataItems.{cut_notes};
+    ghost use Rattle.asm_place.specs.State.{nothing_placed, with_notes, here, push_into};
+    ghost use Rattle.asm_place.specs.PlacedBy.{placed_by};
+
+    /// Nothing is placed yet.
+    pub fn new(alloc: Global, no_warn: bool) -> Result<Assembler, FragFault>
+        ensures ok { IfOk result (λ assembler. placed_by assembler ≡ nothing_placed no_warn) }
+        ensures err { IfErr result (λ fault. fault ≡ NoMemory) }
+    {
+        Ok(Assembler {
+            alloc,
+            sections: Sections::new(alloc)?,
+            table: NamedSymbols::new(alloc),
+            current: 0,
+            previous: 0,
+            stack: Vec::new(alloc),
+            no_warn,
+            notes: Notes::new(alloc),
+        })
+    }
+
+    /// The sections, the symbols and the notes.
+    pub fn into_parts(self) -> Parts
+        ensures sections { result.sections ≡ self.sections }
+        ensures table { result.table ≡ self.table }
+        ensures notes { result.notes ≡ self.notes }
+    {
+        let Assembler {
+            sections,
+            table,
+            notes,
+            ..
+        } = self;
+        Parts {
+            sections,
+            table,
+            notes,
+        }
+    }
+
+    /// Where the next item of the current section goes.
+    pub(crate) fn here(&self) -> Spot
+        ensures { result ≡ here (placed_by self.now) }
+    {
+        spot_at(&self.sections, self.current)
+    }
+
+    /// What is known of names there.
+    pub(crate) fn view(&self) -> View<'_>
+        ensures symbols { result.symbols.now ≡ self.now.table.symbols }
+        ensures spot { result.spot ≡ here (placed_by self.now) }
+    {
+        View {
+            symbols: self.table.symbols(),
+            spot: self.here(),
+        }
+    }
+
+    /// Puts an item last in the section of this number.
+    #[tactic(auto, unfolding(crate::specs::State::push_into))]
+    pub(crate) fn push_into(
+        &mut self,
+        pos: Pos,
+        number: u32,
+        content: Content,
+    ) -> Result<(), StepFault>
+        ensures placed { Gives (placed_by self.new) result (push_into pos number content (placed_by self.old)) }
+        ensures notes { self.new.notes ≡ self.old.notes }
+    {
+        push(&mut self.sections, number, Frag::new(pos, content))?;
+        Ok(())
+    }
+
+    /// Puts an item last in the current section.
+    pub(crate) fn push_item(&mut self, pos: Pos, content: Content) -> Result<(), StepFault>
+        ensures placed { Gives (placed_by self.new) result (push_into pos self.old.current content (placed_by self.old)) }
+        ensures notes { self.new.notes ≡ self.old.notes }
+    {
+        self.push_into(pos, self.current, content)
+    }
+
+    /// Notes that a value is cut, so many times, unless no warning is to be made.
+    pub(crate) fn warn(&mut self, pos: Pos, times: usize) -> Result<(), AllocError>
+        ensures { OnOk result (placed_by self.new ≡ with_notes (cut_notes pos times) (placed_by self.old)) }
+    {
+        if self.no_warn {
+            return Ok(());
+        }
+        add_notes(&mut self.notes, pos, times)
+    }
+}

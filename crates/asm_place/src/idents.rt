@@ -1,0 +1,110 @@
+//! Texts for `.comment`, and names of source files (GNU as manual, ".ident", ".file").
+
+ghost use Rattle.std.specs.Prelude.{◌≡◌, ◌==◌, map, IfOk};
+ghost use Rattle.std.specs.List.{list_any};
+ghost use Rattle.asm_base.specs.Tokens.{spelled};
+ghost use Rattle.asm_place.specs.Answers.{GivesBy};
+ghost use Rattle.asm_place.specs.Idents as spec;
+
+use crate::assemblers::Assembler;
+use crate::few::no_more;
+use crate::operands::Operands;
+use crate::section_changes::{Header, enter};
+use crate::section_words::needed_string;
+use crate::steps::StepFault;
+use crate::texts::plain_item;
+use asm_base::{Pos, StatementFault, Text, Token};
+use asm_expr::Name;
+use asm_frags::{SHT_PROGBITS, Sections};
+use std::alloc::{AllocError, Global};
+
+/// `SHF_MERGE` and `SHF_STRINGS`.
+const MERGED_STRINGS: u64 = 0x30;
+
+/// One string.
+#[tactic(auto, unfolding(crate::specs::Idents::one_string))]
+fn one_string(alloc: Global, tokens: &[Token]) -> Result<Vec<u8>, StepFault>
+    ensures { GivesBy (λ string. string.items) result (spec.one_string (map spelled tokens.now)) }
+{
+    let mut operands = Operands::new(tokens);
+    let string = needed_string(alloc, &mut operands)?;
+    no_more(&mut operands, string)
+}
+
+/// How many items the section of this number has.
+fn items_in(sections: &Sections, number: u32) -> usize
+    ensures { result ≡ spec.items_in sections.now number }
+{
+    if (number as usize) < sections.len() {
+        sections.section(number).items().len()
+    } else {
+        0
+    }
+}
+
+/// The text and the zero byte behind it; the first one stands behind a zero byte.
+fn comment_bytes(alloc: Global, items: usize, text: &[u8]) -> Result<Vec<u8>, AllocError>
+    ensures { IfOk result (λ bytes. bytes.items ≡ spec.comment_bytes items text.now) }
+{
+    let mut bytes = Vec::new(alloc);
+    if items == 0 {
+        bytes.push(0)?;
+    }
+    bytes.extend_from_slice(text)?;
+    bytes.push(0)?;
+    Ok(bytes)
+}
+
+/// Whether a byte 0 is among them.
+fn has_zero(bytes: &[u8]) -> bool
+    ensures { result ≡ list_any (λ byte. byte == 0) bytes.now }
+{
+    bytes.iter().any(|byte| *byte == 0)
+}
+
+/// The name, if a string table can hold it.
+fn file_name(name: Vec<u8>) -> Result<Vec<u8>, StepFault>
+    ensures { GivesBy (λ name. name.items) result (spec.file_name name.items) }
+{
+    if has_zero(&name) {
+        Err(StepFault::Source(StatementFault::BadOperand))
+    } else {
+        Ok(name)
+    }
+}
+
+impl Assembler {
+    ghost use Rattle.std.specs.Prelude.{◌≡◌, map};
+    ghost use Rattle.asm_base.specs.Tokens.{spelled};
+    ghost use Rattle.asm_place.specs.Answers.{Gives};
+    ghost use Rattle.asm_place.specs.Idents.{place_ident, place_file};
+    ghost use Rattle.asm_place.specs.PlacedBy.{placed_by};
+
+    /// `.ident`: the text goes into `.comment`.
+    #[tactic(auto, unfolding(crate::specs::Idents::place_ident))]
+    pub(crate) fn place_ident(&mut self, pos: Pos, tokens: &[Token]) -> Result<(), StepFault>
+        ensures placed { Gives (placed_by self.new) result (place_ident pos (map spelled tokens.now) (placed_by self.old)) }
+        ensures notes { self.new.notes ≡ self.old.notes }
+    {
+        let text = one_string(self.alloc, tokens)?;
+        let header = Header {
+            flags: MERGED_STRINGS,
+            kind: SHT_PROGBITS,
+            entry_size: 1,
+        };
+        let number = enter(self.alloc, &mut self.sections, b".comment", header)?;
+        let bytes = comment_bytes(self.alloc, items_in(&self.sections, number), &text)?;
+        let item = plain_item(self.alloc, &bytes)?;
+        self.push_into(pos, number, item)
+    }
+
+    /// `.file`: the source file that the linker is told of.
+    #[tactic(auto, unfolding(crate::specs::Idents::place_file))]
+    pub(crate) fn place_file(&mut self, tokens: &[Token]) -> Result<(), StepFault>
+        ensures placed { Gives (placed_by self.new) result (place_file (map spelled tokens.now) (placed_by self.old)) }
+        ensures notes { self.new.notes ≡ self.old.notes }
+    {
+        let name = file_name(one_string(self.alloc, tokens)?)?;
+        self.table.file(&Name::Plain(Text::new(name)))
+    }
+}

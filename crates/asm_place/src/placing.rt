@@ -1,0 +1,217 @@
+//! Placing one statement: its labels, and the assignment, directive or instruction behind them.
+
+ghost use Rattle.std.specs.Prelude.{◌≡◌};
+ghost use Rattle.asm_place.specs.Placing.{basic_number};
+
+use crate::assemblers::Assembler;
+use crate::directives::{Basic, Directive, directive_of};
+use crate::instructions::{Row, find_row, put_instruction};
+use crate::operands::{
+    begins_assignment, begins_with_dot, begins_with_label, is_name, names_symbol, symbol_name,
+};
+use crate::steps::StepFault;
+use crate::tables::NamedSymbols;
+use crate::texts::plain_item;
+use asm_base::{Pos, StatementFault, Text, Token, TokenKind};
+use asm_expr::{Name, decimal_number};
+use asm_symbols::{Definition, SymId};
+use std::alloc::Global;
+
+/// The number of a section that is there from the beginning.
+fn basic_number(basic: Basic) -> u32
+    ensures { result ≡ basic_number basic }
+{
+    match basic {
+        Basic::Text => 0,
+        Basic::Data => 1,
+        Basic::Bss => 2,
+    }
+}
+
+impl NamedSymbols {
+    ghost use Rattle.std.specs.Prelude.{◌≡◌, ◌<◌, length, IfOk};
+    ghost use Rattle.asm_base.specs.Tokens.{spelled};
+    ghost use Rattle.asm_place.specs.Answers.{GivesNumber};
+    ghost use Rattle.asm_place.specs.Placing.{label_symbol};
+
+    /// The symbol of a label, by its token: that of the next instance of a number.
+    #[tactic(auto, unfolding(crate::specs::Placing::label_symbol))]
+    fn label_symbol(&mut self, alloc: Global, pos: Pos, token: &Token) -> Result<SymId, StepFault>
+        ensures gives { GivesNumber self.new result (label_symbol pos (spelled token.now) self.old) }
+        ensures there { IfOk result (λ id. id < length self.new.symbols.symbols) }
+    {
+        if token.kind == TokenKind::Digits {
+            let number = decimal_number(token.bytes)?;
+            self.next_symbol(pos, number)
+        } else {
+            let name = Name::Plain(Text::new(symbol_name(alloc, token)?));
+            self.symbol_of(pos, &name)
+        }
+    }
+}
+
+impl Assembler {
+    ghost use Rattle.std.specs.Prelude.{◌≡◌, map, Ok};
+    ghost use Rattle.asm_base.specs.Tokens.{spelled};
+    ghost use Rattle.asm_place.specs.Answers.{Gives, KeepsNotes};
+    ghost use Rattle.asm_place.specs.SectionChanges.{with_current, popped};
+    ghost use Rattle.asm_place.specs.State.{push_item};
+    ghost use Rattle.asm_place.specs.Idents.{plain_item};
+    ghost use Rattle.asm_place.specs.Rows.{bytes_of};
+    ghost use Rattle.asm_place.specs.Placing.{bare, place_by, place_directive, place_instruction, place_body, place_label, place_unlabelled, place_tokens};
+    ghost use Rattle.asm_place.specs.PlacedBy.{placed_by};
+
+    /// A directive that stands alone, and lets items go into the section of this number.
+    fn place_change(&mut self, number: u32, tokens: &[Token]) -> Result<(), StepFault>
+        ensures placed { Gives (placed_by self.new) result (bare (map spelled tokens.now) (Ok (with_current number (placed_by self.old)))) }
+        ensures notes { self.new.notes ≡ self.old.notes }
+    {
+        if !tokens.is_empty() {
+            return Err(StepFault::Source(StatementFault::BadOperand));
+        }
+        self.set_current(number);
+        Ok(())
+    }
+
+    /// `.popsection`
+    fn place_popped(&mut self, tokens: &[Token]) -> Result<(), StepFault>
+        ensures placed { Gives (placed_by self.new) result (bare (map spelled tokens.now) (popped (placed_by self.old))) }
+        ensures notes { self.new.notes ≡ self.old.notes }
+    {
+        if !tokens.is_empty() {
+            return Err(StepFault::Source(StatementFault::BadOperand));
+        }
+        self.pop_section()
+    }
+
+    /// A directive, by what it is.
+    #[tactic(auto, unfolding(crate::specs::Placing::place_by))]
+    fn place_by(
+        &mut self,
+        directive: Directive,
+        pos: Pos,
+        tokens: &[Token],
+    ) -> Result<(), StepFault>
+        ensures placed { Gives (placed_by self.new) result (place_by directive pos (map spelled tokens.now) (placed_by self.old)) }
+        ensures notes { KeepsNotes result self.old.notes self.new.notes }
+    {
+        match directive {
+            Directive::Data(size) => self.place_data(pos, size, tokens),
+            Directive::Strings { ended } => self.place_strings(pos, ended, tokens),
+            Directive::Zero => self.place_zero(pos, tokens),
+            Directive::Skip => self.place_skip(pos, tokens),
+            Directive::Fill => self.place_fill(pos, tokens),
+            Directive::Enter(basic) => self.place_change(basic_number(basic), tokens),
+            Directive::Section => self.place_section(pos, tokens),
+            Directive::PushSection => self.place_pushed(pos, tokens),
+            Directive::PopSection => self.place_popped(tokens),
+            Directive::Previous => self.place_change(self.previous, tokens),
+            Directive::Say(saying) => self.place_said(pos, saying, tokens),
+            Directive::Type => self.place_type(pos, tokens),
+            Directive::Size => self.place_size(pos, tokens),
+            Directive::Assign { once } => self.place_set(pos, once, tokens),
+            Directive::Comm => self.place_comm(pos, tokens),
+            Directive::Lcomm => self.place_lcomm(pos, tokens),
+            Directive::Ident => self.place_ident(pos, tokens),
+            Directive::File => self.place_file(tokens),
+        }
+    }
+
+    /// A directive by its name.
+    #[tactic(auto, unfolding(crate::specs::Placing::place_directive))]
+    fn place_directive(&mut self, pos: Pos, name: &[u8], tokens: &[Token]) -> Result<(), StepFault>
+        ensures placed { Gives (placed_by self.new) result (place_directive pos name.now (map spelled tokens.now) (placed_by self.old)) }
+        ensures notes { KeepsNotes result self.old.notes self.new.notes }
+    {
+        match directive_of(name) {
+            Some(directive) => self.place_by(directive, pos, tokens),
+            None => Err(StepFault::Source(StatementFault::UnknownDirective)),
+        }
+    }
+
+    /// An instruction of this row.
+    fn put_row(&mut self, pos: Pos, row: &Row) -> Result<(), StepFault>
+        ensures placed { Gives (placed_by self.new) result (push_item pos (plain_item (bytes_of row.now)) (placed_by self.old)) }
+        ensures notes { self.new.notes ≡ self.old.notes }
+    {
+        let mut bytes = Vec::new(self.alloc);
+        put_instruction(&mut bytes, row)?;
+        let item = plain_item(self.alloc, &bytes)?;
+        self.push_item(pos, item)
+    }
+
+    /// An instruction by its name, which takes no operands.
+    #[tactic(auto, unfolding(crate::specs::Placing::place_instruction))]
+    fn place_instruction(
+        &mut self,
+        pos: Pos,
+        name: &[u8],
+        operands: &[Token],
+    ) -> Result<(), StepFault>
+        ensures placed { Gives (placed_by self.new) result (place_instruction pos name.now (map spelled operands.now) (placed_by self.old)) }
+        ensures notes { self.new.notes ≡ self.old.notes }
+    {
+        match find_row(name) {
+            None => Err(StepFault::Source(StatementFault::UnknownMnemonic)),
+            Some(row) => {
+                if !operands.is_empty() {
+                    return Err(StepFault::Source(StatementFault::BadOperand));
+                }
+                self.put_row(pos, row)
+            }
+        }
+    }
+
+    /// What stands behind the labels: an assignment, a directive or an instruction.
+    #[tactic(auto, unfolding(crate::specs::Placing::place_body))]
+    fn place_body(&mut self, pos: Pos, first: &Token, rest: &[Token]) -> Result<(), StepFault>
+        ensures placed { Gives (placed_by self.new) result (place_body pos (spelled first.now) (map spelled rest.now) (placed_by self.old)) }
+        ensures notes { KeepsNotes result self.old.notes self.new.notes }
+    {
+        if names_symbol(first) && begins_assignment(rest) {
+            self.place_assignment(pos, first, &rest[1..])
+        } else if !is_name(first) {
+            Err(StepFault::Source(StatementFault::UnknownMnemonic))
+        } else if begins_with_dot(first.bytes) {
+            self.place_directive(pos, first.bytes, rest)
+        } else {
+            self.place_instruction(pos, first.bytes, rest)
+        }
+    }
+
+    /// A label, by its token: it stands where the next item goes.
+    #[tactic(auto, unfolding(crate::specs::Placing::place_label))]
+    fn place_label(&mut self, pos: Pos, token: &Token) -> Result<(), StepFault>
+        ensures placed { Gives (placed_by self.new) result (place_label pos (spelled token.now) (placed_by self.old)) }
+        ensures notes { self.new.notes ≡ self.old.notes }
+    {
+        let spot = self.here();
+        let id = self.table.label_symbol(self.alloc, pos, token)?;
+        self.table.define(id, Definition::Label(spot))
+    }
+
+    /// What stands behind the labels, where anything does.
+    #[tactic(auto, unfolding(crate::specs::Placing::place_unlabelled))]
+    fn place_unlabelled(&mut self, pos: Pos, tokens: &[Token]) -> Result<(), StepFault>
+        ensures placed { Gives (placed_by self.new) result (place_unlabelled pos (map spelled tokens.now) (placed_by self.old)) }
+        ensures notes { KeepsNotes result self.old.notes self.new.notes }
+    {
+        match tokens.split_first() {
+            None => Ok(()),
+            Some((first, rest)) => self.place_body(pos, first, rest),
+        }
+    }
+
+    /// The labels one after the other, and what stands behind them.
+    pub(crate) fn place_tokens(&mut self, pos: Pos, tokens: &[Token]) -> Result<(), StepFault>
+        ensures placed { Gives (placed_by self.new) result (place_tokens pos (map spelled tokens.now) (placed_by self.old)) }
+        ensures notes { KeepsNotes result self.old.notes self.new.notes }
+    {
+        let mut at = 0;
+        'labels: while begins_with_label(&tokens[at..]) {
+            self.place_label(pos, &tokens[at])?;
+            at += 2;
+        }
+        self.place_unlabelled(pos, &tokens[at..])
+    }
+}

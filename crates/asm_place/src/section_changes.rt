@@ -1,0 +1,261 @@
+//! Which section items go into (GNU as manual, ".section", ".pushsection", ".popsection", ".previous").
+
+ghost use Rattle.std.specs.Prelude.{◌≡◌, ◌≤◌, ◌^◌, length, map, option_map, option_copied, IfOk, IfSome, Ok};
+ghost use Rattle.asm_expr.specs.Trees.{tree_of};
+ghost use Rattle.asm_place.specs.Answers.{GivesBy};
+ghost use Rattle.asm_place.specs.Results.{if_some};
+ghost use Rattle.asm_place.specs.SectionWords as words;
+ghost use Rattle.asm_place.specs.SectionChanges as spec;
+ghost use Rattle.asm_place.specs.SaidWords.{words_in};
+ghost use Rattle.asm_place.specs.Answers.{GivesNumber};
+
+use crate::assemblers::Assembler;
+use crate::few::{constant_if, form_if};
+use crate::operands::Operands;
+use crate::section_defaults::default_header;
+use crate::section_words::{SectionWords, said_flags, said_kind, says_merge, section_words};
+use crate::spaces::is_negative;
+use crate::stacks::Entered;
+use crate::steps::StepFault;
+use asm_base::{Pos, StatementFault, Text, Token};
+use asm_expr::Expr;
+use asm_frags::{FragFault, Loose, Section, SectionFlags, Sections};
+use bitflags::Flags;
+use std::alloc::Global;
+
+/// The most bytes of the name of a section.
+const MOST_NAME: usize = 0x1_0000;
+
+/// The section of this name, where there is one.
+fn section_named<'a>(sections: &'a Sections, name: &[u8]) -> Option<&'a Section<Loose>>
+    ensures { option_map (λ section. section.now) result ≡ spec.section_named sections.now name.now }
+{
+    match sections.find(name) {
+        Some(number) => Some(sections.section(number)),
+        None => None,
+    }
+}
+
+/// Flags that are not said are those of the section that is there, or else those of its name.
+fn flags_by(flags: Option<u64>, there: Option<&Section<Loose>>, name: &[u8]) -> u64
+    ensures { result ≡ spec.flags_by flags (option_map (λ section. section.now) there.entry) name.now }
+{
+    match (flags, there) {
+        (Some(flags), _) => flags,
+        (None, Some(section)) => section.flags().bits(),
+        (None, None) => default_header(name).flags,
+    }
+}
+
+/// A type that is not said is that of the section that is there, or else that of its name.
+fn kind_by(kind: Option<u32>, there: Option<&Section<Loose>>, name: &[u8]) -> u32
+    ensures { result ≡ spec.kind_by kind (option_map (λ section. section.now) there.entry) name.now }
+{
+    match (kind, there) {
+        (Some(kind), _) => kind,
+        (None, Some(section)) => section.kind(),
+        (None, None) => default_header(name).kind,
+    }
+}
+
+/// The size of entries of a section that may be merged has to be said.
+fn merge_size(merge: bool, size: Option<u64>) -> Result<u64, StepFault>
+    ensures { GivesBy (λ size. size) result (spec.merge_size merge size) }
+{
+    match (merge, size) {
+        (false, _) => Ok(0),
+        (true, Some(size)) if size != 0 => Ok(size),
+        (true, _) => Err(StepFault::Source(StatementFault::BadSection)),
+    }
+}
+
+/// The size of entries.
+fn entry_size_by(
+    letters: &Option<Vec<u8>>,
+    size: Option<u64>,
+    there: Option<&Section<Loose>>,
+) -> Result<u64, StepFault>
+    ensures { GivesBy (λ size. size) result (spec.entry_size_by (option_map (λ letters. letters.items) letters.now) size (option_map (λ section. section.now) there.entry)) }
+{
+    match (letters, there) {
+        (Some(_), _) => merge_size(says_merge(letters), size),
+        (None, Some(section)) => Ok(section.entry_size()),
+        (None, None) => Ok(0),
+    }
+}
+
+/// A size of entries that is said.
+fn said_size(size: Option<u64>) -> Result<Option<u64>, StepFault>
+    ensures { GivesBy (λ size. size) result (spec.said_size size) }
+{
+    match size {
+        Some(number) if is_negative(number) => {
+            Err(StepFault::Source(StatementFault::OutOfRange))
+        }
+        _ => Ok(size),
+    }
+}
+
+/// The flags that are said, if any are.
+fn flags_if(letters: &Option<Vec<u8>>) -> Result<Option<u64>, StepFault>
+    ensures { GivesBy (λ flags. flags) result (if_some words.said_flags (option_map (λ letters. letters.items) letters.now)) }
+{
+    match letters {
+        Some(letters) => Ok(Some(said_flags(letters)?)),
+        None => Ok(None),
+    }
+}
+
+/// The type that is said, if one is.
+fn kind_if(name: &Option<Vec<u8>>) -> Result<Option<u32>, StepFault>
+    ensures { GivesBy (λ kind. kind) result (if_some words.said_kind (option_map (λ name. name.items) name.now)) }
+{
+    match name {
+        Some(name) => Ok(Some(said_kind(name)?)),
+        None => Ok(None),
+    }
+}
+
+/// What the header of a section says.
+#[derive(Clone, Copy)]
+pub(crate) struct Header {
+    pub(crate) flags: u64,
+    pub(crate) kind: u32,
+    pub(crate) entry_size: u64,
+}
+
+/// What the header of the section of these words says.
+#[tactic(auto, unfolding(crate::specs::SectionChanges::header_by))]
+fn header_of(
+    sections: &Sections,
+    words: &SectionWords,
+    size: Option<u64>,
+) -> Result<Header, StepFault>
+    ensures { GivesBy (λ header. header) result (spec.header_by sections.now (words_in words.now) size) }
+{
+    let there = section_named(sections, &words.name);
+    let flags = flags_if(&words.flags)?;
+    let kind = kind_if(&words.kind)?;
+    let entry_size = entry_size_by(&words.flags, size, there)?;
+    Ok(Header {
+        flags: flags_by(flags, there, &words.name),
+        kind: kind_by(kind, there, &words.name),
+        entry_size,
+    })
+}
+
+/// The number of the section of this name, which is short, and header.
+fn enter_short(sections: &mut Sections, name: Text, header: Header) -> Result<u32, StepFault>
+    requires { length name ≤ 2 ^ 16 }
+    ensures { GivesNumber sections.new result (spec.entered_short sections.old name header) }
+{
+    let flags = SectionFlags::from_bits_retain(header.flags);
+    match sections.enter(name, flags, header.kind, header.entry_size) {
+        Ok(number) => Ok(number),
+        Err(FragFault::BadSection) => Err(StepFault::Source(StatementFault::BadSection)),
+        Err(FragFault::NoMemory) => Err(StepFault::NoMemory),
+    }
+}
+
+/// The number of the section of this name and header, which is made if it is not there.
+#[tactic(auto, unfolding(crate::specs::SectionChanges::entered_as))]
+pub(crate) fn enter(
+    alloc: Global,
+    sections: &mut Sections,
+    name: &[u8],
+    header: Header,
+) -> Result<u32, StepFault>
+    ensures { GivesNumber sections.new result (spec.entered_as sections.old name.now header) }
+{
+    if name.len() > MOST_NAME {
+        return Err(StepFault::Source(StatementFault::BadSection));
+    }
+    let text = Text::new(Vec::from_slice(alloc, name)?);
+    enter_short(sections, text, header)
+}
+
+/// The expressions of an operand that may be missing.
+fn option_exprs(alloc: Global, expr: Option<Expr>) -> Result<Vec<Expr>, StepFault>
+    ensures { GivesBy (λ list. map tree_of list.items) result (Ok (spec.option_trees (option_map tree_of expr))) }
+{
+    let mut list = Vec::new(alloc);
+    if let Some(expr) = expr {
+        list.push(expr)?;
+    }
+    Ok(list)
+}
+
+impl Assembler {
+    ghost use Rattle.std.specs.Prelude.{◌≡◌, map};
+    ghost use Rattle.asm_base.specs.Tokens.{spelled};
+    ghost use Rattle.asm_place.specs.Answers.{Gives};
+    ghost use Rattle.asm_place.specs.SaidWords.{words_in};
+    ghost use Rattle.asm_place.specs.SectionChanges.{with_current, enter_words, place_section, place_pushed, popped};
+    ghost use Rattle.asm_place.specs.PlacedBy.{placed_by};
+
+    /// Items go into the section of this number from now on.
+    pub(crate) fn set_current(&mut self, number: u32)
+        ensures placed { placed_by self.new ≡ with_current number (placed_by self.old) }
+        ensures notes { self.new.notes ≡ self.old.notes }
+    {
+        self.previous = self.current;
+        self.current = number;
+    }
+
+    /// Items go into the section of these words.
+    #[tactic(auto, unfolding(crate::specs::SectionChanges::enter_words))]
+    fn enter_words(&mut self, pos: Pos, words: SectionWords) -> Result<(), StepFault>
+        ensures placed { Gives (placed_by self.new) result (enter_words pos (words_in words) (placed_by self.old)) }
+        ensures notes { self.new.notes ≡ self.old.notes }
+    {
+        let form = form_if(self.alloc, self.view(), &words.entry_size)?;
+        let size = said_size(constant_if(&form)?)?;
+        let header = header_of(&self.sections, &words, size)?;
+        let number = enter(self.alloc, &mut self.sections, &words.name, header)?;
+        let exprs = option_exprs(self.alloc, words.entry_size)?;
+        self.table.name_trees(self.alloc, pos, &exprs)?;
+        self.set_current(number);
+        Ok(())
+    }
+
+    /// `.section`
+    #[tactic(auto, unfolding(crate::specs::SectionChanges::place_section))]
+    pub(crate) fn place_section(&mut self, pos: Pos, tokens: &[Token]) -> Result<(), StepFault>
+        ensures placed { Gives (placed_by self.new) result (place_section pos (map spelled tokens.now) (placed_by self.old)) }
+        ensures notes { self.new.notes ≡ self.old.notes }
+    {
+        let words = section_words(self.alloc, &mut Operands::new(tokens))?;
+        self.enter_words(pos, words)
+    }
+
+    /// `.pushsection`: `.popsection` comes back to where this stands.
+    #[tactic(auto, unfolding(crate::specs::SectionChanges::place_pushed))]
+    pub(crate) fn place_pushed(&mut self, pos: Pos, tokens: &[Token]) -> Result<(), StepFault>
+        ensures placed { Gives (placed_by self.new) result (place_pushed pos (map spelled tokens.now) (placed_by self.old)) }
+        ensures notes { self.new.notes ≡ self.old.notes }
+    {
+        let entered = Entered {
+            current: self.current,
+            previous: self.previous,
+        };
+        self.place_section(pos, tokens)?;
+        self.stack.push(entered)?;
+        Ok(())
+    }
+
+    /// `.popsection`
+    #[tactic(auto, unfolding(crate::specs::SectionChanges::popped))]
+    pub(crate) fn pop_section(&mut self) -> Result<(), StepFault>
+        ensures placed { Gives (placed_by self.new) result (popped (placed_by self.old)) }
+        ensures notes { self.new.notes ≡ self.old.notes }
+    {
+        match self.stack.pop() {
+            Some(entered) => {
+                self.current = entered.current;
+                self.previous = entered.previous;
+                Ok(())
+            }
+            None => Err(StepFault::Source(StatementFault::BadSection)),
+        }
+    }
+}

@@ -1,0 +1,280 @@
+//! The operands of `.section` (GNU as manual, ".section", ELF version).
+
+ghost use Rattle.std.specs.Prelude.{◌≡◌, ◌≤◌, map, option_map, Ok};
+ghost use Rattle.std.specs.List.{list_all};
+ghost use Rattle.asm_base.specs.Tokens.{spelled};
+ghost use Rattle.asm_place.specs.Answers.{GivesBy, GivesAnd};
+ghost use Rattle.asm_place.specs.OperandParts.{operands_left};
+ghost use Rattle.asm_place.specs.Operands.{name_of, string_of};
+ghost use Rattle.asm_place.specs.SectionWords as spec;
+ghost use Rattle.asm_place.specs.SaidWords.{words_in};
+
+use crate::few::{next_tree_if, no_more};
+use crate::operands::{Operands, is_mark, is_name, name_of, string_of, symbol_name};
+use crate::steps::StepFault;
+use asm_base::{StatementFault, Token};
+use asm_expr::Expr;
+use asm_frags::{
+    SHT_FINI_ARRAY, SHT_INIT_ARRAY, SHT_NOBITS, SHT_NOTE, SHT_PREINIT_ARRAY, SHT_PROGBITS,
+};
+use std::alloc::Global;
+
+/// What `.section` says.
+#[derive(Drop)]
+pub(crate) struct SectionWords {
+    pub(crate) name: Vec<u8>,
+    /// The letters of the flags.
+    pub(crate) flags: Option<Vec<u8>>,
+    /// The name of the type.
+    pub(crate) kind: Option<Vec<u8>>,
+    pub(crate) entry_size: Option<Expr>,
+}
+
+/// Whether the second token stands right behind the first.
+fn follows(first: &Token, second: &Token) -> bool
+    ensures { result ≡ spec.follows (spelled first.now) (spelled second.now) }
+{
+    second.start >= first.start && second.start - first.start == first.bytes.len()
+}
+
+/// Whether `-` and a name stand behind a name, without blanks between.
+fn is_part(last: &Token, dash: &Token, name: &Token) -> bool
+    ensures { result ≡ spec.is_part (spelled last.now) (spelled dash.now) (spelled name.now) }
+{
+    is_mark(dash, b'-') && follows(last, dash) && is_name(name) && follows(dash, name)
+}
+
+/// Whether such parts stand behind a name, and nothing else.
+#[tactic(auto, unfolding(crate::specs::SectionWords::goes_on))]
+fn goes_on(last: &Token, tokens: &[Token]) -> bool
+    ensures { result ≡ spec.goes_on (spelled last.now) (map spelled tokens.now) }
+{
+    match tokens {
+        [] => true,
+        [_] => false,
+        [dash, name, rest @ ..] => is_part(last, dash, name) && goes_on(name, rest),
+    }
+}
+
+/// Whether these are names with `-` between.
+fn is_joined(tokens: &[Token]) -> bool
+    ensures { result ≡ spec.is_joined (map spelled tokens.now) }
+{
+    match tokens.split_first() {
+        Some((first, rest)) => is_name(first) && goes_on(first, rest),
+        None => false,
+    }
+}
+
+/// The bytes of these tokens, one after the other.
+fn joined_bytes(alloc: Global, tokens: &[Token]) -> Result<Vec<u8>, StepFault>
+    ensures { GivesBy (λ bytes. bytes.items) result (Ok (spec.joined_bytes (map spelled tokens.now))) }
+{
+    let mut bytes = Vec::new(alloc);
+    for token in tokens {
+        bytes.extend_from_slice(token.bytes)?;
+    }
+    Ok(bytes)
+}
+
+/// The name that these parts are.
+fn joined_name(alloc: Global, tokens: &[Token]) -> Result<Vec<u8>, StepFault>
+    ensures { GivesBy (λ name. name.items) result (spec.joined_name (map spelled tokens.now)) }
+{
+    if is_joined(tokens) {
+        joined_bytes(alloc, tokens)
+    } else {
+        Err(StepFault::Source(StatementFault::BadOperand))
+    }
+}
+
+/// The name of a section, quoted or not.
+#[tactic(auto, unfolding(crate::specs::SectionWords::section_name))]
+fn section_name(alloc: Global, operand: &[Token]) -> Result<Vec<u8>, StepFault>
+    ensures { GivesBy (λ name. name.items) result (spec.section_name (map spelled operand.now)) }
+{
+    match operand {
+        [] => Err(StepFault::Source(StatementFault::BadOperand)),
+        [token] => symbol_name(alloc, token),
+        _ => joined_name(alloc, operand),
+    }
+}
+
+/// Whether the token stands before the name of a type.
+pub(crate) fn begins_type(token: &Token) -> bool
+    ensures { result ≡ spec.begins_type (spelled token.now) }
+{
+    is_mark(token, b'@') || is_mark(token, b'%')
+}
+
+/// A name behind `@` or `%`.
+#[tactic(auto, unfolding(crate::specs::SectionWords::type_name))]
+fn type_name(alloc: Global, operand: &[Token]) -> Result<Vec<u8>, StepFault>
+    ensures { GivesBy (λ name. name.items) result (spec.type_name (map spelled operand.now)) }
+{
+    match operand {
+        [mark, name] if begins_type(mark) && is_name(name) => {
+            Ok(Vec::from_slice(alloc, name.bytes)?)
+        }
+        _ => Err(StepFault::Source(StatementFault::BadOperand)),
+    }
+}
+
+/// The next operand, which has to be the name of a section.
+fn needed_section(alloc: Global, operands: &mut Operands) -> Result<Vec<u8>, StepFault>
+    ensures { GivesAnd (λ name. name.items) (operands_left operands.new) result (spec.needed spec.section_name (operands_left operands.old)) }
+{
+    match operands.next() {
+        Some(operand) => section_name(alloc, operand),
+        None => Err(StepFault::Source(StatementFault::BadOperand)),
+    }
+}
+
+/// The next operand, which has to be the name of a symbol.
+pub(crate) fn needed_name(alloc: Global, operands: &mut Operands) -> Result<Vec<u8>, StepFault>
+    ensures { GivesAnd (λ name. name.items) (operands_left operands.new) result (spec.needed name_of (operands_left operands.old)) }
+{
+    match operands.next() {
+        Some(operand) => name_of(alloc, operand),
+        None => Err(StepFault::Source(StatementFault::BadOperand)),
+    }
+}
+
+/// The next operand, which has to be a string.
+pub(crate) fn needed_string(alloc: Global, operands: &mut Operands) -> Result<Vec<u8>, StepFault>
+    ensures { GivesAnd (λ string. string.items) (operands_left operands.new) result (spec.needed string_of (operands_left operands.old)) }
+{
+    match operands.next() {
+        Some(operand) => string_of(alloc, operand),
+        None => Err(StepFault::Source(StatementFault::BadOperand)),
+    }
+}
+
+/// The next operand, which is a string unless it is missing or empty.
+fn string_if(alloc: Global, operands: &mut Operands) -> Result<Option<Vec<u8>>, StepFault>
+    ensures { GivesAnd (option_map (λ string. string.items)) (operands_left operands.new) result (spec.missing_or string_of (operands_left operands.old)) }
+{
+    match operands.next() {
+        None | Some([]) => Ok(None),
+        Some(operand) => Ok(Some(string_of(alloc, operand)?)),
+    }
+}
+
+/// The next operand, which is a type unless it is missing or empty.
+fn type_if(alloc: Global, operands: &mut Operands) -> Result<Option<Vec<u8>>, StepFault>
+    ensures { GivesAnd (option_map (λ name. name.items)) (operands_left operands.new) result (spec.missing_or spec.type_name (operands_left operands.old)) }
+{
+    match operands.next() {
+        None | Some([]) => Ok(None),
+        Some(operand) => Ok(Some(type_name(alloc, operand)?)),
+    }
+}
+
+/// Whether the letters have this one.
+fn has_letter(letter: u8, letters: &[u8]) -> bool
+    ensures { result ≡ spec.has_letter letter letters.now }
+{
+    letters.iter().any(|byte| *byte == letter)
+}
+
+/// Whether the letters say that the section may be merged.
+pub(crate) fn says_merge(letters: &Option<Vec<u8>>) -> bool
+    ensures { result ≡ spec.says_merge (option_map (λ letters. letters.items) letters.now) }
+{
+    match letters {
+        Some(letters) => has_letter(b'M', letters),
+        None => false,
+    }
+}
+
+/// What `.section` says by these operands.
+#[tactic(auto, unfolding(crate::specs::SectionWords::section_words))]
+pub(crate) fn section_words(
+    alloc: Global,
+    operands: &mut Operands,
+) -> Result<SectionWords, StepFault>
+    ensures { GivesBy words_in result (spec.section_words (operands_left operands.old)) }
+{
+    let name = needed_section(alloc, operands)?;
+    let flags = string_if(alloc, operands)?;
+    let kind = type_if(alloc, operands)?;
+    let entry_size = next_tree_if(alloc, says_merge(&flags), operands)?;
+    no_more(
+        operands,
+        SectionWords {
+            name,
+            flags,
+            kind,
+            entry_size,
+        },
+    )
+}
+
+/// Whether the byte is the letter of a flag.
+fn is_flag_letter(byte: u8) -> bool
+    ensures { result ≡ spec.is_flag_letter byte }
+{
+    matches!(byte, b'a' | b'w' | b'x' | b'M' | b'S' | b'T')
+}
+
+/// The flag that a letter asks for, if the letters have it.
+fn flag_if(letter: u8, flag: u64, letters: &[u8]) -> u64
+    ensures flag { result ≡ spec.flag_if letter flag letters.now }
+    ensures small { result ≤ flag }
+{
+    if has_letter(letter, letters) { flag } else { 0 }
+}
+
+/// The flags that the letters ask for (gABI, chapter 4, `sh_flags`).
+#[tactic(auto, unfolding(crate::specs::SectionWords::letter_flags))]
+fn letter_flags(letters: &[u8]) -> u64
+    ensures { result ≡ spec.letter_flags letters.now }
+{
+    flag_if(b'w', 1, letters)
+        + flag_if(b'a', 2, letters)
+        + flag_if(b'x', 4, letters)
+        + flag_if(b'M', 0x10, letters)
+        + flag_if(b'S', 0x20, letters)
+        + flag_if(b'T', 0x400, letters)
+}
+
+/// Whether all are letters of flags.
+fn are_flag_letters(letters: &[u8]) -> bool
+    ensures { result ≡ list_all spec.is_flag_letter letters.now }
+{
+    letters.iter().all(|byte| is_flag_letter(*byte))
+}
+
+/// The flags that the letters ask for; another letter is no flag.
+#[tactic(auto, unfolding(crate::specs::SectionWords::said_flags))]
+pub(crate) fn said_flags(letters: &[u8]) -> Result<u64, StepFault>
+    ensures { GivesBy (λ flags. flags) result (spec.said_flags letters.now) }
+{
+    if are_flag_letters(letters) {
+        Ok(letter_flags(letters))
+    } else {
+        Err(StepFault::Source(StatementFault::BadSection))
+    }
+}
+
+/// The type of a section by its name (gABI, chapter 4, `sh_type`).
+#[tactic(auto, unfolding(crate::specs::SectionWords::said_kind))]
+pub(crate) fn said_kind(name: &[u8]) -> Result<u32, StepFault>
+    ensures { GivesBy (λ kind. kind) result (spec.said_kind name.now) }
+{
+    if name == b"progbits".as_slice() {
+        Ok(SHT_PROGBITS)
+    } else if name == b"note".as_slice() {
+        Ok(SHT_NOTE)
+    } else if name == b"nobits".as_slice() {
+        Ok(SHT_NOBITS)
+    } else if name == b"init_array".as_slice() {
+        Ok(SHT_INIT_ARRAY)
+    } else if name == b"fini_array".as_slice() {
+        Ok(SHT_FINI_ARRAY)
+    } else if name == b"preinit_array".as_slice() {
+        Ok(SHT_PREINIT_ARRAY)
+    } else {
+        Err(StepFault::Source(StatementFault::BadSection))
+    }
+}

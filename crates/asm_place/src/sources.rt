@@ -1,0 +1,44 @@
+//! Placing all statements of a source.
+
+ghost use Rattle.std.specs.Prelude.{◌≡◌, map};
+ghost use Rattle.asm_lines.specs.Seen.{seen};
+ghost use Rattle.asm_place.specs.PlacedBy.{placed_by};
+ghost use Rattle.asm_place.specs.Sources.{place, place_all};
+ghost use Rattle.asm_place.specs.Stops.{Places, stop_at};
+
+use crate::assemblers::Assembler;
+use crate::steps::{StepFault, Stop};
+use asm_base::{Fault, Pos, Tokens};
+use asm_lines::Statement;
+
+/// A fault of the statement at this place.
+fn stands_at(fault: StepFault, pos: Pos) -> Stop
+    ensures { result ≡ stop_at fault pos }
+{
+    match fault {
+        StepFault::Source(fault) => Stop::Source(Fault::Statement(fault), pos),
+        StepFault::NoMemory => Stop::NoMemory,
+    }
+}
+
+/// Places one statement.
+#[tactic(auto, unfolding(crate::specs::Sources::place))]
+fn place(assembler: &mut Assembler, statement: &Statement) -> Result<(), Stop>
+    ensures { Places (placed_by assembler.new) result (place (seen statement.now) (placed_by assembler.old)) }
+{
+    let tokens = Tokens::read(assembler.alloc, statement.bytes)?;
+    match assembler.place_tokens(statement.pos, tokens.as_slice()) {
+        Ok(()) => Ok(()),
+        Err(fault) => Err(stands_at(fault, statement.pos)),
+    }
+}
+
+/// Places all statements in order, up to the first that has a fault.
+pub fn place_all(assembler: &mut Assembler, statements: &[Statement]) -> Result<(), Stop>
+    ensures { Places (placed_by assembler.new) result (place_all (map seen statements.now) (placed_by assembler.old)) }
+{
+    for statement in statements {
+        place(assembler, statement)?;
+    }
+    Ok(())
+}

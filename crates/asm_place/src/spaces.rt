@@ -1,0 +1,171 @@
+//! Space (GNU as manual, ".zero", ".skip", ".space", ".fill"), and the alignments of space for symbols.
+
+ghost use Rattle.std.specs.Prelude.{◌≡◌, ◌≤◌, IfOk};
+ghost use Rattle.asm_place.specs.Answers.{GivesBy};
+ghost use Rattle.asm_place.specs.Spaces.{is_negative, space_of, units_of, unit_size, default_log, said_log, log_of};
+
+use crate::assemblers::Assembler;
+use crate::few::{few_trees, few_values, listed};
+use crate::operands::Operands;
+use crate::steps::StepFault;
+use asm_base::{Pos, StatementFault, Token};
+use asm_expr::Expr;
+use asm_frags::{Content, Fill};
+
+/// The most bytes of one piece of space.
+const MOST_SPACE: u64 = 1 << 30;
+
+/// Whether a number modulo 2^64 is below 0.
+pub(crate) fn is_negative(number: u64) -> bool
+    ensures { result ≡ is_negative number }
+{
+    number >= 1 << 63
+}
+
+/// So many bytes, each the low byte of the value.
+#[tactic(auto, unfolding(crate::specs::Spaces::space_of))]
+pub(crate) fn space_of(count: u64, value: u64) -> Result<Content, StepFault>
+    ensures { GivesBy (λ item. item) result (space_of count value) }
+{
+    if count > MOST_SPACE {
+        return Err(StepFault::Source(StatementFault::OutOfRange));
+    }
+    Ok(Content::Fill(Fill::new(count, 1, value)))
+}
+
+/// So many units of so many bytes.
+#[tactic(auto, unfolding(crate::specs::Spaces::units_of))]
+fn units_of(count: u64, size: u64, value: u64) -> Result<Content, StepFault>
+    requires { size ≤ 8 }
+    ensures { GivesBy (λ item. item) result (units_of count size value) }
+{
+    if is_negative(count) {
+        return Err(StepFault::Source(StatementFault::OutOfRange));
+    }
+    if size == 0 {
+        return Ok(Content::Fill(Fill::new(0, 0, value)));
+    }
+    if count > MOST_SPACE || count * size > MOST_SPACE {
+        return Err(StepFault::Source(StatementFault::OutOfRange));
+    }
+    Ok(Content::Fill(Fill::new(count, size, value)))
+}
+
+/// The size of a unit, in bytes: 1 where it is not said, and at most 8.
+#[tactic(auto, unfolding(crate::specs::Spaces::unit_size))]
+fn unit_size(size: Option<u64>) -> Result<u64, StepFault>
+    ensures size { GivesBy (λ size. size) result (unit_size size) }
+    ensures small { IfOk result (λ size. size ≤ 8) }
+{
+    match size {
+        None => Ok(1),
+        Some(size) => {
+            if is_negative(size) {
+                Err(StepFault::Source(StatementFault::OutOfRange))
+            } else {
+                Ok(size.min(8))
+            }
+        }
+    }
+}
+
+/// The power of two of an alignment that is not said.
+#[tactic(auto, unfolding(crate::specs::Spaces::default_log))]
+fn default_log(size: u64) -> u8
+    ensures log { result ≡ default_log size }
+    ensures small { result ≤ 4 }
+{
+    match size {
+        0..2 => 0,
+        2..4 => 1,
+        4..8 => 2,
+        8..16 => 3,
+        _ => 4,
+    }
+}
+
+/// The power of two of an alignment that is said.
+#[tactic(auto, unfolding(crate::specs::Spaces::said_log))]
+fn said_log(alignment: u64) -> Result<u8, StepFault>
+    ensures log { GivesBy (λ log. log) result (said_log alignment) }
+    ensures small { IfOk result (λ log. log ≤ 30) }
+{
+    if alignment == 0 {
+        return Ok(0);
+    }
+    let log = alignment.trailing_zeros();
+    if alignment.is_power_of_two() && log <= 30 {
+        Ok(log as u8)
+    } else {
+        Err(StepFault::Source(StatementFault::OutOfRange))
+    }
+}
+
+/// The power of two of an alignment that may be said.
+pub(crate) fn log_of(alignment: Option<u64>, size: u64) -> Result<u8, StepFault>
+    ensures log { GivesBy (λ log. log) result (log_of alignment size) }
+    ensures small { IfOk result (λ log. log ≤ 30) }
+{
+    match alignment {
+        None => Ok(default_log(size)),
+        Some(alignment) => said_log(alignment),
+    }
+}
+
+impl Assembler {
+    ghost use Rattle.std.specs.Prelude.{◌≡◌, map};
+    ghost use Rattle.asm_base.specs.Tokens.{spelled};
+    ghost use Rattle.asm_expr.specs.Trees.{tree_of};
+    ghost use Rattle.asm_place.specs.Answers.{Gives};
+    ghost use Rattle.asm_place.specs.Placing.{with_item, place_zero, place_skip, place_fill};
+    ghost use Rattle.asm_place.specs.PlacedBy.{placed_by};
+
+    /// Space, and the names of its operands.
+    fn put_space(&mut self, pos: Pos, exprs: &[Expr], item: Content) -> Result<(), StepFault>
+        ensures placed { Gives (placed_by self.new) result (with_item pos (map tree_of exprs.now) item (placed_by self.old)) }
+        ensures notes { self.new.notes ≡ self.old.notes }
+    {
+        self.push_item(pos, item)?;
+        self.table.name_trees(self.alloc, pos, exprs)
+    }
+
+    /// `.zero`: so many zeros.
+    #[tactic(auto, unfolding(crate::specs::Placing::place_zero))]
+    pub(crate) fn place_zero(&mut self, pos: Pos, tokens: &[Token]) -> Result<(), StepFault>
+        ensures placed { Gives (placed_by self.new) result (place_zero pos (map spelled tokens.now) (placed_by self.old)) }
+        ensures notes { self.new.notes ≡ self.old.notes }
+    {
+        let exprs = few_trees(self.alloc, 1, &mut Operands::new(tokens))?;
+        let values = few_values(self.alloc, self.view(), &exprs)?;
+        let item = space_of(values.first, 0)?;
+        let exprs = listed(self.alloc, exprs)?;
+        self.put_space(pos, &exprs, item)
+    }
+
+    /// `.skip`, `.space`: so many bytes of a value.
+    #[tactic(auto, unfolding(crate::specs::Placing::place_skip))]
+    pub(crate) fn place_skip(&mut self, pos: Pos, tokens: &[Token]) -> Result<(), StepFault>
+        ensures placed { Gives (placed_by self.new) result (place_skip pos (map spelled tokens.now) (placed_by self.old)) }
+        ensures notes { self.new.notes ≡ self.old.notes }
+    {
+        let exprs = few_trees(self.alloc, 2, &mut Operands::new(tokens))?;
+        let values = few_values(self.alloc, self.view(), &exprs)?;
+        let item = space_of(values.first, values.second.unwrap_or(0))?;
+        let exprs = listed(self.alloc, exprs)?;
+        self.put_space(pos, &exprs, item)
+    }
+
+    /// `.fill`: so many units of a value.
+    #[tactic(auto, unfolding(crate::specs::Placing::place_fill))]
+    pub(crate) fn place_fill(&mut self, pos: Pos, tokens: &[Token]) -> Result<(), StepFault>
+        ensures placed { Gives (placed_by self.new) result (place_fill pos (map spelled tokens.now) (placed_by self.old)) }
+        ensures notes { self.new.notes ≡ self.old.notes }
+    {
+        let exprs = few_trees(self.alloc, 3, &mut Operands::new(tokens))?;
+        let values = few_values(self.alloc, self.view(), &exprs)?;
+        let size = unit_size(values.second)?;
+        let item = units_of(values.first, size, values.third.unwrap_or(0))?;
+        let exprs = listed(self.alloc, exprs)?;
+        self.put_space(pos, &exprs, item)
+    }
+}

@@ -1,0 +1,8 @@
+//! The stack of sections.
+
+/// The section that items went into, and the one before it.
+#[derive(Clone, Copy, PartialEq, Eq, Debug)]
+pub struct Entered {
+    pub current: u32,
+    pub previous: u32,
+}

@@ -1,0 +1,201 @@
+//! What directives say of symbols (GNU as manual, ".globl", ".weak", ".local", ".hidden", ".protected", ".internal", ".type", ".size").
+
+ghost use Rattle.std.specs.Prelude.{◌≡◌, map, Ok};
+ghost use Rattle.asm_base.specs.Tokens.{spelled};
+ghost use Rattle.asm_expr.specs.Trees.{tree_of};
+ghost use Rattle.asm_place.specs.Answers.{GivesBy, GivesAnd};
+ghost use Rattle.asm_place.specs.OperandParts.{operands_left};
+ghost use Rattle.asm_place.specs.Operands.{name_of, each};
+ghost use Rattle.asm_place.specs.SectionWords.{needed};
+ghost use Rattle.asm_place.specs.SymbolWords as spec;
+ghost use Rattle.asm_place.specs.NamedTrees.{named_tree_in};
+
+use crate::assemblers::Assembler;
+use crate::directives::Saying;
+use crate::expressions::{expression_of, form_in};
+use crate::few::no_more;
+use crate::operands::{Operands, is_name, name_of};
+use crate::places::keeps_here;
+use crate::section_words::{begins_type, needed_name};
+use crate::steps::StepFault;
+use crate::tables::NamedSymbols;
+use asm_base::{Pos, StatementFault, Text, Token};
+use asm_expr::{Expr, Name};
+use asm_symbols::Kind;
+use std::alloc::Global;
+
+/// The name that an operand gives a symbol.
+#[tactic(auto, unfolding(crate::specs::SymbolWords::plain_of))]
+fn plain_of(alloc: Global, operand: &[Token]) -> Result<Name, StepFault>
+    ensures { GivesBy (λ name. name) result (spec.plain_of (map spelled operand.now)) }
+{
+    Ok(Name::Plain(Text::new(name_of(alloc, operand)?)))
+}
+
+/// The names that operands give symbols.
+#[tactic(auto, unfolding(crate::specs::Operands::each, crate::specs::Operands::behind))]
+fn names(alloc: Global, operands: Operands) -> Result<Vec<Name>, StepFault>
+    ensures { GivesBy (λ names. names.items) result (each spec.plain_of (operands_left operands.entry)) }
+{
+    let mut names = Vec::new(alloc);
+    for operand in operands {
+        names.push(plain_of(alloc, operand)?)?;
+    }
+    Ok(names)
+}
+
+/// The kind of a symbol by its word (gABI, chapter 4, "Symbol Table").
+#[tactic(auto, unfolding(crate::specs::SymbolWords::kind_named))]
+fn kind_named(word: &[u8]) -> Result<Kind, StepFault>
+    ensures { GivesBy (λ kind. kind) result (spec.kind_named word.now) }
+{
+    if word == b"function".as_slice() {
+        Ok(Kind::Function)
+    } else if word == b"object".as_slice() {
+        Ok(Kind::Object)
+    } else if word == b"notype".as_slice() {
+        Ok(Kind::NoType)
+    } else if word == b"tls_object".as_slice() {
+        Ok(Kind::Tls)
+    } else if word == b"common".as_slice() {
+        Ok(Kind::Common)
+    } else {
+        Err(StepFault::Source(StatementFault::BadOperand))
+    }
+}
+
+/// A kind behind `@` or `%`.
+#[tactic(auto, unfolding(crate::specs::SymbolWords::kind_of))]
+fn kind_of(operand: &[Token]) -> Result<Kind, StepFault>
+    ensures { GivesBy (λ kind. kind) result (spec.kind_of (map spelled operand.now)) }
+{
+    match operand {
+        [mark, word] if begins_type(mark) && is_name(word) => kind_named(word.bytes),
+        _ => Err(StepFault::Source(StatementFault::BadOperand)),
+    }
+}
+
+/// The next operand, which has to be a kind.
+fn needed_kind(operands: &mut Operands) -> Result<Kind, StepFault>
+    ensures { GivesAnd (λ kind. kind) (operands_left operands.new) result (needed spec.kind_of (operands_left operands.old)) }
+{
+    match operands.next() {
+        Some(operand) => kind_of(operand),
+        None => Err(StepFault::Source(StatementFault::BadOperand)),
+    }
+}
+
+/// A name and an expression.
+#[derive(Drop)]
+pub(crate) struct NamedExpr {
+    pub(crate) name: Name,
+    pub(crate) expr: Expr,
+}
+
+/// The last operand, which has to be an expression.
+fn last_tree(alloc: Global, operands: &mut Operands) -> Result<Expr, StepFault>
+    ensures { GivesBy tree_of result (spec.last_tree (operands_left operands.old)) }
+{
+    match operands.next() {
+        Some(operand) => {
+            let expr = expression_of(alloc, operand)?;
+            no_more(operands, expr)
+        }
+        None => Err(StepFault::Source(StatementFault::BadExpression)),
+    }
+}
+
+/// Operands that have to be a name and an expression.
+#[tactic(auto, unfolding(crate::specs::SymbolWords::named_tree))]
+pub(crate) fn named_tree(alloc: Global, operands: &mut Operands) -> Result<NamedExpr, StepFault>
+    ensures { GivesBy named_tree_in result (spec.named_tree (operands_left operands.old)) }
+{
+    let name = needed_name(alloc, operands)?;
+    let expr = last_tree(alloc, operands)?;
+    Ok(NamedExpr {
+        name: Name::Plain(Text::new(name)),
+        expr,
+    })
+}
+
+impl NamedSymbols {
+    ghost use Rattle.std.specs.Prelude.{◌≡◌};
+    ghost use Rattle.asm_place.specs.Answers.{Gives};
+    ghost use Rattle.asm_place.specs.SymbolWords.{say_one, say_all};
+
+    /// This is said of a name.
+    #[tactic(auto, unfolding(crate::specs::Tables::symbol_of))]
+    fn say_one(&mut self, pos: Pos, saying: Saying, name: &Name) -> Result<(), StepFault>
+        ensures { Gives self.new result (say_one pos saying name.now self.old) }
+    {
+        let id = self.symbol_of(pos, name)?;
+        self.say(id, saying)
+    }
+
+    /// This is said of each name.
+    #[tactic(auto, unfolding(crate::specs::SymbolWords::say_all, crate::specs::Results::all_steps))]
+    fn say_all(&mut self, pos: Pos, saying: Saying, names: &[Name]) -> Result<(), StepFault>
+        ensures { Gives self.new result (say_all pos saying names.now self.old) }
+    {
+        for name in names {
+            self.say_one(pos, saying, name)?;
+        }
+        Ok(())
+    }
+}
+
+impl Assembler {
+    ghost use Rattle.std.specs.Prelude.{◌≡◌, map};
+    ghost use Rattle.asm_base.specs.Tokens.{spelled};
+    ghost use Rattle.asm_place.specs.Answers.{Gives};
+    ghost use Rattle.asm_place.specs.SymbolWords.{place_said, place_type, place_size};
+    ghost use Rattle.asm_place.specs.PlacedBy.{placed_by};
+
+    /// `.globl` and the others, with a name at least.
+    #[tactic(auto, unfolding(crate::specs::SymbolWords::place_said))]
+    pub(crate) fn place_said(
+        &mut self,
+        pos: Pos,
+        saying: Saying,
+        tokens: &[Token],
+    ) -> Result<(), StepFault>
+        ensures placed { Gives (placed_by self.new) result (place_said pos saying (map spelled tokens.now) (placed_by self.old)) }
+        ensures notes { self.new.notes ≡ self.old.notes }
+    {
+        if tokens.is_empty() {
+            return Err(StepFault::Source(StatementFault::BadOperand));
+        }
+        let names = names(self.alloc, Operands::new(tokens))?;
+        self.table.say_all(pos, saying, &names)
+    }
+
+    /// `.type`
+    #[tactic(auto, unfolding(crate::specs::SymbolWords::place_type, crate::specs::Tables::symbol_of))]
+    pub(crate) fn place_type(&mut self, pos: Pos, tokens: &[Token]) -> Result<(), StepFault>
+        ensures placed { Gives (placed_by self.new) result (place_type pos (map spelled tokens.now) (placed_by self.old)) }
+        ensures notes { self.new.notes ≡ self.old.notes }
+    {
+        let mut operands = Operands::new(tokens);
+        let name = needed_name(self.alloc, &mut operands)?;
+        let kind = needed_kind(&mut operands)?;
+        let kind = no_more(&mut operands, kind)?;
+        let id = self.table.symbol_of(pos, &Name::Plain(Text::new(name)))?;
+        self.table.set_kind(id, kind)
+    }
+
+    /// `.size`
+    #[tactic(auto, unfolding(crate::specs::SymbolWords::place_size))]
+    pub(crate) fn place_size(&mut self, pos: Pos, tokens: &[Token]) -> Result<(), StepFault>
+        ensures placed { Gives (placed_by self.new) result (place_size pos (map spelled tokens.now) (placed_by self.old)) }
+        ensures notes { self.new.notes ≡ self.old.notes }
+    {
+        let words = named_tree(self.alloc, &mut Operands::new(tokens))?;
+        let form = form_in(self.alloc, self.view(), &words.expr)?;
+        let spot = self.here();
+        let keeps = keeps_here(spot, &form);
+        let id = self.table.symbol_of(pos, &words.name)?;
+        self.table.set_size(pos, id, form)?;
+        self.table
+            .name_part(self.alloc, pos, spot, keeps, &words.expr)
+    }
+}

@@ -1,0 +1,195 @@
+//! The symbols of a source, and where each is named.
+
+ghost use Rattle.std.specs.Prelude.{◌≡◌};
+
+use crate::directives::Saying;
+use crate::steps::StepFault;
+use asm_base::{Pos, StatementFault, Text};
+use asm_expr::{Linear, Name, Written, constant_form};
+use asm_symbols::{Definition, Kind, SymId, Symbols};
+use indexmap::IndexMap;
+use std::alloc::Global;
+use std::marker::Model;
+
+/// The symbol map, and where its symbols are named.
+#[derive(Drop)]
+pub struct NamedSymbols {
+    alloc: Global,
+    symbols: Symbols,
+    /// For each symbol where the first statement stands that names it.
+    named: Vec<Pos>,
+    /// For symbols whose size was said by `.size`, the index of the symbol and where that stands.
+    sized: IndexMap<u32, Pos>,
+}
+
+impl Model for NamedSymbols {
+    ghost use Rattle.asm_place.specs.Tables.{Table};
+
+    ghost Value = { Table };
+
+    ghost view = { λ inside. record { symbols = inside.symbols; named = inside.named.items; sized = inside.sized.entries } };
+}
+
+impl NamedSymbols {
+    ghost use Rattle.std.specs.Prelude.{◌≡◌, ◌<◌, nat_eq, length, IfOk, Ok};
+    ghost use Rattle.std.specs.Map.{lookup};
+    ghost use Rattle.asm_symbols.specs.Defining.{defined};
+    ghost use Rattle.asm_symbols.specs.LeadsBack.{assigned};
+    ghost use Rattle.asm_place.specs.Answers.{Gives, GivesNumber};
+    ghost use Rattle.asm_place.specs.Tables.{no_table, with_map, symbol_of, next_symbol, changed_by, file_named, name_written};
+    ghost use Rattle.asm_place.specs.Commons.{as_space};
+    ghost use Rattle.asm_place.specs.SymbolWords.{said, kind_said, sized};
+
+    /// No symbols.
+    pub(crate) fn new(alloc: Global) -> NamedSymbols
+        ensures { result ≡ no_table }
+    {
+        NamedSymbols {
+            alloc,
+            symbols: Symbols::new(alloc),
+            named: Vec::new(alloc),
+            sized: IndexMap::new(alloc),
+        }
+    }
+
+    /// The symbol map.
+    pub fn symbols(&self) -> &Symbols
+        ensures { result.now ≡ self.now.symbols }
+    {
+        &self.symbols
+    }
+
+    /// For each symbol where the first statement stands that names it.
+    pub fn named(&self) -> &[Pos]
+        ensures { result.now ≡ self.now.named }
+    {
+        self.named.as_slice()
+    }
+
+    /// Where the size of the symbol at this index is said, where `.size` says one.
+    pub fn sized(&self, index: u32) -> Option<Pos>
+        ensures { result ≡ lookup (nat_eq index) self.now.sized }
+    {
+        self.sized.get(&index).copied()
+    }
+
+    /// The symbol of the name, which is put last if it is new.
+    #[tactic(auto, unfolding(crate::specs::Tables::symbol_of))]
+    pub(crate) fn symbol_of(&mut self, pos: Pos, name: &Name) -> Result<SymId, StepFault>
+        ensures gives { GivesNumber self.new result (symbol_of pos name.now self.old) }
+        ensures there { IfOk result (λ id. id < length self.new.symbols.symbols) }
+    {
+        let before = self.symbols.len();
+        let id = self.symbols.name_of(name)?;
+        if self.symbols.len() > before {
+            self.named.push(pos)?;
+        }
+        Ok(id)
+    }
+
+    /// The symbol of the next instance of a numeric label.
+    #[tactic(auto, unfolding(crate::specs::Tables::next_symbol))]
+    pub(crate) fn next_symbol(&mut self, pos: Pos, number: u64) -> Result<SymId, StepFault>
+        ensures gives { GivesNumber self.new result (next_symbol pos number self.old) }
+        ensures there { IfOk result (λ id. id < length self.new.symbols.symbols) }
+    {
+        let before = self.symbols.len();
+        let id = self.symbols.numeric_next(number)?;
+        if self.symbols.len() > before {
+            self.named.push(pos)?;
+        }
+        Ok(id)
+    }
+
+    /// The symbol is defined so.
+    pub(crate) fn define(&mut self, id: SymId, what: Definition) -> Result<(), StepFault>
+        requires { id < length self.old.symbols.symbols }
+        ensures gives { Gives self.new result (changed_by (λ map index. defined map index what) (self.old, id)) }
+        ensures length { length self.new.symbols.symbols ≡ length self.old.symbols.symbols }
+    {
+        self.symbols.define(id, what)?;
+        Ok(())
+    }
+
+    /// This is said of the symbol.
+    pub(crate) fn say(&mut self, id: SymId, saying: Saying) -> Result<(), StepFault>
+        requires { id < length self.old.symbols.symbols }
+        ensures { Gives self.new result (changed_by (said saying) (self.old, id)) }
+    {
+        match saying {
+            Saying::Bind(binding) => self.symbols.bind(id, binding)?,
+            Saying::See(visibility) => self.symbols.visibility(id, visibility)?,
+        }
+        Ok(())
+    }
+
+    /// The symbol is of this kind.
+    pub(crate) fn set_kind(&mut self, id: SymId, kind: Kind) -> Result<(), StepFault>
+        requires { id < length self.old.symbols.symbols }
+        ensures gives { Gives self.new result (changed_by (kind_said kind) (self.old, id)) }
+        ensures length { length self.new.symbols.symbols ≡ length self.old.symbols.symbols }
+    {
+        self.symbols.kind(id, kind)?;
+        Ok(())
+    }
+
+    /// The symbol is space of this size.
+    pub(crate) fn set_space(&mut self, alloc: Global, id: SymId, size: u64) -> Result<(), StepFault>
+        requires { id < length self.old.symbols.symbols }
+        ensures { Gives self.new result (Ok (with_map self.old (as_space size self.old.symbols id))) }
+    {
+        let kind = self.symbols.symbol(id).kind.unwrap_or(Kind::Object);
+        self.symbols.size(id, constant_form(alloc, size))?;
+        self.symbols.kind(id, kind)?;
+        Ok(())
+    }
+
+    /// The symbol has this size, which is said at this place.
+    pub(crate) fn set_size(&mut self, pos: Pos, id: SymId, size: Linear) -> Result<(), StepFault>
+        requires { id < length self.old.symbols.symbols }
+        ensures { Gives self.new result (Ok (sized pos size (self.old, id))) }
+    {
+        self.symbols.size(id, size)?;
+        self.sized.insert(id.index(), pos)?;
+        Ok(())
+    }
+
+    /// The symbol stands for the form; with `once` only if it was nothing before.
+    pub(crate) fn assign(&mut self, id: SymId, form: Linear, once: bool) -> Result<(), StepFault>
+        requires { id < length self.old.symbols.symbols }
+        ensures { Gives self.new result (changed_by (λ map index. assigned map index form once) (self.old, id)) }
+    {
+        self.symbols.assign(id, form, once)?;
+        Ok(())
+    }
+
+    /// The name of a file more.
+    pub(crate) fn file(&mut self, name: &Name) -> Result<(), StepFault>
+        ensures { Gives self.new result (file_named name.now self.old) }
+    {
+        self.symbols.file(name)?;
+        Ok(())
+    }
+
+    /// A name of an expression becomes a symbol.
+    #[tactic(auto, unfolding(crate::specs::Tables::name_written))]
+    pub(crate) fn name_written(&mut self, pos: Pos, written: &Written) -> Result<(), StepFault>
+        ensures gives { Gives self.new result (name_written pos written.now self.old) }
+    {
+        match written {
+            Written::Plain(text) => {
+                let name = Name::Plain(Text::new(Vec::from_slice(self.alloc, text.as_bytes())?));
+                self.symbol_of(pos, &name)?;
+                Ok(())
+            }
+            Written::Back(number) => match self.symbols.numeric_back(*number) {
+                Some(_) => Ok(()),
+                None => Err(StepFault::Source(StatementFault::BadSymbolUse)),
+            },
+            Written::Next(number) => {
+                self.next_symbol(pos, *number)?;
+                Ok(())
+            }
+        }
+    }
+}

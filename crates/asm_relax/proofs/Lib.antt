@@ -1,0 +1,8 @@
+-- The proofs of this crate.
+pub mod ResolvingLemmas
+pub mod Changes
+pub mod PlacingLemmas
+pub mod FirstLemmas
+pub mod SettlingLemmas
+pub mod LawLemmas
+pub mod OneRanking

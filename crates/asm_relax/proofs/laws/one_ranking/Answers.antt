@@ -1,0 +1,6 @@
+-- Two rankings agree on all numbers.
+use Rattle.asm_relax.proofs.OneRanking.{one_ranking}
+use Rattle.asm_relax.proofs.laws.one_ranking.Goals as goal
+
+pub returns : goal.returns
+returns c = λ need tops one other this that. one_ranking need tops one other this that

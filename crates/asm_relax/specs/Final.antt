@@ -1,0 +1,62 @@
+-- What names and forms are where each item has its address.
+use Rattle.std.specs.Prelude.{ℕ, ◌+◌, ◌-◌, List, length, Option, None, Some, slice_get}
+use Rattle.std.specs.Option.{option_map_or}
+use Rattle.asm_expr.specs.declared.naming.Name.{Name}
+use Rattle.asm_expr.specs.Forms.{Form, wrapped}
+use Rattle.asm_expr.specs.Knowledge.{Told, absent, label}
+use Rattle.asm_expr.specs.Settled.{settled, constant_left}
+use Rattle.asm_symbols.specs.declared.entries.Meaning.{Meaning}
+use Rattle.asm_symbols.specs.declared.entries.Meaning.TheVariants as meaning
+use Rattle.asm_symbols.specs.declared.entries.Spot.{Spot}
+use Rattle.asm_symbols.specs.SymbolMap.{SymbolMap, names, index_of}
+use Rattle.asm_frags.specs.declared.items.Frag.{Frag}
+use Rattle.asm_frags.specs.Contents.{size_at}
+use Rattle.asm_frags.specs.SectionOf.{SectionOf}
+use Rattle.asm_relax.specs.Resolving.{resolved}
+
+-- where the item ends
+abbrev pub end_of : {P : Type 0} → Frag P ℕ → ℕ
+end_of item = wrapped (item.address + size_at item.content item.address)
+
+-- the size of a section: where its last item ends
+unfoldable pub size_of : {P : Type 0} → List (Frag P ℕ) → ℕ
+size_of items = option_map_or end_of (slice_get items (length items - 1)) 0
+
+-- the address of the item at this index; behind the last item stands the section's end
+unfoldable pub address_in : {P : Type 0} → List (Frag P ℕ) → ℕ → ℕ
+address_in items index = option_map_or (λ item. item.address) (slice_get items index) (size_of items)
+
+unfoldable pub address_of : {P : Type 0} → List (SectionOf (Frag P ℕ)) → ℕ → ℕ → ℕ
+address_of sections section item = option_map_or (λ found. address_in found.items item) (slice_get sections section) 0
+
+-- a place is a label of its section at its address
+abbrev pub spot_told : {P : Type 0} → List (SectionOf (Frag P ℕ)) → Spot → Told
+spot_told sections spot = label spot.section (address_of sections spot.section spot.item)
+
+-- labels and space of this object have places, and of all else nothing is known
+abbrev pub final_meaning : {P : Type 0} → List (SectionOf (Frag P ℕ)) → Meaning → Told
+final_meaning sections meaning.Undefined = absent
+final_meaning sections (meaning.Label spot) = spot_told sections spot
+final_meaning sections (meaning.Common size align) = absent
+final_meaning sections (meaning.Space spot) = spot_told sections spot
+final_meaning sections (meaning.Assigned form) = absent
+
+abbrev pub final_at : {P : Type 0} → SymbolMap → List (SectionOf (Frag P ℕ)) → Option ℕ → Told
+final_at map sections None = absent
+final_at map sections (Some index) = option_map_or (λ symbol. final_meaning sections symbol.meaning) (slice_get map.symbols index) absent
+
+-- what the name is known as at the end
+unfoldable pub final_told : {P : Type 0} → SymbolMap → List (SectionOf (Frag P ℕ)) → Name → Told
+final_told map sections name = final_at map sections (index_of name (names map.symbols))
+
+-- what a form is at the end: labels of one section that cancel are replaced by their addresses
+unfoldable pub final_form : {P : Type 0} → SymbolMap → List (SectionOf (Frag P ℕ)) → Form → Form
+final_form map sections made = settled (final_told map sections) (resolved map made)
+
+-- the value of a form whose assigned symbols are put in, where no name is left at the end
+unfoldable pub laid_value : {P : Type 0} → SymbolMap → List (SectionOf (Frag P ℕ)) → Form → Option ℕ
+laid_value map sections made = constant_left (settled (final_told map sections) made)
+
+-- the value of a form, where no name is left at the end
+abbrev pub field_value : {P : Type 0} → SymbolMap → List (SectionOf (Frag P ℕ)) → Form → Option ℕ
+field_value map sections made = laid_value map sections (resolved map made)

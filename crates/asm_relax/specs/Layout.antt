@@ -1,0 +1,74 @@
+-- Items one behind the other, by the levels that they have.
+use Rattle.std.specs.Prelude.{◌≡◌, ℕ, ◌+◌, List, [], ◌∷◌, ◌++◌, length, map, drop, Some, slice_get, slice_index_or}
+use Rattle.asm_frags.specs.declared.contents.Content.{Content}
+use Rattle.asm_frags.specs.declared.contents.Content.TheVariants.{Bytes, Fill, Align}
+use Rattle.asm_frags.specs.declared.items.Frag.{Frag}
+use Rattle.asm_frags.specs.Contents.{size_at}
+use Rattle.asm_frags.specs.SectionOf.{SectionOf}
+use Rattle.asm_frags.specs.Addresses.{item_with_address}
+use Rattle.asm_symbols.specs.SymbolMap.{SymbolMap}
+
+-- the number of levels above the lowest
+abbrev pub top : Content → ℕ
+top (Bytes held) = 0
+top (Fill held) = 0
+top (Align held) = 0
+
+-- the bytes that an item of this level has at an address
+abbrev pub size_with : Content → ℕ → ℕ → ℕ
+size_with (Bytes held) level at = size_at (Bytes held) at
+size_with (Fill held) level at = size_at (Fill held) at
+size_with (Align held) level at = size_at (Align held) at
+
+-- the least level that holds what the item has to hold where all stands so
+abbrev pub needed_by : {P : Type 0} → SymbolMap → List (SectionOf (Frag P ℕ)) → Content → ℕ
+needed_by map sections (Bytes held) = 0
+needed_by map sections (Fill held) = 0
+needed_by map sections (Align held) = 0
+
+-- the items of all sections in order
+abbrev pub all_items : {Item : Type 0} → List (SectionOf Item) → List Item
+all_items [] = []
+all_items (section ∷ sections) = section.items ++ all_items sections
+
+abbrev pub tops : {P : Type 0} → List (SectionOf (Frag P ℕ)) → List ℕ
+tops sections = map (λ item. top item.content) (all_items sections)
+
+-- each item at its lowest level
+abbrev pub lowest_levels : {P : Type 0} → List (SectionOf (Frag P ℕ)) → List ℕ
+lowest_levels sections = map (λ item. 0) (all_items sections)
+
+-- the items from this address on, each behind the one before
+unfoldable pub laid_from : {P : Type 0} → List ℕ → ℕ → List (Frag P ℕ) → List (Frag P ℕ)
+laid_from levels at [] = []
+laid_from levels at (item ∷ items) =
+    item_with_address at item ∷ laid_from (drop 1 levels) (at + size_with item.content (slice_index_or levels 0 0) at) items
+
+abbrev pub laid_section : {P : Type 0} → List ℕ → SectionOf (Frag P ℕ) → SectionOf (Frag P ℕ)
+laid_section levels section = record section { items = laid_from levels 0 section.items }
+
+-- the sections, each from address 0 on
+unfoldable pub laid_out : {P : Type 0} → List ℕ → List (SectionOf (Frag P ℕ)) → List (SectionOf (Frag P ℕ))
+laid_out levels [] = []
+laid_out levels (section ∷ sections) = laid_section levels section ∷ laid_out (drop (length section.items) levels) sections
+
+-- the level that each item needs where the items have these
+unfoldable pub needed : {P : Type 0} → SymbolMap → List (SectionOf (Frag P ℕ)) → List ℕ → List ℕ
+needed {P} map sections levels = needed_levels (all_items (laid_out levels sections))
+  where
+    needed_levels : List (Frag P ℕ) → List ℕ
+    needed_levels [] = []
+    needed_levels (item ∷ items) = needed_by map (laid_out levels sections) item.content ∷ needed_levels items
+
+-- the sections where nothing is said of addresses
+abbrev pub without_address : {P : Type 0} → SectionOf (Frag P ℕ) → SectionOf (Frag P ℕ)
+without_address section = record section { items = map (item_with_address 0) section.items }
+
+abbrev pub without_addresses : {P : Type 0} → List (SectionOf (Frag P ℕ)) → List (SectionOf (Frag P ℕ))
+without_addresses sections = map without_address sections
+
+-- the section's first item stands at 0, and each next one behind the one before, as large as its level makes it
+pub record IsInRow {P : Type 0} (levels : List ℕ) (items : List (Frag P ℕ)) : Type 0 where
+  pub first : (item : Frag P ℕ) → slice_get items 0 ≡ Some item → item.address ≡ 0
+  pub next : (index : ℕ) (item after : Frag P ℕ) → slice_get items index ≡ Some item → slice_get items (index + 1) ≡ Some after
+      → after.address ≡ item.address + size_with item.content (slice_index_or levels index 0) item.address

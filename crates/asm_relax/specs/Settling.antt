@@ -1,0 +1,60 @@
+-- From sections to their layout.
+use Rattle.std.specs.Prelude.{◌≡◌, ℕ, List, Option, None, Some, Result, Ok, Err}
+use Rattle.asm_symbols.specs.SymbolMap.{SymbolMap}
+use Rattle.asm_frags.specs.declared.phases.Loose.{Loose}
+use Rattle.asm_frags.specs.declared.phases.Laid.{Laid}
+use Rattle.asm_frags.specs.declared.items.Frag.{Frag}
+use Rattle.asm_frags.specs.SectionOf.{SectionOf}
+use Rattle.asm_frags.specs.Refitting.{laid_sections}
+use Rattle.asm_relax.specs.declared.faults.LayoutFault.{LayoutFault}
+use Rattle.asm_relax.specs.Resolving.{resolved}
+use Rattle.asm_relax.specs.Ranks.{IsLayout}
+use Rattle.asm_relax.specs.Layout.{tops, needed, lowest_levels, laid_out}
+use Rattle.asm_relax.specs.Judging.{fault_of}
+
+abbrev pub LooseSections : Type 0
+LooseSections = List (SectionOf (Frag Loose (Unit {0})))
+
+abbrev pub LaidItem : Type 0
+LaidItem = Frag Laid ℕ
+
+abbrev pub LaidSections : Type 0
+LaidSections = List (SectionOf LaidItem)
+
+-- what is to be laid out: the symbols, and the sections where assigned symbols are put into fields
+pub record PlanOf : Type 0 where
+  pub map : SymbolMap
+  pub sections : LaidSections
+
+unfoldable pub planned : SymbolMap → LooseSections → LaidSections
+planned map sections = laid_sections (resolved map) sections
+
+-- a plan of these sections
+abbrev pub plan_of : SymbolMap → LooseSections → PlanOf
+plan_of map sections = record { map = map; sections = planned map sections }
+
+abbrev pub unless : {A E : Type 0} → Option E → A → Result A E
+unless None made = Ok made
+unless (Some fault) made = Err fault
+
+-- the sections with their addresses, while each item has its lowest level alone
+unfoldable pub settled_sections : LaidSections → LaidSections
+settled_sections sections = laid_out (lowest_levels sections) sections
+
+-- the sections with their addresses, or the first fault
+abbrev pub settled_plan : SymbolMap → LaidSections → Result LaidSections LayoutFault
+settled_plan map sections = unless (fault_of map (settled_sections sections)) (settled_sections sections)
+
+abbrev pub layout_of : SymbolMap → LooseSections → Result LaidSections LayoutFault
+layout_of map sections = settled_plan map (planned map sections)
+
+-- the sections are laid out by the levels of the one ranking, which so many rounds give
+pub record IsLaidOut (map : SymbolMap) (sections laid : LaidSections) (rounds : ℕ) : Type 0 where
+  pub levels : List ℕ
+  pub layout : IsLayout (needed map sections) (tops sections) levels rounds
+  pub placed : laid ≡ laid_out levels sections
+
+-- what settling answers, by what its definition answers
+abbrev pub Settles : {T : Type 0} → LaidSections → Result T LayoutFault → Result LaidSections LayoutFault → Type 0
+Settles laid (Ok done) due = due ≡ Ok laid
+Settles laid (Err fault) due = due ≡ Err fault

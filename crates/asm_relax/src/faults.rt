@@ -1,0 +1,25 @@
+//! What a layout is refused for.
+
+use asm_base::Pos;
+use thiserror::Error;
+
+/// A fault of a layout, at the statement of its item.
+#[derive(Clone, Copy, Debug, PartialEq, Eq, Error)]
+pub enum LayoutFault {
+    /// A section has more than 2^30 bytes.
+    #[error("section is too large")]
+    SectionTooLarge { pos: Pos, size: u64 },
+    /// A field does not hold its value.
+    #[error("distance out of range")]
+    DistanceOutOfRange { pos: Pos, distance: u64 },
+}
+
+impl LayoutFault {
+    /// Where the statement stands.
+    pub fn pos(&self) -> Pos {
+        match self {
+            LayoutFault::SectionTooLarge { pos, .. } => *pos,
+            LayoutFault::DistanceOutOfRange { pos, .. } => *pos,
+        }
+    }
+}

@@ -1,0 +1,96 @@
+//! What names and forms are where each item has its address.
+
+ghost use Rattle.std.specs.Prelude.{◌≡◌, IfOk};
+ghost use Rattle.asm_expr.specs.Knowledge.{told_by};
+ghost use Rattle.asm_relax.specs.Final.{spot_told, final_meaning, final_form, laid_value};
+
+use crate::places::address_of;
+use crate::resolving::resolved;
+use asm_base::NoMemory;
+use asm_expr::{Known, Linear, Look, Name, settled, settled_value};
+use asm_frags::{Laid, Sections};
+use asm_symbols::{Meaning, Spot, Symbols};
+use std::alloc::{AllocError, Global};
+
+/// The symbols and where they stand.
+#[derive(Clone, Copy)]
+pub struct FinalView<'a> {
+    pub symbols: &'a Symbols,
+    pub sections: &'a Sections<Laid>,
+}
+
+/// A place, as a label of its section at its address.
+fn spot_look<'a>(sections: &Sections<Laid>, spot: &Spot) -> Look<'a>
+    ensures { told_by result ≡ spot_told sections.now spot.now }
+{
+    Look::Label {
+        stretch: u64::from(spot.section),
+        at: address_of(sections, spot.section, spot.item),
+    }
+}
+
+/// What a symbol that is this is known as.
+fn look_of<'a>(sections: &Sections<Laid>, meaning: &Meaning) -> Look<'a>
+    ensures { told_by result ≡ final_meaning sections.now meaning.now }
+{
+    match meaning {
+        Meaning::Label(spot) | Meaning::Space(spot) => spot_look(sections, spot),
+        Meaning::Undefined | Meaning::Common { .. } | Meaning::Assigned(_) => Look::Absent,
+    }
+}
+
+impl Known for FinalView<'_> {
+    ghost use Rattle.asm_expr.specs.declared.naming.Name.TheVariants.{Place};
+    ghost use Rattle.asm_relax.specs.Final.{final_told};
+
+    ghost told = { λ view name. final_told view.symbols.now view.sections.now name };
+
+    ghost counted = { λ _ _. 0 };
+
+    ghost place = { λ _. Place 0 0 };
+
+    #[tactic(auto, unfolding(crate::specs::Final::final_told))]
+    fn look(&self, name: &Name) -> Look<'_> {
+        match self.symbols.find(name) {
+            Some(id) => look_of(self.sections, &self.symbols.symbol(id).meaning),
+            None => Look::Absent,
+        }
+    }
+
+    fn count(&self, _number: u64) -> u32 {
+        0
+    }
+
+    fn here(&self) -> Name {
+        Name::Place {
+            section: 0,
+            item: 0,
+        }
+    }
+}
+
+/// What the form is at the end: labels of one section that cancel are replaced by their addresses.
+#[tactic(auto, unfolding(crate::specs::Final::final_form))]
+pub fn final_form(
+    alloc: Global,
+    symbols: &Symbols,
+    sections: &Sections<Laid>,
+    form: &Linear,
+) -> Result<Linear, NoMemory>
+    ensures { IfOk result (λ made. made ≡ final_form symbols.now sections.now form.now) }
+{
+    let known = FinalView { symbols, sections };
+    match settled(alloc, &known, resolved(alloc, symbols, form)?) {
+        Ok(made) => Ok(made),
+        Err(_) => Err(AllocError),
+    }
+}
+
+/// The value of a form whose assigned symbols are put in, where no name is left at the end. It takes no memory.
+#[tactic(auto, unfolding(crate::specs::Final::laid_value))]
+pub fn laid_value(symbols: &Symbols, sections: &Sections<Laid>, form: &Linear) -> Option<u64>
+    ensures { result ≡ laid_value symbols.now sections.now form.now }
+{
+    let known = FinalView { symbols, sections };
+    settled_value(&known, form)
+}

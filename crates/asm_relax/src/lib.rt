@@ -1,0 +1,22 @@
+//! The layout of sections: where each item stands, and what the fields hold.
+#![tactic(auto)]
+
+mod faults;
+mod finals;
+mod judging;
+mod laws;
+mod laying;
+mod places;
+mod planning;
+mod resolving;
+#[cfg(test)]
+mod tests;
+
+pub use faults::LayoutFault;
+pub use finals::{FinalView, final_form, laid_value};
+pub use laws::{
+    all_else_is_kept, items_stand_in_row, one_ranking, settled_is_placed, sizes_add_up,
+};
+pub use places::{address_of, section_size};
+pub use planning::{Plan, Settled};
+pub use resolving::resolved;

@@ -1,0 +1,98 @@
+//! From sections to their layout: all memory is taken when a plan is made.
+
+ghost use Rattle.std.specs.Prelude.{◌≡◌};
+
+use crate::faults::LayoutFault;
+use crate::judging::fault_of;
+use crate::laying::lay_all;
+use crate::resolving::resolved;
+use asm_base::NoMemory;
+use asm_expr::Linear;
+use asm_frags::{FragFault, Laid, Loose, Refits, Sections};
+use asm_symbols::Symbols;
+use std::alloc::{AllocError, Global};
+use std::marker::Model;
+
+/// Puts assigned symbols into forms.
+#[derive(Clone, Copy)]
+struct PutsIn<'a> {
+    alloc: Global,
+    symbols: &'a Symbols,
+}
+
+impl Refits for PutsIn<'_> {
+    ghost use Rattle.asm_relax.specs.Resolving.{resolved};
+
+    ghost refit = { λ puts form. resolved puts.symbols.now form };
+
+    fn refit(&self, form: &Linear) -> Result<Linear, FragFault> {
+        Ok(resolved(self.alloc, self.symbols, form)?)
+    }
+}
+
+/// What settling took.
+#[derive(Clone, Copy, PartialEq, Eq, Debug)]
+pub struct Settled {
+    /// How many rounds there were: one more than raised levels.
+    pub rounds: u64,
+}
+
+/// Sections that are to be laid out, and the symbols that their fields name.
+#[derive(Drop)]
+pub struct Plan<'a> {
+    symbols: &'a Symbols,
+    sections: Sections<Laid>,
+}
+
+impl<'a> Model for Plan<'a> {
+    ghost use Rattle.asm_relax.specs.Settling.{PlanOf};
+
+    ghost Value = { PlanOf };
+
+    ghost view = { λ plan. record { map = plan.symbols.now; sections = plan.sections } };
+}
+
+impl<'a> Plan<'a> {
+    ghost use Rattle.std.specs.Prelude.{◌≡◌, IfOk};
+    ghost use Rattle.asm_relax.specs.Settling.{plan_of, settled_sections, settled_plan, Settles, IsLaidOut};
+
+    /// A plan of the sections, with assigned symbols put into their fields. It takes all memory that layout takes.
+    #[tactic(auto, unfolding(crate::specs::Settling::planned))]
+    pub fn new(
+        alloc: Global,
+        sections: Sections<Loose>,
+        symbols: &'a Symbols,
+    ) -> Result<Plan<'a>, NoMemory>
+        ensures { IfOk result (λ plan. plan ≡ plan_of symbols.now sections) }
+    {
+        let puts = PutsIn { alloc, symbols };
+        match sections.refitted(&puts) {
+            Ok(sections) => Ok(Plan { symbols, sections }),
+            Err(_) => Err(AllocError),
+        }
+    }
+
+    /// Gives each item its address, and answers the first fault where there is one. It takes no memory.
+    #[tactic(auto, using(crate::proofs::SettlingLemmas::placed_is_settled, crate::proofs::SettlingLemmas::placed_is_laid_out))]
+    pub fn settle(&mut self) -> Result<Settled, LayoutFault>
+        ensures answer { Settles self.new.sections result (settled_plan self.old.map self.old.sections) }
+        ensures layout { IfOk result (λ done. IsLaidOut self.old.map self.old.sections self.new.sections done.rounds) }
+        ensures placed { self.new.sections ≡ settled_sections self.old.sections }
+        ensures map { self.new.map ≡ self.old.map }
+    {
+        lay_all(&mut self.sections);
+        match fault_of(self.symbols, &self.sections) {
+            Some(fault) => Err(fault),
+            None => Ok(Settled { rounds: 1 }),
+        }
+    }
+
+    /// The sections: after `settle`, each item has its address.
+    pub fn laid(self) -> Sections<Laid>
+        ensures { result ≡ self.entry.sections }
+    {
+        let Plan { symbols, sections } = self;
+        let _ = symbols;
+        sections
+    }
+}
