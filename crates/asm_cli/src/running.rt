@@ -13,7 +13,8 @@ ghost use Rattle.asm_cli.specs.Answers.{Answers, Completes, CountsMissingOutcome
 use crate::saying::say_all;
 use crate::words::{Invocation, read_command};
 use asm_base::{Channel, Console, Failed, Inputs, NoMemory, Output, Status, refusal, remarks};
-use asm_front::{AsmFault, Object, Options, assemble, written_reads_back};
+use asm_front::{AsmFault, Options, assemble, written_reads_back};
+use elf_object::Object;
 use std::alloc::{AllocError, Global};
 
 /// What is said where the words are no command.

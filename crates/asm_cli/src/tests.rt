@@ -207,7 +207,7 @@ fn refusals(rt: HostRuntime) -> Result<(), Fail> {
             b"nop\n.byte x*y+1/0",
             "2: Error: expression is not a sum of symbols",
         ),
-        (b".byte x", "1: Error: no relocation for this value"),
+        (b".byte x-y", "1: Error: no relocation for this value"),
         (b"\"\\0\": nop", "1: Error: bad operand"),
         (b"nop # c\n# \0 c\n", "2: Error: NUL byte in source"),
         (b"nop\n\n\0", "3: Error: NUL byte in source"),

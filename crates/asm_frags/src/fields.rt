@@ -1,7 +1,7 @@
 //! Fields of items: what is written over zeros once its value is known.
 
 ghost use Rattle.std.specs.Prelude.{◌≡◌, replicate};
-ghost use Rattle.asm_frags.specs.Fields.{width};
+ghost use Rattle.asm_frags.specs.Fields.{width, fits};
 
 use asm_expr::Linear;
 
@@ -28,6 +28,19 @@ impl FieldSize {
             FieldSize::Two => 2,
             FieldSize::Four => 4,
             FieldSize::Eight => 8,
+        }
+    }
+
+    /// Whether the field holds the value, a number modulo 2^64: as a number of so many bits, with a sign or without.
+    #[tactic(auto, unfolding(crate::specs::Fields::fits))]
+    pub fn fits(self, value: u64) -> bool
+        ensures { result ≡ fits self value }
+    {
+        match self {
+            FieldSize::One => value < 1 << 8 || value >= u64::MAX - 0x7f,
+            FieldSize::Two => value < 1 << 16 || value >= u64::MAX - 0x7fff,
+            FieldSize::Four => value < 1 << 32 || value >= u64::MAX - 0x7fff_ffff,
+            FieldSize::Eight => true,
         }
     }
 

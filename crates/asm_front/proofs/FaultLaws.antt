@@ -8,7 +8,7 @@ use Rattle.asm_base.specs.declared.positions.Pos.{Pos}
 use Rattle.asm_lines.specs.Statements.{StatementAt, statements_of}
 use Rattle.asm_lines.specs.declared.faults.LineFault.{LineFault}
 use Rattle.asm_lines.specs.declared.faults.LineFault.TheVariants as line
-use Rattle.asm_relax.specs.Settling.{layout_of}
+use Rattle.asm_relax.specs.Settling.{LaidSections, layout_of}
 use Rattle.asm_relax.specs.declared.faults.LayoutFault.{LayoutFault}
 use Rattle.asm_place.specs.Results.{◌>>=◌}
 use Rattle.asm_place.specs.Faults.{is_file_too_large}
@@ -17,9 +17,10 @@ use Rattle.asm_place.specs.Places.{LooseSection}
 use Rattle.asm_place.specs.State.{Placed, nothing_placed}
 use Rattle.asm_place.specs.Sources.{FaultAt, fault_at, place_all}
 use Rattle.asm_place.proofs.PlacingLaws.{no_fault_of_reading}
-use Rattle.asm_front.specs.Contents.{LaidSection}
-use Rattle.asm_front.specs.declared.ending.Ended.{Ended}
-use Rattle.asm_front.specs.Ending.{Flags, NotedObject, first_end, stop_if, laid_end, finished}
+use Rattle.elf_object.specs.declared.faults.ObjectFault.{ObjectFault}
+use Rattle.elf_object.specs.declared.faults.ObjectFault.TheVariants.{UndefinedLocalSymbol, NoRelocation, SizeNotKnown, NoMemory}
+use Rattle.elf_object.specs.Objects.{object_of}
+use Rattle.asm_front.specs.Ending.{Flags, first_warning, warned_end, made_end, laid_end, finished}
 use Rattle.asm_front.specs.Assembly.{lines_answer, assembly_of_lines}
 
 -- what is known of the fault, if there is one
@@ -48,12 +49,19 @@ by_result (Err fault) known = a_fault fault (known fault refl)
 placed_fine : (statements : List StatementAt) (before : Placed) → NotTooLarge (place_all statements before)
 placed_fine statements before = by_result (place_all statements before) (λ stop is. no_fault_of_reading statements before stop is)
 
-stopped_fine : (ended : Option Ended) (notes : List Noted) (made : NotedObject) → NotTooLarge (stop_if ended notes (Ok made))
-stopped_fine None notes made = no_fault made
-stopped_fine (Some ended) notes made = a_fault _ refl
+warned_fine : (place : Option Pos) (notes : List Noted) (made : List ℕ) → NotTooLarge (warned_end place notes made)
+warned_fine None notes made = no_fault _
+warned_fine (Some pos) notes made = a_fault _ refl
 
-laid_fine : (fatal : Bool) (table : Table) (notes : List Noted) (laid : Result (List LaidSection) LayoutFault) → NotTooLarge (laid_end fatal table notes laid)
-laid_fine fatal table notes (Ok sections) = stopped_fine (first_end fatal table notes sections) notes _
+made_fine : (fatal : Bool) (table : Table) (notes : List Noted) (made : Result (List ℕ) ObjectFault) → NotTooLarge (made_end fatal table notes made)
+made_fine fatal table notes (Ok made) = warned_fine (first_warning fatal notes) notes made
+made_fine fatal table notes (Err (UndefinedLocalSymbol index)) = a_fault _ refl
+made_fine fatal table notes (Err (NoRelocation pos)) = a_fault _ refl
+made_fine fatal table notes (Err (SizeNotKnown index)) = a_fault _ refl
+made_fine fatal table notes (Err NoMemory) = a_fault _ refl
+
+laid_fine : (fatal : Bool) (table : Table) (notes : List Noted) (laid : Result LaidSections LayoutFault) → NotTooLarge (laid_end fatal table notes laid)
+laid_fine fatal table notes (Ok sections) = made_fine fatal table notes (object_of table.symbols sections)
 laid_fine fatal table notes (Err fault) = a_fault _ refl
 
 finished_fine : (fatal : Bool) (sections : List LooseSection) (table : Table) (notes : List Noted) → NotTooLarge (finished fatal sections table notes)

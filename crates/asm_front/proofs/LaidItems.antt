@@ -16,14 +16,6 @@ use Rattle.asm_relax.specs.Settling.{LooseSections, LaidSections, planned, unles
 use Rattle.asm_relax.specs.Placing.{behind}
 use Rattle.asm_relax.proofs.SettlingLemmas.{placed_is_settled}
 
--- the item of this index stands behind those before it
-pub placed_get : {P : Type 0} (xs : List (Frag P ℕ)) (i at : ℕ) (x : Frag P ℕ) → slice_get xs i ≡ Some x
-    → slice_get (placed_from at xs) i ≡ Some (item_with_address (behind i at xs) x)
-unfolding placed_from
-placed_get [] i at x is = absurd cc
-placed_get (y ∷ ys) zero at x is = let same : y ≡ x = cc in rw same
-placed_get (y ∷ ys) (suc i) at x is = placed_get ys i (at + size_at y.content at) x is
-
 -- what an answer without a fault holds
 unless_is : {A E : Type 0} (fault : Option E) (made answer : A) → unless fault made ≡ Ok answer → answer ≡ made
 unless_is None made answer e = cc

@@ -1,20 +1,23 @@
 -- Written bytes read back: an instruction's item stands in the object.
-use Rattle.std.proofs.Common.{◌≡◌, ℕ, ◌==◌, ◌&&◌, not, nat_lt, Bool, true, false, cond, List, [], ◌∷◌, ◌++◌, Option, Some, None, Result, Ok, Err, find, length, map, drop, refl, sym, ap, ◌∙◌}
+use Rattle.std.proofs.Common.{◌≡◌, ℕ, ◌+◌, ◌==◌, ◌&&◌, not, nat_lt, Bool, true, false, cond, List, [], ◌∷◌, ◌++◌, Option, Some, None, Result, Ok, Err, find, length, map, drop, refl, sym, ap, ◌∙◌}
 use Rattle.std.proofs.lemmas.Option.{slice_get-map}
 use Rattle.std.specs.Prelude.{slice_get, option_map}
 use Rattle.asm_base.specs.Tokens.{SpelledToken, tokens_of}
 use Rattle.asm_base.specs.WholeFile.{most_bytes}
 use Rattle.asm_base.specs.declared.notes.Noted.{Noted}
+use Rattle.asm_base.specs.declared.positions.Pos.{Pos}
 use Rattle.asm_lines.specs.Statements.{StatementAt, statements_of}
 use Rattle.asm_symbols.specs.SymbolMap.{SymbolMap}
+use Rattle.asm_frags.specs.declared.items.Frag.{Frag}
 use Rattle.asm_frags.specs.Addresses.{item_with_address}
+use Rattle.asm_frags.specs.Contents.{size_at}
+use Rattle.asm_frags.specs.SectionOf.{SectionOf}
 use Rattle.asm_frags.specs.Refitting.{laid_item, laid_section}
 use Rattle.asm_relax.specs.Final.{address_in, address_of}
-use Rattle.asm_relax.specs.Placing.{placed_section}
 use Rattle.asm_relax.specs.Resolving.{resolved}
-use Rattle.asm_relax.specs.Settling.{layout_of}
+use Rattle.asm_relax.specs.Settling.{LaidItem, LaidSections, unless, layout_of}
 use Rattle.asm_relax.specs.declared.faults.LayoutFault.{LayoutFault}
-use Rattle.asm_relax.specs.Placing.{behind}
+use Rattle.asm_relax.specs.Placing.{placed_from, placed_section, behind}
 use Rattle.asm_place.specs.declared.instructions.Row.{Row}
 use Rattle.asm_place.specs.Rows.{the_rows, has_name, bytes_of}
 use Rattle.asm_place.specs.Reads.{Reads}
@@ -29,31 +32,31 @@ use Rattle.asm_place.specs.Sources.{FaultAt, place_all}
 use Rattle.asm_place.specs.Instructions.{behind_labels, row_written, next_item, StandsAt}
 use Rattle.asm_place.proofs.InstructionLaws.{instruction_there}
 use Rattle.asm_place.proofs.Readings.{found_reads, one_instruction}
-use Rattle.asm_front.specs.Sections.{file_bytes}
-use Rattle.asm_front.specs.Contents.{LaidItem, LaidSection, filled, item_bytes, section_bytes, section_entry, sections_of}
-use Rattle.asm_front.specs.TableSymbols.{symbols_of}
-use Rattle.asm_front.specs.Image.{header_end, image_of}
-use Rattle.asm_front.specs.declared.ending.Ended.{Ended}
-use Rattle.asm_front.specs.Ending.{Flags, NotedObject, first_end, stop_if, object_of, laid_end, finished}
+use Rattle.elf_object.specs.declared.faults.ObjectFault.{ObjectFault}
+use Rattle.elf_object.specs.Contents.{filled, item_bytes}
+use Rattle.elf_object.specs.Faults.{object_fault}
+use Rattle.elf_object.specs.Image.{image_of}
+use Rattle.elf_object.specs.Places.{PieceAt}
+use Rattle.elf_object.proofs.FilePlaces.{drop_stands, placed_get}
+use Rattle.elf_object.proofs.ItemPlaces.{items_stand}
+use Rattle.asm_front.specs.Ending.{Flags, NotedObject, first_warning, warned_end, made_end, laid_end, finished}
 use Rattle.asm_front.specs.Assembly.{lines_answer, assembly_of_lines, assembly_of}
 use Rattle.asm_front.specs.Outcome.{main_file}
-use Rattle.asm_front.specs.ReadsBack.{ReadsAt, body_offset, file_place, ReadsBack}
-use Rattle.asm_front.proofs.LaidItems.{items_of, placed_get, layout_is}
-use Rattle.asm_front.proofs.ItemBytes.{item_length}
-use Rattle.asm_front.proofs.FilePlaces.{PieceAt, drop_stands, stands_in, item_stands, image_stands}
+use Rattle.asm_front.specs.ReadsBack.{ReadsAt, file_place, ReadsBack}
+use Rattle.asm_front.proofs.LaidItems.{items_of, layout_is}
 
 -- the section of an item, as it is laid out
-abbrev kept_section : SymbolMap → LooseSection → LaidSection
+abbrev kept_section : SymbolMap → LooseSection → SectionOf LaidItem
 kept_section symbols section = placed_section (laid_section (resolved symbols) section)
 
 abbrev kept_item : SymbolMap → LooseSection → ℕ → Item → LaidItem
 kept_item symbols section index item = item_with_address (behind index 0 (items_of symbols section)) (laid_item (resolved symbols) item)
 
-section_kept : (symbols : SymbolMap) (sections : List LooseSection) (laid : List LaidSection) (n : ℕ) (section : LooseSection) → layout_of symbols sections ≡ Ok laid
+section_kept : (symbols : SymbolMap) (sections : List LooseSection) (laid : LaidSections) (n : ℕ) (section : LooseSection) → layout_of symbols sections ≡ Ok laid
     → slice_get sections n ≡ Some section → slice_get laid n ≡ Some (kept_section symbols section)
 section_kept symbols sections laid n section e there =
     let refitted = laid_section (resolved symbols) in
-    ap (λ (all : List LaidSection). slice_get all n) (layout_is symbols sections laid e) ∙ slice_get-map placed_section (map refitted sections) n
+    ap (λ (all : LaidSections). slice_get all n) (layout_is symbols sections laid e) ∙ slice_get-map placed_section (map refitted sections) n
     ∙ ap (option_map placed_section) (slice_get-map refitted sections n ∙ ap (option_map refitted) there)
 
 item_there : (symbols : SymbolMap) (section : LooseSection) (i : ℕ) (item : Item) → slice_get section.items i ≡ Some item
@@ -65,54 +68,37 @@ item_kept : (symbols : SymbolMap) (section : LooseSection) (i : ℕ) (item : Ite
 item_kept symbols section i item at = placed_get (items_of symbols section) i 0 (laid_item (resolved symbols) item) (item_there symbols section i item at)
 
 -- the address of an item is where those before it end
-address_is : (symbols : SymbolMap) (laid : List LaidSection) (n i : ℕ) (section : LooseSection) (item : Item) → slice_get laid n ≡ Some (kept_section symbols section)
+address_is : (symbols : SymbolMap) (laid : LaidSections) (n i : ℕ) (section : LooseSection) (item : Item) → slice_get laid n ≡ Some (kept_section symbols section)
     → slice_get section.items i ≡ Some item → address_of laid n i ≡ behind i 0 (items_of symbols section)
 unfolding address_of address_in
 address_is symbols laid n i section item there at = rw (there, item_kept symbols section i item at) refl
 
 -- the bytes of an item without fields
-plain_bytes : (symbols : SymbolMap) (laid : List LaidSection) (section : LooseSection) (i : ℕ) (item : Item) (bytes : List ℕ) → item.content ≡ plain_item bytes
+plain_bytes : (symbols : SymbolMap) (laid : LaidSections) (section : LooseSection) (i : ℕ) (item : Item) (bytes : List ℕ) → item.content ≡ plain_item bytes
     → item_bytes symbols laid (kept_item symbols section i item) ≡ bytes
 unfolding item_bytes filled
 plain_bytes symbols laid section i item bytes holds = rw holds refl
 
--- the bytes of an item in its section
-section_stands : (symbols : SymbolMap) (laid : List LaidSection) (section : LooseSection) (i : ℕ) (item : Item) → slice_get section.items i ≡ Some item
-    → PieceAt (section_bytes symbols laid (kept_section symbols section)) (behind i 0 (items_of symbols section)) (item_bytes symbols laid (kept_item symbols section i item))
-unfolding section_bytes
-section_stands symbols laid section i item at =
-    item_stands (item_bytes symbols laid) (item_length symbols laid) (items_of symbols section) i 0 (laid_item (resolved symbols) item) []
-    (section_bytes symbols laid (kept_section symbols section)) (item_there symbols section i item at) refl refl
+placed_again : {P : Type 0} (at : ℕ) (items : List (Frag P ℕ)) → placed_from at (placed_from at items) ≡ placed_from at items
+unfolding placed_from
+placed_again at [] = refl
+placed_again at (item ∷ items) = ap (λ xs. item_with_address at item ∷ xs) (placed_again (at + size_at item.content at) items)
 
--- the bytes of a section in the file
-entry_bytes : (symbols : SymbolMap) (laid : List LaidSection) (section : LooseSection) → (section.kind == 8) ≡ false
-    → file_bytes (section_entry symbols laid (kept_section symbols section)).content ≡ section_bytes symbols laid (kept_section symbols section)
-entry_bytes symbols laid section kind = rw kind refl
-
-entry_there : (symbols : SymbolMap) (laid : List LaidSection) (n : ℕ) (section : LaidSection) → slice_get laid n ≡ Some section
-    → slice_get (sections_of symbols laid) n ≡ Some (section_entry symbols laid section)
-unfolding sections_of
-entry_there symbols laid n section there = slice_get-map (section_entry symbols laid) laid n ∙ ap (option_map (section_entry symbols laid)) there
-
-object_is : (symbols : SymbolMap) (laid : List LaidSection) → object_of symbols laid ≡ image_of (sections_of symbols laid) (symbols_of symbols laid)
-unfolding object_of
-object_is symbols laid = refl
+-- a section that is laid out stays as it is
+laid_stays : (symbols : SymbolMap) (section : LooseSection) → placed_section (kept_section symbols section) ≡ kept_section symbols section
+laid_stays symbols section = ap (λ items. record (kept_section symbols section) { items = items }) (placed_again 0 (items_of symbols section))
 
 -- an item of bytes alone stands in the object at its place
-pub object_stands : (symbols : SymbolMap) (sections : List LooseSection) (laid : List LaidSection) (n i : ℕ) (bytes : List ℕ) → layout_of symbols sections ≡ Ok laid
-    → StandsAt sections n i bytes → PieceAt (object_of symbols laid) (file_place symbols laid n i) bytes
+pub object_stands : (symbols : SymbolMap) (sections : List LooseSection) (laid : LaidSections) (n i : ℕ) (bytes : List ℕ) → layout_of symbols sections ≡ Ok laid
+    → StandsAt sections n i bytes → PieceAt (image_of symbols laid) (file_place symbols laid n i) bytes
 object_stands symbols sections laid n i bytes e holds =
     let section = kept_section symbols holds.section in
     let there : slice_get laid n ≡ Some section = section_kept symbols sections laid n holds.section e holds.found in
     let address = address_is symbols laid n i holds.section holds.item there holds.there in
     let plain = plain_bytes symbols laid holds.section i holds.item bytes holds.holds in
-    let body = entry_bytes symbols laid holds.section holds.takes_bytes in
-    let at = body_offset header_end (sections_of symbols laid) n in
-    let image = image_stands (sections_of symbols laid) (symbols_of symbols laid) n (section_entry symbols laid section) (entry_there symbols laid n section there) in
-    let outer : PieceAt (object_of symbols laid) at (section_bytes symbols laid section) = rw (object_is symbols laid, ← body) image in
-    let inner : PieceAt (section_bytes symbols laid section) (address_of laid n i) bytes =
-    rw (address, ← plain) (section_stands symbols laid holds.section i holds.item holds.there) in
-    stands_in (object_of symbols laid) (section_bytes symbols laid section) bytes at (address_of laid n i) outer inner
+    let stands = items_stand symbols laid n i section (kept_item symbols holds.section i holds.item) there holds.takes_bytes (laid_stays symbols holds.section)
+    (item_kept symbols holds.section i holds.item holds.there) in
+    rw (address, ← plain) stands
 
 row_of_one : (name plain : Bool) (found : Option Row) (row : Row) → cond (name && plain) found None ≡ Some row → found ≡ Some row
 row_of_one true true found row e = e
@@ -145,21 +131,25 @@ step_ok : {A B E : Type 0} (r : Result A E) (f : A → Result B E) (x : A) (answ
 step_ok (Ok y) f x answer is e = let same : y ≡ x = cc in rw (← same) e
 step_ok (Err fault) f x answer is e = absurd cc
 
-stop_is : (ended : Option Ended) (notes : List Noted) (object : List ℕ) (made : NotedObject)
-    → stop_if ended notes (Ok (record { object = object; notes = notes })) ≡ Ok made → made.object ≡ object
-stop_is None notes object made e = cc
-stop_is (Some fault) notes object made e = absurd cc
+warned_is : (place : Option Pos) (notes : List Noted) (object : List ℕ) (made : NotedObject) → warned_end place notes object ≡ Ok made → made.object ≡ object
+warned_is None notes object made e = cc
+warned_is (Some pos) notes object made e = absurd cc
 
-laid_is : (fatal : Bool) (table : Table) (notes : List Noted) (answer : Result (List LaidSection) LayoutFault) (laid : List LaidSection) (made : NotedObject)
-    → answer ≡ Ok laid → laid_end fatal table notes answer ≡ Ok made → made.object ≡ object_of table.symbols laid
+made_is : (fatal : Bool) (table : Table) (notes : List Noted) (fault : Option ObjectFault) (image : List ℕ) (made : NotedObject)
+    → made_end fatal table notes (unless fault image) ≡ Ok made → made.object ≡ image
+made_is fatal table notes None image made e = warned_is (first_warning fatal notes) notes image made e
+made_is fatal table notes (Some fault) image made e = absurd cc
+
+laid_is : (fatal : Bool) (table : Table) (notes : List Noted) (answer : Result LaidSections LayoutFault) (laid : LaidSections) (made : NotedObject)
+    → answer ≡ Ok laid → laid_end fatal table notes answer ≡ Ok made → made.object ≡ image_of table.symbols laid
 laid_is fatal table notes (Ok sections) laid made is e =
     let same : sections ≡ laid = cc in
-    stop_is (first_end fatal table notes sections) notes (object_of table.symbols sections) made e ∙ ap (object_of table.symbols) same
+    made_is fatal table notes (object_fault table.symbols sections) (image_of table.symbols sections) made e ∙ ap (image_of table.symbols) same
 laid_is fatal table notes (Err fault) laid made is e = absurd cc
 
 -- the object that is made at the end is that of the layout
-finished_is : (fatal : Bool) (whole : Placed) (laid : List LaidSection) (made : NotedObject) → layout_of whole.table.symbols whole.sections ≡ Ok laid
-    → finished fatal whole.sections whole.table whole.notes ≡ Ok made → made.object ≡ object_of whole.table.symbols laid
+finished_is : (fatal : Bool) (whole : Placed) (laid : LaidSections) (made : NotedObject) → layout_of whole.table.symbols whole.sections ≡ Ok laid
+    → finished fatal whole.sections whole.table whole.notes ≡ Ok made → made.object ≡ image_of whole.table.symbols laid
 unfolding finished
 finished_is fatal whole laid made is e = laid_is fatal whole.table whole.notes (layout_of whole.table.symbols whole.sections) laid made is e
 
@@ -179,9 +169,9 @@ not_too_large true fault r y e = absurd cc
 not_too_large false fault r y e = e
 
 -- an object is that of the layout of what the statements of its source placed
-pub assembly_is : (flags : Flags) (source : List ℕ) (made : NotedObject) (statements : List StatementAt) (whole : Placed) (laid : List LaidSection)
+pub assembly_is : (flags : Flags) (source : List ℕ) (made : NotedObject) (statements : List StatementAt) (whole : Placed) (laid : LaidSections)
     → statements_of main_file source ≡ Ok statements → place_all statements (nothing_placed flags.no_warn) ≡ Ok whole
-    → layout_of whole.table.symbols whole.sections ≡ Ok laid → assembly_of flags main_file source ≡ Ok made → made.object ≡ object_of whole.table.symbols laid
+    → layout_of whole.table.symbols whole.sections ≡ Ok laid → assembly_of flags main_file source ≡ Ok made → made.object ≡ image_of whole.table.symbols laid
 unfolding assembly_of
 assembly_is flags source made statements whole laid are all is e =
     finished_is flags.fatal_warnings whole laid made is
@@ -193,7 +183,7 @@ reads_back flags source made e before after s row placed whole laid are front al
     let holds = instruction_there before s after (nothing_placed flags.no_warn) placed whole row front all row_is in
     let symbols = whole.table.symbols in
     let at = file_place symbols laid placed.current (next_item placed) in
-    let same : made.object ≡ object_of symbols laid = assembly_is flags source made (before ++ s ∷ after) whole laid are all is e in
+    let same : made.object ≡ image_of symbols laid = assembly_is flags source made (before ++ s ∷ after) whole laid are all is e in
     let stands = object_stands symbols whole.sections laid placed.current (next_item placed) (bytes_of row) is holds in
-    reads_row made.object stands.rest at row (ap (drop at) same ∙ drop_stands (object_of symbols laid) at (bytes_of row) stands)
+    reads_row made.object stands.rest at row (ap (drop at) same ∙ drop_stands (image_of symbols laid) at (bytes_of row) stands)
     (written_reads (behind_labels (tokens_of s.bytes)) row row_is)

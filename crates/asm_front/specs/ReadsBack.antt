@@ -1,19 +1,17 @@
 -- What the bytes of a written object read as, at the place of each instruction.
-use Rattle.std.specs.Prelude.{ℕ, zero, suc, ◌+◌, ◌≡◌, List, [], ◌∷◌, ◌++◌, length, drop, Option, None, Some, Result, Ok, Err}
+use Rattle.std.specs.Prelude.{ℕ, ◌+◌, ◌≡◌, List, ◌∷◌, ◌++◌, drop, Option, None, Some, Result, Ok, Err}
 use Rattle.asm_base.specs.Inputs.{Contents}
 use Rattle.asm_lines.specs.Statements.{StatementAt, statements_of}
 use Rattle.asm_symbols.specs.SymbolMap.{SymbolMap}
 use Rattle.asm_relax.specs.Final.{address_of}
-use Rattle.asm_relax.specs.Settling.{layout_of}
+use Rattle.asm_relax.specs.Settling.{LaidSections, layout_of}
 use Rattle.asm_place.specs.declared.instructions.Mnemonic.{Mnemonic}
 use Rattle.asm_place.specs.declared.instructions.Row.{Row}
 use Rattle.asm_place.specs.Reads.{Reads}
 use Rattle.asm_place.specs.State.{Placed, nothing_placed}
 use Rattle.asm_place.specs.Sources.{place_all}
 use Rattle.asm_place.specs.Instructions.{instruction_of, next_item}
-use Rattle.asm_front.specs.Sections.{SectionEntry}
-use Rattle.asm_front.specs.Contents.{LaidSection, sections_of}
-use Rattle.asm_front.specs.Image.{header_end, next_multiple, body_from}
+use Rattle.elf_object.specs.Places.{section_offset}
 use Rattle.asm_front.specs.Ending.{Flags}
 use Rattle.asm_front.specs.Outcome.{main_file}
 use Rattle.asm_front.specs.declared.answers.Assembled.{Assembled}
@@ -28,20 +26,14 @@ pub record ReadsAt (bytes : List ℕ) (at : ℕ) (mnemonic : Mnemonic) : Type 0 
   pub only : (front after : List ℕ) (other : Mnemonic) → drop at bytes ≡ front ++ after → Reads front other
       → (other ≡ mnemonic) × (front ≡ instruction)
 
--- where the body of the section of this number stands in the file, if those of the sections stand from this position on
-unfoldable pub body_offset : ℕ → List SectionEntry → ℕ → ℕ
-body_offset position [] number = position
-body_offset position (s ∷ ss) zero = next_multiple s.alignment position
-body_offset position (s ∷ ss) (suc number) = body_offset (position + length (body_from position s)) ss number
-
 -- where an item stands in the file
-abbrev pub file_place : SymbolMap → List LaidSection → ℕ → ℕ → ℕ
-file_place symbols sections section item = body_offset header_end (sections_of symbols sections) section + address_of sections section item
+abbrev pub file_place : SymbolMap → LaidSections → ℕ → ℕ → ℕ
+file_place symbols sections section item = section_offset symbols sections section + address_of sections section item
 
 -- each instruction of the source reads back where its item stands: it is the next item of the section that items go into where the statements before it end
 abbrev pub ReadsBack : Flags → List ℕ → List ℕ → Type 0
 ReadsBack flags source object =
-    (before after : List StatementAt) (s : StatementAt) (row : Row) (placed whole : Placed) (laid : List LaidSection)
+    (before after : List StatementAt) (s : StatementAt) (row : Row) (placed whole : Placed) (laid : LaidSections)
     → statements_of main_file source ≡ Ok (before ++ s ∷ after) → place_all before (nothing_placed flags.no_warn) ≡ Ok placed
     → place_all (before ++ s ∷ after) (nothing_placed flags.no_warn) ≡ Ok whole → layout_of whole.table.symbols whole.sections ≡ Ok laid
     → instruction_of s ≡ Some row → ReadsAt object (file_place whole.table.symbols laid placed.current (next_item placed)) row.mnemonic

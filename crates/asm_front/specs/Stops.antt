@@ -1,15 +1,21 @@
 -- What the assembly of a source answers, by what its definition answers.
 use Rattle.std.specs.Prelude.{◌≡◌, ℕ, List, Result, Ok, Err}
-use Rattle.asm_base.specs.declared.faults.Fault.TheVariants.{Statement}
+use Rattle.asm_base.specs.declared.faults.EndFault.{EndFault}
+use Rattle.asm_base.specs.declared.faults.EndFault.TheVariants as end
+use Rattle.asm_base.specs.declared.faults.Fault.TheVariants.{Statement, End}
 use Rattle.asm_base.specs.declared.faults.StatementFault.TheVariants as statement
 use Rattle.asm_base.specs.declared.notes.Noted.{Noted}
+use Rattle.asm_base.specs.declared.positions.Pos.{Pos}
 use Rattle.asm_lines.specs.declared.faults.LineFault.{LineFault}
 use Rattle.asm_lines.specs.declared.faults.LineFault.TheVariants as line
 use Rattle.asm_place.specs.declared.steps.Stop.{Stop}
 use Rattle.asm_place.specs.declared.steps.Stop.TheVariants.{Source, NoMemory}
 use Rattle.asm_place.specs.Sources.{FaultAt, pos_at}
 use Rattle.asm_place.specs.Stops.{Stops}
-use Rattle.asm_front.specs.Ending.{NotedObject}
+use Rattle.asm_place.specs.Tables.{Table}
+use Rattle.elf_object.specs.declared.faults.ObjectFault.{ObjectFault}
+use Rattle.elf_object.specs.declared.faults.ObjectFault.TheVariants as object
+use Rattle.asm_front.specs.Ending.{NotedObject, named_at, sized_at}
 
 -- this object was made, with these notes
 abbrev pub MakesNoted : List Noted → Result (List ℕ) Stop → Result NotedObject FaultAt → Type 0
@@ -27,3 +33,14 @@ line_stop file line.NoMemory = NoMemory
 -- the fault of a file that is too large, which stands at its first line
 abbrev pub too_large_stop : ℕ → Stop
 too_large_stop file = Source (Statement statement.FileTooLarge) (pos_at file 1)
+
+-- a fault that shows at the end
+abbrev pub end_stop : EndFault → Pos → Stop
+end_stop fault pos = Source (End fault) pos
+
+-- the fault of the object
+abbrev pub object_stop : Table → ObjectFault → Stop
+object_stop table (object.UndefinedLocalSymbol index) = end_stop end.UndefinedLocalSymbol (named_at table.named index)
+object_stop table (object.NoRelocation pos) = end_stop end.NoRelocation pos
+object_stop table (object.SizeNotKnown index) = end_stop end.NoRelocation (sized_at table.sized index)
+object_stop table object.NoMemory = NoMemory

@@ -1,7 +1,7 @@
 //! What the assembler is asked for, and what it answers.
 
-use crate::object::Object;
 use asm_base::{Fault, Files, Notes, Pos};
+use elf_object::Object;
 
 /// What the command line asks for.
 #[derive(Drop)]

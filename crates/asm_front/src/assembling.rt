@@ -16,12 +16,12 @@ ghost use Rattle.asm_front.specs.Stops.{MakesNoted, line_stop, too_large_stop};
 
 use crate::answers::{AsmFault, Assembled, Options};
 use crate::ending::{Made, finished};
-use crate::object::Object;
 use asm_base::{
     Fault, Files, Inputs, NoMemory, Notes, Pos, StatementFault, Text, TextFault, read_text,
 };
 use asm_lines::{LineFault, Statement, read_statements};
 use asm_place::{Assembler, Stop, place_all};
+use elf_object::Object;
 use std::alloc::{AllocError, Global};
 
 /// The number of the source file, which is the only one.

@@ -160,6 +160,79 @@ fn table_symbols(rt: HostRuntime) -> Result<(), Fail> {
 }
 
 #[test]
+fn relocations(rt: HostRuntime) -> Result<(), Fail> {
+    // psABI, "Relocation": r_offset, the kind and the symbol's number in r_info, r_addend.
+    let cases: [Row; 9] = [
+        // R_X86_64_64 against the section of `x`, and R_X86_64_PC32 against `y`, behind four bytes that align.
+        (
+            b".data\nx: .quad x+8\n.long y-.",
+            800,
+            64,
+            &[
+                0, 0, 0, 0, 0, 0, 0, 0, 0, 0, 0, 0, 0, 0, 0, 0, 0, 0, 0, 0, 0, 0, 0, 0, 1, 0, 0, 0,
+                1, 0, 0, 0, 8, 0, 0, 0, 0, 0, 0, 0, 8, 0, 0, 0, 0, 0, 0, 0, 2, 0, 0, 0, 3, 0, 0, 0,
+                0, 0, 0, 0, 0, 0, 0, 0,
+            ],
+        ),
+        // The first symbol of `.symtab` that is not local.
+        (b".data\nx: .quad x+8\n.long y-.", 800, 652, &[3, 0, 0, 0]),
+        (
+            b".file \"q.c\"",
+            616,
+            88,
+            &[
+                1, 0, 0, 0, 4, 0, 0xf1, 0xff, 0, 0, 0, 0, 0, 0, 0, 0, 0, 0, 0, 0, 0, 0, 0, 0,
+            ],
+        ),
+        (b".file \"q.c\"", 616, 468, &[2, 0, 0, 0]),
+        (
+            b".section .tdata,\"awT\",@progbits\n.type v,@object\nv: .long 1",
+            688,
+            96,
+            &[1, 0, 0, 0, 6, 0, 4, 0],
+        ),
+        // R_X86_64_8 against an undefined symbol.
+        (
+            b".byte 300, x",
+            720,
+            64,
+            &[
+                0x2c, 0, 0, 0, 0, 0, 0, 0, 1, 0, 0, 0, 0, 0, 0, 0, 14, 0, 0, 0, 1, 0, 0, 0, 0, 0,
+                0, 0, 0, 0, 0, 0,
+            ],
+        ),
+        (b".weak w\n.quad w", 720, 120, &[1, 0, 0, 0, 0x20, 0, 0, 0]),
+        // R_X86_64_32 against a global symbol that is defined here.
+        (
+            b".globl g\ng: .long g+1",
+            720,
+            72,
+            &[
+                0, 0, 0, 0, 0, 0, 0, 0, 10, 0, 0, 0, 1, 0, 0, 0, 1, 0, 0, 0, 0, 0, 0, 0,
+            ],
+        ),
+        // A symbol of a section that the linker merges is named itself.
+        (
+            b".section s,\"aMS\",@progbits,1\nm: .asciz \"x\"\n.data\n.quad m+1",
+            792,
+            72,
+            &[
+                0, 0, 0, 0, 0, 0, 0, 0, 1, 0, 0, 0, 1, 0, 0, 0, 1, 0, 0, 0, 0, 0, 0, 0,
+            ],
+        ),
+    ];
+    for (source, length, at, bytes) in cases {
+        let object = object_of(rt.alloc(), source)?;
+        assert_eq!(rt; object.len(), length, "{source:?}");
+        assert!(rt;
+            object.iter().skip(at).take(bytes.len()).eq(bytes),
+            "{source:?}"
+        );
+    }
+    Ok(())
+}
+
+#[test]
 fn misuse(rt: HostRuntime) -> Result<(), Fail> {
     let cases: [(&[u8], &[u8]); 37] = [
         (

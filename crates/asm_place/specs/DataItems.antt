@@ -1,26 +1,13 @@
 -- Items of data (GNU as manual, ".byte", ".short", ".long", ".quad"): the bytes of known values, fields for the others, and the notes of values that do not fit.
-use Rattle.std.specs.Prelude.{ℕ, ◌-◌, ◌^◌, ◌||◌, not, Bool, true, false, nat_lt, nat_le, List, [], ◌∷◌, take, fold, replicate}
-use Rattle.std.specs.Int.{w64, to_le_bytes}
+use Rattle.std.specs.Prelude.{ℕ, not, Bool, false, List, [], ◌∷◌, fold, replicate}
 use Rattle.asm_base.specs.declared.faults.Note.TheVariants.{ValueTruncated}
 use Rattle.asm_base.specs.declared.notes.Noted.{Noted}
 use Rattle.asm_base.specs.declared.positions.Pos.{Pos}
 use Rattle.asm_expr.specs.declared.forms.Term.{Term}
 use Rattle.asm_expr.specs.Forms.{Form}
 use Rattle.asm_frags.specs.declared.fields.FieldSize.{FieldSize}
-use Rattle.asm_frags.specs.declared.fields.FieldSize.TheVariants.{One, Two, Four, Eight}
-use Rattle.asm_frags.specs.Fields.{width}
+use Rattle.asm_frags.specs.Fields.{fits, low_bytes}
 use Rattle.asm_frags.specs.DataOf.{DataOf, no_data, with_bytes, with_field}
-
--- a value modulo 2 ^ 64 is a number from -2 ^ (n - 1) to 2 ^ n - 1, n being the bits of the item
-unfoldable pub fits : FieldSize → ℕ → Bool
-fits One value = nat_lt value (2 ^ 8) || nat_le (2 ^ 64 - 2 ^ 7) value
-fits Two value = nat_lt value (2 ^ 16) || nat_le (2 ^ 64 - 2 ^ 15) value
-fits Four value = nat_lt value (2 ^ 32) || nat_le (2 ^ 64 - 2 ^ 31) value
-fits Eight value = true
-
--- the low bytes of a value, low byte first
-unfoldable pub low_bytes : FieldSize → ℕ → List ℕ
-low_bytes size value = take (width size) (to_le_bytes w64 value)
 
 -- bytes for a form without names, and a field for another
 abbrev pub put_by : List Term → FieldSize → DataOf → Form → DataOf

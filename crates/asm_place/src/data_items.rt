@@ -2,7 +2,7 @@
 
 ghost use Rattle.std.specs.Prelude.{◌≡◌, IfOk, OnOk};
 ghost use Rattle.std.specs.List.{count_by};
-ghost use Rattle.asm_place.specs.DataItems.{fits, low_bytes, put_form, data_of, is_cut};
+ghost use Rattle.asm_place.specs.DataItems.{put_form, data_of, is_cut};
 
 use crate::assemblers::Assembler;
 use crate::expressions::{expressions, forms};
@@ -14,24 +14,11 @@ use asm_expr::Linear;
 use asm_frags::{Content, Data, FieldSize};
 use std::alloc::{AllocError, Global};
 
-/// Whether a value modulo 2^64 is a number of so many bits, with a sign or without.
-#[tactic(auto, unfolding(crate::specs::DataItems::fits))]
-fn fits(size: FieldSize, value: u64) -> bool
-    ensures { result ≡ fits size value }
-{
-    match size {
-        FieldSize::One => value < 1 << 8 || value >= u64::MAX - 0x7f,
-        FieldSize::Two => value < 1 << 16 || value >= u64::MAX - 0x7fff,
-        FieldSize::Four => value < 1 << 32 || value >= u64::MAX - 0x7fff_ffff,
-        FieldSize::Eight => true,
-    }
-}
-
 /// Whether the value of a form is known and does not fit.
 fn is_cut(size: FieldSize, form: &Linear) -> bool
     ensures { result ≡ is_cut size form.now }
 {
-    form.terms().is_empty() && !fits(size, form.constant())
+    form.terms().is_empty() && !size.fits(form.constant())
 }
 
 /// How many values are known and do not fit.
@@ -42,7 +29,7 @@ fn count_cut(size: FieldSize, forms: &[Linear]) -> usize
 }
 
 /// Puts a form last: the bytes of a value that is known, or a field.
-#[tactic(auto, unfolding(crate::specs::DataItems::low_bytes))]
+#[tactic(auto, unfolding(asm_frags::specs::Fields::low_bytes))]
 fn put_form(held: &mut Data, size: FieldSize, form: Linear) -> Result<(), AllocError>
     ensures { OnOk result (held.new ≡ put_form size held.old form) }
 {

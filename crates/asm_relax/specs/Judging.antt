@@ -1,11 +1,11 @@
 -- What a layout is refused for: a section that is too large, and else a field that does not hold its value.
-use Rattle.std.specs.Prelude.{ℕ, ◌-◌, ◌^◌, ◌||◌, nat_lt, nat_le, Bool, true, List, Option, None, Some, option_map, if◌then◌else◌}
+use Rattle.std.specs.Prelude.{ℕ, ◌^◌, nat_lt, Bool, List, Option, None, Some, option_map, if◌then◌else◌}
 use Rattle.std.specs.List.{find}
 use Rattle.asm_base.specs.declared.positions.Pos.{Pos}
 use Rattle.asm_symbols.specs.SymbolMap.{SymbolMap}
 use Rattle.asm_frags.specs.declared.fields.Field.{Field}
 use Rattle.asm_frags.specs.declared.fields.FieldSize.{FieldSize}
-use Rattle.asm_frags.specs.declared.fields.FieldSize.TheVariants.{One, Two, Four, Eight}
+use Rattle.asm_frags.specs.Fields.{fits}
 use Rattle.asm_frags.specs.declared.items.Frag.{Frag}
 use Rattle.asm_frags.specs.Contents.{fields_of}
 use Rattle.asm_frags.specs.SectionOf.{SectionOf}
@@ -25,17 +25,6 @@ ends_large item = is_large (end_of item)
 abbrev pub large_section : {P : Type 0} → SectionOf (Frag P ℕ) → Option LayoutFault
 large_section section =
     if is_large (size_of section.items) then option_map (λ item. SectionTooLarge item.pos (size_of section.items)) (find ends_large section.items) else None
-
--- a field holds what is below `above`, and modulo 2^64 what is at least -`below`
-abbrev pub is_held : ℕ → ℕ → ℕ → Bool
-is_held above below value = nat_lt value above || nat_le (2 ^ 64 - below) value
-
--- a field of n bits holds -2^(n-1) to 2^n - 1, and one of 64 bits all
-abbrev pub fits : FieldSize → ℕ → Bool
-fits One value = is_held (2 ^ 8) (2 ^ 7) value
-fits Two value = is_held (2 ^ 16) (2 ^ 15) value
-fits Four value = is_held (2 ^ 32) (2 ^ 31) value
-fits Eight value = true
 
 -- a field without a value is left to the linker
 abbrev pub misfit : Pos → FieldSize → Option ℕ → Option LayoutFault

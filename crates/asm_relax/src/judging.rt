@@ -5,13 +5,13 @@ ghost use Rattle.std.specs.List.{find};
 ghost use Rattle.asm_frags.specs.Contents.{fields_of};
 ghost use Rattle.asm_relax.specs.Final.{end_of};
 ghost use Rattle.asm_relax.specs.Faults.{first_of};
-ghost use Rattle.asm_relax.specs.Judging.{is_large, ends_large, large_section, is_held, fits, misfit, field_fault, item_fault, section_fault, fault_of};
+ghost use Rattle.asm_relax.specs.Judging.{is_large, ends_large, large_section, misfit, field_fault, item_fault, section_fault, fault_of};
 
 use crate::faults::LayoutFault;
 use crate::finals::laid_value;
 use crate::places::{end_of, section_size};
 use asm_base::Pos;
-use asm_frags::{Content, Field, FieldSize, Frag, Laid, Section, Sections};
+use asm_frags::{Content, Field, Frag, Laid, Section, Sections};
 use asm_symbols::Symbols;
 
 /// The most bytes of a section.
@@ -61,18 +61,6 @@ fn large_first(sections: &[Section<Laid>]) -> Option<LayoutFault>
     None
 }
 
-/// Whether a field of n bits holds the value: -2^(n-1) to 2^n - 1, modulo 2^64.
-fn fits(size: FieldSize, value: u64) -> bool
-    ensures { result ≡ fits size value }
-{
-    match size {
-        FieldSize::One => value < 1 << 8 || value >= 0xffff_ffff_ffff_ff80,
-        FieldSize::Two => value < 1 << 16 || value >= 0xffff_ffff_ffff_8000,
-        FieldSize::Four => value < 1 << 32 || value >= 0xffff_ffff_8000_0000,
-        FieldSize::Eight => true,
-    }
-}
-
 /// The field where it has a value that it does not hold.
 fn field_fault(
     symbols: &Symbols,
@@ -83,7 +71,7 @@ fn field_fault(
     ensures { result ≡ field_fault symbols.now sections.now pos field.now }
 {
     let distance = laid_value(symbols, sections, &field.form)?;
-    if fits(field.size, distance) {
+    if field.size.fits(distance) {
         return None;
     }
     Some(LayoutFault::DistanceOutOfRange { pos, distance })

@@ -1,0 +1,84 @@
+-- Where the bytes of items stand in their section, and the bodies of sections in the file.
+use Rattle.std.proofs.Common.{◌≡◌, ℕ, zero, suc, ◌+◌, ◌-◌, List, [], ◌∷◌, ◌++◌, Some, length, drop, sym, ap, ◌∙◌, arith, append_assoc, length-append}
+use Rattle.std.proofs.lemmas.List.{drop_at, length-replicate}
+use Rattle.std.specs.Prelude.{slice_get, flat_map}
+use Rattle.asm_frags.specs.declared.items.Frag.{Frag}
+use Rattle.asm_frags.specs.declared.phases.Laid.{Laid}
+use Rattle.asm_frags.specs.Contents.{size_at}
+use Rattle.asm_frags.specs.Addresses.{item_with_address}
+use Rattle.asm_relax.specs.Placing.{placed_from, behind}
+use Rattle.elf_object.specs.Sections.{SectionEntry, file_bytes}
+use Rattle.elf_object.specs.Image.{next_multiple, gap, body_from, bodies_from}
+use Rattle.elf_object.specs.Places.{PieceAt, body_offset}
+
+-- from the place on, the bytes begin with what stands there
+pub drop_stands : (bytes : List ℕ) (at : ℕ) (piece : List ℕ) (there : PieceAt bytes at piece) → drop at bytes ≡ piece ++ there.rest
+drop_stands bytes at piece there = ap (drop at) there.whole ∙ drop_at there.front (piece ++ there.rest) at there.long
+
+-- what stands in a part stands in the whole
+pub stands_in : (bytes part piece : List ℕ) (at more : ℕ) → PieceAt bytes at part → PieceAt part more piece → PieceAt bytes (at + more) piece
+stands_in bytes part piece at more outer inner = record {
+  front = outer.front ++ inner.front;
+  rest = inner.rest ++ outer.rest;
+  long = length-append outer.front inner.front ∙ ap (λ n. n + length inner.front) outer.long ∙ ap (λ n. at + n) inner.long;
+  whole = outer.whole ∙ ap (λ (xs : List ℕ). outer.front ++ (xs ++ outer.rest)) inner.whole
+      ∙ ap (λ (xs : List ℕ). outer.front ++ xs) (append_assoc inner.front (piece ++ inner.rest) outer.rest
+      ∙ ap (λ (xs : List ℕ). inner.front ++ xs) (append_assoc piece inner.rest outer.rest))
+      ∙ sym (append_assoc outer.front inner.front (piece ++ (inner.rest ++ outer.rest)));
+}
+
+-- what stands in front of the rest of a list
+front_moves : (bytes a b c : List ℕ) → bytes ≡ a ++ (b ++ c) → bytes ≡ (a ++ b) ++ c
+front_moves bytes a b c e = e ∙ sym (append_assoc a b c)
+
+pub behind_front : (bytes front piece rest : List ℕ) (at : ℕ) → bytes ≡ front ++ (piece ++ rest) → length front ≡ at → PieceAt bytes at piece
+behind_front bytes front piece rest at e long = record { front = front; rest = rest; long = long; whole = e }
+
+-- the bytes of an item stand at its address, where each item has as many as its size
+pub item_stands : (bytes_of : Frag Laid ℕ → List ℕ) → ((item : Frag Laid ℕ) → length (bytes_of item) ≡ size_at item.content item.address)
+    → (items : List (Frag Laid ℕ)) (i at : ℕ) (x : Frag Laid ℕ) (front bytes : List ℕ) → slice_get items i ≡ Some x → length front ≡ at
+    → bytes ≡ front ++ flat_map bytes_of (placed_from at items) → PieceAt bytes (behind i at items) (bytes_of (item_with_address (behind i at items) x))
+unfolding placed_from
+item_stands bytes_of sized [] i at x front bytes is long e = absurd cc
+item_stands bytes_of sized (y ∷ ys) zero at x front bytes is long e =
+    let same : y ≡ x = cc in
+    rw (← same) (behind_front bytes front (bytes_of (item_with_address at y)) (flat_map bytes_of (placed_from (at + size_at y.content at) ys)) at e long)
+item_stands bytes_of sized (y ∷ ys) (suc i) at x front bytes is long e =
+    let first = bytes_of (item_with_address at y) in
+    let size : length first ≡ size_at y.content at = sized (item_with_address at y) in
+    item_stands bytes_of sized ys i (at + size_at y.content at) x (front ++ first) bytes is (omega (arith, length-append front first))
+    (front_moves bytes front first (flat_map bytes_of (placed_from (at + size_at y.content at) ys)) e)
+
+gap_length : (alignment position : ℕ) → position + length (gap alignment position) ≡ next_multiple alignment position
+gap_length alignment position =
+    let long = length-replicate {A = ℕ} (next_multiple alignment position - position) 0 in
+    omega arith
+
+-- the body of a section stands at its offset
+pub body_stands : (entries more : List SectionEntry) (n position : ℕ) (s : SectionEntry) (front rest bytes : List ℕ) → slice_get entries n ≡ Some s → length front ≡ position
+    → bytes ≡ front ++ (bodies_from position (entries ++ more) ++ rest) → PieceAt bytes (body_offset position entries n) (file_bytes s.content)
+unfolding body_offset
+body_stands [] more n position s front rest bytes is long e = absurd cc
+body_stands (t ∷ ts) more zero position s front rest bytes is long e =
+    let same : t ≡ s = cc in
+    let space = gap t.alignment position in
+    let later = bodies_from (position + length (body_from position t)) (ts ++ more) in
+    let parts : bytes ≡ (front ++ space) ++ (file_bytes t.content ++ (later ++ rest)) =
+    e ∙ ap (λ (xs : List ℕ). front ++ xs) (append_assoc (space ++ file_bytes t.content) later rest ∙ append_assoc space (file_bytes t.content) (later ++ rest))
+    ∙ sym (append_assoc front space (file_bytes t.content ++ (later ++ rest))) in
+    let filled = gap_length t.alignment position in
+    rw (← same) (behind_front bytes (front ++ space) (file_bytes t.content) (later ++ rest) (next_multiple t.alignment position) parts
+    (length-append front space ∙ ap (λ n. n + length space) long ∙ filled))
+body_stands (t ∷ ts) more (suc n) position s front rest bytes is long e =
+    let body = body_from position t in
+    let later = bodies_from (position + length body) (ts ++ more) in
+    body_stands ts more n (position + length body) s (front ++ body) rest bytes is (length-append front body ∙ ap (λ n. n + length body) long)
+    (e ∙ ap (λ (xs : List ℕ). front ++ xs) (append_assoc body later rest) ∙ sym (append_assoc front body (later ++ rest)))
+
+-- the item of this index stands behind those before it
+pub placed_get : {P : Type 0} (xs : List (Frag P ℕ)) (i at : ℕ) (x : Frag P ℕ) → slice_get xs i ≡ Some x
+    → slice_get (placed_from at xs) i ≡ Some (item_with_address (behind i at xs) x)
+unfolding placed_from
+placed_get [] i at x is = absurd cc
+placed_get (y ∷ ys) zero at x is = let same : y ≡ x = cc in rw same
+placed_get (y ∷ ys) (suc i) at x is = placed_get ys i (at + size_at y.content at) x is

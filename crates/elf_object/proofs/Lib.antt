@@ -1,0 +1,16 @@
+-- Lemmas, in reading order.
+mod Writing
+mod LoneNames
+mod FieldLemmas
+mod MarkLemmas
+mod LayingLemmas
+mod ImageLemmas
+mod ObjectLemmas
+mod ItemBytes
+pub mod FilePlaces
+pub mod ItemPlaces
+mod TableOrder
+mod Targets
+mod TableNumbers
+mod NamePlaces
+mod HeaderPlaces

@@ -1,0 +1,173 @@
+-- What relocations name is there.
+use Rattle.std.proofs.Common.{◌≡◌, ℕ, zero, suc, ◌+◌, ◌<◌, ◌&&◌, not, Bool, true, false, cond, List, [], ◌∷◌, ◌++◌, Option, None, Some, length, refl, ap, ◌∙◌, subst, arith}
+use Rattle.std.specs.Prelude.{slice_get, option_map, option_and_then, flat_map, filter_map}
+use Rattle.std.specs.List.{cons_option}
+use Rattle.asm_expr.specs.declared.forms.Term.{Term}
+use Rattle.asm_expr.specs.declared.naming.Name.{Name}
+use Rattle.asm_expr.specs.Forms.{wrapped}
+use Rattle.asm_expr.specs.Settled.{settled}
+use Rattle.asm_frags.specs.declared.fields.Field.{Field}
+use Rattle.asm_frags.specs.Contents.{fields_of}
+use Rattle.asm_frags.specs.SectionOf.{SectionOf}
+use Rattle.asm_symbols.specs.declared.entries.Symbol.{Symbol}
+use Rattle.asm_symbols.specs.declared.entries.Meaning.{Meaning}
+use Rattle.asm_symbols.specs.declared.entries.Meaning.TheVariants as meaning
+use Rattle.asm_symbols.specs.declared.entries.Spot.{Spot}
+use Rattle.asm_symbols.specs.SymbolMap.{SymbolMap, names, index_of}
+use Rattle.asm_relax.specs.Final.{address_of, final_told}
+use Rattle.asm_relax.specs.Settling.{LaidItem, LaidSections}
+use Rattle.elf_object.specs.declared.references.Aim.{Aim}
+use Rattle.elf_object.specs.declared.references.Reference.{Reference}
+use Rattle.elf_object.specs.declared.relocations.Relocation.{Relocation}
+use Rattle.elf_object.specs.declared.relocations.Target.{Target}
+use Rattle.elf_object.specs.declared.relocations.Target.TheVariants.{OfSection, OfSymbol}
+use Rattle.elf_object.specs.declared.standings.Standing.{Standing}
+use Rattle.elf_object.specs.Contents.{filed_items, item_relocations, items_relocations, section_relocations, relocations_from}
+use Rattle.elf_object.specs.Relocations.{merge, aim, aim_in, aim_by, aim_at, aim_found, aim_of, own_address, less, reference, direct, relative, pair, is_plus, is_minus, reference_by, final_reference, relocation, field_relocation}
+use Rattle.elf_object.specs.Standings.{has_flag, standing_of}
+
+-- the section is there, or the symbol, and the symbol stands somewhere
+abbrev pub Sits : SymbolMap → LaidSections → Target → Type 0
+Sits map sections (OfSection number) = number < length sections
+Sits map sections (OfSymbol index) = (symbol : Symbol) × (there : Standing) × (slice_get map.symbols index ≡ Some symbol) × (standing_of map sections symbol.meaning ≡ Some there)
+
+pub got_inside : {A : Type 0} (xs : List A) (i : ℕ) (x : A) → slice_get xs i ≡ Some x → i < length xs
+got_inside [] i x is = absurd cc
+got_inside (y ∷ xs) zero x is = omega arith
+got_inside (y ∷ xs) (suc i) x is = let inner = got_inside xs i x is in omega arith
+
+-- where what is mapped is there, so is what it is made of
+mapped : {A B : Type 0} {Goal : Type 0} (f : A → B) (o : Option A) (y : B) → option_map f o ≡ Some y → ((x : A) → o ≡ Some x → f x ≡ y → Goal) → Goal
+mapped f None y is go = absurd cc
+mapped f (Some x) y is go = go x refl cc
+
+then_got : {A B : Type 0} {Goal : Type 0} (f : A → Option B) (o : Option A) (y : B) → option_and_then f o ≡ Some y → ((x : A) → o ≡ Some x → f x ≡ Some y → Goal) → Goal
+then_got f None y is go = absurd cc
+then_got f (Some x) y is go = go x refl is
+
+chosen : {A : Type 0} (P : A → Type 0) (b : Bool) (x y : A) → P x → P y → P (cond b x y)
+chosen P true x y first second = first
+chosen P false x y first second = second
+
+spot_sits : (map : SymbolMap) (sections : LaidSections) (index : ℕ) (local : Bool) (spot : Spot) (got : Aim) → Sits map sections (OfSymbol index)
+    → aim_in sections index local spot ≡ Some got → Sits map sections got.target
+spot_sits map sections index local spot got own is =
+    mapped (λ (section : SectionOf LaidItem). cond (local && not (has_flag merge section)) (aim (OfSection spot.section) (address_of sections spot.section spot.item)) (aim (OfSymbol index) 0))
+    (slice_get sections spot.section) got is (λ section there made.
+    subst (λ (a : Aim). Sits map sections a.target) made
+    (chosen (λ (a : Aim). Sits map sections a.target) (local && not (has_flag merge section)) (aim (OfSection spot.section) (address_of sections spot.section spot.item)) (aim (OfSymbol index) 0)
+    (got_inside sections spot.section section there) own))
+
+meaning_sits : (map : SymbolMap) (sections : LaidSections) (index : ℕ) (local : Bool) (symbol : Symbol) (what : Meaning) (got : Aim) → slice_get map.symbols index ≡ Some symbol
+    → symbol.meaning ≡ what → aim_by sections index local what ≡ Some got → Sits map sections got.target
+meaning_sits map sections index local symbol meaning.Undefined got there means is =
+    subst (λ (a : Aim). Sits map sections a.target) (some_same is) (symbol, _, there, ap (standing_of map sections) means)
+  where
+    some_same : {A : Type 0} {x y : A} → Some x ≡ Some y → x ≡ y
+    some_same e = cc
+meaning_sits map sections index local symbol (meaning.Label spot) got there means is =
+    spot_sits map sections index local spot got (symbol, _, there, ap (standing_of map sections) means) is
+meaning_sits map sections index local symbol (meaning.Space spot) got there means is =
+    spot_sits map sections index local spot got (symbol, _, there, ap (standing_of map sections) means) is
+meaning_sits map sections index local symbol (meaning.Common size align) got there means is =
+    subst (λ (a : Aim). Sits map sections a.target) (some_same is) (symbol, _, there, ap (standing_of map sections) means)
+  where
+    some_same : {A : Type 0} {x y : A} → Some x ≡ Some y → x ≡ y
+    some_same e = cc
+meaning_sits map sections index local symbol (meaning.Assigned form) got there means is = absurd cc
+
+found_sits : (map : SymbolMap) (sections : LaidSections) (found : Option ℕ) (got : Aim) → aim_found map sections found ≡ Some got → Sits map sections got.target
+found_sits map sections None got is = absurd cc
+found_sits map sections (Some index) got is =
+    then_got (aim_at sections index) (slice_get map.symbols index) got is (λ symbol there made. meaning_sits map sections index _ symbol symbol.meaning got there refl made)
+
+name_sits : (map : SymbolMap) (sections : LaidSections) (name : Name) (got : Aim) → aim_of map sections name ≡ Some got → Sits map sections got.target
+unfolding aim_of
+name_sits map sections name got is = found_sits map sections (index_of name (names map.symbols)) got is
+
+direct_sits : (map : SymbolMap) (sections : LaidSections) (name : Name) (total : ℕ) (got : Reference) → direct map sections name total ≡ Some got → Sits map sections got.target
+direct_sits map sections name total got is =
+    mapped (reference false total) (aim_of map sections name) got is (λ a there made.
+    subst (λ (r : Reference). Sits map sections r.target) made (name_sits map sections name a there))
+
+relative_sits : (map : SymbolMap) (sections : LaidSections) (number place : ℕ) (name from : Name) (total : ℕ) (got : Reference)
+    → relative map sections number place name from total ≡ Some got → Sits map sections got.target
+relative_sits map sections number place name from total got is =
+    then_got (λ address. option_map (reference true (less (total + place) address)) (aim_of map sections name)) (own_address number (final_told map sections from)) got is
+    (λ address own second. mapped (reference true (less (total + place) address)) (aim_of map sections name) got second (λ a there made.
+    subst (λ (r : Reference). Sits map sections r.target) made (name_sits map sections name a there)))
+
+one_of_two : {A : Type 0} {Goal : Type 0} (b : Bool) (x y : Option A) (z : A) → cond b x y ≡ Some z → (x ≡ Some z → Goal) → (y ≡ Some z → Goal) → Goal
+one_of_two true x y z is first second = first is
+one_of_two false x y z is first second = second is
+
+nothing : {A : Type 0} {Goal : Type 0} (z : A) → None ≡ Some z → Goal
+nothing z is = absurd cc
+
+pair_sits : (map : SymbolMap) (sections : LaidSections) (number place : ℕ) (one other : Term) (total : ℕ) (got : Reference)
+    → pair map sections number place one other total ≡ Some got → Sits map sections got.target
+pair_sits map sections number place one other total got is =
+    one_of_two (is_plus one && is_minus other) _ _ got is (relative_sits map sections number place one.name other.name total got)
+    (λ second. one_of_two (is_minus one && is_plus other) _ _ got second (relative_sits map sections number place other.name one.name total got) (nothing got))
+
+terms_sit : (map : SymbolMap) (sections : LaidSections) (number place : ℕ) (terms : List Term) (total : ℕ) (got : Reference)
+    → reference_by map sections number place terms total ≡ Some got → Sits map sections got.target
+terms_sit map sections number place [] total got is = absurd cc
+terms_sit map sections number place (term ∷ []) total got is = one_of_two (is_plus term) _ _ got is (direct_sits map sections term.name total got) (nothing got)
+terms_sit map sections number place (one ∷ other ∷ []) total got is = pair_sits map sections number place one other total got is
+terms_sit map sections number place (one ∷ other ∷ third ∷ more) total got is = absurd cc
+
+field_sits : (map : SymbolMap) (sections : LaidSections) (number address : ℕ) (field : Field) (r : Relocation) → field_relocation map sections number address field ≡ Some r
+    → Sits map sections r.target
+unfolding field_relocation
+field_sits map sections number address field r is =
+    let place = wrapped (address + field.offset) in
+    let made = settled (final_told map sections) field.form in
+    mapped (relocation place field.size) (final_reference map sections number place field.form) r is (λ found there same.
+    subst (λ (x : Relocation). Sits map sections x.target) same (terms_sit map sections number place made.terms made.constant found there))
+
+-- what stands in a joined list stands in one of the two
+in_append : {A : Type 0} {Goal : Type 0} (xs ys : List A) (i : ℕ) (x : A) → slice_get (xs ++ ys) i ≡ Some x → ((j : ℕ) → slice_get xs j ≡ Some x → Goal)
+    → ((j : ℕ) → slice_get ys j ≡ Some x → Goal) → Goal
+in_append [] ys i x is first second = second i is
+in_append (y ∷ xs) ys zero x is first second = first 0 is
+in_append (y ∷ xs) ys (suc i) x is first second = in_append xs ys i x is (λ j there. first (suc j) there) second
+
+in_cons : {A : Type 0} {Goal : Type 0} (one : Option A) (ys : List A) (i : ℕ) (x : A) → slice_get (cons_option one ys) i ≡ Some x → (one ≡ Some x → Goal)
+    → ((j : ℕ) → slice_get ys j ≡ Some x → Goal) → Goal
+in_cons None ys i x is first second = second i is
+in_cons (Some y) ys zero x is first second = first is
+in_cons (Some y) ys (suc i) x is first second = second i is
+
+fields_sit : (map : SymbolMap) (sections : LaidSections) (number address : ℕ) (fields : List Field) (i : ℕ) (r : Relocation)
+    → slice_get (filter_map (field_relocation map sections number address) fields) i ≡ Some r → Sits map sections r.target
+fields_sit map sections number address [] i r is = absurd cc
+fields_sit map sections number address (field ∷ fields) i r is =
+    in_cons (field_relocation map sections number address field) (filter_map (field_relocation map sections number address) fields) i r is
+    (field_sits map sections number address field r) (λ j there. fields_sit map sections number address fields j r there)
+
+item_sits : (map : SymbolMap) (sections : LaidSections) (number : ℕ) (item : LaidItem) (i : ℕ) (r : Relocation)
+    → slice_get (item_relocations map sections number item) i ≡ Some r → Sits map sections r.target
+unfolding item_relocations
+item_sits map sections number item i r is = fields_sit map sections number item.address (fields_of item.content) i r is
+
+items_sit : (map : SymbolMap) (sections : LaidSections) (number : ℕ) (items : List LaidItem) (i : ℕ) (r : Relocation)
+    → slice_get (flat_map (item_relocations map sections number) items) i ≡ Some r → Sits map sections r.target
+items_sit map sections number [] i r is = absurd cc
+items_sit map sections number (item ∷ items) i r is =
+    in_append (item_relocations map sections number item) (flat_map (item_relocations map sections number) items) i r is
+    (λ j there. item_sits map sections number item j r there) (λ j there. items_sit map sections number items j r there)
+
+own_sits : (map : SymbolMap) (sections : LaidSections) (number : ℕ) (section : SectionOf LaidItem) (i : ℕ) (r : Relocation)
+    → slice_get (section_relocations map sections number section) i ≡ Some r → Sits map sections r.target
+unfolding items_relocations
+own_sits map sections number section i r is = items_sit map sections number (filed_items section) i r is
+
+-- each relocation names what is there
+pub all_sit : (map : SymbolMap) (all : LaidSections) (number : ℕ) (sections : LaidSections) (k i : ℕ) (own : List Relocation) (r : Relocation)
+    → slice_get (relocations_from map all number sections) k ≡ Some own → slice_get own i ≡ Some r → Sits map all r.target
+all_sit map all number [] k i own r there is = absurd cc
+all_sit map all number (section ∷ sections) zero i own r there is =
+    let same : section_relocations map all number section ≡ own = cc in
+    own_sits map all number section i r (ap (λ (xs : List Relocation). slice_get xs i) same ∙ is)
+all_sit map all number (section ∷ sections) (suc k) i own r there is = all_sit map all (number + 1) sections k i own r there is

@@ -1,0 +1,33 @@
+-- The sections of the file are those of the definition.
+use Rattle.std.proofs.Common.{◌≡◌, ◌++◌, List, length, map, ap, subst, ◌∙◌}
+use Rattle.std.specs.Result.{IfOk}
+use Rattle.elf_object.specs.Image.{before_names, image_with, file_with}
+use Rattle.elf_object.specs.declared.contents.HeldSection.{HeldSection}
+use Rattle.elf_object.specs.Naming.{named_of}
+use Rattle.elf_object.specs.Sections.{SectionEntry, next_header, header_indices}
+use Rattle.elf_object.specs.Views.{flat, held_entry, relocations_in, symbol_view, numbers_view, named_view}
+use Rattle.elf_object.proofs.MarkLemmas.{named_long}
+use Rattle.elf_object.proofs.ImageLemmas.{sections_made}
+use Rattle.elf_object.proofs.object.image.Goals as goal
+
+pub list_symbols-requires : goal.list_symbols-requires
+list_symbols-requires c = named_long (named_view c.in_ok-named.named) _ _ c.in_ok-named.ensures ∙ c.len.ensures
+
+pub returns : goal.returns
+unfolding image_with
+returns c =
+    let symbols = c.args.at.symbols.now in
+    let sections = c.args.at.sections.now in
+    let held = c.args.held.items in
+    let found = map relocations_in held in
+    let named : named_view c.in_ok-named.named ≡ named_of found (length symbols.symbols) =
+    c.in_ok-named.ensures ∙ ap (λ (these : List HeldSection). named_of (map relocations_in these) c.len.result) c.deref.ensures.value ∙ ap (named_of found) c.len.ensures in
+    let next = c.in_ok-headers.ensures.next ∙ ap (λ (these : List HeldSection). next_header 1 (map relocations_in these)) c.deref-2.ensures.value in
+    let indices = c.deref-3.ensures.value ∙ c.in_ok-headers.ensures.indices ∙ ap (λ (these : List HeldSection). header_indices (map relocations_in these)) c.deref-2.ensures.value in
+    let listed = ap (map symbol_view) c.deref-4.ensures.value ∙ c.in_ok-listing.ensures.symbols in
+    let made = sections_made symbols sections found (named_view c.in_ok-named.named) (numbers_view c.in_ok-listing.listing.numbers) c.in_ok-headers.headers.next c.in_ok-listing.listing.first_other
+    c.deref-3.result.now c.in_ok-table.table.entries.items c.in_ok-table.table.strings.items (map symbol_view c.deref-4.result.now) (map held_entry held)
+    c.in_ok-sections.sections.items c.push.new.self.items c.push-2.new.self.items c.symbol_section.result c.string_section.result
+    c.in_ok-listing.ensures.numbers next c.in_ok-listing.ensures.first_other indices listed c.requires.entries c.in_ok-table.ensures.entries c.in_ok-table.ensures.strings
+    c.in_ok-sections.ensures c.symbol_section.ensures c.in_ok-push.ensures.items c.string_section.ensures c.in_ok-push-2.ensures.items in
+    subst (λ (ss : List SectionEntry). IfOk c.laid_file.result (λ f. f.header ++ flat f.pieces.items ≡ file_with ss)) (made ∙ ap (before_names symbols sections found) named) c.laid_file.ensures

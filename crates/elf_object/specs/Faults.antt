@@ -1,0 +1,73 @@
+-- Why there is no object: symbols that are not defined, then fields and sizes that cannot be said.
+use Rattle.std.specs.Prelude.{◌≡◌, ℕ, ◌+◌, ◌&&◌, Bool, true, false, List, [], ◌∷◌, length, nat_lt, find, is_none, Option, None, Some, option_map, if◌then◌else◌}
+use Rattle.std.specs.List.{position_or_len}
+use Rattle.asm_base.specs.declared.positions.Pos.{Pos}
+use Rattle.asm_expr.specs.Forms.{Form}
+use Rattle.asm_frags.specs.SectionOf.{SectionOf}
+use Rattle.asm_symbols.specs.declared.entries.Symbol.{Symbol}
+use Rattle.asm_symbols.specs.declared.entries.Meaning.{Meaning}
+use Rattle.asm_symbols.specs.declared.entries.Meaning.TheVariants as meaning
+use Rattle.asm_symbols.specs.SymbolMap.{SymbolMap}
+use Rattle.asm_relax.specs.Faults.{or_later}
+use Rattle.asm_relax.specs.Final.{field_value}
+use Rattle.asm_relax.specs.Settling.{LaidItem, LaidSections}
+use Rattle.elf_object.specs.declared.faults.ObjectFault.{ObjectFault}
+use Rattle.elf_object.specs.declared.faults.ObjectFault.TheVariants.{UndefinedLocalSymbol, NoRelocation, SizeNotKnown, NoMemory}
+use Rattle.elf_object.specs.FileLocals.{is_file_local}
+use Rattle.elf_object.specs.Contents.{filed_items, has_lost}
+
+abbrev pub is_undefined : Meaning → Bool
+is_undefined meaning.Undefined = true
+is_undefined (meaning.Label spot) = false
+is_undefined (meaning.Common size align) = false
+is_undefined (meaning.Space spot) = false
+is_undefined (meaning.Assigned form) = false
+
+-- a symbol that must be defined in this file, and is not
+abbrev pub is_undefined_local : Symbol → Bool
+is_undefined_local symbol = is_file_local symbol.name && is_undefined symbol.meaning
+
+-- the size of the symbol is said and has no value
+abbrev pub unknown_size : SymbolMap → LaidSections → Option Form → Bool
+unknown_size map sections None = false
+unknown_size map sections (Some form) = is_none (field_value map sections form)
+
+-- the fault of the first symbol that is so, by its index
+abbrev pub symbol_fault : (Symbol → Bool) → (ℕ → ObjectFault) → List Symbol → Option ObjectFault
+symbol_fault is_so fault symbols = if nat_lt (position_or_len is_so symbols) (length symbols) then Some (fault (position_or_len is_so symbols)) else None
+
+abbrev pub undefined_fault : SymbolMap → Option ObjectFault
+undefined_fault map = symbol_fault is_undefined_local UndefinedLocalSymbol map.symbols
+
+-- the first item with a field that has neither a value nor a relocation
+unfoldable pub items_fault : SymbolMap → LaidSections → ℕ → List LaidItem → Option ObjectFault
+items_fault map sections number items = option_map (λ item. NoRelocation item.pos) (find (has_lost map sections number) items)
+
+abbrev pub section_fault : SymbolMap → LaidSections → ℕ → SectionOf LaidItem → Option ObjectFault
+section_fault map sections number section = items_fault map sections number (filed_items section)
+
+-- the first of these sections with such an item; they have the numbers from this one on
+abbrev pub field_fault_from : SymbolMap → LaidSections → ℕ → List (SectionOf LaidItem) → Option ObjectFault
+field_fault_from map sections number [] = None
+field_fault_from map sections number (section ∷ more) = or_later (section_fault map sections number section) (field_fault_from map sections (number + 1) more)
+
+abbrev pub size_fault : SymbolMap → LaidSections → Option ObjectFault
+size_fault map sections = symbol_fault (λ symbol. unknown_size map sections symbol.size) SizeNotKnown map.symbols
+
+-- the first fault: symbols in the order in which they are first named, then fields in the order of sections and items, then sizes
+unfoldable pub object_fault : SymbolMap → LaidSections → Option ObjectFault
+object_fault map sections = or_later (undefined_fault map) (or_later (field_fault_from map sections 0 sections) (size_fault map sections))
+
+-- this fault is the one that is due; memory may run out at any time
+abbrev pub IsDue : ObjectFault → Option ObjectFault → Type 0
+IsDue (UndefinedLocalSymbol symbol) due = due ≡ Some (UndefinedLocalSymbol symbol)
+IsDue (NoRelocation pos) due = due ≡ Some (NoRelocation pos)
+IsDue (SizeNotKnown symbol) due = due ≡ Some (SizeNotKnown symbol)
+IsDue NoMemory due = Unit {0}
+
+-- the fault is that of an item of this statement, which has a field that is lost
+abbrev pub IsLostAt : Pos → Bool → ObjectFault → Type 0
+IsLostAt pos lost (NoRelocation found) = (found ≡ pos) × (lost ≡ true)
+IsLostAt pos lost (UndefinedLocalSymbol symbol) = ⊥
+IsLostAt pos lost (SizeNotKnown symbol) = ⊥
+IsLostAt pos lost NoMemory = Unit {0}

@@ -1,0 +1,19 @@
+-- The definitions that contracts cite, in reading order.
+pub mod Fields
+pub mod StringTable
+pub mod FileLocals
+pub mod Standings
+pub mod Relocations
+pub mod Contents
+pub mod Faults
+pub mod Naming
+pub mod SymbolTable
+pub mod Numbers
+pub mod Sections
+pub mod Image
+pub mod Objects
+pub mod Places
+pub mod TableLaws
+pub mod FileLaws
+pub mod Views
+pub mod Marking

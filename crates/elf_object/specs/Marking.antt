@@ -1,0 +1,16 @@
+-- What marking more relocations changes.
+use Rattle.std.specs.Prelude.{◌≡◌, ℕ, ◌<◌, ◌||◌, Bool, false, List, length, slice_index_or}
+use Rattle.elf_object.specs.declared.relocations.Relocation.{Relocation}
+use Rattle.elf_object.specs.declared.relocations.Target.TheVariants.{OfSection, OfSymbol}
+use Rattle.elf_object.specs.Naming.{is_named_by, NamedOf}
+
+abbrev pub mark_at : List Bool → ℕ → Bool
+mark_at marks index = slice_index_or marks index false
+
+-- as many marks as before, and those set that these relocations name
+pub record Marks (old new : NamedOf) (found : List Relocation) : Type 0 where
+  pub same_sections : length new.sections ≡ length old.sections
+  pub same_symbols : length new.symbols ≡ length old.symbols
+  pub sections : (number : ℕ) → number < length old.sections
+      → mark_at new.sections number ≡ (mark_at old.sections number || is_named_by (OfSection number) found)
+  pub symbols : (index : ℕ) → index < length old.symbols → mark_at new.symbols index ≡ (mark_at old.symbols index || is_named_by (OfSymbol index) found)

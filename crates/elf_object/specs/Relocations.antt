@@ -1,0 +1,155 @@
+-- The relocations of fields (psABI for AMD64, section 4.4, "Relocation").
+use Rattle.std.specs.Prelude.{ℕ, ◌+◌, ◌-◌, ◌^◌, ◌==◌, ◌&&◌, not, Bool, true, false, List, [], ◌∷◌, ◌++◌, Option, None, Some, slice_get, option_map, option_and_then, if◌then◌else◌}
+use Rattle.asm_expr.specs.declared.forms.Term.{Term}
+use Rattle.asm_expr.specs.declared.naming.Name.{Name}
+use Rattle.asm_expr.specs.Forms.{Form, wrapped}
+use Rattle.asm_expr.specs.Knowledge.{Told, absent, constant, label, form}
+use Rattle.asm_expr.specs.Settled.{settled}
+use Rattle.asm_frags.specs.declared.fields.Field.{Field}
+use Rattle.asm_frags.specs.declared.fields.FieldSize.{FieldSize}
+use Rattle.asm_frags.specs.declared.fields.FieldSize.TheVariants.{One, Two, Four, Eight}
+use Rattle.asm_symbols.specs.declared.entries.Symbol.{Symbol}
+use Rattle.asm_symbols.specs.declared.entries.Meaning.{Meaning}
+use Rattle.asm_symbols.specs.declared.entries.Meaning.TheVariants as meaning
+use Rattle.asm_symbols.specs.declared.entries.Spot.{Spot}
+use Rattle.asm_symbols.specs.SymbolMap.{SymbolMap, names, index_of}
+use Rattle.asm_relax.specs.Final.{address_of, final_told}
+use Rattle.asm_relax.specs.Settling.{LaidSections}
+use Rattle.elf_object.specs.declared.relocations.RelocationKind.{RelocationKind}
+use Rattle.elf_object.specs.declared.relocations.RelocationKind.TheVariants.{Direct64, Pc32, Direct32, Direct16, Pc16, Direct8, Pc8, Pc64}
+use Rattle.elf_object.specs.declared.relocations.Target.{Target}
+use Rattle.elf_object.specs.declared.relocations.Target.TheVariants.{OfSection, OfSymbol}
+use Rattle.elf_object.specs.declared.relocations.Relocation.{Relocation}
+use Rattle.elf_object.specs.declared.references.Reference.{Reference}
+use Rattle.elf_object.specs.declared.references.Aim.{Aim}
+use Rattle.elf_object.specs.Fields.{word, xword}
+use Rattle.elf_object.specs.Standings.{binding_of, is_local, has_flag}
+
+-- R_X86_64_64 and the others (psABI for AMD64, table 4.9)
+abbrev pub kind_number : RelocationKind → ℕ
+kind_number Direct64 = 1
+kind_number Pc32 = 2
+kind_number Direct32 = 10
+kind_number Direct16 = 12
+kind_number Pc16 = 13
+kind_number Direct8 = 14
+kind_number Pc8 = 15
+kind_number Pc64 = 24
+
+-- the kind by the size of the field, where the place of the field is taken from the sum and where it is not
+abbrev pub kind_for : Bool → FieldSize → RelocationKind
+kind_for false One = Direct8
+kind_for false Two = Direct16
+kind_for false Four = Direct32
+kind_for false Eight = Direct64
+kind_for true One = Pc8
+kind_for true Two = Pc16
+kind_for true Four = Pc32
+kind_for true Eight = Pc64
+
+-- SHF_MERGE: the linker may move what stands in the section (gABI, chapter 4, "Sections")
+abbrev pub merge : ℕ
+merge = 0x10
+
+-- what a relocation names for a symbol, and what that lacks of the symbol's address
+abbrev pub aim : Target → ℕ → Aim
+aim target more = record { target = target; more = more }
+
+-- a local symbol is named by its section, unless the linker may move what stands there
+abbrev pub aim_in : LaidSections → ℕ → Bool → Spot → Option Aim
+aim_in sections index local spot =
+    option_map (λ section. if local && not (has_flag merge section) then aim (OfSection spot.section) (address_of sections spot.section spot.item)
+    else aim (OfSymbol index) 0) (slice_get sections spot.section)
+
+abbrev pub aim_by : LaidSections → ℕ → Bool → Meaning → Option Aim
+aim_by sections index local meaning.Undefined = Some (aim (OfSymbol index) 0)
+aim_by sections index local (meaning.Label spot) = aim_in sections index local spot
+aim_by sections index local (meaning.Space spot) = aim_in sections index local spot
+aim_by sections index local (meaning.Common size align) = Some (aim (OfSymbol index) 0)
+aim_by sections index local (meaning.Assigned made) = None
+
+-- what a relocation names for the symbol at this index
+abbrev pub aim_at : LaidSections → ℕ → Symbol → Option Aim
+aim_at sections index symbol = aim_by sections index (is_local (binding_of symbol.meaning symbol.binding)) symbol.meaning
+
+abbrev pub aim_found : SymbolMap → LaidSections → Option ℕ → Option Aim
+aim_found map sections None = None
+aim_found map sections (Some index) = option_and_then (aim_at sections index) (slice_get map.symbols index)
+
+-- what a relocation names for this name
+unfoldable pub aim_of : SymbolMap → LaidSections → Name → Option Aim
+aim_of map sections name = aim_found map sections (index_of name (names map.symbols))
+
+-- the address of a label of this section
+abbrev pub own_address : ℕ → Told → Option ℕ
+own_address number (label section address) = if section == number then Some address else None
+own_address number absent = None
+own_address number (constant other) = None
+own_address number (form made) = None
+
+-- a number modulo 2 ^ 64, taken away
+abbrev pub less : ℕ → ℕ → ℕ
+less n taken = wrapped (n + (2 ^ 64 - taken))
+
+abbrev pub reference : Bool → ℕ → Aim → Reference
+reference relative number at = record { target = at.target; relative = relative; addend = wrapped (number + at.more) }
+
+-- S + c
+abbrev pub direct : SymbolMap → LaidSections → Name → ℕ → Option Reference
+direct map sections name number = option_map (reference false number) (aim_of map sections name)
+
+-- S + c - L, where L is a label of the section that the field stands in: from S the place of the field is taken, and added to c
+abbrev pub relative : SymbolMap → LaidSections → ℕ → ℕ → Name → Name → ℕ → Option Reference
+relative map sections number place name from total =
+    option_and_then (λ address. option_map (reference true (less (total + place) address)) (aim_of map sections name))
+    (own_address number (final_told map sections from))
+
+abbrev pub minus_one : ℕ
+minus_one = 2 ^ 64 - 1
+
+-- the term stands for its name, or is taken away
+abbrev pub is_plus : Term → Bool
+is_plus term = term.coefficient == 1
+
+abbrev pub is_minus : Term → Bool
+is_minus term = term.coefficient == minus_one
+
+-- two terms and a number
+abbrev pub pair : SymbolMap → LaidSections → ℕ → ℕ → Term → Term → ℕ → Option Reference
+pair map sections number place one other total =
+    if is_plus one && is_minus other then relative map sections number place one.name other.name total
+    else if is_minus one && is_plus other then relative map sections number place other.name one.name total else None
+
+abbrev pub reference_by : SymbolMap → LaidSections → ℕ → ℕ → List Term → ℕ → Option Reference
+reference_by map sections number place [] total = None
+reference_by map sections number place (term ∷ []) total = if is_plus term then direct map sections term.name total else None
+reference_by map sections number place (one ∷ other ∷ []) total = pair map sections number place one other total
+reference_by map sections number place (one ∷ other ∷ third ∷ more) total = None
+
+-- what is left of the form of a field, at this place of the section of this number, where a relocation can say it
+abbrev pub reference_of : SymbolMap → LaidSections → ℕ → ℕ → Form → Option Reference
+reference_of map sections number place made = reference_by map sections number place made.terms made.constant
+
+-- the same, of a form in which labels may still cancel
+abbrev pub final_reference : SymbolMap → LaidSections → ℕ → ℕ → Form → Option Reference
+final_reference map sections number place made = reference_of map sections number place (settled (final_told map sections) made)
+
+-- the name that a form has alone
+abbrev pub lone_name : List Term → Option Name
+lone_name [] = None
+lone_name (term ∷ []) = if is_plus term then Some term.name else None
+lone_name (one ∷ other ∷ more) = None
+
+abbrev pub relocation : ℕ → FieldSize → Reference → Relocation
+relocation place size found = record { offset = place; kind = kind_for found.relative size; target = found.target; addend = found.addend }
+
+-- the relocation of a field of an item at this address in the section of this number
+unfoldable pub field_relocation : SymbolMap → LaidSections → ℕ → ℕ → Field → Option Relocation
+field_relocation map sections number address field =
+    option_map (relocation (wrapped (address + field.offset)) field.size)
+    (final_reference map sections number (wrapped (address + field.offset)) field.form)
+
+-- an entry of a section of relocations, where the target has this number in the symbol table (Elf64_Rela); r_info has the kind in
+-- its low half, and the number in its high half
+abbrev pub relocation_entry : ℕ → Relocation → List ℕ
+relocation_entry number r = xword r.offset ++ word (kind_number r.kind) ++ word number ++ xword r.addend

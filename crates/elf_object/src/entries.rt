@@ -1,0 +1,236 @@
+//! The entries of the symbol table (gABI, chapter 4, "Symbol Table").
+
+ghost use Rattle.std.specs.Prelude.{◌≡◌, ◌<◌, IfOk, option_map};
+ghost use Rattle.elf_object.specs.SymbolTable as spec;
+ghost use Rattle.elf_object.specs.Views.{symbol_view};
+
+use crate::fields::{put_half, put_word, put_xword};
+use crate::standings::{
+    Home, Placement, Standing, binding_of, is_each_threads, is_file_local, is_local, standing_of,
+};
+use asm_base::NoMemory;
+use asm_expr::{Linear, Name};
+use asm_frags::{Laid, Sections};
+use asm_relax::{laid_value, resolved};
+use asm_symbols::{Binding, Kind, Symbol, Visibility};
+use std::alloc::Global;
+
+/// What a symbol stands for (`STT_`).
+#[derive(Clone, Copy, PartialEq, Eq, Debug)]
+pub enum SymbolType {
+    NoType,
+    Object,
+    Function,
+    Section,
+    File,
+    Common,
+    Tls,
+}
+
+impl SymbolType {
+    /// `STT_NOTYPE` and the others.
+    fn number(self) -> u8
+        ensures value { result ≡ spec.type_number self }
+        ensures small { result < 7 }
+    {
+        self as u8
+    }
+}
+
+/// `STB_LOCAL` and the others.
+fn binding_number(binding: Binding) -> u8
+    ensures value { result ≡ spec.binding_number binding }
+    ensures small { result < 3 }
+{
+    match binding {
+        Binding::Local => 0,
+        Binding::Global => 1,
+        Binding::Weak => 2,
+    }
+}
+
+/// `STV_DEFAULT` and the others.
+fn visibility_number(visibility: Option<Visibility>) -> u8
+    ensures { result ≡ spec.visibility_number visibility }
+{
+    match visibility {
+        None => 0,
+        Some(Visibility::Internal) => 1,
+        Some(Visibility::Hidden) => 2,
+        Some(Visibility::Protected) => 3,
+    }
+}
+
+/// A symbol of the table.
+#[derive(Clone, Copy)]
+pub(crate) struct TableSymbol<'a> {
+    pub(crate) name: &'a [u8],
+    pub(crate) binding: Binding,
+    pub(crate) kind: SymbolType,
+    pub(crate) visibility: Option<Visibility>,
+    pub(crate) home: Home,
+    pub(crate) value: u64,
+    /// In bytes.
+    pub(crate) size: u64,
+}
+
+/// Whether the symbol is local.
+pub(crate) fn is_local_entry(symbol: &TableSymbol) -> bool
+    ensures { result ≡ spec.is_local_entry (symbol_view symbol.now) }
+{
+    is_local(symbol.binding)
+}
+
+/// `SHN_UNDEF`, `SHN_ABS` and `SHN_COMMON`, and the header indices of sections.
+fn home_index(headers: &[usize], home: Home) -> usize
+    ensures { result ≡ spec.home_index headers.now home }
+{
+    match home {
+        Home::Undefined => 0,
+        Home::Absolute => 0xfff1,
+        Home::Common => 0xfff2,
+        Home::InSection(number) => headers.get(number as usize).copied().unwrap_or(0),
+    }
+}
+
+/// The entry of a symbol whose name stands at this offset (`Elf64_Sym`); sections have these header indices.
+#[tactic(auto, unfolding(crate::specs::Fields::half, crate::specs::Fields::word, crate::specs::Fields::xword))]
+pub(crate) fn symbol_bytes(headers: &[usize], name: usize, symbol: &TableSymbol) -> [u8; 24]
+    ensures { result ≡ spec.symbol_bytes headers.now name (symbol_view symbol.now) }
+{
+    let mut entry = [0; 24];
+    let home = home_index(headers, symbol.home);
+    put_word(&mut entry, name as u64);
+    entry[4] = 16 * binding_number(symbol.binding) + symbol.kind.number();
+    entry[5] = visibility_number(symbol.visibility);
+    put_half(&mut entry[6..], home as u64);
+    put_xword(&mut entry[8..], symbol.value);
+    put_xword(&mut entry[16..], symbol.size);
+    entry
+}
+
+/// What is said of the kind of a symbol.
+fn said_type(kind: Option<Kind>) -> SymbolType
+    ensures { result ≡ spec.said_type kind }
+{
+    match kind {
+        None | Some(Kind::NoType) => SymbolType::NoType,
+        Some(Kind::Object) => SymbolType::Object,
+        Some(Kind::Function) => SymbolType::Function,
+        Some(Kind::Tls) => SymbolType::Tls,
+        Some(Kind::Common) => SymbolType::Common,
+    }
+}
+
+/// The type of a symbol that stands there. What is each thread's own has the type that says so, whatever else is said.
+fn type_of(sections: &Sections<Laid>, home: Home, kind: Option<Kind>) -> SymbolType
+    ensures { result ≡ spec.type_of sections.now home kind }
+{
+    if is_each_threads(sections, home) {
+        SymbolType::Tls
+    } else {
+        said_type(kind)
+    }
+}
+
+/// The size of a symbol, and 0 where none is said.
+fn size_of(alloc: Global, at: Placement, size: &Option<Linear>) -> Result<u64, NoMemory>
+    ensures { IfOk result (λ bytes. bytes ≡ spec.size_of at.entry.symbols.now at.entry.sections.now size.now) }
+{
+    match size {
+        None => Ok(0),
+        Some(form) => {
+            let made = resolved(alloc, at.symbols, form)?;
+            Ok(laid_value(at.symbols, at.sections, &made).unwrap_or(0))
+        }
+    }
+}
+
+/// The bytes of a name.
+fn text_of(name: &Name) -> &[u8]
+    ensures { result.now ≡ spec.text_of name.now }
+{
+    match name {
+        Name::Plain(text) => text.as_bytes(),
+        _ => &[],
+    }
+}
+
+/// The entry of a symbol that stands there.
+fn entry_at<'a>(
+    alloc: Global,
+    at: Placement,
+    symbol: &'a Symbol,
+    there: Standing,
+) -> Result<TableSymbol<'a>, NoMemory>
+    ensures { IfOk result (λ entry. symbol_view entry ≡ spec.entry_at at.entry.symbols.now at.entry.sections.now symbol.now there) }
+{
+    Ok(TableSymbol {
+        name: text_of(&symbol.name),
+        binding: binding_of(&symbol.meaning, symbol.binding),
+        kind: type_of(at.sections, there.home, symbol.kind),
+        visibility: symbol.visibility,
+        home: there.home,
+        value: there.value,
+        size: size_of(alloc, at, &symbol.size)?,
+    })
+}
+
+/// Whether the symbol stands in the table only where a relocation names it.
+fn needs_naming(symbol: &Symbol, there: Standing) -> bool
+    ensures { result ≡ spec.needs_naming symbol.now there }
+{
+    matches!(there.home, Home::Undefined)
+        || (is_file_local(&symbol.name) && is_local(binding_of(&symbol.meaning, symbol.binding)))
+}
+
+/// The entry of a symbol, if it stands in the table; `named` where a relocation names it.
+#[tactic(auto, unfolding(crate::specs::SymbolTable::listed))]
+pub(crate) fn listed<'a>(
+    alloc: Global,
+    at: Placement,
+    named: bool,
+    symbol: &'a Symbol,
+) -> Result<Option<TableSymbol<'a>>, NoMemory>
+    ensures { IfOk result (λ entry. option_map symbol_view entry ≡ spec.listed at.entry.symbols.now at.entry.sections.now named symbol.now) }
+{
+    match standing_of(alloc, at, &symbol.meaning)? {
+        Some(there) => {
+            if needs_naming(symbol, there) && !named {
+                return Ok(None);
+            }
+            Ok(Some(entry_at(alloc, at, symbol, there)?))
+        }
+        None => Ok(None),
+    }
+}
+
+/// The entry of a source file's name.
+pub(crate) fn file_entry(name: &Name) -> TableSymbol<'_>
+    ensures { symbol_view result ≡ spec.file_entry name.now }
+{
+    TableSymbol {
+        name: text_of(name),
+        binding: Binding::Local,
+        kind: SymbolType::File,
+        visibility: None,
+        home: Home::Absolute,
+        value: 0,
+        size: 0,
+    }
+}
+
+/// The entry that stands for the section of this number.
+pub(crate) fn section_entry<'a>(number: usize) -> TableSymbol<'a>
+    ensures { symbol_view result ≡ spec.section_entry number }
+{
+    TableSymbol {
+        name: b"",
+        binding: Binding::Local,
+        kind: SymbolType::Section,
+        visibility: None,
+        home: Home::InSection(number as u64),
+        value: 0,
+        size: 0,
+    }
+}

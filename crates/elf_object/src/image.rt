@@ -1,0 +1,193 @@
+//! The bytes of an ELF64 relocatable object file (gABI, chapter 4; psABI for AMD64, chapter 4).
+
+ghost use Rattle.std.specs.Prelude.{◌≡◌, ◌+◌, ◌<◌, ◌≤◌, ◌++◌, map, length, vec_len, IfOk, IfSome, OnOk};
+ghost use Rattle.elf_object.specs.Image as spec;
+ghost use Rattle.elf_object.specs.StringTable.{string_table_of, name_offsets};
+ghost use Rattle.elf_object.specs.Views.{flat, section_view, ends_at};
+
+use crate::fields::{put_half, put_word, put_xword};
+use crate::sections::{FileSection, section_header, string_section};
+use crate::string_table::{put_joined, put_name};
+use std::alloc::{AllocError, Global};
+
+/// Where the ELF header ends.
+const HEADER_END: usize = 64;
+
+/// The ELF header, where the header table has this offset and count, and the last section has the names (`Elf64_Ehdr`).
+#[tactic(auto, unfolding(crate::specs::Image::elf_header, crate::specs::Fields::half, crate::specs::Fields::word, crate::specs::Fields::xword))]
+fn elf_header(offset: usize, count: usize) -> [u8; 64]
+    requires { 0 < count }
+    ensures { result ≡ spec.elf_header offset count }
+{
+    let mut header = [0; 64];
+    header[0] = 0x7f; // e_ident: the magic bytes, 64 bits, low byte first, version 1
+    header[1] = b'E';
+    header[2] = b'L';
+    header[3] = b'F';
+    header[4] = 2;
+    header[5] = 1;
+    header[6] = 1;
+    put_half(&mut header[16..], 1); // e_type: ET_REL
+    put_half(&mut header[18..], 62); // e_machine: EM_X86_64
+    put_word(&mut header[20..], 1); // e_version
+    put_xword(&mut header[40..], offset as u64); // e_shoff
+    put_half(&mut header[52..], 64); // e_ehsize
+    put_half(&mut header[58..], 64); // e_shentsize
+    put_half(&mut header[60..], count as u64); // e_shnum
+    put_half(&mut header[62..], (count - 1) as u64); // e_shstrndx
+    header
+}
+
+/// The least multiple of the alignment that is not below the position, if there is one below 2^64.
+fn next_multiple(position: usize, alignment: u64) -> Option<usize>
+    ensures multiple { IfSome result (λ end. end ≡ spec.next_multiple alignment position) }
+    ensures behind { IfSome result (λ end. position ≤ end) }
+{
+    position.checked_next_multiple_of(alignment.max(1) as usize)
+}
+
+/// Pieces below this size are put together, so that a small file takes few writes, in bytes.
+const SMALL: usize = 4096;
+
+/// Appends bytes to the last piece where both are small, and else as a piece of their own, without copying them.
+fn put_piece(pieces: &mut Vec<Vec<u8>>, bytes: Vec<u8>) -> Result<(), AllocError>
+    ensures { OnOk result (flat pieces.new.items ≡ flat pieces.old.items ++ bytes.items) }
+{
+    if bytes.len() < SMALL {
+        if let Some(last) = pieces.last_mut() {
+            if last.len() < SMALL {
+                last.extend_from_slice(&bytes)?;
+                return Ok(());
+            }
+        }
+    }
+    Ok(pieces.push(bytes)?)
+}
+
+/// What stands behind the ELF header, as far as it is laid out, and the header table so far.
+#[derive(Drop)]
+struct Laid {
+    pieces: Vec<Vec<u8>>,
+    /// Where the last piece ends in the file, in bytes.
+    end: usize,
+    headers: Vec<u8>,
+}
+
+impl Laid {
+    ghost use Rattle.std.specs.Prelude.{◌≡◌, ◌+◌, ◌++◌, length, OnOk};
+    ghost use Rattle.elf_object.specs.Image as spec;
+    ghost use Rattle.elf_object.specs.Sections.{file_bytes};
+    ghost use Rattle.elf_object.specs.Views.{flat, section_view, content_view, ends_at};
+
+    /// Appends zeros up to a multiple of the alignment.
+    fn put_gap(&mut self, alloc: Global, alignment: u64) -> Result<(), AllocError>
+        requires { ends_at self.old.end self.old.pieces.items }
+        ensures pieces { OnOk result (flat self.new.pieces.items ≡ flat self.old.pieces.items ++ spec.gap alignment self.old.end) }
+        ensures end { OnOk result (self.new.end ≡ spec.next_multiple alignment self.old.end) }
+        ensures ends { OnOk result (ends_at self.new.end self.new.pieces.items) }
+        ensures headers { self.new.headers.items ≡ self.old.headers.items }
+    {
+        // A file of 2^64 bytes can't be held.
+        let end = next_multiple(self.end, alignment).ok_or(AllocError)?;
+        let zeros = vec![in alloc; 0; end - self.end]?;
+        put_piece(&mut self.pieces, zeros)?;
+        self.end = end;
+        Ok(())
+    }
+
+    /// Appends bytes.
+    fn put_bytes(&mut self, bytes: Vec<u8>) -> Result<(), AllocError>
+        requires { ends_at self.old.end self.old.pieces.items }
+        ensures pieces { OnOk result (flat self.new.pieces.items ≡ flat self.old.pieces.items ++ bytes.items) }
+        ensures ends { OnOk result (ends_at self.new.end self.new.pieces.items) }
+        ensures headers { self.new.headers.items ≡ self.old.headers.items }
+    {
+        let end = self.end.checked_add(bytes.len()).ok_or(AllocError)?;
+        put_piece(&mut self.pieces, bytes)?;
+        self.end = end;
+        Ok(())
+    }
+
+    /// Appends the body and the header of a section, whose name stands at this offset.
+    fn put(&mut self, alloc: Global, name: usize, section: FileSection) -> Result<(), AllocError>
+        requires { ends_at self.old.end self.old.pieces.items }
+        ensures pieces { OnOk result (flat self.new.pieces.items ≡ flat self.old.pieces.items ++ spec.body_from self.old.end (section_view section.entry)) }
+        ensures headers { OnOk result (self.new.headers.items ≡ self.old.headers.items ++ spec.header_from self.old.end name (section_view section.entry)) }
+        ensures ends { OnOk result (ends_at self.new.end self.new.pieces.items) }
+    {
+        self.put_gap(alloc, section.alignment)?;
+        self.headers
+            .extend_from_slice(&section_header(name, self.end as u64, &section))?;
+        self.put_bytes(section.body.into_bytes(alloc))
+    }
+}
+
+/// The bodies up to the header table, and that table, of sections whose names stand at these offsets.
+#[tactic(auto, unfolding(crate::specs::Image::header_table, crate::specs::Image::null_header))]
+fn lay_out(alloc: Global, names: &[usize], sections: Vec<FileSection>) -> Result<Laid, AllocError>
+    requires { length names.now ≡ vec_len sections }
+    ensures pieces { IfOk result (λ l. flat l.pieces.items ≡ spec.bodies_from spec.header_end (map section_view sections.entry.items)) }
+    ensures headers { IfOk result (λ l. l.headers.items ≡ spec.header_table names.now (map section_view sections.entry.items)) }
+    ensures ends { IfOk result (λ l. ends_at l.end l.pieces.items) }
+{
+    let mut laid = Laid {
+        pieces: Vec::with_capacity(alloc, 2 * sections.len() + 2)?,
+        end: HEADER_END,
+        headers: vec![in alloc; 0; 64]?,
+    };
+    let mut index = 0;
+    for section in sections {
+        laid.put(alloc, names[index], section)?;
+        index += 1;
+    }
+    laid.put_gap(alloc, 8)?;
+    Ok(laid)
+}
+
+/// The string table of the sections' names, that of this table last, and where each name stands.
+#[derive(Drop)]
+struct NameTable {
+    bytes: Vec<u8>,
+    offsets: Vec<usize>,
+}
+
+/// The names of the sections, and last that of their table.
+#[tactic(auto, unfolding(crate::specs::Image::all_names, crate::specs::Sections::section_names, crate::specs::StringTable::string_table_of, crate::specs::StringTable::name_offsets))]
+fn name_table(alloc: Global, sections: &[FileSection]) -> Result<NameTable, AllocError>
+    ensures bytes { IfOk result (λ t. t.bytes.items ≡ string_table_of (spec.all_names (map section_view sections.now))) }
+    ensures offsets { IfOk result (λ t. t.offsets.items ≡ name_offsets (spec.all_names (map section_view sections.now))) }
+    ensures len { IfOk result (λ t. vec_len t.offsets ≡ length sections.now + 1) }
+{
+    let mut bytes = vec![in alloc; 0; 1]?;
+    let mut offsets = Vec::with_capacity(alloc, sections.len())?;
+    for section in sections {
+        let offset = put_joined(&mut bytes, section.prefix, section.name)?;
+        offsets.push(offset)?;
+    }
+    let offset = put_name(&mut bytes, b".shstrtab")?;
+    offsets.push(offset)?;
+    Ok(NameTable { bytes, offsets })
+}
+
+/// The file of these sections, and last the table of their names.
+#[derive(Drop)]
+pub(crate) struct File {
+    pub(crate) header: [u8; 64],
+    pub(crate) pieces: Vec<Vec<u8>>,
+}
+
+/// The file of these sections, and last the table of their names.
+#[tactic(auto, unfolding(crate::specs::Image::file_of, crate::specs::Image::with_names))]
+pub(crate) fn laid_file(alloc: Global, sections: Vec<FileSection>) -> Result<File, AllocError>
+    ensures { IfOk result (λ f. f.header ++ flat f.pieces.items ≡ spec.file_with (map section_view sections.entry.items)) }
+{
+    let mut sections = sections;
+    let names = name_table(alloc, &sections)?;
+    sections.push(string_section(b".shstrtab", names.bytes))?;
+    let count = sections.len() + 1;
+    let laid = lay_out(alloc, &names.offsets, sections)?;
+    let header = elf_header(laid.end, count);
+    let mut pieces = laid.pieces;
+    put_piece(&mut pieces, laid.headers)?;
+    Ok(File { header, pieces })
+}

@@ -1,0 +1,31 @@
+//! Laws of the definitions.
+
+ghost use Rattle.elf_object.specs.FileLaws.{NamesStand, SectionsStand};
+ghost use Rattle.elf_object.specs.Places.{ItemsStand};
+ghost use Rattle.elf_object.specs.TableLaws.{LocalsFirst, TargetsStand};
+
+/// Where sections are laid out, the bytes of an item stand in the object at its address behind the beginning of its section.
+#[tactic(auto, using(crate::proofs::ItemPlaces::items_stand))]
+pub fn items_stand()
+    ensures { ItemsStand }
+{}
+
+/// The local symbols of the table stand first, and `sh_info` is the number of the first that is not local.
+pub fn locals_first()
+    ensures { LocalsFirst }
+{}
+
+/// Each relocation names a symbol that is there: its number is that of the entry of the section or symbol that it means.
+pub fn targets_stand()
+    ensures { TargetsStand }
+{}
+
+/// The name of a symbol or a section is read from its string table at the offset that `st_name` or `sh_name` has.
+pub fn names_stand()
+    ensures { NamesStand }
+{}
+
+/// The bytes of a section stand in the file where its header says, and its header where the ELF header says.
+pub fn sections_stand()
+    ensures { SectionsStand }
+{}

@@ -1,0 +1,26 @@
+//! From the laid out sections and the symbols of a source to its object file (gABI, chapter 4; psABI for AMD64, chapter 4).
+#![tactic(auto)]
+
+mod contents;
+mod entries;
+mod faults;
+mod fields;
+mod image;
+mod laws;
+mod listing;
+mod naming;
+mod numbers;
+mod object;
+mod references;
+mod relocations;
+mod searching;
+mod sections;
+mod standings;
+mod string_table;
+mod symbol_table;
+#[cfg(test)]
+mod tests;
+
+pub use faults::ObjectFault;
+pub use laws::{items_stand, locals_first, names_stand, sections_stand, targets_stand};
+pub use object::Object;

@@ -1,0 +1,57 @@
+//! Which sections and symbols relocations name.
+
+ghost use Rattle.std.specs.Prelude.{◌≡◌, length, map, IfOk, slice_set, true};
+ghost use Rattle.elf_object.specs.Naming.{named_of};
+ghost use Rattle.elf_object.specs.Marking.{Marks};
+ghost use Rattle.elf_object.specs.Views.{relocations_in, named_view};
+
+use crate::contents::HeldSection;
+use crate::relocations::{Relocation, Target};
+use std::alloc::{AllocError, Global};
+
+/// A mark for each section and each symbol: whether a relocation names it.
+#[derive(Drop)]
+pub(crate) struct Named {
+    pub(crate) sections: Vec<bool>,
+    pub(crate) symbols: Vec<bool>,
+}
+
+/// Sets the mark at the index, if there is one.
+fn mark(marks: &mut [bool], index: usize)
+    ensures { marks.new ≡ slice_set marks.old index true }
+{
+    if index < marks.len() {
+        marks[index] = true;
+    }
+}
+
+/// Marks what these relocations name.
+fn mark_all(named: &mut Named, relocations: &[Relocation])
+    ensures { Marks (named_view named.old) (named_view named.new) relocations.now }
+{
+    for relocation in relocations {
+        match relocation.target {
+            Target::OfSection(number) => mark(&mut named.sections, number),
+            Target::OfSymbol(index) => mark(&mut named.symbols, index),
+        }
+    }
+}
+
+/// What the relocations of all sections name, of so many symbols.
+#[tactic(auto, unfolding(crate::specs::Naming::named_of))]
+pub(crate) fn named_by(
+    alloc: Global,
+    held: &[HeldSection],
+    symbols: usize,
+) -> Result<Named, AllocError>
+    ensures { IfOk result (λ named. named_view named ≡ named_of (map relocations_in held.now) symbols) }
+{
+    let mut named = Named {
+        sections: vec![in alloc; false; held.len()]?,
+        symbols: vec![in alloc; false; symbols]?,
+    };
+    for section in held {
+        mark_all(&mut named, &section.relocations);
+    }
+    Ok(named)
+}

@@ -1,0 +1,235 @@
+//! What relocations refer to: the forms of fields that the linker can work out.
+
+ghost use Rattle.std.specs.Prelude.{◌≡◌, IfOk, option_map};
+ghost use Rattle.asm_expr.specs.Knowledge.{told_by};
+ghost use Rattle.asm_expr.specs.Settled.{settled};
+ghost use Rattle.asm_relax.specs.Final.{final_told};
+ghost use Rattle.elf_object.specs.Relocations as spec;
+
+use crate::relocations::{Relocation, Target, kind_for};
+use crate::standings::{Placement, binding_of, is_local, is_merged};
+use asm_base::NoMemory;
+use asm_expr::{Known, Linear, Look, Name, Term, copied_form, settled};
+use asm_frags::Field;
+use asm_relax::{FinalView, address_of};
+use asm_symbols::{Meaning, Spot, Symbol};
+use std::alloc::{AllocError, Global};
+
+/// What a relocation names for a symbol, and what that lacks of the symbol's address.
+#[derive(Clone, Copy, PartialEq, Eq, Debug)]
+pub struct Aim {
+    pub target: Target,
+    pub more: u64,
+}
+
+/// S + A, or, where it is relative, S + A - P.
+#[derive(Clone, Copy, PartialEq, Eq, Debug)]
+pub struct Reference {
+    pub target: Target,
+    pub relative: bool,
+    pub addend: u64,
+}
+
+/// A local symbol is named by its section, unless the linker may move what stands there.
+fn aim_in(at: Placement, index: usize, local: bool, spot: Spot) -> Option<Aim>
+    ensures { result ≡ spec.aim_in at.entry.sections.now index local spot }
+{
+    match at.sections.as_slice().get(spot.section as usize) {
+        Some(section) => {
+            if local && !is_merged(section) {
+                Some(Aim {
+                    target: Target::OfSection(spot.section as usize),
+                    more: address_of(at.sections, spot.section, spot.item),
+                })
+            } else {
+                Some(Aim {
+                    target: Target::OfSymbol(index),
+                    more: 0,
+                })
+            }
+        }
+        None => None,
+    }
+}
+
+/// What a relocation names for the symbol at this index.
+fn aim_at(at: Placement, index: usize, symbol: &Symbol) -> Option<Aim>
+    ensures { result ≡ spec.aim_at at.entry.sections.now index symbol.now }
+{
+    let local = is_local(binding_of(&symbol.meaning, symbol.binding));
+    match &symbol.meaning {
+        Meaning::Undefined | Meaning::Common { .. } => Some(Aim {
+            target: Target::OfSymbol(index),
+            more: 0,
+        }),
+        Meaning::Label(spot) | Meaning::Space(spot) => aim_in(at, index, local, *spot),
+        Meaning::Assigned(_) => None,
+    }
+}
+
+/// What a relocation names for this name.
+#[tactic(auto, unfolding(crate::specs::Relocations::aim_of))]
+fn aim_of(at: Placement, name: &Name) -> Option<Aim>
+    ensures { result ≡ spec.aim_of at.entry.symbols.now at.entry.sections.now name.now }
+{
+    match at.symbols.find(name) {
+        Some(id) => aim_at(at, id.index() as usize, at.symbols.symbol(id)),
+        None => None,
+    }
+}
+
+/// The address of a label of this section.
+fn own_address(section: usize, look: Look) -> Option<u64>
+    ensures { result ≡ spec.own_address section (told_by look.entry) }
+{
+    match look {
+        Look::Label { stretch, at } if stretch == section as u64 => Some(at),
+        _ => None,
+    }
+}
+
+/// The reference to an aim and a number.
+fn reference_to(relative: bool, number: u64, aim: Aim) -> Reference
+    ensures { result ≡ spec.reference relative number aim }
+{
+    Reference {
+        target: aim.target,
+        relative,
+        addend: number.wrapping_add(aim.more),
+    }
+}
+
+/// S + c.
+fn direct(at: Placement, name: &Name, number: u64) -> Option<Reference>
+    ensures { result ≡ spec.direct at.entry.symbols.now at.entry.sections.now name.now number }
+{
+    match aim_of(at, name) {
+        Some(aim) => Some(reference_to(false, number, aim)),
+        None => None,
+    }
+}
+
+/// S + c - L, where L is a label of the section that the field stands in.
+fn relative(
+    at: Placement,
+    section: usize,
+    place: u64,
+    name: &Name,
+    from: &Name,
+    constant: u64,
+) -> Option<Reference>
+    ensures { result ≡ spec.relative at.entry.symbols.now at.entry.sections.now section place name.now from.now constant }
+{
+    let view = FinalView {
+        symbols: at.symbols,
+        sections: at.sections,
+    };
+    let address = own_address(section, view.look(from))?;
+    let number = constant.wrapping_add(place).wrapping_sub(address);
+    match aim_of(at, name) {
+        Some(aim) => Some(reference_to(true, number, aim)),
+        None => None,
+    }
+}
+
+/// Whether the term stands for its name.
+fn is_plus(term: &Term) -> bool
+    ensures { result ≡ spec.is_plus term.now }
+{
+    term.coefficient == 1
+}
+
+/// Whether the term's name is taken away.
+fn is_minus(term: &Term) -> bool
+    ensures { result ≡ spec.is_minus term.now }
+{
+    term.coefficient == u64::MAX
+}
+
+/// What two terms and a number refer to.
+fn pair(
+    at: Placement,
+    section: usize,
+    place: u64,
+    one: &Term,
+    other: &Term,
+    constant: u64,
+) -> Option<Reference>
+    ensures { result ≡ spec.pair at.entry.symbols.now at.entry.sections.now section place one.now other.now constant }
+{
+    if is_plus(one) && is_minus(other) {
+        relative(at, section, place, &one.name, &other.name, constant)
+    } else if is_minus(one) && is_plus(other) {
+        relative(at, section, place, &other.name, &one.name, constant)
+    } else {
+        None
+    }
+}
+
+/// What is left of the form of a field, at this place of the section of this number, where a relocation can say it.
+fn reference_by(at: Placement, section: usize, place: u64, form: &Linear) -> Option<Reference>
+    ensures { result ≡ spec.reference_of at.entry.symbols.now at.entry.sections.now section place form.now }
+{
+    match form.terms() {
+        [term] if is_plus(term) => direct(at, &term.name, form.constant()),
+        [one, other] => pair(at, section, place, one, other, form.constant()),
+        _ => None,
+    }
+}
+
+/// The name that a form has alone.
+fn lone_name(terms: &[Term]) -> Option<&Name>
+    ensures { option_map (λ name. name.now) result ≡ spec.lone_name terms.now }
+{
+    match terms {
+        [term] if is_plus(term) => Some(&term.name),
+        _ => None,
+    }
+}
+
+/// The same, of a form in which labels may still cancel.
+fn reference_of(
+    alloc: Global,
+    at: Placement,
+    section: usize,
+    place: u64,
+    form: &Linear,
+) -> Result<Option<Reference>, NoMemory>
+    ensures { IfOk result (λ found. found ≡ spec.final_reference at.entry.symbols.now at.entry.sections.now section place form.now) }
+{
+    // A name alone is the common case, and takes no memory.
+    if let Some(name) = lone_name(form.terms()) {
+        return Ok(direct(at, name, form.constant()));
+    }
+    let view = FinalView {
+        symbols: at.symbols,
+        sections: at.sections,
+    };
+    match settled(alloc, &view, copied_form(alloc, form)?) {
+        Ok(made) => Ok(reference_by(at, section, place, &made)),
+        Err(_) => Err(AllocError),
+    }
+}
+
+/// The relocation of a field of an item at this address in the section of this number.
+#[tactic(auto, unfolding(crate::specs::Relocations::field_relocation))]
+pub(crate) fn field_relocation(
+    alloc: Global,
+    at: Placement,
+    section: usize,
+    address: u64,
+    field: &Field,
+) -> Result<Option<Relocation>, NoMemory>
+    ensures { IfOk result (λ found. found ≡ spec.field_relocation at.entry.symbols.now at.entry.sections.now section address field.now) }
+{
+    let place = address.wrapping_add(field.offset as u64);
+    match reference_of(alloc, at, section, place, &field.form)? {
+        Some(found) => Ok(Some(Relocation {
+            offset: place,
+            kind: kind_for(found.relative, field.size),
+            target: found.target,
+            addend: found.addend,
+        })),
+        None => Ok(None),
+    }
+}

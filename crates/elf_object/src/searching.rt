@@ -1,0 +1,84 @@
+//! The faults of symbols: those that are not defined, and those whose size has no value.
+
+ghost use Rattle.std.specs.Prelude.{◌≡◌, ◌≤◌, length, IfOk};
+ghost use Rattle.std.specs.List.{position_or_len};
+ghost use Rattle.elf_object.specs.Faults as spec;
+
+use crate::faults::ObjectFault;
+use crate::standings::{Placement, is_file_local};
+use asm_base::NoMemory;
+use asm_expr::Linear;
+use asm_relax::{laid_value, resolved};
+use asm_symbols::{Meaning, Symbol};
+use std::alloc::Global;
+
+/// Whether the symbol must be defined in this file, and is not.
+fn is_undefined_local(symbol: &Symbol) -> bool
+    ensures { result ≡ spec.is_undefined_local symbol.now }
+{
+    is_file_local(&symbol.name) && matches!(symbol.meaning, Meaning::Undefined)
+}
+
+/// Where the first such symbol stands among them, or how many there are.
+fn undefined_index(symbols: &[Symbol]) -> usize
+    ensures index { result ≡ position_or_len spec.is_undefined_local symbols.now }
+    ensures within { result ≤ length symbols.now }
+{
+    for (index, symbol) in symbols.iter().enumerate() {
+        if is_undefined_local(symbol) {
+            return index;
+        }
+    }
+    symbols.len()
+}
+
+/// The fault of the first symbol that must be defined and is not.
+pub(crate) fn undefined_fault(at: Placement) -> Option<ObjectFault>
+    ensures { result ≡ spec.undefined_fault at.entry.symbols.now }
+{
+    let symbols = at.symbols.as_slice();
+    let index = undefined_index(symbols);
+    if index < symbols.len() {
+        Some(ObjectFault::UndefinedLocalSymbol(index))
+    } else {
+        None
+    }
+}
+
+/// Whether the size is said and has no value.
+fn unknown_size(alloc: Global, at: Placement, size: &Option<Linear>) -> Result<bool, NoMemory>
+    ensures { IfOk result (λ unknown. unknown ≡ spec.unknown_size at.entry.symbols.now at.entry.sections.now size.now) }
+{
+    match size {
+        None => Ok(false),
+        Some(form) => {
+            let made = resolved(alloc, at.symbols, form)?;
+            Ok(laid_value(at.symbols, at.sections, &made).is_none())
+        }
+    }
+}
+
+/// Where the first symbol whose size has no value stands among them, or how many there are.
+fn unsized_index(alloc: Global, at: Placement, symbols: &[Symbol]) -> Result<usize, NoMemory>
+    ensures index { IfOk result (λ index. index ≡ position_or_len (λ symbol. spec.unknown_size at.entry.symbols.now at.entry.sections.now symbol.size) symbols.now) }
+    ensures within { IfOk result (λ index. index ≤ length symbols.now) }
+{
+    for (index, symbol) in symbols.iter().enumerate() {
+        if unknown_size(alloc, at, &symbol.size)? {
+            return Ok(index);
+        }
+    }
+    Ok(symbols.len())
+}
+
+/// The fault of the first symbol whose size has no value.
+pub(crate) fn size_fault(alloc: Global, at: Placement) -> Result<Option<ObjectFault>, NoMemory>
+    ensures { IfOk result (λ fault. fault ≡ spec.size_fault at.entry.symbols.now at.entry.sections.now) }
+{
+    let index = unsized_index(alloc, at, at.symbols.as_slice())?;
+    if index < at.symbols.len() {
+        Ok(Some(ObjectFault::SizeNotKnown(index)))
+    } else {
+        Ok(None)
+    }
+}

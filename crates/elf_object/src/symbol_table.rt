@@ -1,0 +1,51 @@
+//! The symbol table and the string table of its names (gABI, chapter 4, "Symbol Table").
+
+ghost use Rattle.std.specs.Prelude.{◌≡◌, ◌++◌, map, length, OnOk, IfOk};
+ghost use Rattle.elf_object.specs.Image.{symbol_names, symbol_table_of};
+ghost use Rattle.elf_object.specs.StringTable.{string_table_of, string_of, name_offset_after};
+ghost use Rattle.elf_object.specs.SymbolTable.{symbol_bytes};
+ghost use Rattle.elf_object.specs.Views.{symbol_view};
+
+use crate::entries::{TableSymbol, symbol_bytes};
+use crate::string_table::put_name;
+use std::alloc::{AllocError, Global};
+
+/// The entries of a symbol table, and the string table of its names.
+#[derive(Drop)]
+pub(crate) struct SymbolTable {
+    pub(crate) entries: Vec<u8>,
+    pub(crate) strings: Vec<u8>,
+}
+
+impl SymbolTable {
+    /// Appends a symbol.
+    fn put(&mut self, headers: &[usize], symbol: &TableSymbol) -> Result<(), AllocError>
+        ensures entries { OnOk result (self.new.entries.items ≡ self.old.entries.items
+            ++ symbol_bytes headers.now (name_offset_after (length self.old.strings.items) symbol.now.name.now) (symbol_view symbol.now)) }
+        ensures strings { OnOk result (self.new.strings.items ≡ self.old.strings.items ++ string_of symbol.now.name.now) }
+    {
+        let name = put_name(&mut self.strings, symbol.name)?;
+        self.entries
+            .extend_from_slice(&symbol_bytes(headers, name, symbol))
+    }
+}
+
+/// The table of these symbols, which begins with the null symbol; sections have these header indices.
+#[tactic(auto, unfolding(crate::specs::Image::symbol_table_of, crate::specs::Image::symbol_names, crate::specs::StringTable::string_table_of, crate::specs::StringTable::name_offsets))]
+pub(crate) fn symbol_table(
+    alloc: Global,
+    headers: &[usize],
+    symbols: &[TableSymbol],
+) -> Result<SymbolTable, AllocError>
+    ensures entries { IfOk result (λ t. t.entries.items ≡ symbol_table_of headers.now (map symbol_view symbols.now)) }
+    ensures strings { IfOk result (λ t. t.strings.items ≡ string_table_of (symbol_names (map symbol_view symbols.now))) }
+{
+    let mut table = SymbolTable {
+        entries: vec![in alloc; 0; 24]?,
+        strings: vec![in alloc; 0; 1]?,
+    };
+    for symbol in symbols {
+        table.put(headers, symbol)?;
+    }
+    Ok(table)
+}
