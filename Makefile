@@ -20,10 +20,13 @@ demo: build/as
 check:
 	rt ci
 
-# What no clause can say: the built program on files and devices that fail. And random expressions beside Python's integers.
+# What no clause can say: the built program on files and devices that fail, and its objects linked by gcc. Random expressions beside
+# Python's integers, and the objects of random sources beside those of the machine's GNU as.
 check-outside: build/as
 	checks/outside.sh build/as
+	checks/tables.sh build/as
 	checks/expressions.py build/as
+	checks/compare.py --ours build/as
 
 # No test, and no part of the gate: times build/as beside the machine's GNU as.
 bench: build/as

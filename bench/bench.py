@@ -78,18 +78,36 @@ def symbols() -> Iterator[str]:
         yield f"\t.size function_{n},.-function_{n}\n\t.set number_{n},{n}*2\n\t.long .Lend_{n}-function_{n}, number_{n}\n1:\t.byte 1b-function_{n}\n"
 
 
-# Each function yields lines without end, the same ones at each run; its name begins those of its cases.
-SOURCES: list[Callable[[], Iterator[str]]] = [nops, byte_lists, expressions, data, symbols]
+def relocations() -> Iterator[str]:
+    """Data that the linker has to work out: pointers to labels of this file and of others, and distances to them, two a label."""
+    for n in itertools.count():
+        yield f"label_{n}:\t.quad label_{n >> 1}+8, outside_{n & 1023}\n\t.long outside_{n & 1023}-label_{n}\n"
+
+
+# Each function yields lines without end, the same ones at each run; its name begins those of its cases. The cases of data are so many
+# lines, the others so many MiB.
+SOURCES: list[Callable[[], Iterator[str]]] = [nops, byte_lists, expressions, symbols]
 SIZES_IN_MIB = [1, 4, 16]
+SOURCES_OF_DATA: list[Callable[[], Iterator[str]]] = [data, relocations]
+SIZES_IN_LINES = [10_000, 100_000, 1_000_000]
 
 
-def write_source(name: str, lines: Iterator[str], least: int) -> int:
-    """Writes lines until the file has at least so many bytes. Answers how many it has."""
-    length = 0
+@dataclass
+class Size:
+    """Of a source, in bytes and lines."""
+    bytes: int = 0
+    lines: int = 0
+
+
+def write_source(name: str, lines: Iterator[str], least: Size) -> Size:
+    """Writes lines until the file has at least this size. Answers the size that it has."""
+    size = Size()
     with open(name, "w", encoding="ascii") as source:
-        while length < least:
-            length += source.write(next(lines))
-    return length
+        while size.bytes < least.bytes or size.lines < least.lines:
+            line = next(lines)
+            size.bytes += source.write(line)
+            size.lines += line.count("\n")
+    return size
 
 
 @dataclass
@@ -149,14 +167,14 @@ def find_gnu() -> tuple[str | None, str]:
     return None, "no GNU as on PATH, so build/as is timed alone"
 
 
-def row_of(name: str, mib: float, ours: Measured, theirs: Measured) -> list[str]:
+def row_of(name: str, size: Size, ours: Measured, theirs: Measured) -> list[str]:
     ratio = "-" if ours.instead or theirs.instead else f"{theirs.seconds / ours.seconds:.2f}"
-    times = [ours.shown(ours.seconds, 3), ours.shown(mib / ours.seconds, 1), theirs.shown(theirs.seconds, 3), ratio]
-    return [name, f"{mib:.1f}", *times, ours.shown(ours.memory, 1), theirs.shown(theirs.memory, 1)]
+    times = [ours.shown(ours.seconds, 3), ours.shown(ours.seconds / size.lines * 1e9, 0), theirs.shown(theirs.seconds, 3), ratio]
+    return [name, f"{size.bytes / MIB:.1f}", f"{size.lines}", *times, ours.shown(ours.memory, 1), theirs.shown(theirs.memory, 1)]
 
 
 def print_table(rows: list[list[str]], markdown: bool) -> None:
-    header = ["case", "MiB", "build/as s", "build/as MiB/s", "GNU as s", "GNU as / build/as", "build/as memory", "GNU as memory"]
+    header = ["case", "MiB", "lines", "build/as s", "build/as ns/line", "GNU as s", "GNU as / build/as", "build/as memory", "GNU as memory"]
     widths = [max(map(len, column)) for column in zip(header, *rows)]
     rule = [["-" * widths[0]] + ["-" * (width - 1) + ":" for width in widths[1:]]] if markdown else []
     for row in [header] + rule + rows:
@@ -170,7 +188,8 @@ def main() -> None:
     parser.add_argument("--runs", metavar="N", type=int, default=5, help="how often each runs on a case (default 5)")
     parser.add_argument("--markdown", action="store_true", help="print the table as Markdown")
     options = parser.parse_args()
-    cases = {f"{source.__name__}-{size}M": (source, size) for source in SOURCES for size in SIZES_IN_MIB}
+    cases = {f"{source.__name__}-{mib}M": (source, Size(bytes=mib * MIB)) for source in SOURCES for mib in SIZES_IN_MIB}
+    cases |= {f"{source.__name__}-{lines}": (source, Size(lines=lines)) for source in SOURCES_OF_DATA for lines in SIZES_IN_LINES}
     chosen = {name: case for name, case in cases.items() if options.only in name}
     if options.runs < 1 or not chosen or not BUILT.exists():
         parser.error(f"build/as is built first, N is at least 1, and WORD stands in one of: {', '.join(cases)}")
@@ -180,10 +199,10 @@ def main() -> None:
     rows, reasons = [], []
     with tempfile.TemporaryDirectory() as folder:
         os.chdir(folder)
-        for name, (source, size) in chosen.items():
-            mib = write_source(f"{name}.s", source(), size * MIB) / MIB
+        for name, (source, least) in chosen.items():
+            size = write_source(f"{name}.s", source(), least)
             ours, theirs = measure(f"{name}.s", gnu, options.runs)
-            rows.append(row_of(name, mib, ours, theirs))
+            rows.append(row_of(name, size, ours, theirs))
             reasons += [f"{who} failed: {it.reason}" for who, it in (("build/as", ours), ("GNU as", theirs)) if it.reason]
     print_table(rows, options.markdown)
     print("", *reasons, sep="\n")
