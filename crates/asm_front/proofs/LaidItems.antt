@@ -1,19 +1,16 @@
 -- What a layout keeps of an item, and where the item stands.
-use Rattle.std.proofs.Common.{◌≡◌, ℕ, zero, suc, ◌+◌, List, [], ◌∷◌, Option, Some, None, Ok, sym, ◌∙◌}
-use Rattle.std.specs.Prelude.{slice_get, map}
+use Rattle.std.proofs.Common.{◌≡◌, ℕ, List, Option, Some, None, Ok, sym, ◌∙◌}
+use Rattle.std.specs.Prelude.{map}
 use Rattle.asm_symbols.specs.SymbolMap.{SymbolMap}
 use Rattle.asm_frags.specs.declared.items.Frag.{Frag}
 use Rattle.asm_frags.specs.declared.phases.Loose.{Loose}
 use Rattle.asm_frags.specs.declared.phases.Laid.{Laid}
-use Rattle.asm_frags.specs.Contents.{size_at}
 use Rattle.asm_frags.specs.SectionOf.{SectionOf}
-use Rattle.asm_frags.specs.Addresses.{item_with_address}
 use Rattle.asm_frags.specs.Refitting.{laid_item, laid_section}
 use Rattle.asm_relax.specs.Judging.{fault_of}
-use Rattle.asm_relax.specs.Placing.{placed_from, placed_section}
+use Rattle.asm_relax.specs.Placing.{placed_section}
 use Rattle.asm_relax.specs.Resolving.{resolved}
 use Rattle.asm_relax.specs.Settling.{LooseSections, LaidSections, planned, unless, settled_sections, layout_of}
-use Rattle.asm_relax.specs.Placing.{behind}
 use Rattle.asm_relax.proofs.SettlingLemmas.{placed_is_settled}
 
 -- what an answer without a fault holds

@@ -4,3 +4,4 @@ pub mod ObjectReads
 pub mod AnswerLemmas
 pub mod FaultLaws
 pub mod AnswersReadBack
+mod ObjectSamples
