@@ -18,8 +18,6 @@ mod statuses;
 mod steps;
 mod streams;
 mod strings;
-#[cfg(test)]
-mod tests;
 mod texts;
 mod tokens;
 

@@ -1,15 +1,9 @@
 //! The assembler as a program: its words, the real files and streams, and its exit status.
 #![tactic(auto)]
 
-#[cfg(test)]
-mod failing_tests;
 mod running;
 mod saying;
-#[cfg(test)]
-mod tests;
 mod words;
-#[cfg(test)]
-mod words_tests;
 
 use asm_base::{FileInputs, FileOutput, Status, StreamConsole};
 use running::run;

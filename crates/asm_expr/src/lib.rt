@@ -16,12 +16,8 @@ mod operators;
 mod parsing;
 mod settling;
 mod showing;
-#[cfg(test)]
-mod shown_tests;
 mod spelling;
 mod summing;
-#[cfg(test)]
-mod tests;
 mod trees;
 mod visiting;
 mod visitors;

@@ -4,10 +4,10 @@ use Rattle.std.specs.List.{fold}
 use Rattle.std.proofs.lemmas.Option.{slice_get-get_or}
 use Rattle.asm_frags.specs.declared.contents.Content.{Content}
 use Rattle.asm_frags.specs.declared.items.Frag.{Frag}
-use Rattle.asm_frags.specs.declared.reaches.Reach.{Reach}
+use Rattle.asm_frags.specs.declared.known_extents.KnownExtent.{KnownExtent}
 use Rattle.asm_frags.specs.Contents.{alignment_of}
 use Rattle.asm_frags.specs.Alignments.{alignment_of_all}
-use Rattle.asm_frags.specs.Reaches.{advanced, reach_of}
+use Rattle.asm_frags.specs.KnownExtents.{advanced, extent_of}
 use Rattle.asm_frags.specs.SoundItems.{AreItems}
 use Rattle.asm_frags.specs.Addresses.{changed_at}
 
@@ -25,20 +25,20 @@ module _ {P Address : Type 0} where
   same_alignment (item ∷ items) zero new d same = ap (λ (content : Content). max (alignment_of content) (alignment_of_all items)) same
   same_alignment (item ∷ items) (suc number) new d same = ap (max (alignment_of item.content)) (same_alignment items number new d same)
 
-  same_step : (reach : Reach) (new old : Frag P Address) → new.content ≡ old.content → advanced reach new ≡ advanced reach old
-  same_step reach new old same = rw same refl
+  same_step : (extent : KnownExtent) (new old : Frag P Address) → new.content ≡ old.content → advanced extent new ≡ advanced extent old
+  same_step extent new old same = rw same refl
 
-  same_reach : (reach : Reach) (items : List (Frag P Address)) (number : ℕ) (new d : Frag P Address) → new.content ≡ (get_or items number d).content
-      → fold advanced reach (set items number new) ≡ fold advanced reach items
-  same_reach reach [] number new d same = refl
-  same_reach reach (item ∷ items) zero new d same = ap (λ (r : Reach). fold advanced r items) (same_step reach new item same)
-  same_reach reach (item ∷ items) (suc number) new d same = same_reach (advanced reach item) items number new d same
+  same_reach : (extent : KnownExtent) (items : List (Frag P Address)) (number : ℕ) (new d : Frag P Address) → new.content ≡ (get_or items number d).content
+      → fold advanced extent (set items number new) ≡ fold advanced extent items
+  same_reach extent [] number new d same = refl
+  same_reach extent (item ∷ items) zero new d same = ap (λ (r : KnownExtent). fold advanced r items) (same_step extent new item same)
+  same_reach extent (item ∷ items) (suc number) new d same = same_reach (advanced extent item) items number new d same
 
-  -- alignment and reach look at no address
-  pub items_laid : (items : List (Frag P Address)) (number : ℕ) (new d : Frag P Address) (alignment : ℕ) (reach : Reach) → AreItems items alignment reach
-      → new.content ≡ (get_or items number d).content → AreItems (set items number new) alignment reach
-  unfolding reach_of
-  items_laid items number new d alignment reach sound same = record {
+  -- alignment and extent look at no address
+  pub items_laid : (items : List (Frag P Address)) (number : ℕ) (new d : Frag P Address) (alignment : ℕ) (extent : KnownExtent) → AreItems items alignment extent
+      → new.content ≡ (get_or items number d).content → AreItems (set items number new) alignment extent
+  unfolding extent_of
+  items_laid items number new d alignment extent sound same = record {
     few = let few = sound.few in rw length-set few;
     aligned = sound.aligned ∙ sym (same_alignment items number new d same);
     reaches = sound.reaches ∙ sym (same_reach (record { breaks = 0; bytes = 0 }) items number new d same);

@@ -5,8 +5,8 @@ pub mod Repeats
 pub mod BytesGiven
 pub mod DataLemmas
 pub mod AlignmentLemmas
-pub mod ReachLemmas
-pub mod RefittingLemmas
+pub mod KnownExtentLemmas
+pub mod SubstitutingLemmas
 pub mod AddressLemmas
 pub mod NamedLemmas
 pub mod PushLemmas

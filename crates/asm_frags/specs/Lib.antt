@@ -4,11 +4,11 @@ pub mod DataOf
 pub mod Contents
 pub mod Visits
 pub mod Alignments
-pub mod Reaches
+pub mod KnownExtents
 pub mod SectionOf
 pub mod Answers
 pub mod Sound
 pub mod SoundItems
 pub mod Sections
-pub mod Refitting
+pub mod Substituting
 pub mod Addresses

@@ -2,12 +2,12 @@
 
 ghost use Rattle.std.specs.Prelude.{◌≡◌, ◌≤◌, ◌^◌, OnOk, OnErr, IfOk, IfErr, take};
 ghost use Rattle.asm_frags.specs.DataOf.{IsData, no_data, with_bytes, with_field};
-ghost use Rattle.asm_frags.specs.Refitting.{refitted_data, refitted_content};
+ghost use Rattle.asm_frags.specs.Substituting.{substituted_data, substituted_content};
 ghost use Rattle.asm_frags.specs.declared.faults.FragFault.TheVariants.{NoMemory};
 
 use crate::faults::FragFault;
 use crate::fields::{Field, FieldSize};
-use crate::refitting::{Refits, refit_fields};
+use crate::substituting::{Substitution, substitute_fields};
 use asm_expr::Linear;
 use std::alloc::{AllocError, Global};
 use std::marker::Model;
@@ -73,12 +73,12 @@ impl Data {
     }
 
     /// The same with the form of each field replaced.
-    pub(crate) fn refitted<R: Refits>(self, refit: &R) -> Result<Data, FragFault>
-        ensures ok { IfOk result (λ made. made ≡ refitted_data (R.refit refit.now) self) }
+    pub(crate) fn substituted<R: Substitution>(self, substitute: &R) -> Result<Data, FragFault>
+        ensures ok { IfOk result (λ made. made ≡ substituted_data (R.substitute substitute.now) self) }
         ensures memory { IfErr result (λ fault. fault ≡ NoMemory) }
     {
         let Data { bytes, mut fields } = self;
-        refit_fields(&mut fields, refit)?;
+        substitute_fields(&mut fields, substitute)?;
         Ok(Data { bytes, fields })
     }
 
@@ -208,12 +208,12 @@ pub enum Content {
 
 impl Content {
     /// The same with the form of each field replaced.
-    pub(crate) fn refitted<R: Refits>(self, refit: &R) -> Result<Content, FragFault>
-        ensures ok { IfOk result (λ made. made ≡ refitted_content (R.refit refit.now) self) }
+    pub(crate) fn substituted<R: Substitution>(self, substitute: &R) -> Result<Content, FragFault>
+        ensures ok { IfOk result (λ made. made ≡ substituted_content (R.substitute substitute.now) self) }
         ensures memory { IfErr result (λ fault. fault ≡ NoMemory) }
     {
         match self {
-            Content::Bytes(held) => Ok(Content::Bytes(held.refitted(refit)?)),
+            Content::Bytes(held) => Ok(Content::Bytes(held.substituted(substitute)?)),
             Content::Fill(held) => Ok(Content::Fill(held)),
             Content::Align(held) => Ok(Content::Align(held)),
         }

@@ -5,7 +5,7 @@ ghost use Rattle.std.specs.Prelude.{◌≡◌, IfOk, IfErr};
 use crate::contents::Content;
 use crate::faults::FragFault;
 use crate::phases::{Laid, Loose, Phase};
-use crate::refitting::Refits;
+use crate::substituting::Substitution;
 use asm_base::Pos;
 
 /// An item of a section. `Frag::new` and `Frag::at` alone make one.
@@ -19,7 +19,7 @@ pub struct Frag<P: Phase> {
 }
 
 impl Frag<Loose> {
-    ghost use Rattle.asm_frags.specs.Refitting.{laid_item};
+    ghost use Rattle.asm_frags.specs.Substituting.{laid_item};
     ghost use Rattle.asm_frags.specs.declared.faults.FragFault.TheVariants.{NoMemory};
 
     /// An item of a statement.
@@ -53,8 +53,11 @@ impl Frag<Loose> {
         }
     }
     /// The item with the form of each field replaced, at address 0, which means nothing yet.
-    pub(crate) fn refitted<R: Refits>(self, refit: &R) -> Result<Frag<Laid>, FragFault>
-        ensures ok { IfOk result (λ made. made ≡ laid_item (R.refit refit.now) self) }
+    pub(crate) fn substituted<R: Substitution>(
+        self,
+        substitute: &R,
+    ) -> Result<Frag<Laid>, FragFault>
+        ensures ok { IfOk result (λ made. made ≡ laid_item (R.substitute substitute.now) self) }
         ensures memory { IfErr result (λ fault. fault ≡ NoMemory) }
     {
         let Frag {
@@ -62,6 +65,6 @@ impl Frag<Loose> {
             content,
             address: (),
         } = self;
-        Ok(Frag::new(pos, content.refitted(refit)?).at(0))
+        Ok(Frag::new(pos, content.substituted(substitute)?).at(0))
     }
 }

@@ -8,16 +8,14 @@ mod faults;
 mod fields;
 mod flags;
 mod items;
+mod known_extents;
 mod laws;
 mod parts;
 mod phases;
 mod pieces;
-mod reaches;
-mod refitting;
 mod section_list;
 mod sizes;
-#[cfg(test)]
-mod tests;
+mod substituting;
 mod visiting;
 mod walking;
 mod zeros;
@@ -31,14 +29,14 @@ pub use flags::{
     SectionFlags,
 };
 pub use items::Frag;
+pub use known_extents::{FixedSize, KnownExtent, fixed_size};
 pub use laws::{bytes_are_sized, padding_is_least, zeros_are_known};
 pub use parts::Section;
 pub use phases::{Laid, Loose, Phase};
 pub use pieces::{BytesAt, TakesBytes, put_bytes};
-pub use reaches::{FixedSize, Reach, fixed_size};
-pub use refitting::Refits;
 pub use section_list::Sections;
 pub use sizes::{SizeAt, size};
+pub use substituting::Substitution;
 pub use visiting::FragVisit;
 pub use walking::visit;
 pub use zeros::{KnownZeros, is_known_zeros};

@@ -1,7 +1,7 @@
 //! Sections: what a header says of them, and their items in order.
 
 ghost use Rattle.std.specs.Prelude.{◌≡◌, ◌<◌, ◌≤◌, ◌^◌, length, map, IfOk, IfErr};
-ghost use Rattle.asm_frags.specs.Refitting.{laid_item, laid_section};
+ghost use Rattle.asm_frags.specs.Substituting.{laid_item, laid_section};
 ghost use Rattle.asm_frags.specs.Addresses.{section_with_address};
 ghost use Rattle.asm_frags.specs.declared.faults.FragFault.TheVariants.{NoMemory};
 
@@ -9,9 +9,9 @@ use crate::alignments::asked_alignment;
 use crate::faults::FragFault;
 use crate::flags::{SHT_NOBITS, SectionFlags};
 use crate::items::Frag;
+use crate::known_extents::KnownExtent;
 use crate::phases::{Laid, Loose, Phase};
-use crate::reaches::Reach;
-use crate::refitting::Refits;
+use crate::substituting::Substitution;
 use crate::zeros::is_known_zeros;
 use asm_base::Text;
 use std::alloc::Global;
@@ -29,7 +29,7 @@ pub struct Section<P: Phase> {
     entry_size: u64,
     items: Vec<Frag<P>>,
     alignment: u64,
-    reach: Reach,
+    extent: KnownExtent,
 }
 
 impl<P: Phase> Model for Section<P> {
@@ -41,12 +41,12 @@ impl<P: Phase> Model for Section<P> {
 
     ghost view = { λ inside. record { name = inside.name; flags = inside.flags; kind = inside.kind; entry_size = inside.entry_size; items = inside.items.items } };
 
-    ghost invariant = { λ inside. AreItems inside.items.items inside.alignment inside.reach };
+    ghost invariant = { λ inside. AreItems inside.items.items inside.alignment inside.extent };
 }
 
 impl<P: Phase> Section<P> {
     ghost use Rattle.asm_frags.specs.Alignments.{alignment_of_all};
-    ghost use Rattle.asm_frags.specs.Reaches.{reach_of};
+    ghost use Rattle.asm_frags.specs.KnownExtents.{extent_of};
     ghost use Rattle.asm_frags.specs.SectionOf.{new_section, is_alike};
     ghost use Rattle.asm_frags.specs.Answers.{Changes, put};
 
@@ -67,7 +67,7 @@ impl<P: Phase> Section<P> {
             entry_size,
             items: Vec::new(alloc),
             alignment: 1,
-            reach: Reach {
+            extent: KnownExtent {
                 breaks: 0,
                 bytes: 0,
             },
@@ -118,12 +118,12 @@ impl<P: Phase> Section<P> {
     }
 
     /// How far the section reaches.
-    pub fn reach(&self) -> Reach
-        ensures reach { result ≡ reach_of self.now.items }
+    pub fn extent(&self) -> KnownExtent
+        ensures extent { result ≡ extent_of self.now.items }
         ensures breaks { result.breaks ≤ 2 ^ 28 }
         ensures bytes { result.bytes ≤ 2 ^ 61 }
     {
-        self.reach
+        self.extent
     }
 
     /// Whether the section has these flags, this type and this entry size.
@@ -145,38 +145,38 @@ impl<P: Phase> Section<P> {
             return Err(FragFault::NoMemory);
         }
         let asked = asked_alignment(&item.content);
-        let reach = self.reach.advanced(&item);
+        let extent = self.extent.advanced(&item);
         self.items.push(item)?;
         self.alignment = self.alignment.max(asked);
-        self.reach = reach;
+        self.extent = extent;
         Ok(())
     }
 }
 
 /// The items with the form of each field replaced, at address 0.
-fn refit_items<R: Refits>(
+fn substitute_items<R: Substitution>(
     alloc: Global,
     items: Vec<Frag<Loose>>,
-    refit: &R,
+    substitute: &R,
 ) -> Result<Vec<Frag<Laid>>, FragFault>
-    ensures ok { IfOk result (λ made. made.items ≡ map (laid_item (R.refit refit.now)) items.items) }
+    ensures ok { IfOk result (λ made. made.items ≡ map (laid_item (R.substitute substitute.now)) items.items) }
     ensures memory { IfErr result (λ fault. fault ≡ NoMemory) }
 {
     let mut made = Vec::with_capacity(alloc, items.len())?;
     for item in items {
-        made.push(item.refitted(refit)?)?;
+        made.push(item.substituted(substitute)?)?;
     }
     Ok(made)
 }
 
 impl Section<Loose> {
     /// The section with the form of each field replaced, each item at address 0, which means nothing yet.
-    pub(crate) fn refitted<R: Refits>(
+    pub(crate) fn substituted<R: Substitution>(
         self,
         alloc: Global,
-        refit: &R,
+        substitute: &R,
     ) -> Result<Section<Laid>, FragFault>
-        ensures ok { IfOk result (λ made. made ≡ laid_section (R.refit refit.now) self) }
+        ensures ok { IfOk result (λ made. made ≡ laid_section (R.substitute substitute.now) self) }
         ensures memory { IfErr result (λ fault. fault ≡ NoMemory) }
     {
         let Section {
@@ -186,9 +186,9 @@ impl Section<Loose> {
             entry_size,
             items,
             alignment,
-            reach,
+            extent,
         } = self;
-        let items = refit_items(alloc, items, refit)?;
+        let items = substitute_items(alloc, items, substitute)?;
         Ok(Section {
             name,
             flags,
@@ -196,7 +196,7 @@ impl Section<Loose> {
             entry_size,
             items,
             alignment,
-            reach,
+            extent,
         })
     }
 }

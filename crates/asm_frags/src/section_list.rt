@@ -2,7 +2,7 @@
 
 ghost use Rattle.std.specs.Prelude.{◌≡◌, ◌==◌, ◌≤◌, ◌<◌, ◌^◌, [], ◌∷◌, ◌++◌, length, false, map, slice_get, Some, IfOk, IfErr, IfSome, OnOk, is_some};
 ghost use Rattle.std.specs.List.{list_any};
-ghost use Rattle.asm_frags.specs.Refitting.{laid_section};
+ghost use Rattle.asm_frags.specs.Substituting.{laid_section};
 ghost use Rattle.asm_frags.specs.declared.faults.FragFault.TheVariants.{NoMemory};
 
 use crate::faults::FragFault;
@@ -10,7 +10,7 @@ use crate::flags::{SHT_NOBITS, SHT_PROGBITS, SectionFlags};
 use crate::items::Frag;
 use crate::parts::Section;
 use crate::phases::{Laid, Loose, Phase};
-use crate::refitting::Refits;
+use crate::substituting::Substitution;
 use asm_base::Text;
 use bitflags::Flags;
 use indexmap::IndexSet;
@@ -190,28 +190,28 @@ impl Sections<Loose> {
 }
 
 /// The sections with the form of each field replaced, each item at address 0.
-fn refit_sections<R: Refits>(
+fn substitute_sections<R: Substitution>(
     alloc: Global,
     sections: Vec<Section<Loose>>,
-    refit: &R,
+    substitute: &R,
 ) -> Result<Vec<Section<Laid>>, FragFault>
-    ensures ok { IfOk result (λ made. made.items ≡ map (laid_section (R.refit refit.now)) sections.items) }
+    ensures ok { IfOk result (λ made. made.items ≡ map (laid_section (R.substitute substitute.now)) sections.items) }
     ensures memory { IfErr result (λ fault. fault ≡ NoMemory) }
 {
     let mut made = Vec::with_capacity(alloc, sections.len())?;
     for section in sections {
-        made.push(section.refitted(alloc, refit)?)?;
+        made.push(section.substituted(alloc, substitute)?)?;
     }
     Ok(made)
 }
 
 impl Sections<Loose> {
-    ghost use Rattle.asm_frags.specs.Refitting.{laid_sections};
+    ghost use Rattle.asm_frags.specs.Substituting.{laid_sections};
 
     /// The sections as layout takes them over: the form of each field is replaced, and each item is at address 0, which
     /// means nothing before `lay` sets it. The old items of a section are let go before the next section is made.
-    pub fn refitted<R: Refits>(self, refit: &R) -> Result<Sections<Laid>, FragFault>
-        ensures ok { IfOk result (λ laid. laid ≡ laid_sections (R.refit refit.now) self) }
+    pub fn substituted<R: Substitution>(self, substitute: &R) -> Result<Sections<Laid>, FragFault>
+        ensures ok { IfOk result (λ laid. laid ≡ laid_sections (R.substitute substitute.now) self) }
         ensures memory { IfErr result (λ fault. fault ≡ NoMemory) }
     {
         let Sections {
@@ -219,7 +219,7 @@ impl Sections<Loose> {
             names,
             sections,
         } = self;
-        let sections = refit_sections(alloc, sections, refit)?;
+        let sections = substitute_sections(alloc, sections, substitute)?;
         Ok(Sections {
             alloc,
             names,

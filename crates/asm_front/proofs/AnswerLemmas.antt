@@ -15,19 +15,19 @@ use Rattle.asm_front.specs.Assembly.{placed_end, assembly_of_lines, assembly_of}
 use Rattle.asm_front.specs.Stops.{MakesNoted, too_large_stop}
 use Rattle.asm_front.specs.Answering.{IsAnswered}
 use Rattle.asm_front.specs.Outcome.{main_file, AssemblesAs, AssemblesFile, Assembles}
-use Rattle.asm_place.specs.declared.steps.Stop.{Stop}
-use Rattle.asm_place.specs.declared.steps.Stop.TheVariants as stop
+use Rattle.asm_place.specs.declared.place_faults.LocatedFault.{LocatedFault}
+use Rattle.asm_place.specs.declared.place_faults.LocatedFault.TheVariants as stop
 use Rattle.asm_front.specs.declared.answers.Assembled.{Assembled}
 use Rattle.asm_front.specs.declared.answers.AsmFault.{AsmFault}
 use Rattle.asm_front.specs.declared.answers.AsmFault.TheVariants.{Source, Read, NoMemory}
 
 -- what ends the placing ends the assembly
-pub stopped : (fatal : Bool) (end : Stop) (notes : List Noted) (placed : Result Placed FaultAt) → Stops end notes placed → Stops end notes (placed_end fatal placed)
+pub stopped : (fatal : Bool) (end : LocatedFault) (notes : List Noted) (placed : Result Placed FaultAt) → Stops end notes placed → Stops end notes (placed_end fatal placed)
 stopped fatal (stop.Source fault pos) notes placed is = ap (placed_end fatal) is
 stopped fatal stop.NoMemory notes placed is = tt
 
 -- what was made by the definition is answered by the definition
-pub answered : (name : List ℕ) (assembly : Result NotedObject FaultAt) (notes : List Noted) (made : Result (List ℕ) Stop) (result : Result Assembled AsmFault)
+pub answered : (name : List ℕ) (assembly : Result NotedObject FaultAt) (notes : List Noted) (made : Result (List ℕ) LocatedFault) (result : Result Assembled AsmFault)
     → MakesNoted notes made assembly → IsAnswered name notes made result → AssemblesAs name assembly result
 answered name assembly notes (Ok object) (Ok told) is so =
     (is ∙ ap (λ o. Ok (record { object = o; notes = notes })) (sym so.0) ∙ ap (λ ns. Ok (record { object = told.object; notes = ns })) (sym so.1), so.2)
@@ -64,7 +64,7 @@ file_read flags name (Some bytes) text rest result read so =
     subst (λ assembly. AssemblesAs name assembly result) (small_source flags text (subst (λ xs. length xs ≤ most_bytes) (sym read.0) read.1) ∙ ap (assembly_of flags main_file) read.0) so
 
 -- a text that was read whole is assembled
-pub text_read : (flags : Flags) (contents : Option Contents) (name text : List ℕ) (rest : Option (List ℕ)) (notes : List Noted) (made : Result (List ℕ) Stop) (result : Result Assembled AsmFault)
+pub text_read : (flags : Flags) (contents : Option Contents) (name text : List ℕ) (rest : Option (List ℕ)) (notes : List Noted) (made : Result (List ℕ) LocatedFault) (result : Result Assembled AsmFault)
     → ReadsName contents name (Ok text) rest → MakesNoted notes made (assembly_of_lines flags main_file text) → IsAnswered name notes made result → Assembles flags contents name result
 text_read flags None name text rest notes made result read is so = tt
 text_read flags (Some contents) name text rest notes made result read is so = file_read flags name (contents name) text rest result read (answered name (assembly_of_lines flags main_file text) notes made result is so)
@@ -75,7 +75,7 @@ file_too_large flags name None rest result read so = absurd read
 file_too_large flags name (Some bytes) rest result read so = answered name (assembly_of flags main_file bytes) [] (Err (too_large_stop main_file)) result (large_source flags bytes read) so
 
 -- a file that is too large is told so
-pub text_too_large : (flags : Flags) (contents : Option Contents) (name : List ℕ) (rest : Option (List ℕ)) (made : Stop) (result : Result Assembled AsmFault)
+pub text_too_large : (flags : Flags) (contents : Option Contents) (name : List ℕ) (rest : Option (List ℕ)) (made : LocatedFault) (result : Result Assembled AsmFault)
     → ReadsName contents name (Err TooLarge) rest → made ≡ too_large_stop main_file → IsAnswered name [] (Err made) result → Assembles flags contents name result
 text_too_large flags None name rest made result read is so = tt
 text_too_large flags (Some contents) name rest made result read is so = file_too_large flags name (contents name) rest result read (subst (λ m. IsAnswered name [] (Err m) result) is so)

@@ -6,10 +6,10 @@ use Rattle.asm_frags.specs.declared.items.Frag.{Frag}
 use Rattle.asm_frags.specs.declared.phases.Loose.{Loose}
 use Rattle.asm_frags.specs.declared.phases.Laid.{Laid}
 use Rattle.asm_frags.specs.SectionOf.{SectionOf}
-use Rattle.asm_frags.specs.Refitting.{laid_item, laid_section}
-use Rattle.asm_relax.specs.Judging.{fault_of}
+use Rattle.asm_frags.specs.Substituting.{laid_item, laid_section}
+use Rattle.asm_relax.specs.RangeChecks.{first_fault}
 use Rattle.asm_relax.specs.Placing.{placed_section}
-use Rattle.asm_relax.specs.Resolving.{resolved}
+use Rattle.asm_relax.specs.Expanding.{expanded}
 use Rattle.asm_relax.specs.Settling.{LooseSections, LaidSections, planned, unless, settled_sections, layout_of}
 use Rattle.asm_relax.proofs.SettlingLemmas.{placed_is_settled}
 
@@ -20,12 +20,12 @@ unless_is (Some fault) made answer e = absurd cc
 
 -- the sections as they are placed
 abbrev pub items_of : SymbolMap → SectionOf (Frag Loose (Unit {0})) → List (Frag Laid ℕ)
-items_of symbols section = map (laid_item (resolved symbols)) section.items
+items_of symbols section = map (laid_item (expanded symbols)) section.items
 
 -- a layout is that of its sections, one by one
 pub layout_is : (symbols : SymbolMap) (sections : LooseSections) (laid : LaidSections) → layout_of symbols sections ≡ Ok laid
-    → laid ≡ map placed_section (map (laid_section (resolved symbols)) sections)
+    → laid ≡ map placed_section (map (laid_section (expanded symbols)) sections)
 unfolding planned
 layout_is symbols sections laid e =
-    unless_is (fault_of symbols (settled_sections (planned symbols sections))) (settled_sections (planned symbols sections)) laid e
+    unless_is (first_fault symbols (settled_sections (planned symbols sections))) (settled_sections (planned symbols sections)) laid e
     ∙ sym (placed_is_settled (planned symbols sections))

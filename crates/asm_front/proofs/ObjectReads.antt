@@ -12,9 +12,9 @@ use Rattle.asm_frags.specs.declared.items.Frag.{Frag}
 use Rattle.asm_frags.specs.Addresses.{item_with_address}
 use Rattle.asm_frags.specs.Contents.{size_at}
 use Rattle.asm_frags.specs.SectionOf.{SectionOf}
-use Rattle.asm_frags.specs.Refitting.{laid_item, laid_section}
+use Rattle.asm_frags.specs.Substituting.{laid_item, laid_section}
 use Rattle.asm_relax.specs.Final.{address_in, address_of}
-use Rattle.asm_relax.specs.Resolving.{resolved}
+use Rattle.asm_relax.specs.Expanding.{expanded}
 use Rattle.asm_relax.specs.Settling.{LaidItem, LaidSections, unless, layout_of}
 use Rattle.asm_relax.specs.declared.faults.LayoutFault.{LayoutFault}
 use Rattle.asm_relax.specs.Placing.{placed_from, placed_section, behind}
@@ -47,25 +47,25 @@ use Rattle.asm_front.proofs.LaidItems.{items_of, layout_is}
 
 -- the section of an item, as it is laid out
 abbrev kept_section : SymbolMap → LooseSection → SectionOf LaidItem
-kept_section symbols section = placed_section (laid_section (resolved symbols) section)
+kept_section symbols section = placed_section (laid_section (expanded symbols) section)
 
 abbrev kept_item : SymbolMap → LooseSection → ℕ → Item → LaidItem
-kept_item symbols section index item = item_with_address (behind index 0 (items_of symbols section)) (laid_item (resolved symbols) item)
+kept_item symbols section index item = item_with_address (behind index 0 (items_of symbols section)) (laid_item (expanded symbols) item)
 
 section_kept : (symbols : SymbolMap) (sections : List LooseSection) (laid : LaidSections) (n : ℕ) (section : LooseSection) → layout_of symbols sections ≡ Ok laid
     → slice_get sections n ≡ Some section → slice_get laid n ≡ Some (kept_section symbols section)
 section_kept symbols sections laid n section e there =
-    let refitted = laid_section (resolved symbols) in
-    ap (λ (all : LaidSections). slice_get all n) (layout_is symbols sections laid e) ∙ slice_get-map placed_section (map refitted sections) n
-    ∙ ap (option_map placed_section) (slice_get-map refitted sections n ∙ ap (option_map refitted) there)
+    let substituted = laid_section (expanded symbols) in
+    ap (λ (all : LaidSections). slice_get all n) (layout_is symbols sections laid e) ∙ slice_get-map placed_section (map substituted sections) n
+    ∙ ap (option_map placed_section) (slice_get-map substituted sections n ∙ ap (option_map substituted) there)
 
 item_there : (symbols : SymbolMap) (section : LooseSection) (i : ℕ) (item : Item) → slice_get section.items i ≡ Some item
-    → slice_get (items_of symbols section) i ≡ Some (laid_item (resolved symbols) item)
-item_there symbols section i item at = slice_get-map (laid_item (resolved symbols)) section.items i ∙ ap (option_map (laid_item (resolved symbols))) at
+    → slice_get (items_of symbols section) i ≡ Some (laid_item (expanded symbols) item)
+item_there symbols section i item at = slice_get-map (laid_item (expanded symbols)) section.items i ∙ ap (option_map (laid_item (expanded symbols))) at
 
 item_kept : (symbols : SymbolMap) (section : LooseSection) (i : ℕ) (item : Item) → slice_get section.items i ≡ Some item
     → slice_get (kept_section symbols section).items i ≡ Some (kept_item symbols section i item)
-item_kept symbols section i item at = placed_get (items_of symbols section) i 0 (laid_item (resolved symbols) item) (item_there symbols section i item at)
+item_kept symbols section i item at = placed_get (items_of symbols section) i 0 (laid_item (expanded symbols) item) (item_there symbols section i item at)
 
 -- the address of an item is where those before it end
 address_is : (symbols : SymbolMap) (laid : LaidSections) (n i : ℕ) (section : LooseSection) (item : Item) → slice_get laid n ≡ Some (kept_section symbols section)

@@ -5,11 +5,11 @@ use Rattle.asm_front.specs.Outcome.{files_of}
 use Rattle.asm_front.specs.declared.answers.Assembled.{Assembled}
 use Rattle.asm_front.specs.declared.answers.AsmFault.{AsmFault}
 use Rattle.asm_front.specs.declared.answers.AsmFault.TheVariants.{Source, Read, NoMemory}
-use Rattle.asm_place.specs.declared.steps.Stop.{Stop}
-use Rattle.asm_place.specs.declared.steps.Stop.TheVariants as stop
+use Rattle.asm_place.specs.declared.place_faults.LocatedFault.{LocatedFault}
+use Rattle.asm_place.specs.declared.place_faults.LocatedFault.TheVariants as stop
 
 -- what was made is handed on with the files and the notes, unless memory is refused
-abbrev pub IsAnswered : List ℕ → List Noted → Result (List ℕ) Stop → Result Assembled AsmFault → Type 0
+abbrev pub IsAnswered : List ℕ → List Noted → Result (List ℕ) LocatedFault → Result Assembled AsmFault → Type 0
 IsAnswered name notes (Ok object) (Ok made) = (made.object ≡ object) × (made.notes ≡ notes) × (made.files ≡ files_of name)
 IsAnswered name notes (Ok object) (Err (Source fault pos told_notes files)) = ⊥
 IsAnswered name notes (Ok object) (Err Read) = ⊥

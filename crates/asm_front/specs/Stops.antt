@@ -8,8 +8,8 @@ use Rattle.asm_base.specs.declared.notes.Noted.{Noted}
 use Rattle.asm_base.specs.declared.positions.Pos.{Pos}
 use Rattle.asm_lines.specs.declared.faults.LineFault.{LineFault}
 use Rattle.asm_lines.specs.declared.faults.LineFault.TheVariants as line
-use Rattle.asm_place.specs.declared.steps.Stop.{Stop}
-use Rattle.asm_place.specs.declared.steps.Stop.TheVariants.{Source, NoMemory}
+use Rattle.asm_place.specs.declared.place_faults.LocatedFault.{LocatedFault}
+use Rattle.asm_place.specs.declared.place_faults.LocatedFault.TheVariants.{Source, NoMemory}
 use Rattle.asm_place.specs.Sources.{FaultAt, pos_at}
 use Rattle.asm_place.specs.Stops.{Stops}
 use Rattle.asm_place.specs.Tables.{Table}
@@ -18,12 +18,12 @@ use Rattle.elf_object.specs.declared.faults.ObjectFault.TheVariants as object
 use Rattle.asm_front.specs.Ending.{NotedObject, named_at, sized_at}
 
 -- this object was made, with these notes
-abbrev pub MakesNoted : List Noted → Result (List ℕ) Stop → Result NotedObject FaultAt → Type 0
+abbrev pub MakesNoted : List Noted → Result (List ℕ) LocatedFault → Result NotedObject FaultAt → Type 0
 MakesNoted notes (Ok object) answer = answer ≡ Ok (record { object = object; notes = notes })
 MakesNoted notes (Err stop) answer = Stops stop notes answer
 
 -- a fault of the lines of the file
-abbrev pub line_stop : ℕ → LineFault → Stop
+abbrev pub line_stop : ℕ → LineFault → LocatedFault
 line_stop file (line.NulByte number) = Source (Statement statement.NulByte) (pos_at file number)
 line_stop file (line.UnclosedString number) = Source (Statement statement.UnclosedString) (pos_at file number)
 line_stop file (line.UnclosedComment number) = Source (Statement statement.UnclosedComment) (pos_at file number)
@@ -31,15 +31,15 @@ line_stop file (line.StatementTooLong number) = Source (Statement statement.Stat
 line_stop file line.NoMemory = NoMemory
 
 -- the fault of a file that is too large, which stands at its first line
-abbrev pub too_large_stop : ℕ → Stop
+abbrev pub too_large_stop : ℕ → LocatedFault
 too_large_stop file = Source (Statement statement.FileTooLarge) (pos_at file 1)
 
 -- a fault that shows at the end
-abbrev pub end_stop : EndFault → Pos → Stop
+abbrev pub end_stop : EndFault → Pos → LocatedFault
 end_stop fault pos = Source (End fault) pos
 
 -- the fault of the object
-abbrev pub object_stop : Table → ObjectFault → Stop
+abbrev pub object_stop : Table → ObjectFault → LocatedFault
 object_stop table (object.UndefinedLocalSymbol index) = end_stop end.UndefinedLocalSymbol (named_at table.named index)
 object_stop table (object.NoRelocation pos) = end_stop end.NoRelocation pos
 object_stop table (object.SizeNotKnown index) = end_stop end.NoRelocation (sized_at table.sized index)

@@ -20,7 +20,7 @@ use asm_base::{
     Fault, Files, Inputs, NoMemory, Notes, Pos, StatementFault, Text, TextFault, read_text,
 };
 use asm_lines::{LineFault, Statement, read_statements};
-use asm_place::{Assembler, Stop, place_all};
+use asm_place::{Assembler, LocatedFault, place_all};
 use elf_object::Object;
 use std::alloc::{AllocError, Global};
 
@@ -28,45 +28,50 @@ use std::alloc::{AllocError, Global};
 const MAIN_FILE: u32 = 0;
 
 /// The place of a fault of the lines.
-fn line_stop(fault: LineFault) -> Stop
+fn line_stop(fault: LineFault) -> LocatedFault
     ensures { result ≡ line_stop main_file fault }
 {
     match fault {
-        LineFault::NulByte(line) => Stop::Source(
+        LineFault::NulByte(line) => LocatedFault::Source(
             Fault::Statement(StatementFault::NulByte),
             Pos {
                 file: MAIN_FILE,
                 line,
             },
         ),
-        LineFault::UnclosedString(line) => Stop::Source(
+        LineFault::UnclosedString(line) => LocatedFault::Source(
             Fault::Statement(StatementFault::UnclosedString),
             Pos {
                 file: MAIN_FILE,
                 line,
             },
         ),
-        LineFault::UnclosedComment(line) => Stop::Source(
+        LineFault::UnclosedComment(line) => LocatedFault::Source(
             Fault::Statement(StatementFault::UnclosedComment),
             Pos {
                 file: MAIN_FILE,
                 line,
             },
         ),
-        LineFault::StatementTooLong(line) => Stop::Source(
+        LineFault::StatementTooLong(line) => LocatedFault::Source(
             Fault::Statement(StatementFault::StatementTooLong),
             Pos {
                 file: MAIN_FILE,
                 line,
             },
         ),
-        LineFault::NoMemory => Stop::NoMemory,
+        LineFault::NoMemory => LocatedFault::NoMemory,
     }
 }
 
 /// What is made of these statements, by an assembler.
 #[tactic(auto, using(crate::proofs::AnswerLemmas::stopped))]
-fn made_of(alloc: Global, fatal: bool, statements: &[Statement], assembler: Assembler) -> Made
+fn assemble_statements(
+    alloc: Global,
+    fatal: bool,
+    statements: &[Statement],
+    assembler: Assembler,
+) -> Made
     ensures { MakesNoted result.notes result.object (placed_end fatal (place_all (map seen statements.now) (placed_by assembler))) }
 {
     let mut assembler = assembler;
@@ -86,7 +91,7 @@ fn made_of_text(alloc: Global, options: &Options, assembler: Assembler, text: &T
     ensures { MakesNoted result.notes result.object (assembly_of_lines (flags_of options.now) main_file text.now) }
 {
     match read_statements(alloc, text, MAIN_FILE) {
-        Ok(statements) => made_of(
+        Ok(statements) => assemble_statements(
             alloc,
             options.fatal_warnings,
             statements.as_slice(),
@@ -100,7 +105,7 @@ fn made_of_text(alloc: Global, options: &Options, assembler: Assembler, text: &T
 }
 
 /// What is made of a text, unless memory is refused.
-fn begun(alloc: Global, options: &Options, text: &Text) -> Result<Made, NoMemory>
+fn assemble_text(alloc: Global, options: &Options, text: &Text) -> Result<Made, NoMemory>
     ensures { IfOk result (λ made. MakesNoted made.notes made.object (assembly_of_lines (flags_of options.now) main_file text.now)) }
 {
     match Assembler::new(alloc, options.no_warn) {
@@ -134,7 +139,7 @@ fn answered(
     alloc: Global,
     name: &str,
     notes: Notes,
-    made: Result<Object, Stop>,
+    made: Result<Object, LocatedFault>,
 ) -> Result<Assembled, AsmFault>
     ensures { IsAnswered name.now notes made result }
 {
@@ -148,16 +153,16 @@ fn answered(
             files,
             object,
         }),
-        Err(Stop::Source(fault, pos)) => Err(AsmFault::Source(fault, pos, notes, files)),
-        Err(Stop::NoMemory) => Err(AsmFault::NoMemory),
+        Err(LocatedFault::Source(fault, pos)) => Err(AsmFault::Source(fault, pos, notes, files)),
+        Err(LocatedFault::NoMemory) => Err(AsmFault::NoMemory),
     }
 }
 
 /// The fault of a file that is too large.
-fn too_large() -> Stop
+fn too_large() -> LocatedFault
     ensures { result ≡ too_large_stop main_file }
 {
-    Stop::Source(
+    LocatedFault::Source(
         Fault::Statement(StatementFault::FileTooLarge),
         Pos {
             file: MAIN_FILE,
@@ -186,7 +191,7 @@ pub fn assemble<I: Inputs>(
 {
     let name = options.file.as_str();
     match read_text(alloc, ins, name) {
-        Ok(text) => match begun(alloc, options, &text) {
+        Ok(text) => match assemble_text(alloc, options, &text) {
             Ok(made) => answered(alloc, name, made.notes, made.object),
             Err(_) => Err(AsmFault::NoMemory),
         },

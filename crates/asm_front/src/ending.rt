@@ -6,7 +6,7 @@ ghost use Rattle.asm_front.specs.Stops.{MakesNoted, end_stop, object_stop};
 
 use asm_base::{EndFault, Fault, Noted, Notes, Pos};
 use asm_frags::{Laid, Sections};
-use asm_place::{NamedSymbols, Parts, Stop};
+use asm_place::{LocatedFault, Placed, SymbolUses};
 use asm_relax::{LayoutFault, Plan};
 use elf_object::{Object, ObjectFault};
 use std::alloc::Global;
@@ -45,7 +45,7 @@ fn named_at(named: &[Pos], index: usize) -> Pos
 }
 
 /// Where the size of a symbol is said.
-fn sized_at(table: &NamedSymbols, index: usize) -> Pos
+fn sized_at(table: &SymbolUses, index: usize) -> Pos
     ensures { result ≡ spec.sized_at table.now.sized index }
 {
     if index < 0x1_0000_0000 {
@@ -56,14 +56,14 @@ fn sized_at(table: &NamedSymbols, index: usize) -> Pos
 }
 
 /// A fault at the end, as that which ends the assembly.
-fn end_stop(fault: EndFault, pos: Pos) -> Stop
+fn end_stop(fault: EndFault, pos: Pos) -> LocatedFault
     ensures { result ≡ end_stop fault pos }
 {
-    Stop::Source(Fault::End(fault), pos)
+    LocatedFault::Source(Fault::End(fault), pos)
 }
 
 /// The fault of the object: at the first statement that names the symbol, at that of the field, or where the size is said.
-fn object_stop(table: &NamedSymbols, fault: ObjectFault) -> Stop
+fn object_stop(table: &SymbolUses, fault: ObjectFault) -> LocatedFault
     ensures { result ≡ object_stop table.now fault }
 {
     match fault {
@@ -76,7 +76,7 @@ fn object_stop(table: &NamedSymbols, fault: ObjectFault) -> Stop
             EndFault::NoRelocation,
             sized_at(table, index),
         ),
-        ObjectFault::NoMemory => Stop::NoMemory,
+        ObjectFault::NoMemory => LocatedFault::NoMemory,
     }
 }
 
@@ -97,7 +97,7 @@ fn first_warning(fatal: bool, notes: &[Noted]) -> Option<Pos>
 #[derive(Drop)]
 pub(crate) struct Made {
     pub(crate) notes: Notes,
-    pub(crate) object: Result<Object, Stop>,
+    pub(crate) object: Result<Object, LocatedFault>,
 }
 
 /// The object of what is laid out, or the first fault there.
@@ -105,9 +105,9 @@ fn laid_end(
     alloc: Global,
     fatal: bool,
     sections: Sections<Laid>,
-    table: &NamedSymbols,
+    table: &SymbolUses,
     notes: &[Noted],
-) -> Result<Object, Stop>
+) -> Result<Object, LocatedFault>
     ensures { MakesNoted notes.now result (spec.laid_end fatal table.now notes.now (Ok sections)) }
 {
     match Object::new(alloc, sections, table.symbols()) {
@@ -125,9 +125,9 @@ fn finished_object(
     alloc: Global,
     fatal: bool,
     sections: Sections,
-    table: &NamedSymbols,
+    table: &SymbolUses,
     notes: &[Noted],
-) -> Result<Object, Stop>
+) -> Result<Object, LocatedFault>
     ensures { MakesNoted notes.now result (spec.finished fatal sections table.now notes.now) }
 {
     let mut plan = Plan::new(alloc, sections, table.symbols())?;
@@ -141,11 +141,11 @@ fn finished_object(
 }
 
 /// The object of what was placed, or the first fault at the end of the source, with the notes.
-pub(crate) fn finished(alloc: Global, fatal: bool, parts: Parts) -> Made
+pub(crate) fn finished(alloc: Global, fatal: bool, parts: Placed) -> Made
     ensures made { MakesNoted result.notes result.object (spec.finished fatal parts.sections parts.table parts.notes) }
     ensures notes { result.notes ≡ parts.notes }
 {
-    let Parts {
+    let Placed {
         sections,
         table,
         notes,

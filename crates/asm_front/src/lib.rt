@@ -5,10 +5,6 @@ mod answers;
 mod assembling;
 mod ending;
 mod laws;
-#[cfg(test)]
-mod row_tests;
-#[cfg(test)]
-mod tests;
 
 pub use answers::{AsmFault, Assembled, Options};
 pub use assembling::assemble;

@@ -7,8 +7,6 @@ mod laws;
 mod line_numbers;
 mod reading;
 mod statements;
-#[cfg(test)]
-mod tests;
 
 pub use faults::LineFault;
 pub use laws::{lines_never_fall, no_statement_has_nul, statements_are_whole};

@@ -27,7 +27,7 @@ use Rattle.asm_place.specs.Places.{Item, LooseSection}
 use Rattle.asm_place.specs.State.{Placed, with_table, item_of, push_into}
 use Rattle.asm_place.specs.Idents.{plain_item, items_in}
 use Rattle.asm_place.specs.Placing.{place_row, place_instruction, begins_with_dot, place_body, is_label, place_label, place_tokens}
-use Rattle.asm_place.specs.Sources.{pos_at, standing, place, place_all}
+use Rattle.asm_place.specs.Sources.{pos_at, located, place, place_all}
 use Rattle.asm_place.specs.Instructions.{behind_labels, row_written, instruction_of, next_item, Grows, IsPut, StandsAt}
 use Rattle.asm_place.proofs.GrowthLemmas.{get_set, get_append}
 use Rattle.asm_place.proofs.PlacingLaws.{all_grow}
@@ -153,15 +153,15 @@ instruction_put pos (first ∷ second ∷ rest) before placed row written is =
     label_test pos (is_label first second) first second rest before placed row (λ labels. instruction_put pos rest labels placed row) written is
 
 -- what a statement adds, where the others before and behind it are placed too
-standing_ok : (pos : Pos) (notes : List Noted) (answer : Result Placed StatementFault) (next : Placed) → standing pos notes answer ≡ Ok next → answer ≡ Ok next
-standing_ok pos notes (Ok more) next is = ap Ok (same_Ok more next is)
-standing_ok pos notes (Err fault) next is = err-ok _ next is
+located_ok : (pos : Pos) (notes : List Noted) (answer : Result Placed StatementFault) (next : Placed) → located pos notes answer ≡ Ok next → answer ≡ Ok next
+located_ok pos notes (Ok more) next is = ap Ok (same_Ok more next is)
+located_ok pos notes (Err fault) next is = err-ok _ next is
 
 statement_put : (s : StatementAt) (before next : Placed) (row : Row) → instruction_of s ≡ Some row → place s before ≡ Ok next → Puts (pos_at s.file s.line) row before next
 unfolding place
 statement_put s before next row written is =
     instruction_put (pos_at s.file s.line) (tokens_of s.bytes) before next row written
-    (standing_ok (pos_at s.file s.line) before.notes (place_tokens (pos_at s.file s.line) (tokens_of s.bytes) before) next is)
+    (located_ok (pos_at s.file s.line) before.notes (place_tokens (pos_at s.file s.line) (tokens_of s.bytes) before) next is)
 
 first_placed : {C : Type 0} (s : StatementAt) (later : List StatementAt) (placed whole : Placed) → place_all (s ∷ later) placed ≡ Ok whole
     → ((next : Placed) → place s placed ≡ Ok next → place_all later next ≡ Ok whole → C) → C

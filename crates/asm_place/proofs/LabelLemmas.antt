@@ -8,8 +8,8 @@ use Rattle.asm_base.specs.declared.tokens.Token.{Token}
 use Rattle.asm_base.specs.declared.faults.StatementFault.{StatementFault}
 use Rattle.asm_base.specs.Tokens.{spelled, SpelledToken}
 use Rattle.asm_place.specs.Answers.{Fails}
-use Rattle.asm_place.specs.declared.steps.StepFault.{StepFault}
-use Rattle.asm_place.specs.declared.steps.StepFault.TheVariants.{Source, NoMemory}
+use Rattle.asm_place.specs.declared.place_faults.PlaceFault.{PlaceFault}
+use Rattle.asm_place.specs.declared.place_faults.PlaceFault.TheVariants.{Source, NoMemory}
 use Rattle.asm_place.specs.Results.{◌>>=◌}
 use Rattle.asm_place.specs.State.{Placed}
 use Rattle.asm_place.specs.Placing.{place_label, place_body, place_unlabelled, begins_with_label, is_label, place_tokens}
@@ -51,7 +51,7 @@ label_stop pos tokens at d placed fault whole inside labelled is before =
     sym before ∙ label_left pos tokens at d placed inside labelled ∙ ap (λ r. r >>= (λ labels. place_tokens pos (map spelled (drop (at + 2) tokens)) labels)) is
 
 -- a label that can't be placed ends the statement
-pub label_fails : (pos : Pos) (tokens : List Token) (at : ℕ) (d : Token) (placed : Placed) (fault : StepFault) (whole : Result Placed StatementFault)
+pub label_fails : (pos : Pos) (tokens : List Token) (at : ℕ) (d : Token) (placed : Placed) (fault : PlaceFault) (whole : Result Placed StatementFault)
     → at + 2 ≤ length tokens → begins_with_label (map spelled (drop at tokens)) ≡ true → Fails fault (place_label pos (spelled (get_or tokens at d)) placed)
     → place_tokens pos (map spelled (drop at tokens)) placed ≡ whole → Fails fault whole
 label_fails pos tokens at d placed (Source fault) whole inside labelled is before = label_stop pos tokens at d placed fault whole inside labelled is before

@@ -25,15 +25,15 @@ use Rattle.asm_symbols.specs.Defining.{defined}
 use Rattle.asm_symbols.specs.LeadsBack.{assigned}
 use Rattle.asm_place.specs.declared.directives.Directive.{Directive}
 use Rattle.asm_place.specs.declared.directives.Directive.TheVariants as directive
-use Rattle.asm_place.specs.declared.directives.Saying.{Saying}
+use Rattle.asm_place.specs.declared.directives.SymbolAttribute.{SymbolAttribute}
 use Rattle.asm_place.specs.declared.instructions.Row.{Row}
 use Rattle.asm_place.specs.declared.section_changes.Header.{Header}
 use Rattle.asm_place.specs.declared.stacks.Entered.{Entered}
 use Rattle.asm_place.specs.Results.{◌>>=◌}
 use Rattle.asm_place.specs.LayerFaults.{of_sections}
 use Rattle.asm_place.specs.Operands.{is_name, names_symbol, operands_of}
-use Rattle.asm_place.specs.Expressions.{expression_of, form_in, constant_in, few_listed}
-use Rattle.asm_place.specs.Places.{Item, LooseSection, keeps_here, spot_at}
+use Rattle.asm_place.specs.Expressions.{expression_of, form_in, constant_in, up_to_three_listed}
+use Rattle.asm_place.specs.Places.{Item, LooseSection, uses_dot, spot_at}
 use Rattle.asm_place.specs.State.{Placed, with_table, with_notes, here, known_here, item_of, push_into}
 use Rattle.asm_place.specs.DataItems.{data_of, is_cut, cut_notes}
 use Rattle.asm_place.specs.SectionWords.{SectionWords}
@@ -43,8 +43,8 @@ use Rattle.asm_place.specs.Operands.{name_of}
 use Rattle.asm_place.specs.Assignments.{assign_words, place_set, place_assignment}
 use Rattle.asm_place.specs.Commons.{bss, with_space, with_common, is_said_local, place_space, place_comm, place_lcomm}
 use Rattle.asm_place.specs.Idents.{plain_item, items_in, comment_bytes, comment_header, place_ident, place_file}
-use Rattle.asm_place.specs.Placing.{place_data, place_strings, with_item as with_space_item, place_zero, place_skip, place_fill, bare, basic_number, place_by, place_found, place_directive, place_row, place_instruction, is_assignment, begins_with_dot, place_body, is_label, place_label, place_tokens}
-use Rattle.asm_place.specs.Sources.{FaultAt, pos_at, standing, place, place_all}
+use Rattle.asm_place.specs.Placing.{place_data, place_strings, with_item as with_space_item, place_zero, place_skip, place_fill, bare, initial_number, place_by, place_found, place_directive, place_row, place_instruction, is_assignment, begins_with_dot, place_body, is_label, place_label, place_tokens}
+use Rattle.asm_place.specs.Sources.{FaultAt, pos_at, located, place, place_all}
 use Rattle.asm_place.specs.Faults.{is_file_too_large}
 use Rattle.asm_place.specs.Instructions.{Grows}
 use Rattle.asm_place.proofs.GrowthLemmas.{grows_not, grows_on, grows_by_item, grows_by_sections}
@@ -125,7 +125,7 @@ data_steps pos size tokens placed =
     after (each_quiet expression_of expression_quiet (operands_of tokens))
     (λ trees. after (each_quiet (form_in (known_here placed)) (form_quiet (known_here placed)) trees)
     (λ forms. grown placed (push_steps pos placed.current (content.Bytes (data_of size forms)) placed)
-    (λ pushed. after (name_parts_quiet pos (here placed) (list_any (keeps_here (here placed)) forms) trees pushed.table)
+    (λ pushed. after (name_parts_quiet pos (here placed) (list_any (uses_dot (here placed)) forms) trees pushed.table)
     (λ table. made (with_notes (cut_notes pos (count_by (is_cut size) forms)) (with_table pushed table)) (still pushed)))))
 
 strings_steps : (pos : Pos) (ended : Bool) (tokens : List SpelledToken) (placed : Placed) → Steps placed (place_strings pos ended tokens placed)
@@ -140,28 +140,28 @@ zero_steps : (pos : Pos) (tokens : List SpelledToken) (placed : Placed) → Step
 unfolding place_zero
 zero_steps pos tokens placed =
     after (few_trees_quiet 1 (operands_of tokens)) (λ trees. after (few_values_quiet (known_here placed) trees)
-    (λ values. after (space_quiet values.first 0) (λ item. item_steps pos (few_listed trees) item placed)))
+    (λ values. after (space_quiet values.first 0) (λ item. item_steps pos (up_to_three_listed trees) item placed)))
 
 skip_steps : (pos : Pos) (tokens : List SpelledToken) (placed : Placed) → Steps placed (place_skip pos tokens placed)
 unfolding place_skip
 skip_steps pos tokens placed =
     after (few_trees_quiet 2 (operands_of tokens)) (λ trees. after (few_values_quiet (known_here placed) trees)
-    (λ values. after (space_quiet values.first (unwrap_or values.second 0)) (λ item. item_steps pos (few_listed trees) item placed)))
+    (λ values. after (space_quiet values.first (unwrap_or values.second 0)) (λ item. item_steps pos (up_to_three_listed trees) item placed)))
 
 fill_steps : (pos : Pos) (tokens : List SpelledToken) (placed : Placed) → Steps placed (place_fill pos tokens placed)
 unfolding place_fill
 fill_steps pos tokens placed =
     after (few_trees_quiet 3 (operands_of tokens)) (λ trees. after (few_values_quiet (known_here placed) trees)
     (λ values. after (unit_size_quiet values.second) (λ size. after (units_quiet values.first size (unwrap_or values.third 0))
-    (λ item. item_steps pos (few_listed trees) item placed))))
+    (λ item. item_steps pos (up_to_three_listed trees) item placed))))
 
 -- symbols
-said_steps : (pos : Pos) (saying : Saying) (tokens : List SpelledToken) (placed : Placed) → Steps placed (place_said pos saying tokens placed)
+said_steps : (pos : Pos) (attribute : SymbolAttribute) (tokens : List SpelledToken) (placed : Placed) → Steps placed (place_said pos attribute tokens placed)
 unfolding place_said
-said_steps pos saying [] placed = refused _ refl
-said_steps pos saying (token ∷ rest) placed =
+said_steps pos attribute [] placed = refused _ refl
+said_steps pos attribute (token ∷ rest) placed =
     after (each_quiet plain_of plain_quiet (operands_of (token ∷ rest)))
-    (λ names. after (say_all_quiet pos saying names placed.table) (λ table. made (with_table placed table) (still placed)))
+    (λ names. after (say_all_quiet pos attribute names placed.table) (λ table. made (with_table placed table) (still placed)))
 
 type_steps : (pos : Pos) (tokens : List SpelledToken) (placed : Placed) → Steps placed (place_type pos tokens placed)
 unfolding place_type
@@ -216,14 +216,14 @@ unfolding place_comm
 comm_steps pos tokens placed =
     after (space_words_quiet 2 tokens) (λ words. after (few_values_quiet (known_here placed) words.trees)
     (λ values. after (space_size_quiet values.first) (λ size. after (log_quiet values.second size)
-    (λ log. space_steps (is_said_local placed.table.symbols words.name) pos words.name (few_listed words.trees) size log placed))))
+    (λ log. space_steps (is_said_local placed.table.symbols words.name) pos words.name (up_to_three_listed words.trees) size log placed))))
 
 lcomm_steps : (pos : Pos) (tokens : List SpelledToken) (placed : Placed) → Steps placed (place_lcomm pos tokens placed)
 unfolding place_lcomm
 lcomm_steps pos tokens placed =
     after (space_words_quiet 1 tokens) (λ words. after (few_values_quiet (known_here placed) words.trees)
     (λ values. after (space_size_quiet values.first) (λ size. after (log_quiet None size)
-    (λ log. with_space_steps pos words.name (few_listed words.trees) size log placed))))
+    (λ log. with_space_steps pos words.name (up_to_three_listed words.trees) size log placed))))
 
 -- texts
 ident_steps : (pos : Pos) (tokens : List SpelledToken) (placed : Placed) → Steps placed (place_ident pos tokens placed)
@@ -253,12 +253,12 @@ by_steps (directive.Strings ended) pos tokens placed = strings_steps pos ended t
 by_steps directive.Zero pos tokens placed = zero_steps pos tokens placed
 by_steps directive.Skip pos tokens placed = skip_steps pos tokens placed
 by_steps directive.Fill pos tokens placed = fill_steps pos tokens placed
-by_steps (directive.Enter basic) pos tokens placed = bare_steps tokens placed (Ok (with_current (basic_number basic) placed)) (made _ (still placed))
+by_steps (directive.Enter initial) pos tokens placed = bare_steps tokens placed (Ok (with_current (initial_number initial) placed)) (made _ (still placed))
 by_steps directive.Section pos tokens placed = section_steps pos tokens placed
 by_steps directive.PushSection pos tokens placed = pushed_steps pos tokens placed
 by_steps directive.PopSection pos tokens placed = bare_steps tokens placed (popped placed) (popped_steps placed)
 by_steps directive.Previous pos tokens placed = bare_steps tokens placed (Ok (with_current placed.previous placed)) (made _ (still placed))
-by_steps (directive.Say saying) pos tokens placed = said_steps pos saying tokens placed
+by_steps (directive.Say attribute) pos tokens placed = said_steps pos attribute tokens placed
 by_steps directive.Type pos tokens placed = type_steps pos tokens placed
 by_steps directive.Size pos tokens placed = size_steps pos tokens placed
 by_steps (directive.Assign once) pos tokens placed = set_steps pos once tokens placed
@@ -311,13 +311,13 @@ tokens_steps pos (first ∷ second ∷ rest) placed =
 record FineAt (before : Placed) (result : Result Placed FaultAt) : Type 0 where
   holds : MatchResult result (λ after. Grows before.sections after.sections) (λ fault. is_file_too_large fault.fault ≡ false)
 
-standing_fine : (pos : Pos) (notes : List Noted) (before : Placed) (answer : Result Placed StatementFault) → Steps before answer → FineAt before (standing pos notes answer)
-standing_fine pos notes before (Ok more) steps = record { holds = steps.holds }
-standing_fine pos notes before (Err fault) steps = record { holds = steps.holds }
+located_fine : (pos : Pos) (notes : List Noted) (before : Placed) (answer : Result Placed StatementFault) → Steps before answer → FineAt before (located pos notes answer)
+located_fine pos notes before (Ok more) steps = record { holds = steps.holds }
+located_fine pos notes before (Err fault) steps = record { holds = steps.holds }
 
 place_fine : (s : StatementAt) (placed : Placed) → FineAt placed (place s placed)
 unfolding place
-place_fine s placed = standing_fine (pos_at s.file s.line) placed.notes placed _ (tokens_steps (pos_at s.file s.line) (tokens_of s.bytes) placed)
+place_fine s placed = located_fine (pos_at s.file s.line) placed.notes placed _ (tokens_steps (pos_at s.file s.line) (tokens_of s.bytes) placed)
 
 on_at : (before between : Placed) (r : Result Placed FaultAt) → Grows before.sections between.sections → FineAt between r → FineAt before r
 on_at before between (Ok x) grown later = record { holds = grows_on before.sections between.sections x.sections grown later.holds }

@@ -22,10 +22,10 @@ use Rattle.asm_symbols.specs.declared.entries.Spot.{Spot}
 use Rattle.asm_symbols.specs.declared.faults.SymFault.{SymFault}
 use Rattle.asm_symbols.specs.SymbolMap.{SymbolMap}
 use Rattle.asm_symbols.specs.Defining.{defined}
-use Rattle.asm_place.specs.declared.directives.Saying.{Saying}
-use Rattle.asm_place.specs.declared.few.Few.{Few}
+use Rattle.asm_place.specs.declared.directives.SymbolAttribute.{SymbolAttribute}
+use Rattle.asm_place.specs.declared.up_to_three.UpToThree.{UpToThree}
 use Rattle.asm_place.specs.Operands.{checked_name, name_by_kind, symbol_name, name_of, string_by_kind, string_of, operands_of, each, joined_strings}
-use Rattle.asm_place.specs.Expressions.{alone, expression_of, form_in, constant_in, each_few, first_tree, next_tree, next_tree_if, no_more, few_trees, few_values}
+use Rattle.asm_place.specs.Expressions.{alone, expression_of, form_in, constant_in, each_up_to_three, first_tree, next_tree, next_tree_if, no_more, up_to_three_trees, up_to_three_values}
 use Rattle.asm_place.specs.Tables.{Table, symbol_of, next_symbol, changed_by, change_named, file_named, back_by, name_written, name_list, name_tree, name_trees}
 use Rattle.asm_place.specs.Places.{LooseSection, here_by, name_here, name_part, name_parts}
 use Rattle.asm_place.specs.Spaces.{most_space, is_negative, fill_item, space_of, units_of, unit_size, said_log, log_of}
@@ -101,7 +101,7 @@ pub constant_quiet : (form : Form) → Quiet (constant_in form)
 unfolding constant_in
 constant_quiet form = in_statement_quiet _
 
-each_few_quiet : {A B : Type 0} (give : A → Result B StatementFault) → ((one : A) → Quiet (give one)) → (few : Few A) → Quiet (each_few give few)
+each_few_quiet : {A B : Type 0} (give : A → Result B StatementFault) → ((one : A) → Quiet (give one)) → (few : UpToThree A) → Quiet (each_up_to_three give few)
 each_few_quiet give fine few =
     after (fine few.first) (λ first. after (if_some_quiet give fine few.second) (λ second. after (if_some_quiet give fine few.third) (λ third. done _)))
 
@@ -124,14 +124,14 @@ pub no_more_quiet : {A : Type 0} (operands : List (List SpelledToken)) (x : A) �
 no_more_quiet [] x = done _
 no_more_quiet (operand ∷ operands) x = refused _ refl
 
-pub few_trees_quiet : (most : ℕ) (operands : List (List SpelledToken)) → Quiet (few_trees most operands)
-unfolding few_trees
+pub few_trees_quiet : (most : ℕ) (operands : List (List SpelledToken)) → Quiet (up_to_three_trees most operands)
+unfolding up_to_three_trees
 few_trees_quiet most operands =
     after (first_tree_quiet operands) (λ one. after (next_if_quiet (nat_le 2 most) one.1) (λ two. after (next_if_quiet (nat_le 3 most) two.1)
     (λ three. no_more_quiet three.1 (record { first = one.0; second = two.0; third = three.0 }))))
 
-pub few_values_quiet : (known : Knowledge) (trees : Few Tree) → Quiet (few_values known trees)
-unfolding few_values
+pub few_values_quiet : (known : Knowledge) (trees : UpToThree Tree) → Quiet (up_to_three_values known trees)
+unfolding up_to_three_values
 few_values_quiet known trees = after (each_few_quiet (form_in known) (form_quiet known) trees) (λ forms. each_few_quiet constant_in constant_quiet forms)
 
 -- symbols
@@ -280,9 +280,9 @@ header_quiet sections words size =
     (λ kind. after (entry_size_quiet words.flags size _) (λ entry_size. done _)))
 
 -- words of symbols
-pub say_all_quiet : (pos : Pos) (saying : Saying) (names : List Naming) (table : Table) → Quiet (say_all pos saying names table)
+pub say_all_quiet : (pos : Pos) (attribute : SymbolAttribute) (names : List Naming) (table : Table) → Quiet (say_all pos attribute names table)
 unfolding say_all
-say_all_quiet pos saying names table = all_quiet (say_one pos saying) (λ name state. change_named_quiet pos _ name state) names table
+say_all_quiet pos attribute names table = all_quiet (say_one pos attribute) (λ name state. change_named_quiet pos _ name state) names table
 
 pub plain_quiet : (operand : List SpelledToken) → Quiet (plain_of operand)
 unfolding plain_of

@@ -18,14 +18,14 @@ use Rattle.asm_symbols.specs.declared.entries.Definition.{Definition}
 use Rattle.asm_symbols.specs.declared.entries.Definition.TheVariants.{Common, Space}
 use Rattle.asm_symbols.specs.SymbolMap.{SymbolMap, names, index_of, with_symbol}
 use Rattle.asm_symbols.specs.Defining.{defined}
-use Rattle.asm_symbols.specs.Saying.{with_kind, with_size}
+use Rattle.asm_symbols.specs.Attributes.{with_kind, with_size}
 use Rattle.asm_place.specs.Results.{◌>>=◌}
 use Rattle.asm_place.specs.Tables.{Table, symbol_of, changed_by, with_map, name_trees}
 use Rattle.asm_place.specs.Places.{spot_at}
 use Rattle.asm_place.specs.State.{Placed, with_table, push_into, known_here}
 use Rattle.asm_place.specs.Operands.{name_of, operands_of}
-use Rattle.asm_place.specs.declared.few.Few.{Few}
-use Rattle.asm_place.specs.Expressions.{few_listed, few_trees, few_values}
+use Rattle.asm_place.specs.declared.up_to_three.UpToThree.{UpToThree}
+use Rattle.asm_place.specs.Expressions.{up_to_three_listed, up_to_three_trees, up_to_three_values}
 use Rattle.asm_place.specs.Spaces.{is_negative, space_of, log_of}
 use Rattle.asm_place.specs.SectionWords.{needed}
 
@@ -83,10 +83,10 @@ space_size size = if is_negative size then Err OutOfRange else Ok size
 -- the name, and the size and the alignment that are said
 pub record SpaceWords : Type 0 where
   pub name : Name
-  pub trees : Few Tree
+  pub trees : UpToThree Tree
 
 unfoldable pub space_words : ℕ → List SpelledToken → Result SpaceWords StatementFault
-space_words most tokens = needed name_of (operands_of tokens) >>= λ name. few_trees most name.1 >>= λ trees. Ok (record { name = naming.Plain name.0; trees = trees })
+space_words most tokens = needed name_of (operands_of tokens) >>= λ name. up_to_three_trees most name.1 >>= λ trees. Ok (record { name = naming.Plain name.0; trees = trees })
 
 abbrev pub place_space : Bool → Pos → Name → List Tree → ℕ → ℕ → Placed → Result Placed StatementFault
 place_space true = with_space
@@ -95,12 +95,12 @@ place_space false = with_common
 -- `.comm`: of a symbol that is local the space is this object's
 unfoldable pub place_comm : Pos → List SpelledToken → Placed → Result Placed StatementFault
 place_comm pos tokens placed =
-    space_words 2 tokens >>= λ words. few_values (known_here placed) words.trees >>= λ values. space_size values.first >>= λ size.
+    space_words 2 tokens >>= λ words. up_to_three_values (known_here placed) words.trees >>= λ values. space_size values.first >>= λ size.
     log_of values.second size >>= λ log.
-    place_space (is_said_local placed.table.symbols words.name) pos words.name (few_listed words.trees) size log placed
+    place_space (is_said_local placed.table.symbols words.name) pos words.name (up_to_three_listed words.trees) size log placed
 
 -- `.lcomm`
 unfoldable pub place_lcomm : Pos → List SpelledToken → Placed → Result Placed StatementFault
 place_lcomm pos tokens placed =
-    space_words 1 tokens >>= λ words. few_values (known_here placed) words.trees >>= λ values. space_size values.first >>= λ size.
-    log_of None size >>= λ log. with_space pos words.name (few_listed words.trees) size log placed
+    space_words 1 tokens >>= λ words. up_to_three_values (known_here placed) words.trees >>= λ values. space_size values.first >>= λ size.
+    log_of None size >>= λ log. with_space pos words.name (up_to_three_listed words.trees) size log placed

@@ -4,8 +4,8 @@ use Rattle.asm_base.specs.declared.faults.StatementFault.{StatementFault}
 use Rattle.asm_base.specs.declared.faults.StatementFault.TheVariants as statement
 use Rattle.asm_expr.specs.declared.faults.ExprFault.{ExprFault}
 use Rattle.asm_expr.specs.declared.faults.ExprFault.TheVariants.{BadExpression, NumberTooWide, ExpressionTooDeep, DivisionByZero, ValueNotKnown, NotASumOfSymbols, NoMemory}
-use Rattle.asm_place.specs.declared.steps.StepFault.{StepFault}
-use Rattle.asm_place.specs.declared.steps.StepFault.TheVariants as step
+use Rattle.asm_place.specs.declared.place_faults.PlaceFault.{PlaceFault}
+use Rattle.asm_place.specs.declared.place_faults.PlaceFault.TheVariants as step
 
 -- the fault of the statement; a definition never wants memory
 abbrev pub stated : ExprFault → StatementFault
@@ -23,7 +23,7 @@ in_statement (Ok made) = Ok made
 in_statement (Err fault) = Err (stated fault)
 
 -- the fault of a step
-abbrev pub step_fault : ExprFault → StepFault
+abbrev pub step_fault : ExprFault → PlaceFault
 step_fault BadExpression = step.Source statement.BadExpression
 step_fault NumberTooWide = step.Source statement.NumberTooWide
 step_fault ExpressionTooDeep = step.Source statement.ExpressionTooDeep

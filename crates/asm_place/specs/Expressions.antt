@@ -9,7 +9,7 @@ use Rattle.asm_expr.specs.Forms.{Form}
 use Rattle.asm_expr.specs.Knowledge.{Knowledge}
 use Rattle.asm_expr.specs.Reading.{reading}
 use Rattle.asm_expr.specs.Linear.{linear, value_of}
-use Rattle.asm_place.specs.declared.few.Few.{Few}
+use Rattle.asm_place.specs.declared.up_to_three.UpToThree.{UpToThree}
 use Rattle.asm_place.specs.Results.{◌>>=◌, if_some}
 use Rattle.asm_place.specs.ExprFaults.{in_statement}
 
@@ -30,12 +30,12 @@ form_in known tree = in_statement (linear known tree)
 unfoldable pub constant_in : Form → Result ℕ StatementFault
 constant_in form = in_statement (value_of form)
 
-abbrev pub few_listed : {A : Type 0} → Few A → List A
-few_listed few = few.first ∷ (option_to_list few.second ++ option_to_list few.third)
+abbrev pub up_to_three_listed : {A : Type 0} → UpToThree A → List A
+up_to_three_listed few = few.first ∷ (option_to_list few.second ++ option_to_list few.third)
 
 -- what is given of each, from the first to the third
-abbrev pub each_few : {A B : Type 0} → (A → Result B StatementFault) → Few A → Result (Few B) StatementFault
-each_few give few =
+abbrev pub each_up_to_three : {A B : Type 0} → (A → Result B StatementFault) → UpToThree A → Result (UpToThree B) StatementFault
+each_up_to_three give few =
     give few.first >>= λ first. if_some give few.second >>= λ second. if_some give few.third >>= λ third.
     Ok (record { first = first; second = second; third = third })
 
@@ -61,11 +61,11 @@ no_more [] done = Ok done
 no_more (operand ∷ operands) done = Err BadOperand
 
 -- one expression, or as many more as there may be in all
-unfoldable pub few_trees : ℕ → List (List SpelledToken) → Result (Few Tree) StatementFault
-few_trees most operands =
+unfoldable pub up_to_three_trees : ℕ → List (List SpelledToken) → Result (UpToThree Tree) StatementFault
+up_to_three_trees most operands =
     first_tree operands >>= λ one. next_tree_if (nat_le 2 most) one.1 >>= λ two. next_tree_if (nat_le 3 most) two.1 >>= λ three.
     no_more three.1 (record { first = one.0; second = two.0; third = three.0 })
 
 -- their values: first the forms of all are made, and then each value has to be known
-unfoldable pub few_values : Knowledge → Few Tree → Result (Few ℕ) StatementFault
-few_values known trees = each_few (form_in known) trees >>= each_few constant_in
+unfoldable pub up_to_three_values : Knowledge → UpToThree Tree → Result (UpToThree ℕ) StatementFault
+up_to_three_values known trees = each_up_to_three (form_in known) trees >>= each_up_to_three constant_in

@@ -6,8 +6,8 @@ use Rattle.asm_symbols.specs.declared.faults.SymFault.{SymFault}
 use Rattle.asm_symbols.specs.declared.faults.SymFault.TheVariants as symbol
 use Rattle.asm_frags.specs.declared.faults.FragFault.{FragFault}
 use Rattle.asm_frags.specs.declared.faults.FragFault.TheVariants as frag
-use Rattle.asm_place.specs.declared.steps.StepFault.{StepFault}
-use Rattle.asm_place.specs.declared.steps.StepFault.TheVariants as step
+use Rattle.asm_place.specs.declared.place_faults.PlaceFault.{PlaceFault}
+use Rattle.asm_place.specs.declared.place_faults.PlaceFault.TheVariants as step
 
 -- the fault of the statement; a definition never wants memory
 abbrev pub symbol_fault : SymFault → StatementFault
@@ -30,11 +30,11 @@ of_sections (Ok made) = Ok made
 of_sections (Err fault) = Err (section_fault fault)
 
 -- the faults of a step
-abbrev pub symbol_step : SymFault → StepFault
+abbrev pub symbol_step : SymFault → PlaceFault
 symbol_step symbol.SymbolAlreadyDefined = step.Source statement.SymbolAlreadyDefined
 symbol_step symbol.BadSymbolUse = step.Source statement.BadSymbolUse
 symbol_step symbol.NoMemory = step.NoMemory
 
-abbrev pub section_step : FragFault → StepFault
+abbrev pub section_step : FragFault → PlaceFault
 section_step frag.BadSection = step.Source statement.BadSection
 section_step frag.NoMemory = step.NoMemory

@@ -11,7 +11,7 @@ pub mod Tables
 pub mod Places
 pub mod State
 pub mod Expressions
-pub mod FewTrees
+pub mod UpToThreeTrees
 pub mod DataItems
 pub mod Spaces
 pub mod SectionWords

@@ -12,7 +12,7 @@ use Rattle.asm_expr.specs.Trees.{Tree}
 use Rattle.asm_frags.specs.declared.phases.Loose.{Loose}
 use Rattle.asm_frags.specs.declared.items.Frag.{Frag}
 use Rattle.asm_frags.specs.SectionOf.{SectionOf}
-use Rattle.asm_frags.specs.Reaches.{reach_of}
+use Rattle.asm_frags.specs.KnownExtents.{extent_of}
 use Rattle.asm_symbols.specs.declared.entries.Spot.{Spot}
 use Rattle.asm_symbols.specs.declared.entries.Definition.TheVariants.{Label}
 use Rattle.asm_symbols.specs.SymbolMap.{SymbolMap, names, index_of}
@@ -32,8 +32,8 @@ LooseSection = SectionOf Item
 -- behind the items of a section: labels of one stretch have only items of one possible size between them
 abbrev pub spot_in : ℕ → LooseSection → Spot
 spot_in number section =
-    let reach = reach_of section.items in
-    record { section = number; item = length section.items; stretch = number * 2 ^ 32 + reach.breaks; at = reach.bytes }
+    let extent = extent_of section.items in
+    record { section = number; item = length section.items; stretch = number * 2 ^ 32 + extent.breaks; at = extent.bytes }
 
 -- behind the items of the section of this number
 unfoldable pub spot_at : List LooseSection → ℕ → Spot
@@ -57,8 +57,8 @@ abbrev pub known_at : SymbolMap → Spot → Knowledge
 known_at map spot = record { told = told_at map spot; counted = counted map.counts; place = here_name spot }
 
 -- a form keeps the place where it does not cancel
-abbrev pub keeps_here : Spot → Form → Bool
-keeps_here spot form = list_any (λ term. is_here spot term.name) form.terms
+abbrev pub uses_dot : Spot → Form → Bool
+uses_dot spot form = list_any (λ term. is_here spot term.name) form.terms
 
 -- then the place becomes a symbol of its own, unless it is one already
 abbrev pub here_by : Pos → Spot → Option ℕ → Table → Result Table StatementFault

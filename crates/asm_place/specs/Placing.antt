@@ -19,17 +19,17 @@ use Rattle.asm_symbols.specs.declared.entries.Definition.TheVariants.{Label}
 use Rattle.asm_symbols.specs.Defining.{defined}
 use Rattle.asm_place.specs.declared.directives.Directive.{Directive}
 use Rattle.asm_place.specs.declared.directives.Directive.TheVariants as directive
-use Rattle.asm_place.specs.declared.directives.Basic.{Basic}
-use Rattle.asm_place.specs.declared.directives.Basic.TheVariants.{Text, Data, Bss}
+use Rattle.asm_place.specs.declared.directives.InitialSection.{InitialSection}
+use Rattle.asm_place.specs.declared.directives.InitialSection.TheVariants.{Text, Data, Bss}
 use Rattle.asm_place.specs.declared.instructions.Row.{Row}
 use Rattle.asm_place.specs.Results.{◌>>=◌}
 use Rattle.asm_place.specs.Rows.{the_rows, has_name, bytes_of}
 use Rattle.asm_place.specs.ExprFaults.{in_statement}
 use Rattle.asm_place.specs.Tables.{Table, symbol_of, next_symbol, changed_by, name_trees}
-use Rattle.asm_place.specs.Places.{keeps_here, name_parts}
+use Rattle.asm_place.specs.Places.{uses_dot, name_parts}
 use Rattle.asm_place.specs.State.{Placed, with_table, with_notes, here, known_here, push_item}
 use Rattle.asm_place.specs.Operands.{is_name, is_mark, names_symbol, symbol_name, operands_of, each, joined_strings}
-use Rattle.asm_place.specs.Expressions.{few_listed, expression_of, form_in, few_trees, few_values}
+use Rattle.asm_place.specs.Expressions.{up_to_three_listed, expression_of, form_in, up_to_three_trees, up_to_three_values}
 use Rattle.asm_place.specs.DataItems.{data_of, is_cut, cut_notes}
 use Rattle.asm_place.specs.Spaces.{space_of, units_of, unit_size}
 use Rattle.asm_place.specs.SectionChanges.{with_current, place_section, place_pushed, popped}
@@ -44,7 +44,7 @@ unfoldable pub place_data : Pos → FieldSize → List SpelledToken → Placed �
 place_data pos size tokens placed =
     each expression_of (operands_of tokens) >>= λ trees. each (form_in (known_here placed)) trees >>= λ forms.
     push_item pos (content.Bytes (data_of size forms)) placed >>= λ pushed.
-    name_parts pos (here placed) (list_any (keeps_here (here placed)) forms) trees pushed.table >>= λ table.
+    name_parts pos (here placed) (list_any (uses_dot (here placed)) forms) trees pushed.table >>= λ table.
     Ok (with_notes (cut_notes pos (count_by (is_cut size) forms)) (with_table pushed table))
 
 -- `.ascii` and the others: the bytes of all strings, each with a zero byte behind it where that is asked for
@@ -58,20 +58,20 @@ with_item pos trees item placed = push_item pos item placed >>= λ pushed. name_
 -- `.zero`
 unfoldable pub place_zero : Pos → List SpelledToken → Placed → Result Placed StatementFault
 place_zero pos tokens placed =
-    few_trees 1 (operands_of tokens) >>= λ trees. few_values (known_here placed) trees >>= λ values.
-    space_of values.first 0 >>= λ item. with_item pos (few_listed trees) item placed
+    up_to_three_trees 1 (operands_of tokens) >>= λ trees. up_to_three_values (known_here placed) trees >>= λ values.
+    space_of values.first 0 >>= λ item. with_item pos (up_to_three_listed trees) item placed
 
 -- `.skip`, `.space`
 unfoldable pub place_skip : Pos → List SpelledToken → Placed → Result Placed StatementFault
 place_skip pos tokens placed =
-    few_trees 2 (operands_of tokens) >>= λ trees. few_values (known_here placed) trees >>= λ values.
-    space_of values.first (unwrap_or values.second 0) >>= λ item. with_item pos (few_listed trees) item placed
+    up_to_three_trees 2 (operands_of tokens) >>= λ trees. up_to_three_values (known_here placed) trees >>= λ values.
+    space_of values.first (unwrap_or values.second 0) >>= λ item. with_item pos (up_to_three_listed trees) item placed
 
 -- `.fill`
 unfoldable pub place_fill : Pos → List SpelledToken → Placed → Result Placed StatementFault
 place_fill pos tokens placed =
-    few_trees 3 (operands_of tokens) >>= λ trees. few_values (known_here placed) trees >>= λ values. unit_size values.second >>= λ size.
-    units_of values.first size (unwrap_or values.third 0) >>= λ item. with_item pos (few_listed trees) item placed
+    up_to_three_trees 3 (operands_of tokens) >>= λ trees. up_to_three_values (known_here placed) trees >>= λ values. unit_size values.second >>= λ size.
+    units_of values.first size (unwrap_or values.third 0) >>= λ item. with_item pos (up_to_three_listed trees) item placed
 
 -- a directive that stands alone
 abbrev pub bare : List SpelledToken → Result Placed StatementFault → Result Placed StatementFault
@@ -79,10 +79,10 @@ bare [] answer = answer
 bare (token ∷ rest) answer = Err BadOperand
 
 -- the numbers of the sections that are there from the beginning
-abbrev pub basic_number : Basic → ℕ
-basic_number Text = 0
-basic_number Data = 1
-basic_number Bss = 2
+abbrev pub initial_number : InitialSection → ℕ
+initial_number Text = 0
+initial_number Data = 1
+initial_number Bss = 2
 
 -- a directive, by what it is
 unfoldable pub place_by : Directive → Pos → List SpelledToken → Placed → Result Placed StatementFault
@@ -91,12 +91,12 @@ place_by (directive.Strings ended) pos tokens placed = place_strings pos ended t
 place_by directive.Zero pos tokens placed = place_zero pos tokens placed
 place_by directive.Skip pos tokens placed = place_skip pos tokens placed
 place_by directive.Fill pos tokens placed = place_fill pos tokens placed
-place_by (directive.Enter basic) pos tokens placed = bare tokens (Ok (with_current (basic_number basic) placed))
+place_by (directive.Enter initial) pos tokens placed = bare tokens (Ok (with_current (initial_number initial) placed))
 place_by directive.Section pos tokens placed = place_section pos tokens placed
 place_by directive.PushSection pos tokens placed = place_pushed pos tokens placed
 place_by directive.PopSection pos tokens placed = bare tokens (popped placed)
 place_by directive.Previous pos tokens placed = bare tokens (Ok (with_current placed.previous placed))
-place_by (directive.Say saying) pos tokens placed = place_said pos saying tokens placed
+place_by (directive.Say attribute) pos tokens placed = place_said pos attribute tokens placed
 place_by directive.Type pos tokens placed = place_type pos tokens placed
 place_by directive.Size pos tokens placed = place_size pos tokens placed
 place_by (directive.Assign once) pos tokens placed = place_set pos once tokens placed

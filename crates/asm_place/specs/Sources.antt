@@ -24,13 +24,13 @@ abbrev pub fault_at : Fault → Pos → List Noted → FaultAt
 fault_at fault pos notes = record { fault = fault; pos = pos; notes = notes }
 
 -- a fault of a statement at this place, with the notes of those before it
-abbrev pub standing : Pos → List Noted → Result Placed StatementFault → Result Placed FaultAt
-standing pos notes (Ok more) = Ok more
-standing pos notes (Err fault) = Err (fault_at (Statement fault) pos notes)
+abbrev pub located : Pos → List Noted → Result Placed StatementFault → Result Placed FaultAt
+located pos notes (Ok more) = Ok more
+located pos notes (Err fault) = Err (fault_at (Statement fault) pos notes)
 
 -- a statement of a file, placed; one that has a fault makes no note
 unfoldable pub place : StatementAt → Placed → Result Placed FaultAt
-place s placed = standing (pos_at s.file s.line) placed.notes (place_tokens (pos_at s.file s.line) (tokens_of s.bytes) placed)
+place s placed = located (pos_at s.file s.line) placed.notes (place_tokens (pos_at s.file s.line) (tokens_of s.bytes) placed)
 
 -- all statements in order, up to the first that has a fault
 unfoldable pub place_all : List StatementAt → Placed → Result Placed FaultAt

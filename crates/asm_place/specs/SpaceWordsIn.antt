@@ -1,6 +1,6 @@
 -- A name and its space that the program has read.
 use Rattle.asm_place.specs.declared.commons.SpaceWords.{SpaceWords as ReadWords}
-use Rattle.asm_place.specs.FewTrees.{trees_in}
+use Rattle.asm_place.specs.UpToThreeTrees.{trees_in}
 use Rattle.asm_place.specs.Commons.{SpaceWords}
 
 abbrev pub space_words_in : ReadWords → SpaceWords

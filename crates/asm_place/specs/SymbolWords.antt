@@ -15,38 +15,38 @@ use Rattle.asm_symbols.specs.declared.entries.Kind.{Kind}
 use Rattle.asm_symbols.specs.declared.entries.Kind.TheVariants.{NoType, Object, Function, Tls, Common}
 use Rattle.asm_symbols.specs.declared.faults.SymFault.{SymFault}
 use Rattle.asm_symbols.specs.SymbolMap.{SymbolMap, with_symbol}
-use Rattle.asm_symbols.specs.Saying.{bound, with_kind, with_size, with_visibility}
-use Rattle.asm_place.specs.declared.directives.Saying.{Saying}
-use Rattle.asm_place.specs.declared.directives.Saying.TheVariants.{Bind, See}
+use Rattle.asm_symbols.specs.Attributes.{bound, with_kind, with_size, with_visibility}
+use Rattle.asm_place.specs.declared.directives.SymbolAttribute.{SymbolAttribute}
+use Rattle.asm_place.specs.declared.directives.SymbolAttribute.TheVariants.{Bind, See}
 use Rattle.asm_place.specs.Results.{◌>>=◌, all_steps}
 use Rattle.asm_place.specs.Tables.{Table, symbol_of, change_named, with_map}
-use Rattle.asm_place.specs.Places.{keeps_here, name_part}
+use Rattle.asm_place.specs.Places.{uses_dot, name_part}
 use Rattle.asm_place.specs.State.{Placed, with_table, here, known_here}
 use Rattle.asm_place.specs.Operands.{is_name, name_of, operands_of, each}
 use Rattle.asm_place.specs.Expressions.{expression_of, form_in, no_more}
 use Rattle.asm_place.specs.SectionWords.{needed, begins_type}
 
 -- a binding or a visibility is said of a symbol
-abbrev pub said : Saying → SymbolMap → ℕ → Result SymbolMap SymFault
+abbrev pub said : SymbolAttribute → SymbolMap → ℕ → Result SymbolMap SymFault
 said (Bind binding) map index = bound map index binding
 said (See visibility) map index = Ok (with_symbol (with_visibility visibility) map index)
 
-abbrev pub say_one : Pos → Saying → Name → Table → Result Table StatementFault
-say_one pos saying name table = change_named pos (said saying) name table
+abbrev pub say_one : Pos → SymbolAttribute → Name → Table → Result Table StatementFault
+say_one pos attribute name table = change_named pos (said attribute) name table
 
 -- it is said of each name
-unfoldable pub say_all : Pos → Saying → List Name → Table → Result Table StatementFault
-say_all pos saying names table = all_steps (say_one pos saying) names table
+unfoldable pub say_all : Pos → SymbolAttribute → List Name → Table → Result Table StatementFault
+say_all pos attribute names table = all_steps (say_one pos attribute) names table
 
 -- the name that an operand gives a symbol
 unfoldable pub plain_of : List SpelledToken → Result Name StatementFault
 plain_of operand = name_of operand >>= λ name. Ok (naming.Plain name)
 
 -- `.globl` and the others, with a name at least
-unfoldable pub place_said : Pos → Saying → List SpelledToken → Placed → Result Placed StatementFault
-place_said pos saying [] placed = Err BadOperand
-place_said pos saying (token ∷ rest) placed =
-    each plain_of (operands_of (token ∷ rest)) >>= λ names. say_all pos saying names placed.table >>= λ table. Ok (with_table placed table)
+unfoldable pub place_said : Pos → SymbolAttribute → List SpelledToken → Placed → Result Placed StatementFault
+place_said pos attribute [] placed = Err BadOperand
+place_said pos attribute (token ∷ rest) placed =
+    each plain_of (operands_of (token ∷ rest)) >>= λ names. say_all pos attribute names placed.table >>= λ table. Ok (with_table placed table)
 
 -- the kind of a symbol by its word (gABI, chapter 4, "Symbol Table")
 unfoldable pub kind_named : List ℕ → Result Kind StatementFault
@@ -87,7 +87,7 @@ named_tree operands = needed name_of operands >>= λ name. last_tree name.1 >>= 
 
 -- the names of the expression, behind the symbol that the statement is of
 abbrev pub name_rest : Pos → Spot → NamedTree → Form → Table → Result Table StatementFault
-name_rest pos spot words form table = name_part pos spot (keeps_here spot form) words.tree table
+name_rest pos spot words form table = name_part pos spot (uses_dot spot form) words.tree table
 
 -- the size is said of the symbol at this place
 abbrev pub sized : Pos → Form → Table × ℕ → Table

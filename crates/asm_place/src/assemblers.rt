@@ -5,10 +5,10 @@ ghost use Rattle.asm_frags.specs.Answers.{Changes};
 ghost use Rattle.asm_place.specs.DataItems.{cut_notes};
 ghost use Rattle.asm_frags.specs.Sections.{pushed};
 
+use crate::place_faults::PlaceFault;
 use crate::places::{View, spot_at};
 use crate::stacks::Entered;
-use crate::steps::StepFault;
-use crate::tables::NamedSymbols;
+use crate::tables::SymbolUses;
 use asm_base::{Note, Noted, Notes, Pos};
 use asm_frags::{Content, Frag, FragFault, Loose, Sections};
 use asm_symbols::Spot;
@@ -19,7 +19,7 @@ use std::alloc::{AllocError, Global};
 pub struct Assembler {
     pub(crate) alloc: Global,
     pub(crate) sections: Sections,
-    pub(crate) table: NamedSymbols,
+    pub(crate) table: SymbolUses,
     /// The section that items go into, and the one before it.
     pub(crate) current: u32,
     pub(crate) previous: u32,
@@ -33,9 +33,9 @@ pub struct Assembler {
 
 /// The parts of what is placed.
 #[derive(Drop)]
-pub struct Parts {
+pub struct Placed {
     pub sections: Sections,
-    pub table: NamedSymbols,
+    pub table: SymbolUses,
     pub notes: Notes,
 }
 
@@ -80,7 +80,7 @@ impl Assembler {
         Ok(Assembler {
             alloc,
             sections: Sections::new(alloc)?,
-            table: NamedSymbols::new(alloc),
+            table: SymbolUses::new(alloc),
             current: 0,
             previous: 0,
             stack: Vec::new(alloc),
@@ -90,7 +90,7 @@ impl Assembler {
     }
 
     /// The sections, the symbols and the notes.
-    pub fn into_parts(self) -> Parts
+    pub fn into_parts(self) -> Placed
         ensures sections { result.sections ≡ self.sections }
         ensures table { result.table ≡ self.table }
         ensures notes { result.notes ≡ self.notes }
@@ -101,7 +101,7 @@ impl Assembler {
             notes,
             ..
         } = self;
-        Parts {
+        Placed {
             sections,
             table,
             notes,
@@ -133,7 +133,7 @@ impl Assembler {
         pos: Pos,
         number: u32,
         content: Content,
-    ) -> Result<(), StepFault>
+    ) -> Result<(), PlaceFault>
         ensures placed { Gives (placed_by self.new) result (push_into pos number content (placed_by self.old)) }
         ensures notes { self.new.notes ≡ self.old.notes }
     {
@@ -142,7 +142,7 @@ impl Assembler {
     }
 
     /// Puts an item last in the current section.
-    pub(crate) fn push_item(&mut self, pos: Pos, content: Content) -> Result<(), StepFault>
+    pub(crate) fn push_item(&mut self, pos: Pos, content: Content) -> Result<(), PlaceFault>
         ensures placed { Gives (placed_by self.new) result (push_into pos self.old.current content (placed_by self.old)) }
         ensures notes { self.new.notes ≡ self.old.notes }
     {

@@ -3,8 +3,8 @@
 use crate::assemblers::Assembler;
 use crate::expressions::{expression_of, form_in};
 use crate::operands::{Operands, symbol_name};
-use crate::places::keeps_here;
-use crate::steps::StepFault;
+use crate::place_faults::PlaceFault;
+use crate::places::uses_dot;
 use crate::symbol_words::{NamedExpr, named_tree};
 use asm_base::{Pos, Text, Token};
 use asm_expr::Name;
@@ -19,13 +19,13 @@ impl Assembler {
 
     /// The symbol of the name stands for the expression from now on.
     #[tactic(auto, unfolding(crate::specs::Assignments::assign_words))]
-    fn assign_words(&mut self, pos: Pos, once: bool, words: &NamedExpr) -> Result<(), StepFault>
+    fn assign_words(&mut self, pos: Pos, once: bool, words: &NamedExpr) -> Result<(), PlaceFault>
         ensures placed { Gives (placed_by self.new) result (assign_words pos once (named_tree_in words.now) (placed_by self.old)) }
         ensures notes { self.new.notes ≡ self.old.notes }
     {
         let form = form_in(self.alloc, self.view(), &words.expr)?;
         let spot = self.here();
-        let keeps = keeps_here(spot, &form);
+        let keeps = uses_dot(spot, &form);
         let id = self.table.symbol_of(pos, &words.name)?;
         self.table.assign(id, form, once)?;
         self.table
@@ -39,7 +39,7 @@ impl Assembler {
         pos: Pos,
         once: bool,
         tokens: &[Token],
-    ) -> Result<(), StepFault>
+    ) -> Result<(), PlaceFault>
         ensures placed { Gives (placed_by self.new) result (place_set pos once (map spelled tokens.now) (placed_by self.old)) }
         ensures notes { self.new.notes ≡ self.old.notes }
     {
@@ -54,7 +54,7 @@ impl Assembler {
         pos: Pos,
         token: &Token,
         tokens: &[Token],
-    ) -> Result<(), StepFault>
+    ) -> Result<(), PlaceFault>
         ensures placed { Gives (placed_by self.new) result (place_assignment pos (spelled token.now) (map spelled tokens.now) (placed_by self.old)) }
         ensures notes { self.new.notes ≡ self.old.notes }
     {

@@ -7,13 +7,13 @@ ghost use Rattle.asm_place.specs.Commons as spec;
 ghost use Rattle.asm_place.specs.SpaceWordsIn.{space_words_in};
 
 use crate::assemblers::Assembler;
-use crate::few::{Few, few_trees, few_values, listed};
 use crate::operands::Operands;
+use crate::place_faults::PlaceFault;
 use crate::places::spot_at;
 use crate::section_words::needed_name;
 use crate::spaces::{is_negative, log_of, space_of};
-use crate::steps::StepFault;
-use crate::tables::NamedSymbols;
+use crate::tables::SymbolUses;
+use crate::up_to_three::{UpToThree, listed, up_to_three_trees, up_to_three_values};
 use asm_base::{Pos, StatementFault, Text, Token};
 use asm_expr::{Expr, Name};
 use asm_frags::{Align, Content};
@@ -35,11 +35,11 @@ fn is_said_local(symbols: &Symbols, name: &Name) -> bool
 }
 
 /// A size of space for a symbol.
-fn space_size(size: u64) -> Result<u64, StepFault>
+fn space_size(size: u64) -> Result<u64, PlaceFault>
     ensures { GivesBy (λ size. size) result (spec.space_size size) }
 {
     if is_negative(size) {
-        Err(StepFault::Source(StatementFault::OutOfRange))
+        Err(PlaceFault::Source(StatementFault::OutOfRange))
     } else {
         Ok(size)
     }
@@ -49,24 +49,24 @@ fn space_size(size: u64) -> Result<u64, StepFault>
 #[derive(Drop)]
 struct SpaceWords {
     name: Name,
-    exprs: Few<Expr>,
+    exprs: UpToThree<Expr>,
 }
 
 /// A name, and as many expressions as there may be.
 #[tactic(auto, unfolding(crate::specs::Commons::space_words))]
-fn space_words(alloc: Global, most: usize, tokens: &[Token]) -> Result<SpaceWords, StepFault>
+fn space_words(alloc: Global, most: usize, tokens: &[Token]) -> Result<SpaceWords, PlaceFault>
     ensures { GivesBy space_words_in result (spec.space_words most (map spelled tokens.now)) }
 {
     let mut operands = Operands::new(tokens);
     let name = needed_name(alloc, &mut operands)?;
-    let exprs = few_trees(alloc, most, &mut operands)?;
+    let exprs = up_to_three_trees(alloc, most, &mut operands)?;
     Ok(SpaceWords {
         name: Name::Plain(Text::new(name)),
         exprs,
     })
 }
 
-impl NamedSymbols {
+impl SymbolUses {
     ghost use Rattle.std.specs.Prelude.{◌≡◌, map};
     ghost use Rattle.asm_expr.specs.Trees.{tree_of};
     ghost use Rattle.asm_place.specs.Answers.{Gives};
@@ -82,7 +82,7 @@ impl NamedSymbols {
         exprs: &[Expr],
         size: u64,
         what: Definition,
-    ) -> Result<(), StepFault>
+    ) -> Result<(), PlaceFault>
         ensures { Gives self.new result (define_space pos name.now (map tree_of exprs.now) size what self.old) }
     {
         let id = self.symbol_of(pos, name)?;
@@ -109,7 +109,7 @@ impl Assembler {
         exprs: &[Expr],
         size: u64,
         log: u8,
-    ) -> Result<(), StepFault>
+    ) -> Result<(), PlaceFault>
         requires { log ≤ 30 }
         ensures placed { Gives (placed_by self.new) result (with_space pos name.now (map tree_of exprs.now) size log (placed_by self.old)) }
         ensures notes { self.new.notes ≡ self.old.notes }
@@ -130,7 +130,7 @@ impl Assembler {
         exprs: &[Expr],
         size: u64,
         log: u8,
-    ) -> Result<(), StepFault>
+    ) -> Result<(), PlaceFault>
         requires { log ≤ 30 }
         ensures placed { Gives (placed_by self.new) result (with_common pos name.now (map tree_of exprs.now) size log (placed_by self.old)) }
         ensures notes { self.new.notes ≡ self.old.notes }
@@ -152,7 +152,7 @@ impl Assembler {
         exprs: &[Expr],
         size: u64,
         log: u8,
-    ) -> Result<(), StepFault>
+    ) -> Result<(), PlaceFault>
         requires { log ≤ 30 }
         ensures placed { Gives (placed_by self.new) result (place_space own pos name.now (map tree_of exprs.now) size log (placed_by self.old)) }
         ensures notes { self.new.notes ≡ self.old.notes }
@@ -166,12 +166,12 @@ impl Assembler {
 
     /// `.comm`: of a symbol that is local the space is this object's.
     #[tactic(auto, unfolding(crate::specs::Commons::place_comm))]
-    pub(crate) fn place_comm(&mut self, pos: Pos, tokens: &[Token]) -> Result<(), StepFault>
+    pub(crate) fn place_comm(&mut self, pos: Pos, tokens: &[Token]) -> Result<(), PlaceFault>
         ensures placed { Gives (placed_by self.new) result (place_comm pos (map spelled tokens.now) (placed_by self.old)) }
         ensures notes { self.new.notes ≡ self.old.notes }
     {
         let words = space_words(self.alloc, 2, tokens)?;
-        let values = few_values(self.alloc, self.view(), &words.exprs)?;
+        let values = up_to_three_values(self.alloc, self.view(), &words.exprs)?;
         let size = space_size(values.first)?;
         let log = log_of(values.second, size)?;
         let own = is_said_local(self.table.symbols(), &words.name);
@@ -181,12 +181,12 @@ impl Assembler {
 
     /// `.lcomm`
     #[tactic(auto, unfolding(crate::specs::Commons::place_lcomm))]
-    pub(crate) fn place_lcomm(&mut self, pos: Pos, tokens: &[Token]) -> Result<(), StepFault>
+    pub(crate) fn place_lcomm(&mut self, pos: Pos, tokens: &[Token]) -> Result<(), PlaceFault>
         ensures placed { Gives (placed_by self.new) result (place_lcomm pos (map spelled tokens.now) (placed_by self.old)) }
         ensures notes { self.new.notes ≡ self.old.notes }
     {
         let words = space_words(self.alloc, 1, tokens)?;
-        let values = few_values(self.alloc, self.view(), &words.exprs)?;
+        let values = up_to_three_values(self.alloc, self.view(), &words.exprs)?;
         let size = space_size(values.first)?;
         let log = log_of(None, size)?;
         let exprs = listed(self.alloc, words.exprs)?;

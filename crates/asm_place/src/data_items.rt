@@ -7,8 +7,8 @@ ghost use Rattle.asm_place.specs.DataItems.{put_form, data_of, is_cut};
 use crate::assemblers::Assembler;
 use crate::expressions::{expressions, forms};
 use crate::operands::Operands;
+use crate::place_faults::PlaceFault;
 use crate::places::one_keeps_here;
-use crate::steps::StepFault;
 use asm_base::{Pos, Token};
 use asm_expr::Linear;
 use asm_frags::{Content, Data, FieldSize};
@@ -67,7 +67,7 @@ impl Assembler {
         pos: Pos,
         size: FieldSize,
         tokens: &[Token],
-    ) -> Result<(), StepFault>
+    ) -> Result<(), PlaceFault>
         ensures placed { Gives (placed_by self.new) result (place_data pos size (map spelled tokens.now) (placed_by self.old)) }
         ensures notes { KeepsNotes result self.old.notes self.new.notes }
     {

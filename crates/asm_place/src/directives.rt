@@ -9,7 +9,7 @@ use asm_symbols::{Binding, Visibility};
 
 /// A section that is there from the beginning.
 #[derive(Clone, Copy, PartialEq, Eq, Debug)]
-pub enum Basic {
+pub enum InitialSection {
     Text,
     Data,
     Bss,
@@ -17,7 +17,7 @@ pub enum Basic {
 
 /// What is said of symbols.
 #[derive(Clone, Copy, PartialEq, Eq, Debug)]
-pub enum Saying {
+pub enum SymbolAttribute {
     Bind(Binding),
     See(Visibility),
 }
@@ -33,12 +33,12 @@ pub enum Directive {
     Skip,
     Fill,
     /// Items go into this section.
-    Enter(Basic),
+    Enter(InitialSection),
     Section,
     PushSection,
     PopSection,
     Previous,
-    Say(Saying),
+    Say(SymbolAttribute),
     Type,
     Size,
     /// An assignment, to a symbol that was nothing before or to any.
@@ -90,20 +90,20 @@ pub static DIRECTIVES: [DirectiveRow; 40] = directives! {
     b".skip       " 5  Directive::Skip;
     b".space      " 6  Directive::Skip;
     b".fill       " 5  Directive::Fill;
-    b".text       " 5  Directive::Enter(Basic::Text);
-    b".data       " 5  Directive::Enter(Basic::Data);
-    b".bss        " 4  Directive::Enter(Basic::Bss);
+    b".text       " 5  Directive::Enter(InitialSection::Text);
+    b".data       " 5  Directive::Enter(InitialSection::Data);
+    b".bss        " 4  Directive::Enter(InitialSection::Bss);
     b".section    " 8  Directive::Section;
     b".pushsection" 12 Directive::PushSection;
     b".popsection " 11 Directive::PopSection;
     b".previous   " 9  Directive::Previous;
-    b".globl      " 6  Directive::Say(Saying::Bind(Binding::Global));
-    b".global     " 7  Directive::Say(Saying::Bind(Binding::Global));
-    b".weak       " 5  Directive::Say(Saying::Bind(Binding::Weak));
-    b".local      " 6  Directive::Say(Saying::Bind(Binding::Local));
-    b".hidden     " 7  Directive::Say(Saying::See(Visibility::Hidden));
-    b".protected  " 10 Directive::Say(Saying::See(Visibility::Protected));
-    b".internal   " 9  Directive::Say(Saying::See(Visibility::Internal));
+    b".globl      " 6  Directive::Say(SymbolAttribute::Bind(Binding::Global));
+    b".global     " 7  Directive::Say(SymbolAttribute::Bind(Binding::Global));
+    b".weak       " 5  Directive::Say(SymbolAttribute::Bind(Binding::Weak));
+    b".local      " 6  Directive::Say(SymbolAttribute::Bind(Binding::Local));
+    b".hidden     " 7  Directive::Say(SymbolAttribute::See(Visibility::Hidden));
+    b".protected  " 10 Directive::Say(SymbolAttribute::See(Visibility::Protected));
+    b".internal   " 9  Directive::Say(SymbolAttribute::See(Visibility::Internal));
     b".type       " 5  Directive::Type;
     b".size       " 5  Directive::Size;
     b".set        " 4  Directive::Assign { once: false };

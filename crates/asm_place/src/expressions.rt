@@ -11,26 +11,26 @@ ghost use Rattle.asm_place.specs.Places.{known_at};
 ghost use Rattle.asm_place.specs.Expressions.{alone, expression_of, form_in, constant_in};
 
 use crate::operands::Operands;
+use crate::place_faults::PlaceFault;
 use crate::places::View;
-use crate::steps::StepFault;
 use asm_base::{StatementFault, Token};
 use asm_expr::{Expr, Linear, linear_form, parse_front, value_of};
 use std::alloc::Global;
 
 /// The expression, where nothing stands behind it.
-fn alone(expr: Expr, rest: &[Token]) -> Result<Expr, StepFault>
+fn alone(expr: Expr, rest: &[Token]) -> Result<Expr, PlaceFault>
     ensures { GivesBy tree_of result (alone (map spelled rest.now) (tree_of expr)) }
 {
     if rest.is_empty() {
         Ok(expr)
     } else {
-        Err(StepFault::Source(StatementFault::BadOperand))
+        Err(PlaceFault::Source(StatementFault::BadOperand))
     }
 }
 
 /// The expression that an operand is.
 #[tactic(auto, unfolding(crate::specs::Expressions::expression_of))]
-pub(crate) fn expression_of(alloc: Global, operand: &[Token]) -> Result<Expr, StepFault>
+pub(crate) fn expression_of(alloc: Global, operand: &[Token]) -> Result<Expr, PlaceFault>
     ensures { GivesBy tree_of result (expression_of (map spelled operand.now)) }
 {
     let (expr, length) = parse_front(alloc, operand)?;
@@ -39,7 +39,7 @@ pub(crate) fn expression_of(alloc: Global, operand: &[Token]) -> Result<Expr, St
 
 /// The expressions that operands are.
 #[tactic(auto, unfolding(crate::specs::Operands::each, crate::specs::Operands::behind))]
-pub(crate) fn expressions(alloc: Global, operands: Operands) -> Result<Vec<Expr>, StepFault>
+pub(crate) fn expressions(alloc: Global, operands: Operands) -> Result<Vec<Expr>, PlaceFault>
     ensures { GivesBy (λ exprs. map tree_of exprs.items) result (each expression_of (operands_left operands.entry)) }
 {
     let mut exprs = Vec::new(alloc);
@@ -51,7 +51,7 @@ pub(crate) fn expressions(alloc: Global, operands: Operands) -> Result<Vec<Expr>
 
 /// The form of an expression.
 #[tactic(auto, unfolding(crate::specs::Expressions::form_in))]
-pub(crate) fn form_in(alloc: Global, view: View, expr: &Expr) -> Result<Linear, StepFault>
+pub(crate) fn form_in(alloc: Global, view: View, expr: &Expr) -> Result<Linear, PlaceFault>
     ensures { GivesBy (λ form. form) result (form_in (known_at view.entry.symbols.now view.entry.spot) (tree_of expr.now)) }
 {
     Ok(linear_form(alloc, expr, &view)?)
@@ -59,7 +59,7 @@ pub(crate) fn form_in(alloc: Global, view: View, expr: &Expr) -> Result<Linear, 
 
 /// The forms of expressions.
 #[tactic(auto, unfolding(crate::specs::Operands::each, crate::specs::Operands::behind))]
-pub(crate) fn forms(alloc: Global, view: View, exprs: &[Expr]) -> Result<Vec<Linear>, StepFault>
+pub(crate) fn forms(alloc: Global, view: View, exprs: &[Expr]) -> Result<Vec<Linear>, PlaceFault>
     ensures { GivesBy (λ forms. forms.items) result (each (form_in (known_at view.entry.symbols.now view.entry.spot)) (map tree_of exprs.now)) }
 {
     let mut forms = Vec::new(alloc);
@@ -71,7 +71,7 @@ pub(crate) fn forms(alloc: Global, view: View, exprs: &[Expr]) -> Result<Vec<Lin
 
 /// The value of a form, which has to be known.
 #[tactic(auto, unfolding(crate::specs::Expressions::constant_in))]
-pub(crate) fn constant_in(form: &Linear) -> Result<u64, StepFault>
+pub(crate) fn constant_in(form: &Linear) -> Result<u64, PlaceFault>
     ensures { GivesBy (λ value. value) result (constant_in form.now) }
 {
     Ok(value_of(form)?)

@@ -7,12 +7,12 @@ ghost use Rattle.asm_place.specs.Answers.{GivesBy};
 ghost use Rattle.asm_place.specs.Idents as spec;
 
 use crate::assemblers::Assembler;
-use crate::few::no_more;
 use crate::operands::Operands;
+use crate::place_faults::PlaceFault;
 use crate::section_changes::{Header, enter};
 use crate::section_words::needed_string;
-use crate::steps::StepFault;
 use crate::texts::plain_item;
+use crate::up_to_three::no_more;
 use asm_base::{Pos, StatementFault, Text, Token};
 use asm_expr::Name;
 use asm_frags::{SHT_PROGBITS, Sections};
@@ -23,7 +23,7 @@ const MERGED_STRINGS: u64 = 0x30;
 
 /// One string.
 #[tactic(auto, unfolding(crate::specs::Idents::one_string))]
-fn one_string(alloc: Global, tokens: &[Token]) -> Result<Vec<u8>, StepFault>
+fn one_string(alloc: Global, tokens: &[Token]) -> Result<Vec<u8>, PlaceFault>
     ensures { GivesBy (λ string. string.items) result (spec.one_string (map spelled tokens.now)) }
 {
     let mut operands = Operands::new(tokens);
@@ -63,11 +63,11 @@ fn has_zero(bytes: &[u8]) -> bool
 }
 
 /// The name, if a string table can hold it.
-fn file_name(name: Vec<u8>) -> Result<Vec<u8>, StepFault>
+fn file_name(name: Vec<u8>) -> Result<Vec<u8>, PlaceFault>
     ensures { GivesBy (λ name. name.items) result (spec.file_name name.items) }
 {
     if has_zero(&name) {
-        Err(StepFault::Source(StatementFault::BadOperand))
+        Err(PlaceFault::Source(StatementFault::BadOperand))
     } else {
         Ok(name)
     }
@@ -82,7 +82,7 @@ impl Assembler {
 
     /// `.ident`: the text goes into `.comment`.
     #[tactic(auto, unfolding(crate::specs::Idents::place_ident))]
-    pub(crate) fn place_ident(&mut self, pos: Pos, tokens: &[Token]) -> Result<(), StepFault>
+    pub(crate) fn place_ident(&mut self, pos: Pos, tokens: &[Token]) -> Result<(), PlaceFault>
         ensures placed { Gives (placed_by self.new) result (place_ident pos (map spelled tokens.now) (placed_by self.old)) }
         ensures notes { self.new.notes ≡ self.old.notes }
     {
@@ -100,7 +100,7 @@ impl Assembler {
 
     /// `.file`: the source file that the linker is told of.
     #[tactic(auto, unfolding(crate::specs::Idents::place_file))]
-    pub(crate) fn place_file(&mut self, tokens: &[Token]) -> Result<(), StepFault>
+    pub(crate) fn place_file(&mut self, tokens: &[Token]) -> Result<(), PlaceFault>
         ensures placed { Gives (placed_by self.new) result (place_file (map spelled tokens.now) (placed_by self.old)) }
         ensures notes { self.new.notes ≡ self.old.notes }
     {

@@ -7,12 +7,12 @@ mod commons;
 mod data_items;
 mod directives;
 mod expressions;
-mod few;
 mod idents;
 mod instructions;
 mod laws;
 mod naming;
 mod operands;
+mod place_faults;
 mod places;
 mod placing;
 mod section_changes;
@@ -21,20 +21,21 @@ mod section_words;
 mod sources;
 mod spaces;
 mod stacks;
-mod steps;
 mod symbol_words;
 mod tables;
 mod texts;
+mod up_to_three;
 
-pub use assemblers::{Assembler, Parts};
+pub use assemblers::{Assembler, Placed};
 pub use directives::{
-    Basic, DIRECTIVES, Directive, DirectiveRow, Saying, directives_apart, directives_are_whole,
+    DIRECTIVES, Directive, DirectiveRow, InitialSection, SymbolAttribute, directives_apart,
+    directives_are_whole,
 };
 pub use instructions::{
     Mnemonic, ROWS, Row, find_row, instruction_length, names_apart, names_are_whole, one_reading,
     put_instruction, rows, rows_apart, rows_read,
 };
 pub use laws::{instruction_items, instruction_stands, placing_grows, placing_is_not_reading};
+pub use place_faults::LocatedFault;
 pub use sources::place_all;
-pub use steps::Stop;
-pub use tables::NamedSymbols;
+pub use tables::SymbolUses;

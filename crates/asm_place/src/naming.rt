@@ -1,14 +1,14 @@
 //! The names of expressions, which become symbols in the order in which they stand.
 
+use crate::place_faults::PlaceFault;
 use crate::places::{View, here_name};
-use crate::steps::StepFault;
-use crate::tables::NamedSymbols;
+use crate::tables::SymbolUses;
 use asm_base::Pos;
 use asm_expr::{Expr, Written, names_of};
 use asm_symbols::{Definition, Spot};
 use std::alloc::Global;
 
-impl NamedSymbols {
+impl SymbolUses {
     ghost use Rattle.std.specs.Prelude.{◌≡◌, map};
     ghost use Rattle.asm_expr.specs.Trees.{tree_of};
     ghost use Rattle.asm_place.specs.Answers.{Gives};
@@ -17,7 +17,7 @@ impl NamedSymbols {
 
     /// These names become symbols, one after the other.
     #[tactic(auto, unfolding(crate::specs::Tables::name_list, crate::specs::Results::all_steps))]
-    fn name_list(&mut self, pos: Pos, names: &[Written]) -> Result<(), StepFault>
+    fn name_list(&mut self, pos: Pos, names: &[Written]) -> Result<(), PlaceFault>
         ensures { Gives self.new result (name_list pos names.now self.old) }
     {
         for written in names {
@@ -28,12 +28,12 @@ impl NamedSymbols {
 
     /// The names of an expression become symbols, from left to right.
     #[tactic(auto, unfolding(crate::specs::Tables::name_tree))]
-    fn name_tree(&mut self, alloc: Global, pos: Pos, expr: &Expr) -> Result<(), StepFault>
+    fn name_tree(&mut self, alloc: Global, pos: Pos, expr: &Expr) -> Result<(), PlaceFault>
         ensures { Gives self.new result (name_tree pos (tree_of expr.now) self.old) }
     {
         match names_of(alloc, expr) {
             Ok(names) => self.name_list(pos, &names),
-            Err(_) => Err(StepFault::NoMemory),
+            Err(_) => Err(PlaceFault::NoMemory),
         }
     }
 
@@ -44,7 +44,7 @@ impl NamedSymbols {
         alloc: Global,
         pos: Pos,
         exprs: &[Expr],
-    ) -> Result<(), StepFault>
+    ) -> Result<(), PlaceFault>
         ensures { Gives self.new result (name_trees pos (map tree_of exprs.now) self.old) }
     {
         for expr in exprs {
@@ -55,7 +55,7 @@ impl NamedSymbols {
 
     /// The place itself becomes a symbol where a form keeps it, unless it is one already.
     #[tactic(auto, unfolding(crate::specs::Places::name_here, crate::specs::Tables::symbol_of))]
-    fn name_here(&mut self, pos: Pos, spot: Spot, keeps: bool) -> Result<(), StepFault>
+    fn name_here(&mut self, pos: Pos, spot: Spot, keeps: bool) -> Result<(), PlaceFault>
         ensures { Gives self.new result (name_here pos spot keeps self.old) }
     {
         if !keeps {
@@ -80,7 +80,7 @@ impl NamedSymbols {
         spot: Spot,
         keeps: bool,
         expr: &Expr,
-    ) -> Result<(), StepFault>
+    ) -> Result<(), PlaceFault>
         ensures { Gives self.new result (name_part pos spot keeps (tree_of expr.now) self.old) }
     {
         self.name_tree(alloc, pos, expr)?;
@@ -96,7 +96,7 @@ impl NamedSymbols {
         spot: Spot,
         keeps: bool,
         exprs: &[Expr],
-    ) -> Result<(), StepFault>
+    ) -> Result<(), PlaceFault>
         ensures { Gives self.new result (name_parts pos spot keeps (map tree_of exprs.now) self.old) }
     {
         self.name_trees(alloc, pos, exprs)?;

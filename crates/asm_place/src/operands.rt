@@ -7,7 +7,7 @@ ghost use Rattle.std.specs.List.{position_or_len};
 ghost use Rattle.asm_place.specs.Operands.{is_name, names_symbol, is_mark, is_comma, checked_name, symbol_name, name_of, string_of};
 ghost use Rattle.asm_place.specs.Placing.{is_assignment, begins_with_dot, is_number, begins_with_label};
 
-use crate::steps::StepFault;
+use crate::place_faults::PlaceFault;
 use asm_base::{StatementFault, Token, TokenKind, string_value};
 use asm_expr::{all_digits, between_quotes, is_symbol_name};
 use std::alloc::Global;
@@ -96,25 +96,25 @@ pub(crate) fn is_mark(token: &Token, mark: u8) -> bool
 
 /// The name, if a string table can hold it.
 #[tactic(auto, unfolding(crate::specs::Operands::checked_name))]
-fn checked_name(name: Vec<u8>) -> Result<Vec<u8>, StepFault>
+fn checked_name(name: Vec<u8>) -> Result<Vec<u8>, PlaceFault>
     ensures { GivesBy (λ checked. checked.items) result (checked_name name.items) }
 {
     if is_symbol_name(&name) {
         Ok(name)
     } else {
-        Err(StepFault::Source(StatementFault::BadOperand))
+        Err(PlaceFault::Source(StatementFault::BadOperand))
     }
 }
 
 /// The name that a token gives a symbol, quoted or not.
 #[tactic(auto, unfolding(crate::specs::Operands::symbol_name))]
-pub(crate) fn symbol_name(alloc: Global, token: &Token) -> Result<Vec<u8>, StepFault>
+pub(crate) fn symbol_name(alloc: Global, token: &Token) -> Result<Vec<u8>, PlaceFault>
     ensures { GivesBy (λ name. name.items) result (symbol_name (spelled token.now)) }
 {
     match token.kind {
         TokenKind::Name => Ok(Vec::from_slice(alloc, token.bytes)?),
         TokenKind::String => checked_name(string_value(alloc, between_quotes(token.bytes))?),
-        _ => Err(StepFault::Source(StatementFault::BadOperand)),
+        _ => Err(PlaceFault::Source(StatementFault::BadOperand)),
     }
 }
 
@@ -158,24 +158,24 @@ pub(crate) fn begins_with_label(tokens: &[Token]) -> bool
 
 /// The name that an operand gives a symbol, quoted or not.
 #[tactic(auto, unfolding(crate::specs::Operands::name_of))]
-pub(crate) fn name_of(alloc: Global, operand: &[Token]) -> Result<Vec<u8>, StepFault>
+pub(crate) fn name_of(alloc: Global, operand: &[Token]) -> Result<Vec<u8>, PlaceFault>
     ensures { GivesBy (λ name. name.items) result (name_of (map spelled operand.now)) }
 {
     match operand {
         [token] => symbol_name(alloc, token),
-        _ => Err(StepFault::Source(StatementFault::BadOperand)),
+        _ => Err(PlaceFault::Source(StatementFault::BadOperand)),
     }
 }
 
 /// What the string that an operand is stands for.
 #[tactic(auto, unfolding(crate::specs::Operands::string_of))]
-pub(crate) fn string_of(alloc: Global, operand: &[Token]) -> Result<Vec<u8>, StepFault>
+pub(crate) fn string_of(alloc: Global, operand: &[Token]) -> Result<Vec<u8>, PlaceFault>
     ensures { GivesBy (λ bytes. bytes.items) result (string_of (map spelled operand.now)) }
 {
     match operand {
         [token] if token.kind == TokenKind::String => {
             Ok(string_value(alloc, between_quotes(token.bytes))?)
         }
-        _ => Err(StepFault::Source(StatementFault::BadOperand)),
+        _ => Err(PlaceFault::Source(StatementFault::BadOperand)),
     }
 }

@@ -2,7 +2,7 @@
 
 ghost use Rattle.std.specs.Prelude.{◌≡◌};
 ghost use Rattle.std.specs.List.{list_any};
-ghost use Rattle.asm_place.specs.Places.{spot_at, here_name, is_here, told_at, keeps_here};
+ghost use Rattle.asm_place.specs.Places.{spot_at, here_name, is_here, told_at, uses_dot};
 ghost use Rattle.asm_symbols.specs.Counting.{counted};
 
 use asm_expr::{Known, Linear, Look, Name};
@@ -16,12 +16,12 @@ pub(crate) fn spot_at(sections: &Sections, number: u32) -> Spot
 {
     if (number as usize) < sections.len() {
         let section = sections.section(number);
-        let reach = section.reach();
+        let extent = section.extent();
         Spot {
             section: number,
             item: section.items().len() as u64,
-            stretch: number as u64 * (1 << 32) + reach.breaks,
-            at: reach.bytes,
+            stretch: number as u64 * (1 << 32) + extent.breaks,
+            at: extent.bytes,
         }
     } else {
         Spot {
@@ -54,17 +54,17 @@ fn is_here(spot: Spot, name: &Name) -> bool
 }
 
 /// Whether a form keeps the place.
-pub(crate) fn keeps_here(spot: Spot, form: &Linear) -> bool
-    ensures { result ≡ keeps_here spot form.now }
+pub(crate) fn uses_dot(spot: Spot, form: &Linear) -> bool
+    ensures { result ≡ uses_dot spot form.now }
 {
     form.terms().iter().any(|term| is_here(spot, &term.name))
 }
 
 /// Whether one of the forms keeps the place.
 pub(crate) fn one_keeps_here(spot: Spot, forms: &[Linear]) -> bool
-    ensures { result ≡ list_any (keeps_here spot) forms.now }
+    ensures { result ≡ list_any (uses_dot spot) forms.now }
 {
-    forms.iter().any(|form| keeps_here(spot, form))
+    forms.iter().any(|form| uses_dot(spot, form))
 }
 
 /// What is known of names at a place.

@@ -1,16 +1,16 @@
 //! Placing one statement: its labels, and the assignment, directive or instruction behind them.
 
 ghost use Rattle.std.specs.Prelude.{◌≡◌};
-ghost use Rattle.asm_place.specs.Placing.{basic_number};
+ghost use Rattle.asm_place.specs.Placing.{initial_number};
 
 use crate::assemblers::Assembler;
-use crate::directives::{Basic, Directive, directive_of};
+use crate::directives::{Directive, InitialSection, directive_of};
 use crate::instructions::{Row, find_row, put_instruction};
 use crate::operands::{
     begins_assignment, begins_with_dot, begins_with_label, is_name, names_symbol, symbol_name,
 };
-use crate::steps::StepFault;
-use crate::tables::NamedSymbols;
+use crate::place_faults::PlaceFault;
+use crate::tables::SymbolUses;
 use crate::texts::plain_item;
 use asm_base::{Pos, StatementFault, Text, Token, TokenKind};
 use asm_expr::{Name, decimal_number};
@@ -18,17 +18,17 @@ use asm_symbols::{Definition, SymId};
 use std::alloc::Global;
 
 /// The number of a section that is there from the beginning.
-fn basic_number(basic: Basic) -> u32
-    ensures { result ≡ basic_number basic }
+fn initial_number(initial: InitialSection) -> u32
+    ensures { result ≡ initial_number initial }
 {
-    match basic {
-        Basic::Text => 0,
-        Basic::Data => 1,
-        Basic::Bss => 2,
+    match initial {
+        InitialSection::Text => 0,
+        InitialSection::Data => 1,
+        InitialSection::Bss => 2,
     }
 }
 
-impl NamedSymbols {
+impl SymbolUses {
     ghost use Rattle.std.specs.Prelude.{◌≡◌, ◌<◌, length, IfOk};
     ghost use Rattle.asm_base.specs.Tokens.{spelled};
     ghost use Rattle.asm_place.specs.Answers.{GivesNumber};
@@ -36,7 +36,7 @@ impl NamedSymbols {
 
     /// The symbol of a label, by its token: that of the next instance of a number.
     #[tactic(auto, unfolding(crate::specs::Placing::label_symbol))]
-    fn label_symbol(&mut self, alloc: Global, pos: Pos, token: &Token) -> Result<SymId, StepFault>
+    fn label_symbol(&mut self, alloc: Global, pos: Pos, token: &Token) -> Result<SymId, PlaceFault>
         ensures gives { GivesNumber self.new result (label_symbol pos (spelled token.now) self.old) }
         ensures there { IfOk result (λ id. id < length self.new.symbols.symbols) }
     {
@@ -62,24 +62,24 @@ impl Assembler {
     ghost use Rattle.asm_place.specs.PlacedBy.{placed_by};
 
     /// A directive that stands alone, and lets items go into the section of this number.
-    fn place_change(&mut self, number: u32, tokens: &[Token]) -> Result<(), StepFault>
+    fn place_change(&mut self, number: u32, tokens: &[Token]) -> Result<(), PlaceFault>
         ensures placed { Gives (placed_by self.new) result (bare (map spelled tokens.now) (Ok (with_current number (placed_by self.old)))) }
         ensures notes { self.new.notes ≡ self.old.notes }
     {
         if !tokens.is_empty() {
-            return Err(StepFault::Source(StatementFault::BadOperand));
+            return Err(PlaceFault::Source(StatementFault::BadOperand));
         }
         self.set_current(number);
         Ok(())
     }
 
     /// `.popsection`
-    fn place_popped(&mut self, tokens: &[Token]) -> Result<(), StepFault>
+    fn place_popped(&mut self, tokens: &[Token]) -> Result<(), PlaceFault>
         ensures placed { Gives (placed_by self.new) result (bare (map spelled tokens.now) (popped (placed_by self.old))) }
         ensures notes { self.new.notes ≡ self.old.notes }
     {
         if !tokens.is_empty() {
-            return Err(StepFault::Source(StatementFault::BadOperand));
+            return Err(PlaceFault::Source(StatementFault::BadOperand));
         }
         self.pop_section()
     }
@@ -91,7 +91,7 @@ impl Assembler {
         directive: Directive,
         pos: Pos,
         tokens: &[Token],
-    ) -> Result<(), StepFault>
+    ) -> Result<(), PlaceFault>
         ensures placed { Gives (placed_by self.new) result (place_by directive pos (map spelled tokens.now) (placed_by self.old)) }
         ensures notes { KeepsNotes result self.old.notes self.new.notes }
     {
@@ -101,12 +101,12 @@ impl Assembler {
             Directive::Zero => self.place_zero(pos, tokens),
             Directive::Skip => self.place_skip(pos, tokens),
             Directive::Fill => self.place_fill(pos, tokens),
-            Directive::Enter(basic) => self.place_change(basic_number(basic), tokens),
+            Directive::Enter(initial) => self.place_change(initial_number(initial), tokens),
             Directive::Section => self.place_section(pos, tokens),
             Directive::PushSection => self.place_pushed(pos, tokens),
             Directive::PopSection => self.place_popped(tokens),
             Directive::Previous => self.place_change(self.previous, tokens),
-            Directive::Say(saying) => self.place_said(pos, saying, tokens),
+            Directive::Say(attribute) => self.place_said(pos, attribute, tokens),
             Directive::Type => self.place_type(pos, tokens),
             Directive::Size => self.place_size(pos, tokens),
             Directive::Assign { once } => self.place_set(pos, once, tokens),
@@ -119,18 +119,18 @@ impl Assembler {
 
     /// A directive by its name.
     #[tactic(auto, unfolding(crate::specs::Placing::place_directive))]
-    fn place_directive(&mut self, pos: Pos, name: &[u8], tokens: &[Token]) -> Result<(), StepFault>
+    fn place_directive(&mut self, pos: Pos, name: &[u8], tokens: &[Token]) -> Result<(), PlaceFault>
         ensures placed { Gives (placed_by self.new) result (place_directive pos name.now (map spelled tokens.now) (placed_by self.old)) }
         ensures notes { KeepsNotes result self.old.notes self.new.notes }
     {
         match directive_of(name) {
             Some(directive) => self.place_by(directive, pos, tokens),
-            None => Err(StepFault::Source(StatementFault::UnknownDirective)),
+            None => Err(PlaceFault::Source(StatementFault::UnknownDirective)),
         }
     }
 
     /// An instruction of this row.
-    fn put_row(&mut self, pos: Pos, row: &Row) -> Result<(), StepFault>
+    fn put_row(&mut self, pos: Pos, row: &Row) -> Result<(), PlaceFault>
         ensures placed { Gives (placed_by self.new) result (push_item pos (plain_item (bytes_of row.now)) (placed_by self.old)) }
         ensures notes { self.new.notes ≡ self.old.notes }
     {
@@ -147,15 +147,15 @@ impl Assembler {
         pos: Pos,
         name: &[u8],
         operands: &[Token],
-    ) -> Result<(), StepFault>
+    ) -> Result<(), PlaceFault>
         ensures placed { Gives (placed_by self.new) result (place_instruction pos name.now (map spelled operands.now) (placed_by self.old)) }
         ensures notes { self.new.notes ≡ self.old.notes }
     {
         match find_row(name) {
-            None => Err(StepFault::Source(StatementFault::UnknownMnemonic)),
+            None => Err(PlaceFault::Source(StatementFault::UnknownMnemonic)),
             Some(row) => {
                 if !operands.is_empty() {
-                    return Err(StepFault::Source(StatementFault::BadOperand));
+                    return Err(PlaceFault::Source(StatementFault::BadOperand));
                 }
                 self.put_row(pos, row)
             }
@@ -164,14 +164,14 @@ impl Assembler {
 
     /// What stands behind the labels: an assignment, a directive or an instruction.
     #[tactic(auto, unfolding(crate::specs::Placing::place_body))]
-    fn place_body(&mut self, pos: Pos, first: &Token, rest: &[Token]) -> Result<(), StepFault>
+    fn place_body(&mut self, pos: Pos, first: &Token, rest: &[Token]) -> Result<(), PlaceFault>
         ensures placed { Gives (placed_by self.new) result (place_body pos (spelled first.now) (map spelled rest.now) (placed_by self.old)) }
         ensures notes { KeepsNotes result self.old.notes self.new.notes }
     {
         if names_symbol(first) && begins_assignment(rest) {
             self.place_assignment(pos, first, &rest[1..])
         } else if !is_name(first) {
-            Err(StepFault::Source(StatementFault::UnknownMnemonic))
+            Err(PlaceFault::Source(StatementFault::UnknownMnemonic))
         } else if begins_with_dot(first.bytes) {
             self.place_directive(pos, first.bytes, rest)
         } else {
@@ -181,7 +181,7 @@ impl Assembler {
 
     /// A label, by its token: it stands where the next item goes.
     #[tactic(auto, unfolding(crate::specs::Placing::place_label))]
-    fn place_label(&mut self, pos: Pos, token: &Token) -> Result<(), StepFault>
+    fn place_label(&mut self, pos: Pos, token: &Token) -> Result<(), PlaceFault>
         ensures placed { Gives (placed_by self.new) result (place_label pos (spelled token.now) (placed_by self.old)) }
         ensures notes { self.new.notes ≡ self.old.notes }
     {
@@ -192,7 +192,7 @@ impl Assembler {
 
     /// What stands behind the labels, where anything does.
     #[tactic(auto, unfolding(crate::specs::Placing::place_unlabelled))]
-    fn place_unlabelled(&mut self, pos: Pos, tokens: &[Token]) -> Result<(), StepFault>
+    fn place_unlabelled(&mut self, pos: Pos, tokens: &[Token]) -> Result<(), PlaceFault>
         ensures placed { Gives (placed_by self.new) result (place_unlabelled pos (map spelled tokens.now) (placed_by self.old)) }
         ensures notes { KeepsNotes result self.old.notes self.new.notes }
     {
@@ -203,7 +203,7 @@ impl Assembler {
     }
 
     /// The labels one after the other, and what stands behind them.
-    pub(crate) fn place_tokens(&mut self, pos: Pos, tokens: &[Token]) -> Result<(), StepFault>
+    pub(crate) fn place_tokens(&mut self, pos: Pos, tokens: &[Token]) -> Result<(), PlaceFault>
         ensures placed { Gives (placed_by self.new) result (place_tokens pos (map spelled tokens.now) (placed_by self.old)) }
         ensures notes { KeepsNotes result self.old.notes self.new.notes }
     {

@@ -10,13 +10,13 @@ ghost use Rattle.asm_place.specs.SaidWords.{words_in};
 ghost use Rattle.asm_place.specs.Answers.{GivesNumber};
 
 use crate::assemblers::Assembler;
-use crate::few::{constant_if, form_if};
 use crate::operands::Operands;
+use crate::place_faults::PlaceFault;
 use crate::section_defaults::default_header;
 use crate::section_words::{SectionWords, said_flags, said_kind, says_merge, section_words};
 use crate::spaces::is_negative;
 use crate::stacks::Entered;
-use crate::steps::StepFault;
+use crate::up_to_three::{constant_if, form_if};
 use asm_base::{Pos, StatementFault, Text, Token};
 use asm_expr::Expr;
 use asm_frags::{FragFault, Loose, Section, SectionFlags, Sections};
@@ -59,13 +59,13 @@ fn kind_by(kind: Option<u32>, there: Option<&Section<Loose>>, name: &[u8]) -> u3
 }
 
 /// The size of entries of a section that may be merged has to be said.
-fn merge_size(merge: bool, size: Option<u64>) -> Result<u64, StepFault>
+fn merge_size(merge: bool, size: Option<u64>) -> Result<u64, PlaceFault>
     ensures { GivesBy (λ size. size) result (spec.merge_size merge size) }
 {
     match (merge, size) {
         (false, _) => Ok(0),
         (true, Some(size)) if size != 0 => Ok(size),
-        (true, _) => Err(StepFault::Source(StatementFault::BadSection)),
+        (true, _) => Err(PlaceFault::Source(StatementFault::BadSection)),
     }
 }
 
@@ -74,7 +74,7 @@ fn entry_size_by(
     letters: &Option<Vec<u8>>,
     size: Option<u64>,
     there: Option<&Section<Loose>>,
-) -> Result<u64, StepFault>
+) -> Result<u64, PlaceFault>
     ensures { GivesBy (λ size. size) result (spec.entry_size_by (option_map (λ letters. letters.items) letters.now) size (option_map (λ section. section.now) there.entry)) }
 {
     match (letters, there) {
@@ -85,19 +85,19 @@ fn entry_size_by(
 }
 
 /// A size of entries that is said.
-fn said_size(size: Option<u64>) -> Result<Option<u64>, StepFault>
+fn said_size(size: Option<u64>) -> Result<Option<u64>, PlaceFault>
     ensures { GivesBy (λ size. size) result (spec.said_size size) }
 {
     match size {
         Some(number) if is_negative(number) => {
-            Err(StepFault::Source(StatementFault::OutOfRange))
+            Err(PlaceFault::Source(StatementFault::OutOfRange))
         }
         _ => Ok(size),
     }
 }
 
 /// The flags that are said, if any are.
-fn flags_if(letters: &Option<Vec<u8>>) -> Result<Option<u64>, StepFault>
+fn flags_if(letters: &Option<Vec<u8>>) -> Result<Option<u64>, PlaceFault>
     ensures { GivesBy (λ flags. flags) result (if_some words.said_flags (option_map (λ letters. letters.items) letters.now)) }
 {
     match letters {
@@ -107,7 +107,7 @@ fn flags_if(letters: &Option<Vec<u8>>) -> Result<Option<u64>, StepFault>
 }
 
 /// The type that is said, if one is.
-fn kind_if(name: &Option<Vec<u8>>) -> Result<Option<u32>, StepFault>
+fn kind_if(name: &Option<Vec<u8>>) -> Result<Option<u32>, PlaceFault>
     ensures { GivesBy (λ kind. kind) result (if_some words.said_kind (option_map (λ name. name.items) name.now)) }
 {
     match name {
@@ -130,7 +130,7 @@ fn header_of(
     sections: &Sections,
     words: &SectionWords,
     size: Option<u64>,
-) -> Result<Header, StepFault>
+) -> Result<Header, PlaceFault>
     ensures { GivesBy (λ header. header) result (spec.header_by sections.now (words_in words.now) size) }
 {
     let there = section_named(sections, &words.name);
@@ -145,15 +145,15 @@ fn header_of(
 }
 
 /// The number of the section of this name, which is short, and header.
-fn enter_short(sections: &mut Sections, name: Text, header: Header) -> Result<u32, StepFault>
+fn enter_short(sections: &mut Sections, name: Text, header: Header) -> Result<u32, PlaceFault>
     requires { length name ≤ 2 ^ 16 }
     ensures { GivesNumber sections.new result (spec.entered_short sections.old name header) }
 {
     let flags = SectionFlags::from_bits_retain(header.flags);
     match sections.enter(name, flags, header.kind, header.entry_size) {
         Ok(number) => Ok(number),
-        Err(FragFault::BadSection) => Err(StepFault::Source(StatementFault::BadSection)),
-        Err(FragFault::NoMemory) => Err(StepFault::NoMemory),
+        Err(FragFault::BadSection) => Err(PlaceFault::Source(StatementFault::BadSection)),
+        Err(FragFault::NoMemory) => Err(PlaceFault::NoMemory),
     }
 }
 
@@ -164,18 +164,18 @@ pub(crate) fn enter(
     sections: &mut Sections,
     name: &[u8],
     header: Header,
-) -> Result<u32, StepFault>
+) -> Result<u32, PlaceFault>
     ensures { GivesNumber sections.new result (spec.entered_as sections.old name.now header) }
 {
     if name.len() > MOST_NAME {
-        return Err(StepFault::Source(StatementFault::BadSection));
+        return Err(PlaceFault::Source(StatementFault::BadSection));
     }
     let text = Text::new(Vec::from_slice(alloc, name)?);
     enter_short(sections, text, header)
 }
 
 /// The expressions of an operand that may be missing.
-fn option_exprs(alloc: Global, expr: Option<Expr>) -> Result<Vec<Expr>, StepFault>
+fn option_exprs(alloc: Global, expr: Option<Expr>) -> Result<Vec<Expr>, PlaceFault>
     ensures { GivesBy (λ list. map tree_of list.items) result (Ok (spec.option_trees (option_map tree_of expr))) }
 {
     let mut list = Vec::new(alloc);
@@ -204,7 +204,7 @@ impl Assembler {
 
     /// Items go into the section of these words.
     #[tactic(auto, unfolding(crate::specs::SectionChanges::enter_words))]
-    fn enter_words(&mut self, pos: Pos, words: SectionWords) -> Result<(), StepFault>
+    fn enter_words(&mut self, pos: Pos, words: SectionWords) -> Result<(), PlaceFault>
         ensures placed { Gives (placed_by self.new) result (enter_words pos (words_in words) (placed_by self.old)) }
         ensures notes { self.new.notes ≡ self.old.notes }
     {
@@ -220,7 +220,7 @@ impl Assembler {
 
     /// `.section`
     #[tactic(auto, unfolding(crate::specs::SectionChanges::place_section))]
-    pub(crate) fn place_section(&mut self, pos: Pos, tokens: &[Token]) -> Result<(), StepFault>
+    pub(crate) fn place_section(&mut self, pos: Pos, tokens: &[Token]) -> Result<(), PlaceFault>
         ensures placed { Gives (placed_by self.new) result (place_section pos (map spelled tokens.now) (placed_by self.old)) }
         ensures notes { self.new.notes ≡ self.old.notes }
     {
@@ -230,7 +230,7 @@ impl Assembler {
 
     /// `.pushsection`: `.popsection` comes back to where this stands.
     #[tactic(auto, unfolding(crate::specs::SectionChanges::place_pushed))]
-    pub(crate) fn place_pushed(&mut self, pos: Pos, tokens: &[Token]) -> Result<(), StepFault>
+    pub(crate) fn place_pushed(&mut self, pos: Pos, tokens: &[Token]) -> Result<(), PlaceFault>
         ensures placed { Gives (placed_by self.new) result (place_pushed pos (map spelled tokens.now) (placed_by self.old)) }
         ensures notes { self.new.notes ≡ self.old.notes }
     {
@@ -245,7 +245,7 @@ impl Assembler {
 
     /// `.popsection`
     #[tactic(auto, unfolding(crate::specs::SectionChanges::popped))]
-    pub(crate) fn pop_section(&mut self) -> Result<(), StepFault>
+    pub(crate) fn pop_section(&mut self) -> Result<(), PlaceFault>
         ensures placed { Gives (placed_by self.new) result (popped (placed_by self.old)) }
         ensures notes { self.new.notes ≡ self.old.notes }
     {
@@ -255,7 +255,7 @@ impl Assembler {
                 self.previous = entered.previous;
                 Ok(())
             }
-            None => Err(StepFault::Source(StatementFault::BadSection)),
+            None => Err(PlaceFault::Source(StatementFault::BadSection)),
         }
     }
 }

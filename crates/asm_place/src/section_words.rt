@@ -9,9 +9,9 @@ ghost use Rattle.asm_place.specs.Operands.{name_of, string_of};
 ghost use Rattle.asm_place.specs.SectionWords as spec;
 ghost use Rattle.asm_place.specs.SaidWords.{words_in};
 
-use crate::few::{next_tree_if, no_more};
 use crate::operands::{Operands, is_mark, is_name, name_of, string_of, symbol_name};
-use crate::steps::StepFault;
+use crate::place_faults::PlaceFault;
+use crate::up_to_three::{next_tree_if, no_more};
 use asm_base::{StatementFault, Token};
 use asm_expr::Expr;
 use asm_frags::{
@@ -67,7 +67,7 @@ fn is_joined(tokens: &[Token]) -> bool
 }
 
 /// The bytes of these tokens, one after the other.
-fn joined_bytes(alloc: Global, tokens: &[Token]) -> Result<Vec<u8>, StepFault>
+fn joined_bytes(alloc: Global, tokens: &[Token]) -> Result<Vec<u8>, PlaceFault>
     ensures { GivesBy (λ bytes. bytes.items) result (Ok (spec.joined_bytes (map spelled tokens.now))) }
 {
     let mut bytes = Vec::new(alloc);
@@ -78,23 +78,23 @@ fn joined_bytes(alloc: Global, tokens: &[Token]) -> Result<Vec<u8>, StepFault>
 }
 
 /// The name that these parts are.
-fn joined_name(alloc: Global, tokens: &[Token]) -> Result<Vec<u8>, StepFault>
+fn joined_name(alloc: Global, tokens: &[Token]) -> Result<Vec<u8>, PlaceFault>
     ensures { GivesBy (λ name. name.items) result (spec.joined_name (map spelled tokens.now)) }
 {
     if is_joined(tokens) {
         joined_bytes(alloc, tokens)
     } else {
-        Err(StepFault::Source(StatementFault::BadOperand))
+        Err(PlaceFault::Source(StatementFault::BadOperand))
     }
 }
 
 /// The name of a section, quoted or not.
 #[tactic(auto, unfolding(crate::specs::SectionWords::section_name))]
-fn section_name(alloc: Global, operand: &[Token]) -> Result<Vec<u8>, StepFault>
+fn section_name(alloc: Global, operand: &[Token]) -> Result<Vec<u8>, PlaceFault>
     ensures { GivesBy (λ name. name.items) result (spec.section_name (map spelled operand.now)) }
 {
     match operand {
-        [] => Err(StepFault::Source(StatementFault::BadOperand)),
+        [] => Err(PlaceFault::Source(StatementFault::BadOperand)),
         [token] => symbol_name(alloc, token),
         _ => joined_name(alloc, operand),
     }
@@ -109,49 +109,49 @@ pub(crate) fn begins_type(token: &Token) -> bool
 
 /// A name behind `@` or `%`.
 #[tactic(auto, unfolding(crate::specs::SectionWords::type_name))]
-fn type_name(alloc: Global, operand: &[Token]) -> Result<Vec<u8>, StepFault>
+fn type_name(alloc: Global, operand: &[Token]) -> Result<Vec<u8>, PlaceFault>
     ensures { GivesBy (λ name. name.items) result (spec.type_name (map spelled operand.now)) }
 {
     match operand {
         [mark, name] if begins_type(mark) && is_name(name) => {
             Ok(Vec::from_slice(alloc, name.bytes)?)
         }
-        _ => Err(StepFault::Source(StatementFault::BadOperand)),
+        _ => Err(PlaceFault::Source(StatementFault::BadOperand)),
     }
 }
 
 /// The next operand, which has to be the name of a section.
-fn needed_section(alloc: Global, operands: &mut Operands) -> Result<Vec<u8>, StepFault>
+fn needed_section(alloc: Global, operands: &mut Operands) -> Result<Vec<u8>, PlaceFault>
     ensures { GivesAnd (λ name. name.items) (operands_left operands.new) result (spec.needed spec.section_name (operands_left operands.old)) }
 {
     match operands.next() {
         Some(operand) => section_name(alloc, operand),
-        None => Err(StepFault::Source(StatementFault::BadOperand)),
+        None => Err(PlaceFault::Source(StatementFault::BadOperand)),
     }
 }
 
 /// The next operand, which has to be the name of a symbol.
-pub(crate) fn needed_name(alloc: Global, operands: &mut Operands) -> Result<Vec<u8>, StepFault>
+pub(crate) fn needed_name(alloc: Global, operands: &mut Operands) -> Result<Vec<u8>, PlaceFault>
     ensures { GivesAnd (λ name. name.items) (operands_left operands.new) result (spec.needed name_of (operands_left operands.old)) }
 {
     match operands.next() {
         Some(operand) => name_of(alloc, operand),
-        None => Err(StepFault::Source(StatementFault::BadOperand)),
+        None => Err(PlaceFault::Source(StatementFault::BadOperand)),
     }
 }
 
 /// The next operand, which has to be a string.
-pub(crate) fn needed_string(alloc: Global, operands: &mut Operands) -> Result<Vec<u8>, StepFault>
+pub(crate) fn needed_string(alloc: Global, operands: &mut Operands) -> Result<Vec<u8>, PlaceFault>
     ensures { GivesAnd (λ string. string.items) (operands_left operands.new) result (spec.needed string_of (operands_left operands.old)) }
 {
     match operands.next() {
         Some(operand) => string_of(alloc, operand),
-        None => Err(StepFault::Source(StatementFault::BadOperand)),
+        None => Err(PlaceFault::Source(StatementFault::BadOperand)),
     }
 }
 
 /// The next operand, which is a string unless it is missing or empty.
-fn string_if(alloc: Global, operands: &mut Operands) -> Result<Option<Vec<u8>>, StepFault>
+fn string_if(alloc: Global, operands: &mut Operands) -> Result<Option<Vec<u8>>, PlaceFault>
     ensures { GivesAnd (option_map (λ string. string.items)) (operands_left operands.new) result (spec.missing_or string_of (operands_left operands.old)) }
 {
     match operands.next() {
@@ -161,7 +161,7 @@ fn string_if(alloc: Global, operands: &mut Operands) -> Result<Option<Vec<u8>>, 
 }
 
 /// The next operand, which is a type unless it is missing or empty.
-fn type_if(alloc: Global, operands: &mut Operands) -> Result<Option<Vec<u8>>, StepFault>
+fn type_if(alloc: Global, operands: &mut Operands) -> Result<Option<Vec<u8>>, PlaceFault>
     ensures { GivesAnd (option_map (λ name. name.items)) (operands_left operands.new) result (spec.missing_or spec.type_name (operands_left operands.old)) }
 {
     match operands.next() {
@@ -192,7 +192,7 @@ pub(crate) fn says_merge(letters: &Option<Vec<u8>>) -> bool
 pub(crate) fn section_words(
     alloc: Global,
     operands: &mut Operands,
-) -> Result<SectionWords, StepFault>
+) -> Result<SectionWords, PlaceFault>
     ensures { GivesBy words_in result (spec.section_words (operands_left operands.old)) }
 {
     let name = needed_section(alloc, operands)?;
@@ -247,19 +247,19 @@ fn are_flag_letters(letters: &[u8]) -> bool
 
 /// The flags that the letters ask for; another letter is no flag.
 #[tactic(auto, unfolding(crate::specs::SectionWords::said_flags))]
-pub(crate) fn said_flags(letters: &[u8]) -> Result<u64, StepFault>
+pub(crate) fn said_flags(letters: &[u8]) -> Result<u64, PlaceFault>
     ensures { GivesBy (λ flags. flags) result (spec.said_flags letters.now) }
 {
     if are_flag_letters(letters) {
         Ok(letter_flags(letters))
     } else {
-        Err(StepFault::Source(StatementFault::BadSection))
+        Err(PlaceFault::Source(StatementFault::BadSection))
     }
 }
 
 /// The type of a section by its name (gABI, chapter 4, `sh_type`).
 #[tactic(auto, unfolding(crate::specs::SectionWords::said_kind))]
-pub(crate) fn said_kind(name: &[u8]) -> Result<u32, StepFault>
+pub(crate) fn said_kind(name: &[u8]) -> Result<u32, PlaceFault>
     ensures { GivesBy (λ kind. kind) result (spec.said_kind name.now) }
 {
     if name == b"progbits".as_slice() {
@@ -275,6 +275,6 @@ pub(crate) fn said_kind(name: &[u8]) -> Result<u32, StepFault>
     } else if name == b"preinit_array".as_slice() {
         Ok(SHT_PREINIT_ARRAY)
     } else {
-        Err(StepFault::Source(StatementFault::BadSection))
+        Err(PlaceFault::Source(StatementFault::BadSection))
     }
 }

@@ -7,23 +7,23 @@ ghost use Rattle.asm_place.specs.Sources.{place, place_all};
 ghost use Rattle.asm_place.specs.Stops.{Places, stop_at};
 
 use crate::assemblers::Assembler;
-use crate::steps::{StepFault, Stop};
+use crate::place_faults::{LocatedFault, PlaceFault};
 use asm_base::{Fault, Pos, Tokens};
 use asm_lines::Statement;
 
 /// A fault of the statement at this place.
-fn stands_at(fault: StepFault, pos: Pos) -> Stop
+fn stands_at(fault: PlaceFault, pos: Pos) -> LocatedFault
     ensures { result ≡ stop_at fault pos }
 {
     match fault {
-        StepFault::Source(fault) => Stop::Source(Fault::Statement(fault), pos),
-        StepFault::NoMemory => Stop::NoMemory,
+        PlaceFault::Source(fault) => LocatedFault::Source(Fault::Statement(fault), pos),
+        PlaceFault::NoMemory => LocatedFault::NoMemory,
     }
 }
 
 /// Places one statement.
 #[tactic(auto, unfolding(crate::specs::Sources::place))]
-fn place(assembler: &mut Assembler, statement: &Statement) -> Result<(), Stop>
+fn place(assembler: &mut Assembler, statement: &Statement) -> Result<(), LocatedFault>
     ensures { Places (placed_by assembler.new) result (place (seen statement.now) (placed_by assembler.old)) }
 {
     let tokens = Tokens::read(assembler.alloc, statement.bytes)?;
@@ -34,7 +34,7 @@ fn place(assembler: &mut Assembler, statement: &Statement) -> Result<(), Stop>
 }
 
 /// Places all statements in order, up to the first that has a fault.
-pub fn place_all(assembler: &mut Assembler, statements: &[Statement]) -> Result<(), Stop>
+pub fn place_all(assembler: &mut Assembler, statements: &[Statement]) -> Result<(), LocatedFault>
     ensures { Places (placed_by assembler.new) result (place_all (map seen statements.now) (placed_by assembler.old)) }
 {
     for statement in statements {

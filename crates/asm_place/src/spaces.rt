@@ -5,9 +5,9 @@ ghost use Rattle.asm_place.specs.Answers.{GivesBy};
 ghost use Rattle.asm_place.specs.Spaces.{is_negative, space_of, units_of, unit_size, default_log, said_log, log_of};
 
 use crate::assemblers::Assembler;
-use crate::few::{few_trees, few_values, listed};
 use crate::operands::Operands;
-use crate::steps::StepFault;
+use crate::place_faults::PlaceFault;
+use crate::up_to_three::{listed, up_to_three_trees, up_to_three_values};
 use asm_base::{Pos, StatementFault, Token};
 use asm_expr::Expr;
 use asm_frags::{Content, Fill};
@@ -24,36 +24,36 @@ pub(crate) fn is_negative(number: u64) -> bool
 
 /// So many bytes, each the low byte of the value.
 #[tactic(auto, unfolding(crate::specs::Spaces::space_of))]
-pub(crate) fn space_of(count: u64, value: u64) -> Result<Content, StepFault>
+pub(crate) fn space_of(count: u64, value: u64) -> Result<Content, PlaceFault>
     ensures { GivesBy (λ item. item) result (space_of count value) }
 {
     if count > MOST_SPACE {
-        return Err(StepFault::Source(StatementFault::OutOfRange));
+        return Err(PlaceFault::Source(StatementFault::OutOfRange));
     }
     Ok(Content::Fill(Fill::new(count, 1, value)))
 }
 
 /// So many units of so many bytes.
 #[tactic(auto, unfolding(crate::specs::Spaces::units_of))]
-fn units_of(count: u64, size: u64, value: u64) -> Result<Content, StepFault>
+fn units_of(count: u64, size: u64, value: u64) -> Result<Content, PlaceFault>
     requires { size ≤ 8 }
     ensures { GivesBy (λ item. item) result (units_of count size value) }
 {
     if is_negative(count) {
-        return Err(StepFault::Source(StatementFault::OutOfRange));
+        return Err(PlaceFault::Source(StatementFault::OutOfRange));
     }
     if size == 0 {
         return Ok(Content::Fill(Fill::new(0, 0, value)));
     }
     if count > MOST_SPACE || count * size > MOST_SPACE {
-        return Err(StepFault::Source(StatementFault::OutOfRange));
+        return Err(PlaceFault::Source(StatementFault::OutOfRange));
     }
     Ok(Content::Fill(Fill::new(count, size, value)))
 }
 
 /// The size of a unit, in bytes: 1 where it is not said, and at most 8.
 #[tactic(auto, unfolding(crate::specs::Spaces::unit_size))]
-fn unit_size(size: Option<u64>) -> Result<u64, StepFault>
+fn unit_size(size: Option<u64>) -> Result<u64, PlaceFault>
     ensures size { GivesBy (λ size. size) result (unit_size size) }
     ensures small { IfOk result (λ size. size ≤ 8) }
 {
@@ -61,7 +61,7 @@ fn unit_size(size: Option<u64>) -> Result<u64, StepFault>
         None => Ok(1),
         Some(size) => {
             if is_negative(size) {
-                Err(StepFault::Source(StatementFault::OutOfRange))
+                Err(PlaceFault::Source(StatementFault::OutOfRange))
             } else {
                 Ok(size.min(8))
             }
@@ -86,7 +86,7 @@ fn default_log(size: u64) -> u8
 
 /// The power of two of an alignment that is said.
 #[tactic(auto, unfolding(crate::specs::Spaces::said_log))]
-fn said_log(alignment: u64) -> Result<u8, StepFault>
+fn said_log(alignment: u64) -> Result<u8, PlaceFault>
     ensures log { GivesBy (λ log. log) result (said_log alignment) }
     ensures small { IfOk result (λ log. log ≤ 30) }
 {
@@ -97,12 +97,12 @@ fn said_log(alignment: u64) -> Result<u8, StepFault>
     if alignment.is_power_of_two() && log <= 30 {
         Ok(log as u8)
     } else {
-        Err(StepFault::Source(StatementFault::OutOfRange))
+        Err(PlaceFault::Source(StatementFault::OutOfRange))
     }
 }
 
 /// The power of two of an alignment that may be said.
-pub(crate) fn log_of(alignment: Option<u64>, size: u64) -> Result<u8, StepFault>
+pub(crate) fn log_of(alignment: Option<u64>, size: u64) -> Result<u8, PlaceFault>
     ensures log { GivesBy (λ log. log) result (log_of alignment size) }
     ensures small { IfOk result (λ log. log ≤ 30) }
 {
@@ -121,7 +121,7 @@ impl Assembler {
     ghost use Rattle.asm_place.specs.PlacedBy.{placed_by};
 
     /// Space, and the names of its operands.
-    fn put_space(&mut self, pos: Pos, exprs: &[Expr], item: Content) -> Result<(), StepFault>
+    fn put_space(&mut self, pos: Pos, exprs: &[Expr], item: Content) -> Result<(), PlaceFault>
         ensures placed { Gives (placed_by self.new) result (with_item pos (map tree_of exprs.now) item (placed_by self.old)) }
         ensures notes { self.new.notes ≡ self.old.notes }
     {
@@ -131,12 +131,12 @@ impl Assembler {
 
     /// `.zero`: so many zeros.
     #[tactic(auto, unfolding(crate::specs::Placing::place_zero))]
-    pub(crate) fn place_zero(&mut self, pos: Pos, tokens: &[Token]) -> Result<(), StepFault>
+    pub(crate) fn place_zero(&mut self, pos: Pos, tokens: &[Token]) -> Result<(), PlaceFault>
         ensures placed { Gives (placed_by self.new) result (place_zero pos (map spelled tokens.now) (placed_by self.old)) }
         ensures notes { self.new.notes ≡ self.old.notes }
     {
-        let exprs = few_trees(self.alloc, 1, &mut Operands::new(tokens))?;
-        let values = few_values(self.alloc, self.view(), &exprs)?;
+        let exprs = up_to_three_trees(self.alloc, 1, &mut Operands::new(tokens))?;
+        let values = up_to_three_values(self.alloc, self.view(), &exprs)?;
         let item = space_of(values.first, 0)?;
         let exprs = listed(self.alloc, exprs)?;
         self.put_space(pos, &exprs, item)
@@ -144,12 +144,12 @@ impl Assembler {
 
     /// `.skip`, `.space`: so many bytes of a value.
     #[tactic(auto, unfolding(crate::specs::Placing::place_skip))]
-    pub(crate) fn place_skip(&mut self, pos: Pos, tokens: &[Token]) -> Result<(), StepFault>
+    pub(crate) fn place_skip(&mut self, pos: Pos, tokens: &[Token]) -> Result<(), PlaceFault>
         ensures placed { Gives (placed_by self.new) result (place_skip pos (map spelled tokens.now) (placed_by self.old)) }
         ensures notes { self.new.notes ≡ self.old.notes }
     {
-        let exprs = few_trees(self.alloc, 2, &mut Operands::new(tokens))?;
-        let values = few_values(self.alloc, self.view(), &exprs)?;
+        let exprs = up_to_three_trees(self.alloc, 2, &mut Operands::new(tokens))?;
+        let values = up_to_three_values(self.alloc, self.view(), &exprs)?;
         let item = space_of(values.first, values.second.unwrap_or(0))?;
         let exprs = listed(self.alloc, exprs)?;
         self.put_space(pos, &exprs, item)
@@ -157,12 +157,12 @@ impl Assembler {
 
     /// `.fill`: so many units of a value.
     #[tactic(auto, unfolding(crate::specs::Placing::place_fill))]
-    pub(crate) fn place_fill(&mut self, pos: Pos, tokens: &[Token]) -> Result<(), StepFault>
+    pub(crate) fn place_fill(&mut self, pos: Pos, tokens: &[Token]) -> Result<(), PlaceFault>
         ensures placed { Gives (placed_by self.new) result (place_fill pos (map spelled tokens.now) (placed_by self.old)) }
         ensures notes { self.new.notes ≡ self.old.notes }
     {
-        let exprs = few_trees(self.alloc, 3, &mut Operands::new(tokens))?;
-        let values = few_values(self.alloc, self.view(), &exprs)?;
+        let exprs = up_to_three_trees(self.alloc, 3, &mut Operands::new(tokens))?;
+        let values = up_to_three_values(self.alloc, self.view(), &exprs)?;
         let size = unit_size(values.second)?;
         let item = units_of(values.first, size, values.third.unwrap_or(0))?;
         let exprs = listed(self.alloc, exprs)?;

@@ -11,14 +11,14 @@ ghost use Rattle.asm_place.specs.SymbolWords as spec;
 ghost use Rattle.asm_place.specs.NamedTrees.{named_tree_in};
 
 use crate::assemblers::Assembler;
-use crate::directives::Saying;
+use crate::directives::SymbolAttribute;
 use crate::expressions::{expression_of, form_in};
-use crate::few::no_more;
 use crate::operands::{Operands, is_name, name_of};
-use crate::places::keeps_here;
+use crate::place_faults::PlaceFault;
+use crate::places::uses_dot;
 use crate::section_words::{begins_type, needed_name};
-use crate::steps::StepFault;
-use crate::tables::NamedSymbols;
+use crate::tables::SymbolUses;
+use crate::up_to_three::no_more;
 use asm_base::{Pos, StatementFault, Text, Token};
 use asm_expr::{Expr, Name};
 use asm_symbols::Kind;
@@ -26,7 +26,7 @@ use std::alloc::Global;
 
 /// The name that an operand gives a symbol.
 #[tactic(auto, unfolding(crate::specs::SymbolWords::plain_of))]
-fn plain_of(alloc: Global, operand: &[Token]) -> Result<Name, StepFault>
+fn plain_of(alloc: Global, operand: &[Token]) -> Result<Name, PlaceFault>
     ensures { GivesBy (λ name. name) result (spec.plain_of (map spelled operand.now)) }
 {
     Ok(Name::Plain(Text::new(name_of(alloc, operand)?)))
@@ -34,7 +34,7 @@ fn plain_of(alloc: Global, operand: &[Token]) -> Result<Name, StepFault>
 
 /// The names that operands give symbols.
 #[tactic(auto, unfolding(crate::specs::Operands::each, crate::specs::Operands::behind))]
-fn names(alloc: Global, operands: Operands) -> Result<Vec<Name>, StepFault>
+fn names(alloc: Global, operands: Operands) -> Result<Vec<Name>, PlaceFault>
     ensures { GivesBy (λ names. names.items) result (each spec.plain_of (operands_left operands.entry)) }
 {
     let mut names = Vec::new(alloc);
@@ -46,7 +46,7 @@ fn names(alloc: Global, operands: Operands) -> Result<Vec<Name>, StepFault>
 
 /// The kind of a symbol by its word (gABI, chapter 4, "Symbol Table").
 #[tactic(auto, unfolding(crate::specs::SymbolWords::kind_named))]
-fn kind_named(word: &[u8]) -> Result<Kind, StepFault>
+fn kind_named(word: &[u8]) -> Result<Kind, PlaceFault>
     ensures { GivesBy (λ kind. kind) result (spec.kind_named word.now) }
 {
     if word == b"function".as_slice() {
@@ -60,28 +60,28 @@ fn kind_named(word: &[u8]) -> Result<Kind, StepFault>
     } else if word == b"common".as_slice() {
         Ok(Kind::Common)
     } else {
-        Err(StepFault::Source(StatementFault::BadOperand))
+        Err(PlaceFault::Source(StatementFault::BadOperand))
     }
 }
 
 /// A kind behind `@` or `%`.
 #[tactic(auto, unfolding(crate::specs::SymbolWords::kind_of))]
-fn kind_of(operand: &[Token]) -> Result<Kind, StepFault>
+fn kind_of(operand: &[Token]) -> Result<Kind, PlaceFault>
     ensures { GivesBy (λ kind. kind) result (spec.kind_of (map spelled operand.now)) }
 {
     match operand {
         [mark, word] if begins_type(mark) && is_name(word) => kind_named(word.bytes),
-        _ => Err(StepFault::Source(StatementFault::BadOperand)),
+        _ => Err(PlaceFault::Source(StatementFault::BadOperand)),
     }
 }
 
 /// The next operand, which has to be a kind.
-fn needed_kind(operands: &mut Operands) -> Result<Kind, StepFault>
+fn needed_kind(operands: &mut Operands) -> Result<Kind, PlaceFault>
     ensures { GivesAnd (λ kind. kind) (operands_left operands.new) result (needed spec.kind_of (operands_left operands.old)) }
 {
     match operands.next() {
         Some(operand) => kind_of(operand),
-        None => Err(StepFault::Source(StatementFault::BadOperand)),
+        None => Err(PlaceFault::Source(StatementFault::BadOperand)),
     }
 }
 
@@ -93,7 +93,7 @@ pub(crate) struct NamedExpr {
 }
 
 /// The last operand, which has to be an expression.
-fn last_tree(alloc: Global, operands: &mut Operands) -> Result<Expr, StepFault>
+fn last_tree(alloc: Global, operands: &mut Operands) -> Result<Expr, PlaceFault>
     ensures { GivesBy tree_of result (spec.last_tree (operands_left operands.old)) }
 {
     match operands.next() {
@@ -101,13 +101,13 @@ fn last_tree(alloc: Global, operands: &mut Operands) -> Result<Expr, StepFault>
             let expr = expression_of(alloc, operand)?;
             no_more(operands, expr)
         }
-        None => Err(StepFault::Source(StatementFault::BadExpression)),
+        None => Err(PlaceFault::Source(StatementFault::BadExpression)),
     }
 }
 
 /// Operands that have to be a name and an expression.
 #[tactic(auto, unfolding(crate::specs::SymbolWords::named_tree))]
-pub(crate) fn named_tree(alloc: Global, operands: &mut Operands) -> Result<NamedExpr, StepFault>
+pub(crate) fn named_tree(alloc: Global, operands: &mut Operands) -> Result<NamedExpr, PlaceFault>
     ensures { GivesBy named_tree_in result (spec.named_tree (operands_left operands.old)) }
 {
     let name = needed_name(alloc, operands)?;
@@ -118,27 +118,37 @@ pub(crate) fn named_tree(alloc: Global, operands: &mut Operands) -> Result<Named
     })
 }
 
-impl NamedSymbols {
+impl SymbolUses {
     ghost use Rattle.std.specs.Prelude.{◌≡◌};
     ghost use Rattle.asm_place.specs.Answers.{Gives};
     ghost use Rattle.asm_place.specs.SymbolWords.{say_one, say_all};
 
     /// This is said of a name.
     #[tactic(auto, unfolding(crate::specs::Tables::symbol_of))]
-    fn say_one(&mut self, pos: Pos, saying: Saying, name: &Name) -> Result<(), StepFault>
-        ensures { Gives self.new result (say_one pos saying name.now self.old) }
+    fn say_one(
+        &mut self,
+        pos: Pos,
+        attribute: SymbolAttribute,
+        name: &Name,
+    ) -> Result<(), PlaceFault>
+        ensures { Gives self.new result (say_one pos attribute name.now self.old) }
     {
         let id = self.symbol_of(pos, name)?;
-        self.say(id, saying)
+        self.say(id, attribute)
     }
 
     /// This is said of each name.
     #[tactic(auto, unfolding(crate::specs::SymbolWords::say_all, crate::specs::Results::all_steps))]
-    fn say_all(&mut self, pos: Pos, saying: Saying, names: &[Name]) -> Result<(), StepFault>
-        ensures { Gives self.new result (say_all pos saying names.now self.old) }
+    fn say_all(
+        &mut self,
+        pos: Pos,
+        attribute: SymbolAttribute,
+        names: &[Name],
+    ) -> Result<(), PlaceFault>
+        ensures { Gives self.new result (say_all pos attribute names.now self.old) }
     {
         for name in names {
-            self.say_one(pos, saying, name)?;
+            self.say_one(pos, attribute, name)?;
         }
         Ok(())
     }
@@ -156,22 +166,22 @@ impl Assembler {
     pub(crate) fn place_said(
         &mut self,
         pos: Pos,
-        saying: Saying,
+        attribute: SymbolAttribute,
         tokens: &[Token],
-    ) -> Result<(), StepFault>
-        ensures placed { Gives (placed_by self.new) result (place_said pos saying (map spelled tokens.now) (placed_by self.old)) }
+    ) -> Result<(), PlaceFault>
+        ensures placed { Gives (placed_by self.new) result (place_said pos attribute (map spelled tokens.now) (placed_by self.old)) }
         ensures notes { self.new.notes ≡ self.old.notes }
     {
         if tokens.is_empty() {
-            return Err(StepFault::Source(StatementFault::BadOperand));
+            return Err(PlaceFault::Source(StatementFault::BadOperand));
         }
         let names = names(self.alloc, Operands::new(tokens))?;
-        self.table.say_all(pos, saying, &names)
+        self.table.say_all(pos, attribute, &names)
     }
 
     /// `.type`
     #[tactic(auto, unfolding(crate::specs::SymbolWords::place_type, crate::specs::Tables::symbol_of))]
-    pub(crate) fn place_type(&mut self, pos: Pos, tokens: &[Token]) -> Result<(), StepFault>
+    pub(crate) fn place_type(&mut self, pos: Pos, tokens: &[Token]) -> Result<(), PlaceFault>
         ensures placed { Gives (placed_by self.new) result (place_type pos (map spelled tokens.now) (placed_by self.old)) }
         ensures notes { self.new.notes ≡ self.old.notes }
     {
@@ -185,14 +195,14 @@ impl Assembler {
 
     /// `.size`
     #[tactic(auto, unfolding(crate::specs::SymbolWords::place_size))]
-    pub(crate) fn place_size(&mut self, pos: Pos, tokens: &[Token]) -> Result<(), StepFault>
+    pub(crate) fn place_size(&mut self, pos: Pos, tokens: &[Token]) -> Result<(), PlaceFault>
         ensures placed { Gives (placed_by self.new) result (place_size pos (map spelled tokens.now) (placed_by self.old)) }
         ensures notes { self.new.notes ≡ self.old.notes }
     {
         let words = named_tree(self.alloc, &mut Operands::new(tokens))?;
         let form = form_in(self.alloc, self.view(), &words.expr)?;
         let spot = self.here();
-        let keeps = keeps_here(spot, &form);
+        let keeps = uses_dot(spot, &form);
         let id = self.table.symbol_of(pos, &words.name)?;
         self.table.set_size(pos, id, form)?;
         self.table

@@ -2,8 +2,8 @@
 
 ghost use Rattle.std.specs.Prelude.{◌≡◌};
 
-use crate::directives::Saying;
-use crate::steps::StepFault;
+use crate::directives::SymbolAttribute;
+use crate::place_faults::PlaceFault;
 use asm_base::{Pos, StatementFault, Text};
 use asm_expr::{Linear, Name, Written, constant_form};
 use asm_symbols::{Definition, Kind, SymId, Symbols};
@@ -13,7 +13,7 @@ use std::marker::Model;
 
 /// The symbol map, and where its symbols are named.
 #[derive(Drop)]
-pub struct NamedSymbols {
+pub struct SymbolUses {
     alloc: Global,
     symbols: Symbols,
     /// For each symbol where the first statement stands that names it.
@@ -22,7 +22,7 @@ pub struct NamedSymbols {
     sized: IndexMap<u32, Pos>,
 }
 
-impl Model for NamedSymbols {
+impl Model for SymbolUses {
     ghost use Rattle.asm_place.specs.Tables.{Table};
 
     ghost Value = { Table };
@@ -30,7 +30,7 @@ impl Model for NamedSymbols {
     ghost view = { λ inside. record { symbols = inside.symbols; named = inside.named.items; sized = inside.sized.entries } };
 }
 
-impl NamedSymbols {
+impl SymbolUses {
     ghost use Rattle.std.specs.Prelude.{◌≡◌, ◌<◌, nat_eq, length, IfOk, Ok};
     ghost use Rattle.std.specs.Map.{lookup};
     ghost use Rattle.asm_symbols.specs.Defining.{defined};
@@ -41,10 +41,10 @@ impl NamedSymbols {
     ghost use Rattle.asm_place.specs.SymbolWords.{said, kind_said, sized};
 
     /// No symbols.
-    pub(crate) fn new(alloc: Global) -> NamedSymbols
+    pub(crate) fn new(alloc: Global) -> SymbolUses
         ensures { result ≡ no_table }
     {
-        NamedSymbols {
+        SymbolUses {
             alloc,
             symbols: Symbols::new(alloc),
             named: Vec::new(alloc),
@@ -75,7 +75,7 @@ impl NamedSymbols {
 
     /// The symbol of the name, which is put last if it is new.
     #[tactic(auto, unfolding(crate::specs::Tables::symbol_of))]
-    pub(crate) fn symbol_of(&mut self, pos: Pos, name: &Name) -> Result<SymId, StepFault>
+    pub(crate) fn symbol_of(&mut self, pos: Pos, name: &Name) -> Result<SymId, PlaceFault>
         ensures gives { GivesNumber self.new result (symbol_of pos name.now self.old) }
         ensures there { IfOk result (λ id. id < length self.new.symbols.symbols) }
     {
@@ -89,7 +89,7 @@ impl NamedSymbols {
 
     /// The symbol of the next instance of a numeric label.
     #[tactic(auto, unfolding(crate::specs::Tables::next_symbol))]
-    pub(crate) fn next_symbol(&mut self, pos: Pos, number: u64) -> Result<SymId, StepFault>
+    pub(crate) fn next_symbol(&mut self, pos: Pos, number: u64) -> Result<SymId, PlaceFault>
         ensures gives { GivesNumber self.new result (next_symbol pos number self.old) }
         ensures there { IfOk result (λ id. id < length self.new.symbols.symbols) }
     {
@@ -102,7 +102,7 @@ impl NamedSymbols {
     }
 
     /// The symbol is defined so.
-    pub(crate) fn define(&mut self, id: SymId, what: Definition) -> Result<(), StepFault>
+    pub(crate) fn define(&mut self, id: SymId, what: Definition) -> Result<(), PlaceFault>
         requires { id < length self.old.symbols.symbols }
         ensures gives { Gives self.new result (changed_by (λ map index. defined map index what) (self.old, id)) }
         ensures length { length self.new.symbols.symbols ≡ length self.old.symbols.symbols }
@@ -112,19 +112,19 @@ impl NamedSymbols {
     }
 
     /// This is said of the symbol.
-    pub(crate) fn say(&mut self, id: SymId, saying: Saying) -> Result<(), StepFault>
+    pub(crate) fn say(&mut self, id: SymId, attribute: SymbolAttribute) -> Result<(), PlaceFault>
         requires { id < length self.old.symbols.symbols }
-        ensures { Gives self.new result (changed_by (said saying) (self.old, id)) }
+        ensures { Gives self.new result (changed_by (said attribute) (self.old, id)) }
     {
-        match saying {
-            Saying::Bind(binding) => self.symbols.bind(id, binding)?,
-            Saying::See(visibility) => self.symbols.visibility(id, visibility)?,
+        match attribute {
+            SymbolAttribute::Bind(binding) => self.symbols.bind(id, binding)?,
+            SymbolAttribute::See(visibility) => self.symbols.visibility(id, visibility)?,
         }
         Ok(())
     }
 
     /// The symbol is of this kind.
-    pub(crate) fn set_kind(&mut self, id: SymId, kind: Kind) -> Result<(), StepFault>
+    pub(crate) fn set_kind(&mut self, id: SymId, kind: Kind) -> Result<(), PlaceFault>
         requires { id < length self.old.symbols.symbols }
         ensures gives { Gives self.new result (changed_by (kind_said kind) (self.old, id)) }
         ensures length { length self.new.symbols.symbols ≡ length self.old.symbols.symbols }
@@ -134,7 +134,12 @@ impl NamedSymbols {
     }
 
     /// The symbol is space of this size.
-    pub(crate) fn set_space(&mut self, alloc: Global, id: SymId, size: u64) -> Result<(), StepFault>
+    pub(crate) fn set_space(
+        &mut self,
+        alloc: Global,
+        id: SymId,
+        size: u64,
+    ) -> Result<(), PlaceFault>
         requires { id < length self.old.symbols.symbols }
         ensures { Gives self.new result (Ok (with_map self.old (as_space size self.old.symbols id))) }
     {
@@ -145,7 +150,7 @@ impl NamedSymbols {
     }
 
     /// The symbol has this size, which is said at this place.
-    pub(crate) fn set_size(&mut self, pos: Pos, id: SymId, size: Linear) -> Result<(), StepFault>
+    pub(crate) fn set_size(&mut self, pos: Pos, id: SymId, size: Linear) -> Result<(), PlaceFault>
         requires { id < length self.old.symbols.symbols }
         ensures { Gives self.new result (Ok (sized pos size (self.old, id))) }
     {
@@ -155,7 +160,7 @@ impl NamedSymbols {
     }
 
     /// The symbol stands for the form; with `once` only if it was nothing before.
-    pub(crate) fn assign(&mut self, id: SymId, form: Linear, once: bool) -> Result<(), StepFault>
+    pub(crate) fn assign(&mut self, id: SymId, form: Linear, once: bool) -> Result<(), PlaceFault>
         requires { id < length self.old.symbols.symbols }
         ensures { Gives self.new result (changed_by (λ map index. assigned map index form once) (self.old, id)) }
     {
@@ -164,7 +169,7 @@ impl NamedSymbols {
     }
 
     /// The name of a file more.
-    pub(crate) fn file(&mut self, name: &Name) -> Result<(), StepFault>
+    pub(crate) fn file(&mut self, name: &Name) -> Result<(), PlaceFault>
         ensures { Gives self.new result (file_named name.now self.old) }
     {
         self.symbols.file(name)?;
@@ -173,7 +178,7 @@ impl NamedSymbols {
 
     /// A name of an expression becomes a symbol.
     #[tactic(auto, unfolding(crate::specs::Tables::name_written))]
-    pub(crate) fn name_written(&mut self, pos: Pos, written: &Written) -> Result<(), StepFault>
+    pub(crate) fn name_written(&mut self, pos: Pos, written: &Written) -> Result<(), PlaceFault>
         ensures gives { Gives self.new result (name_written pos written.now self.old) }
     {
         match written {
@@ -184,7 +189,7 @@ impl NamedSymbols {
             }
             Written::Back(number) => match self.symbols.numeric_back(*number) {
                 Some(_) => Ok(()),
-                None => Err(StepFault::Source(StatementFault::BadSymbolUse)),
+                None => Err(PlaceFault::Source(StatementFault::BadSymbolUse)),
             },
             Written::Next(number) => {
                 self.next_symbol(pos, *number)?;

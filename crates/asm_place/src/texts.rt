@@ -8,7 +8,7 @@ ghost use Rattle.asm_place.specs.Idents.{plain_item};
 
 use crate::assemblers::Assembler;
 use crate::operands::{Operands, string_of};
-use crate::steps::StepFault;
+use crate::place_faults::PlaceFault;
 use asm_base::{Pos, Token};
 use asm_frags::{Content, Data};
 use std::alloc::{AllocError, Global};
@@ -22,7 +22,7 @@ fn end_byte(ended: bool) -> &'static [u8]
 
 /// The bytes that the strings of operands stand for, one after the other.
 #[tactic(auto, unfolding(crate::specs::Operands::joined_strings, crate::specs::Operands::behind))]
-fn joined_strings(alloc: Global, ended: bool, operands: Operands) -> Result<Vec<u8>, StepFault>
+fn joined_strings(alloc: Global, ended: bool, operands: Operands) -> Result<Vec<u8>, PlaceFault>
     ensures { GivesBy (λ bytes. bytes.items) result (joined_strings ended (operands_left operands.entry)) }
 {
     let mut bytes = Vec::new(alloc);
@@ -57,7 +57,7 @@ impl Assembler {
         pos: Pos,
         ended: bool,
         tokens: &[Token],
-    ) -> Result<(), StepFault>
+    ) -> Result<(), PlaceFault>
         ensures placed { Gives (placed_by self.new) result (place_strings pos ended (map spelled tokens.now) (placed_by self.old)) }
         ensures notes { self.new.notes ≡ self.old.notes }
     {

@@ -1,5 +1,5 @@
 -- The proofs of this crate.
-pub mod ResolvingLemmas
+pub mod ExpandingLemmas
 pub mod Changes
 pub mod PlacingLemmas
 pub mod FirstLemmas

@@ -12,7 +12,7 @@ use Rattle.asm_symbols.specs.SymbolMap.{SymbolMap, names, index_of}
 use Rattle.asm_frags.specs.declared.items.Frag.{Frag}
 use Rattle.asm_frags.specs.Contents.{size_at}
 use Rattle.asm_frags.specs.SectionOf.{SectionOf}
-use Rattle.asm_relax.specs.Resolving.{resolved}
+use Rattle.asm_relax.specs.Expanding.{expanded}
 
 -- where the item ends
 abbrev pub end_of : {P : Type 0} → Frag P ℕ → ℕ
@@ -51,7 +51,7 @@ final_told map sections name = final_at map sections (index_of name (names map.s
 
 -- what a form is at the end: labels of one section that cancel are replaced by their addresses
 unfoldable pub final_form : {P : Type 0} → SymbolMap → List (SectionOf (Frag P ℕ)) → Form → Form
-final_form map sections made = settled (final_told map sections) (resolved map made)
+final_form map sections made = settled (final_told map sections) (expanded map made)
 
 -- the value of a form whose assigned symbols are put in, where no name is left at the end
 unfoldable pub laid_value : {P : Type 0} → SymbolMap → List (SectionOf (Frag P ℕ)) → Form → Option ℕ
@@ -59,4 +59,4 @@ laid_value map sections made = constant_left (settled (final_told map sections) 
 
 -- the value of a form, where no name is left at the end
 abbrev pub field_value : {P : Type 0} → SymbolMap → List (SectionOf (Frag P ℕ)) → Form → Option ℕ
-field_value map sections made = laid_value map sections (resolved map made)
+field_value map sections made = laid_value map sections (expanded map made)

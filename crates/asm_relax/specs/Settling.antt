@@ -5,12 +5,12 @@ use Rattle.asm_frags.specs.declared.phases.Loose.{Loose}
 use Rattle.asm_frags.specs.declared.phases.Laid.{Laid}
 use Rattle.asm_frags.specs.declared.items.Frag.{Frag}
 use Rattle.asm_frags.specs.SectionOf.{SectionOf}
-use Rattle.asm_frags.specs.Refitting.{laid_sections}
+use Rattle.asm_frags.specs.Substituting.{laid_sections}
 use Rattle.asm_relax.specs.declared.faults.LayoutFault.{LayoutFault}
-use Rattle.asm_relax.specs.Resolving.{resolved}
+use Rattle.asm_relax.specs.Expanding.{expanded}
 use Rattle.asm_relax.specs.Ranks.{IsLayout}
 use Rattle.asm_relax.specs.Layout.{tops, needed, lowest_levels, laid_out}
-use Rattle.asm_relax.specs.Judging.{fault_of}
+use Rattle.asm_relax.specs.RangeChecks.{first_fault}
 
 abbrev pub LooseSections : Type 0
 LooseSections = List (SectionOf (Frag Loose (Unit {0})))
@@ -27,7 +27,7 @@ pub record PlanOf : Type 0 where
   pub sections : LaidSections
 
 unfoldable pub planned : SymbolMap → LooseSections → LaidSections
-planned map sections = laid_sections (resolved map) sections
+planned map sections = laid_sections (expanded map) sections
 
 -- a plan of these sections
 abbrev pub plan_of : SymbolMap → LooseSections → PlanOf
@@ -43,7 +43,7 @@ settled_sections sections = laid_out (lowest_levels sections) sections
 
 -- the sections with their addresses, or the first fault
 abbrev pub settled_plan : SymbolMap → LaidSections → Result LaidSections LayoutFault
-settled_plan map sections = unless (fault_of map (settled_sections sections)) (settled_sections sections)
+settled_plan map sections = unless (first_fault map (settled_sections sections)) (settled_sections sections)
 
 abbrev pub layout_of : SymbolMap → LooseSections → Result LaidSections LayoutFault
 layout_of map sections = settled_plan map (planned map sections)

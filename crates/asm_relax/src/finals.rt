@@ -4,8 +4,8 @@ ghost use Rattle.std.specs.Prelude.{◌≡◌, IfOk};
 ghost use Rattle.asm_expr.specs.Knowledge.{told_by};
 ghost use Rattle.asm_relax.specs.Final.{spot_told, final_meaning, final_form, laid_value};
 
+use crate::expanding::expand_assigned;
 use crate::places::address_of;
-use crate::resolving::resolved;
 use asm_base::NoMemory;
 use asm_expr::{Known, Linear, Look, Name, settled, settled_value};
 use asm_frags::{Laid, Sections};
@@ -80,7 +80,7 @@ pub fn final_form(
     ensures { IfOk result (λ made. made ≡ final_form symbols.now sections.now form.now) }
 {
     let known = FinalView { symbols, sections };
-    match settled(alloc, &known, resolved(alloc, symbols, form)?) {
+    match settled(alloc, &known, expand_assigned(alloc, symbols, form)?) {
         Ok(made) => Ok(made),
         Err(_) => Err(AllocError),
     }

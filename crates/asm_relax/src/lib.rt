@@ -1,17 +1,16 @@
 //! The layout of sections: where each item stands, and what the fields hold.
 #![tactic(auto)]
 
+mod expanding;
 mod faults;
 mod finals;
-mod judging;
 mod laws;
 mod laying;
 mod places;
 mod planning;
-mod resolving;
-#[cfg(test)]
-mod tests;
+mod range_checks;
 
+pub use expanding::expand_assigned;
 pub use faults::LayoutFault;
 pub use finals::{FinalView, final_form, laid_value};
 pub use laws::{
@@ -19,4 +18,3 @@ pub use laws::{
 };
 pub use places::{address_of, section_size};
 pub use planning::{Plan, Settled};
-pub use resolving::resolved;

@@ -2,31 +2,31 @@
 
 ghost use Rattle.std.specs.Prelude.{◌≡◌};
 
+use crate::expanding::expand_assigned;
 use crate::faults::LayoutFault;
-use crate::judging::fault_of;
 use crate::laying::lay_all;
-use crate::resolving::resolved;
+use crate::range_checks::first_fault;
 use asm_base::NoMemory;
 use asm_expr::Linear;
-use asm_frags::{FragFault, Laid, Loose, Refits, Sections};
+use asm_frags::{FragFault, Laid, Loose, Sections, Substitution};
 use asm_symbols::Symbols;
 use std::alloc::{AllocError, Global};
 use std::marker::Model;
 
 /// Puts assigned symbols into forms.
 #[derive(Clone, Copy)]
-struct PutsIn<'a> {
+struct AssignedExpansion<'a> {
     alloc: Global,
     symbols: &'a Symbols,
 }
 
-impl Refits for PutsIn<'_> {
-    ghost use Rattle.asm_relax.specs.Resolving.{resolved};
+impl Substitution for AssignedExpansion<'_> {
+    ghost use Rattle.asm_relax.specs.Expanding.{expanded};
 
-    ghost refit = { λ puts form. resolved puts.symbols.now form };
+    ghost substitute = { λ puts form. expanded puts.symbols.now form };
 
-    fn refit(&self, form: &Linear) -> Result<Linear, FragFault> {
-        Ok(resolved(self.alloc, self.symbols, form)?)
+    fn substitute(&self, form: &Linear) -> Result<Linear, FragFault> {
+        Ok(expand_assigned(self.alloc, self.symbols, form)?)
     }
 }
 
@@ -65,8 +65,8 @@ impl<'a> Plan<'a> {
     ) -> Result<Plan<'a>, NoMemory>
         ensures { IfOk result (λ plan. plan ≡ plan_of symbols.now sections) }
     {
-        let puts = PutsIn { alloc, symbols };
-        match sections.refitted(&puts) {
+        let puts = AssignedExpansion { alloc, symbols };
+        match sections.substituted(&puts) {
             Ok(sections) => Ok(Plan { symbols, sections }),
             Err(_) => Err(AllocError),
         }
@@ -81,7 +81,7 @@ impl<'a> Plan<'a> {
         ensures map { self.new.map ≡ self.old.map }
     {
         lay_all(&mut self.sections);
-        match fault_of(self.symbols, &self.sections) {
+        match first_fault(self.symbols, &self.sections) {
             Some(fault) => Err(fault),
             None => Ok(Settled { rounds: 1 }),
         }

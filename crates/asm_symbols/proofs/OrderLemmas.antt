@@ -10,7 +10,7 @@ use Rattle.asm_symbols.specs.declared.faults.SymFault.{SymFault}
 use Rattle.asm_symbols.specs.SymbolMap.{SymbolMap, names, changed, with_symbol, with_meaning}
 use Rattle.asm_symbols.specs.Answering.{◌>>=◌}
 use Rattle.asm_symbols.specs.Defining.{redefined, with_defined, defined_by, defined}
-use Rattle.asm_symbols.specs.Saying.{bound_as, with_binding, bound_by, bound}
+use Rattle.asm_symbols.specs.Attributes.{bound_as, with_binding, bound_by, bound}
 use Rattle.asm_symbols.specs.Order.{KeepsOrder}
 use Rattle.asm_symbols.proofs.ChangeLemmas.{names-changed}
 

@@ -15,7 +15,7 @@ use Rattle.asm_symbols.specs.Defining.{defined}
 use Rattle.asm_symbols.specs.Assigning.{refusal_at, with_form}
 use Rattle.asm_symbols.specs.Searching.{seen_with}
 use Rattle.asm_symbols.specs.LeadsBack.{searched, leads_back, assigned}
-use Rattle.asm_symbols.specs.Saying.{with_binding, bound}
+use Rattle.asm_symbols.specs.Attributes.{with_binding, bound}
 
 abbrev word : Name
 word = naming.Plain (codes "w")

@@ -7,7 +7,7 @@ pub mod Defining
 pub mod Assigning
 pub mod Searching
 pub mod LeadsBack
-pub mod Saying
+pub mod Attributes
 pub mod Looking
 pub mod Order
 pub mod NameIndex

@@ -1,7 +1,7 @@
 //! Changes of one symbol, each of one field.
 
 ghost use Rattle.std.specs.Prelude.{◌≡◌};
-ghost use Rattle.asm_symbols.specs.Saying.{rebound, bound_as};
+ghost use Rattle.asm_symbols.specs.Attributes.{rebound, bound_as};
 
 use crate::entries::{Binding, Kind, Meaning, Visibility};
 use crate::faults::SymFault;
@@ -40,7 +40,7 @@ impl Symbols {
     ghost use Rattle.std.specs.Prelude.{◌≡◌, ◌<◌, length, Ok, OnErr};
     ghost use Rattle.asm_symbols.specs.SymbolMap.{with_symbol};
     ghost use Rattle.asm_symbols.specs.Answering.{Gives, GivesAlways};
-    ghost use Rattle.asm_symbols.specs.Saying.{with_binding, with_kind, with_size, with_visibility, bound};
+    ghost use Rattle.asm_symbols.specs.Attributes.{with_binding, with_kind, with_size, with_visibility, bound};
 
     /// The symbol has this binding from now on.
     fn rebind(&mut self, id: SymId, binding: Binding)
@@ -89,7 +89,7 @@ impl Symbols {
     }
 
     /// The symbol is bound so: weak wins over global, and neither goes with local.
-    #[tactic(auto, unfolding(crate::specs::Saying::bound))]
+    #[tactic(auto, unfolding(crate::specs::Attributes::bound))]
     pub fn bind(&mut self, id: SymId, binding: Binding) -> Result<(), SymFault>
         requires { id < length self.old.symbols }
         ensures gives { GivesAlways self.new result (bound self.old id binding) }

@@ -5,7 +5,7 @@ ghost use Rattle.asm_expr.specs.declared.naming.Name.{Name as NameValue};
 ghost use Rattle.asm_expr.specs.declared.naming.Name.TheVariants.{Numeric};
 ghost use Rattle.std.specs.List.{list_any};
 ghost use Rattle.asm_expr.specs.Forms.{Form};
-ghost use Rattle.asm_symbols.specs.declared.entries.Symbol.{Symbol as SymbolValue};
+ghost use Rattle.asm_symbols.specs.declared.entries.Symbol.{Symbol as SymbolEntry};
 ghost use Rattle.asm_symbols.specs.declared.entries.Definition.{Definition as DefinitionValue};
 ghost use Rattle.asm_symbols.specs.declared.entries.Meaning.{Meaning as MeaningValue};
 ghost use Rattle.asm_symbols.specs.declared.entries.Binding.{Binding as BindingValue};
@@ -19,7 +19,7 @@ ghost use Rattle.asm_symbols.specs.Counting.{counted, next_named};
 ghost use Rattle.asm_symbols.specs.Defining.{defined};
 ghost use Rattle.asm_symbols.specs.Assigning.{with_form, Leads};
 ghost use Rattle.asm_symbols.specs.LeadsBack.{leads_back};
-ghost use Rattle.asm_symbols.specs.Saying.{bound_as, bound, with_kind, with_size, with_visibility};
+ghost use Rattle.asm_symbols.specs.Attributes.{bound_as, bound, with_kind, with_size, with_visibility};
 ghost use Rattle.asm_symbols.specs.Order.{KeepsOrder};
 ghost use Rattle.asm_symbols.specs.Sound.{is_label_of};
 
@@ -64,8 +64,8 @@ pub fn order_is_kept()
 
 /// The program that decides whether a form leads back to a symbol answers true exactly where it does.
 pub fn leads_is_decided()
-    ensures back { (symbols : List SymbolValue) (form : Form) (at : ℕ) → leads_back symbols form at ≡ true → Leads symbols form at }
-    ensures leads { (symbols : List SymbolValue) (form : Form) (at : ℕ) → Leads symbols form at → leads_back symbols form at ≡ true }
+    ensures back { (symbols : List SymbolEntry) (form : Form) (at : ℕ) → leads_back symbols form at ≡ true → Leads symbols form at }
+    ensures leads { (symbols : List SymbolEntry) (form : Form) (at : ℕ) → Leads symbols form at → leads_back symbols form at ≡ true }
 {}
 
 /// Weak wins over global in either order, and neither goes with local.

@@ -14,8 +14,6 @@ mod laws;
 mod looking;
 mod name_index;
 mod symbol_map;
-#[cfg(test)]
-mod tests;
 
 pub use entries::{Binding, Definition, Kind, Meaning, Spot, Symbol, Visibility};
 pub use faults::SymFault;

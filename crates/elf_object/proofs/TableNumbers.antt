@@ -10,11 +10,11 @@ use Rattle.asm_relax.specs.Settling.{LaidSections}
 use Rattle.elf_object.specs.declared.relocations.Relocation.{Relocation}
 use Rattle.elf_object.specs.declared.relocations.Target.{Target}
 use Rattle.elf_object.specs.declared.relocations.Target.TheVariants.{OfSection, OfSymbol}
-use Rattle.elf_object.specs.declared.standings.Standing.{Standing}
+use Rattle.elf_object.specs.declared.symbol_values.SymbolValue.{SymbolValue}
 use Rattle.elf_object.specs.Contents.{relocations_of}
 use Rattle.elf_object.specs.Naming.{same_target, is_named_by, is_named, marks_from, named_of}
 use Rattle.elf_object.specs.Numbers.{section_numbers, symbol_numbers, first_section_symbol, first_local, first_other, numbers_of, target_number}
-use Rattle.elf_object.specs.Standings.{standing_of}
+use Rattle.elf_object.specs.SymbolValues.{symbol_value_of}
 use Rattle.elf_object.specs.SymbolTable.{SymbolEntry, is_local_entry, part, file_entry, section_entry, section_entries, entry_at, needs_naming, listed_if, listed, listed_by, listed_all, table_of}
 use Rattle.elf_object.specs.TableLaws.{named_in, IsEntryOf, TargetsStand}
 use Rattle.elf_object.proofs.ItemPlaces.{get_front, found_long}
@@ -137,7 +137,7 @@ listed_get map sections (m ∷ marks) (s ∷ symbols) zero mark symbol is there 
 listed_get map sections (m ∷ marks) (s ∷ symbols) (suc i) mark symbol is there = listed_get map sections marks symbols i mark symbol is there
 
 -- a symbol that is named and stands somewhere is listed
-listed_there : (map : SymbolMap) (sections : LaidSections) (symbol : Symbol) (there : Standing) → standing_of map sections symbol.meaning ≡ Some there
+listed_there : (map : SymbolMap) (sections : LaidSections) (symbol : Symbol) (there : SymbolValue) → symbol_value_of map sections symbol.meaning ≡ Some there
     → listed map sections true symbol ≡ Some (entry_at map sections symbol there)
 unfolding listed
 listed_there map sections symbol there is =

@@ -16,20 +16,20 @@ use Rattle.asm_symbols.specs.declared.entries.Spot.{Spot}
 use Rattle.asm_symbols.specs.SymbolMap.{SymbolMap, names, index_of}
 use Rattle.asm_relax.specs.Final.{address_of, final_told}
 use Rattle.asm_relax.specs.Settling.{LaidItem, LaidSections}
-use Rattle.elf_object.specs.declared.references.Aim.{Aim}
+use Rattle.elf_object.specs.declared.references.SymbolReference.{SymbolReference}
 use Rattle.elf_object.specs.declared.references.Reference.{Reference}
 use Rattle.elf_object.specs.declared.relocations.Relocation.{Relocation}
 use Rattle.elf_object.specs.declared.relocations.Target.{Target}
 use Rattle.elf_object.specs.declared.relocations.Target.TheVariants.{OfSection, OfSymbol}
-use Rattle.elf_object.specs.declared.standings.Standing.{Standing}
+use Rattle.elf_object.specs.declared.symbol_values.SymbolValue.{SymbolValue}
 use Rattle.elf_object.specs.Contents.{filed_items, item_relocations, items_relocations, section_relocations, relocations_from}
-use Rattle.elf_object.specs.Relocations.{merge, aim, aim_in, aim_by, aim_at, aim_found, aim_of, own_address, less, reference, direct, relative, pair, is_plus, is_minus, reference_by, final_reference, relocation, field_relocation}
-use Rattle.elf_object.specs.Standings.{has_flag, standing_of}
+use Rattle.elf_object.specs.Relocations.{merge, symbol_reference, label_reference, meaning_reference, reference_at, reference_found, name_reference, own_address, less, reference, direct, relative, pair, is_plus, is_minus, reference_by, final_reference, relocation, field_relocation}
+use Rattle.elf_object.specs.SymbolValues.{has_flag, symbol_value_of}
 
 -- the section is there, or the symbol, and the symbol stands somewhere
 abbrev pub Sits : SymbolMap → LaidSections → Target → Type 0
 Sits map sections (OfSection number) = number < length sections
-Sits map sections (OfSymbol index) = (symbol : Symbol) × (there : Standing) × (slice_get map.symbols index ≡ Some symbol) × (standing_of map sections symbol.meaning ≡ Some there)
+Sits map sections (OfSymbol index) = (symbol : Symbol) × (there : SymbolValue) × (slice_get map.symbols index ≡ Some symbol) × (symbol_value_of map sections symbol.meaning ≡ Some there)
 
 pub got_inside : {A : Type 0} (xs : List A) (i : ℕ) (x : A) → slice_get xs i ≡ Some x → i < length xs
 got_inside [] i x is = absurd cc
@@ -49,52 +49,52 @@ chosen : {A : Type 0} (P : A → Type 0) (b : Bool) (x y : A) → P x → P y �
 chosen P true x y first second = first
 chosen P false x y first second = second
 
-spot_sits : (map : SymbolMap) (sections : LaidSections) (index : ℕ) (local : Bool) (spot : Spot) (got : Aim) → Sits map sections (OfSymbol index)
-    → aim_in sections index local spot ≡ Some got → Sits map sections got.target
+spot_sits : (map : SymbolMap) (sections : LaidSections) (index : ℕ) (local : Bool) (spot : Spot) (got : SymbolReference) → Sits map sections (OfSymbol index)
+    → label_reference sections index local spot ≡ Some got → Sits map sections got.target
 spot_sits map sections index local spot got own is =
-    mapped (λ (section : SectionOf LaidItem). cond (local && not (has_flag merge section)) (aim (OfSection spot.section) (address_of sections spot.section spot.item)) (aim (OfSymbol index) 0))
+    mapped (λ (section : SectionOf LaidItem). cond (local && not (has_flag merge section)) (symbol_reference (OfSection spot.section) (address_of sections spot.section spot.item)) (symbol_reference (OfSymbol index) 0))
     (slice_get sections spot.section) got is (λ section there made.
-    subst (λ (a : Aim). Sits map sections a.target) made
-    (chosen (λ (a : Aim). Sits map sections a.target) (local && not (has_flag merge section)) (aim (OfSection spot.section) (address_of sections spot.section spot.item)) (aim (OfSymbol index) 0)
+    subst (λ (a : SymbolReference). Sits map sections a.target) made
+    (chosen (λ (a : SymbolReference). Sits map sections a.target) (local && not (has_flag merge section)) (symbol_reference (OfSection spot.section) (address_of sections spot.section spot.item)) (symbol_reference (OfSymbol index) 0)
     (got_inside sections spot.section section there) own))
 
-meaning_sits : (map : SymbolMap) (sections : LaidSections) (index : ℕ) (local : Bool) (symbol : Symbol) (what : Meaning) (got : Aim) → slice_get map.symbols index ≡ Some symbol
-    → symbol.meaning ≡ what → aim_by sections index local what ≡ Some got → Sits map sections got.target
+meaning_sits : (map : SymbolMap) (sections : LaidSections) (index : ℕ) (local : Bool) (symbol : Symbol) (what : Meaning) (got : SymbolReference) → slice_get map.symbols index ≡ Some symbol
+    → symbol.meaning ≡ what → meaning_reference sections index local what ≡ Some got → Sits map sections got.target
 meaning_sits map sections index local symbol meaning.Undefined got there means is =
-    subst (λ (a : Aim). Sits map sections a.target) (some_same is) (symbol, _, there, ap (standing_of map sections) means)
+    subst (λ (a : SymbolReference). Sits map sections a.target) (some_same is) (symbol, _, there, ap (symbol_value_of map sections) means)
   where
     some_same : {A : Type 0} {x y : A} → Some x ≡ Some y → x ≡ y
     some_same e = cc
 meaning_sits map sections index local symbol (meaning.Label spot) got there means is =
-    spot_sits map sections index local spot got (symbol, _, there, ap (standing_of map sections) means) is
+    spot_sits map sections index local spot got (symbol, _, there, ap (symbol_value_of map sections) means) is
 meaning_sits map sections index local symbol (meaning.Space spot) got there means is =
-    spot_sits map sections index local spot got (symbol, _, there, ap (standing_of map sections) means) is
+    spot_sits map sections index local spot got (symbol, _, there, ap (symbol_value_of map sections) means) is
 meaning_sits map sections index local symbol (meaning.Common size align) got there means is =
-    subst (λ (a : Aim). Sits map sections a.target) (some_same is) (symbol, _, there, ap (standing_of map sections) means)
+    subst (λ (a : SymbolReference). Sits map sections a.target) (some_same is) (symbol, _, there, ap (symbol_value_of map sections) means)
   where
     some_same : {A : Type 0} {x y : A} → Some x ≡ Some y → x ≡ y
     some_same e = cc
 meaning_sits map sections index local symbol (meaning.Assigned form) got there means is = absurd cc
 
-found_sits : (map : SymbolMap) (sections : LaidSections) (found : Option ℕ) (got : Aim) → aim_found map sections found ≡ Some got → Sits map sections got.target
+found_sits : (map : SymbolMap) (sections : LaidSections) (found : Option ℕ) (got : SymbolReference) → reference_found map sections found ≡ Some got → Sits map sections got.target
 found_sits map sections None got is = absurd cc
 found_sits map sections (Some index) got is =
-    then_got (aim_at sections index) (slice_get map.symbols index) got is (λ symbol there made. meaning_sits map sections index _ symbol symbol.meaning got there refl made)
+    then_got (reference_at sections index) (slice_get map.symbols index) got is (λ symbol there made. meaning_sits map sections index _ symbol symbol.meaning got there refl made)
 
-name_sits : (map : SymbolMap) (sections : LaidSections) (name : Name) (got : Aim) → aim_of map sections name ≡ Some got → Sits map sections got.target
-unfolding aim_of
+name_sits : (map : SymbolMap) (sections : LaidSections) (name : Name) (got : SymbolReference) → name_reference map sections name ≡ Some got → Sits map sections got.target
+unfolding name_reference
 name_sits map sections name got is = found_sits map sections (index_of name (names map.symbols)) got is
 
 direct_sits : (map : SymbolMap) (sections : LaidSections) (name : Name) (total : ℕ) (got : Reference) → direct map sections name total ≡ Some got → Sits map sections got.target
 direct_sits map sections name total got is =
-    mapped (reference false total) (aim_of map sections name) got is (λ a there made.
+    mapped (reference false total) (name_reference map sections name) got is (λ a there made.
     subst (λ (r : Reference). Sits map sections r.target) made (name_sits map sections name a there))
 
 relative_sits : (map : SymbolMap) (sections : LaidSections) (number place : ℕ) (name from : Name) (total : ℕ) (got : Reference)
     → relative map sections number place name from total ≡ Some got → Sits map sections got.target
 relative_sits map sections number place name from total got is =
-    then_got (λ address. option_map (reference true (less (total + place) address)) (aim_of map sections name)) (own_address number (final_told map sections from)) got is
-    (λ address own second. mapped (reference true (less (total + place) address)) (aim_of map sections name) got second (λ a there made.
+    then_got (λ address. option_map (reference true (less (total + place) address)) (name_reference map sections name)) (own_address number (final_told map sections from)) got is
+    (λ address own second. mapped (reference true (less (total + place) address)) (name_reference map sections name) got second (λ a there made.
     subst (λ (r : Reference). Sits map sections r.target) made (name_sits map sections name a there)))
 
 one_of_two : {A : Type 0} {Goal : Type 0} (b : Bool) (x y : Option A) (z : A) → cond b x y ≡ Some z → (x ≡ Some z → Goal) → (y ≡ Some z → Goal) → Goal

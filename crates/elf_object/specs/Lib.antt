@@ -2,7 +2,7 @@
 pub mod Fields
 pub mod StringTable
 pub mod FileLocals
-pub mod Standings
+pub mod SymbolValues
 pub mod Relocations
 pub mod Contents
 pub mod Faults

@@ -21,9 +21,9 @@ use Rattle.elf_object.specs.declared.relocations.Target.{Target}
 use Rattle.elf_object.specs.declared.relocations.Target.TheVariants.{OfSection, OfSymbol}
 use Rattle.elf_object.specs.declared.relocations.Relocation.{Relocation}
 use Rattle.elf_object.specs.declared.references.Reference.{Reference}
-use Rattle.elf_object.specs.declared.references.Aim.{Aim}
+use Rattle.elf_object.specs.declared.references.SymbolReference.{SymbolReference}
 use Rattle.elf_object.specs.Fields.{word, xword}
-use Rattle.elf_object.specs.Standings.{binding_of, is_local, has_flag}
+use Rattle.elf_object.specs.SymbolValues.{binding_of, is_local, has_flag}
 
 -- R_X86_64_64 and the others (psABI for AMD64, table 4.9)
 abbrev pub kind_number : RelocationKind → ℕ
@@ -52,33 +52,33 @@ abbrev pub merge : ℕ
 merge = 0x10
 
 -- what a relocation names for a symbol, and what that lacks of the symbol's address
-abbrev pub aim : Target → ℕ → Aim
-aim target more = record { target = target; more = more }
+abbrev pub symbol_reference : Target → ℕ → SymbolReference
+symbol_reference target addend = record { target = target; addend = addend }
 
 -- a local symbol is named by its section, unless the linker may move what stands there
-abbrev pub aim_in : LaidSections → ℕ → Bool → Spot → Option Aim
-aim_in sections index local spot =
-    option_map (λ section. if local && not (has_flag merge section) then aim (OfSection spot.section) (address_of sections spot.section spot.item)
-    else aim (OfSymbol index) 0) (slice_get sections spot.section)
+abbrev pub label_reference : LaidSections → ℕ → Bool → Spot → Option SymbolReference
+label_reference sections index local spot =
+    option_map (λ section. if local && not (has_flag merge section) then symbol_reference (OfSection spot.section) (address_of sections spot.section spot.item)
+    else symbol_reference (OfSymbol index) 0) (slice_get sections spot.section)
 
-abbrev pub aim_by : LaidSections → ℕ → Bool → Meaning → Option Aim
-aim_by sections index local meaning.Undefined = Some (aim (OfSymbol index) 0)
-aim_by sections index local (meaning.Label spot) = aim_in sections index local spot
-aim_by sections index local (meaning.Space spot) = aim_in sections index local spot
-aim_by sections index local (meaning.Common size align) = Some (aim (OfSymbol index) 0)
-aim_by sections index local (meaning.Assigned made) = None
+abbrev pub meaning_reference : LaidSections → ℕ → Bool → Meaning → Option SymbolReference
+meaning_reference sections index local meaning.Undefined = Some (symbol_reference (OfSymbol index) 0)
+meaning_reference sections index local (meaning.Label spot) = label_reference sections index local spot
+meaning_reference sections index local (meaning.Space spot) = label_reference sections index local spot
+meaning_reference sections index local (meaning.Common size align) = Some (symbol_reference (OfSymbol index) 0)
+meaning_reference sections index local (meaning.Assigned made) = None
 
 -- what a relocation names for the symbol at this index
-abbrev pub aim_at : LaidSections → ℕ → Symbol → Option Aim
-aim_at sections index symbol = aim_by sections index (is_local (binding_of symbol.meaning symbol.binding)) symbol.meaning
+abbrev pub reference_at : LaidSections → ℕ → Symbol → Option SymbolReference
+reference_at sections index symbol = meaning_reference sections index (is_local (binding_of symbol.meaning symbol.binding)) symbol.meaning
 
-abbrev pub aim_found : SymbolMap → LaidSections → Option ℕ → Option Aim
-aim_found map sections None = None
-aim_found map sections (Some index) = option_and_then (aim_at sections index) (slice_get map.symbols index)
+abbrev pub reference_found : SymbolMap → LaidSections → Option ℕ → Option SymbolReference
+reference_found map sections None = None
+reference_found map sections (Some index) = option_and_then (reference_at sections index) (slice_get map.symbols index)
 
 -- what a relocation names for this name
-unfoldable pub aim_of : SymbolMap → LaidSections → Name → Option Aim
-aim_of map sections name = aim_found map sections (index_of name (names map.symbols))
+unfoldable pub name_reference : SymbolMap → LaidSections → Name → Option SymbolReference
+name_reference map sections name = reference_found map sections (index_of name (names map.symbols))
 
 -- the address of a label of this section
 abbrev pub own_address : ℕ → Told → Option ℕ
@@ -91,17 +91,17 @@ own_address number (form made) = None
 abbrev pub less : ℕ → ℕ → ℕ
 less n taken = wrapped (n + (2 ^ 64 - taken))
 
-abbrev pub reference : Bool → ℕ → Aim → Reference
-reference relative number at = record { target = at.target; relative = relative; addend = wrapped (number + at.more) }
+abbrev pub reference : Bool → ℕ → SymbolReference → Reference
+reference relative number at = record { target = at.target; relative = relative; addend = wrapped (number + at.addend) }
 
 -- S + c
 abbrev pub direct : SymbolMap → LaidSections → Name → ℕ → Option Reference
-direct map sections name number = option_map (reference false number) (aim_of map sections name)
+direct map sections name number = option_map (reference false number) (name_reference map sections name)
 
 -- S + c - L, where L is a label of the section that the field stands in: from S the place of the field is taken, and added to c
 abbrev pub relative : SymbolMap → LaidSections → ℕ → ℕ → Name → Name → ℕ → Option Reference
 relative map sections number place name from total =
-    option_and_then (λ address. option_map (reference true (less (total + place) address)) (aim_of map sections name))
+    option_and_then (λ address. option_map (reference true (less (total + place) address)) (name_reference map sections name))
     (own_address number (final_told map sections from))
 
 abbrev pub minus_one : ℕ

@@ -13,15 +13,15 @@ use Rattle.asm_symbols.specs.declared.entries.Visibility.TheVariants.{Internal, 
 use Rattle.asm_symbols.specs.SymbolMap.{SymbolMap}
 use Rattle.asm_relax.specs.Final.{field_value}
 use Rattle.asm_relax.specs.Settling.{LaidSections}
-use Rattle.elf_object.specs.declared.standings.Home.{Home}
-use Rattle.elf_object.specs.declared.standings.Home.TheVariants.{Undefined, Absolute, Common, InSection}
-use Rattle.elf_object.specs.declared.standings.Standing.{Standing}
+use Rattle.elf_object.specs.declared.symbol_values.SymbolSection.{SymbolSection}
+use Rattle.elf_object.specs.declared.symbol_values.SymbolSection.TheVariants.{Undefined, Absolute, Common, InSection}
+use Rattle.elf_object.specs.declared.symbol_values.SymbolValue.{SymbolValue}
 use Rattle.elf_object.specs.declared.entries.SymbolType.{SymbolType}
 use Rattle.elf_object.specs.declared.entries.SymbolType.TheVariants as type
 use Rattle.elf_object.specs.Fields.{half, word, xword}
 use Rattle.elf_object.specs.FileLocals.{is_file_local}
 use Rattle.elf_object.specs.Naming.{NamedOf}
-use Rattle.elf_object.specs.Standings.{standing_of, binding_of, is_local, is_thread_local}
+use Rattle.elf_object.specs.SymbolValues.{symbol_value_of, binding_of, is_local, is_thread_local}
 
 -- a symbol, as the table tells it
 pub record SymbolEntry : Type 0 where
@@ -29,7 +29,7 @@ pub record SymbolEntry : Type 0 where
   pub binding : Binding
   pub kind : SymbolType
   pub visibility : Option Visibility
-  pub home : Home
+  pub section : SymbolSection
   pub value : ℕ
   pub size : ℕ
 
@@ -57,17 +57,17 @@ visibility_number (Some Hidden) = 2
 visibility_number (Some Protected) = 3
 
 -- SHN_UNDEF, SHN_ABS and SHN_COMMON, and the header indices of sections (gABI, chapter 4, "Special Section Indexes")
-abbrev pub home_index : List ℕ → Home → ℕ
-home_index headers Undefined = 0
-home_index headers Absolute = 0xfff1
-home_index headers Common = 0xfff2
-home_index headers (InSection number) = slice_index_or headers number 0
+abbrev pub section_index_of : List ℕ → SymbolSection → ℕ
+section_index_of headers Undefined = 0
+section_index_of headers Absolute = 0xfff1
+section_index_of headers Common = 0xfff2
+section_index_of headers (InSection number) = slice_index_or headers number 0
 
 -- the entry of a symbol whose name stands at this offset (Elf64_Sym)
 abbrev pub symbol_bytes : List ℕ → ℕ → SymbolEntry → List ℕ
 symbol_bytes headers name s =
     word name ++ (16 * binding_number s.binding + type_number s.kind) ∷ visibility_number s.visibility ∷ []
-    ++ half (home_index headers s.home) ++ xword s.value ++ xword s.size
+    ++ half (section_index_of headers s.section) ++ xword s.value ++ xword s.size
 
 -- the entries of symbols whose names stand at these offsets
 abbrev pub all_symbol_bytes : List ℕ → List ℕ → List SymbolEntry → List ℕ
@@ -87,8 +87,8 @@ said_type (Some said.Tls) = type.Tls
 said_type (Some said.Common) = type.Common
 
 -- what is each thread's own has the type that says so, whatever else is said
-abbrev pub type_of : LaidSections → Home → Option Kind → SymbolType
-type_of sections home kind = if is_thread_local sections home then type.Tls else said_type kind
+abbrev pub type_of : LaidSections → SymbolSection → Option Kind → SymbolType
+type_of sections section kind = if is_thread_local sections section then type.Tls else said_type kind
 
 -- the size of a symbol, and 0 where none is said
 abbrev pub size_of : SymbolMap → LaidSections → Option Form → ℕ
@@ -102,34 +102,34 @@ text_of (Numeric number instance) = []
 text_of (Place section item) = []
 
 -- the entry of a symbol that stands there
-abbrev pub entry_at : SymbolMap → LaidSections → Symbol → Standing → SymbolEntry
+abbrev pub entry_at : SymbolMap → LaidSections → Symbol → SymbolValue → SymbolEntry
 entry_at map sections symbol there = record {
   name = text_of symbol.name;
   binding = binding_of symbol.meaning symbol.binding;
-  kind = type_of sections there.home symbol.kind;
+  kind = type_of sections there.section symbol.kind;
   visibility = symbol.visibility;
-  home = there.home;
+  section = there.section;
   value = there.value;
   size = size_of map sections symbol.size;
 }
 
-abbrev pub is_undefined_home : Home → Bool
-is_undefined_home Undefined = true
-is_undefined_home Absolute = false
-is_undefined_home Common = false
-is_undefined_home (InSection number) = false
+abbrev pub is_undefined_section : SymbolSection → Bool
+is_undefined_section Undefined = true
+is_undefined_section Absolute = false
+is_undefined_section Common = false
+is_undefined_section (InSection number) = false
 
 -- a symbol of another object, and one that is local to the file by its name and binding, stand in the table only where a relocation names them
-abbrev pub needs_naming : Symbol → Standing → Bool
-needs_naming symbol there = is_undefined_home there.home || (is_file_local symbol.name && is_local (binding_of symbol.meaning symbol.binding))
+abbrev pub needs_naming : Symbol → SymbolValue → Bool
+needs_naming symbol there = is_undefined_section there.section || (is_file_local symbol.name && is_local (binding_of symbol.meaning symbol.binding))
 
-abbrev pub listed_if : SymbolMap → LaidSections → Bool → Symbol → Option Standing → Option SymbolEntry
+abbrev pub listed_if : SymbolMap → LaidSections → Bool → Symbol → Option SymbolValue → Option SymbolEntry
 listed_if map sections named symbol None = None
 listed_if map sections named symbol (Some there) = if needs_naming symbol there && not named then None else Some (entry_at map sections symbol there)
 
 -- the entry of a symbol, if it stands in the table
 unfoldable pub listed : SymbolMap → LaidSections → Bool → Symbol → Option SymbolEntry
-listed map sections named symbol = listed_if map sections named symbol (standing_of map sections symbol.meaning)
+listed map sections named symbol = listed_if map sections named symbol (symbol_value_of map sections symbol.meaning)
 
 -- the entry of a source file's name
 abbrev pub file_entry : Name → SymbolEntry
@@ -138,7 +138,7 @@ file_entry name = record {
   binding = Local;
   kind = type.File;
   visibility = None;
-  home = Absolute;
+  section = Absolute;
   value = 0;
   size = 0;
 }
@@ -150,7 +150,7 @@ section_entry number = record {
   binding = Local;
   kind = type.Section;
   visibility = None;
-  home = InSection number;
+  section = InSection number;
   value = 0;
   size = 0;
 }

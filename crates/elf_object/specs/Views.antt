@@ -56,7 +56,7 @@ symbol_view s = record {
   binding = s.binding;
   kind = s.kind;
   visibility = s.visibility;
-  home = s.home;
+  section = s.section;
   value = s.value;
   size = s.size;
 }

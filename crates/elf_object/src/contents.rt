@@ -15,7 +15,7 @@ use crate::faults::ObjectFault;
 use crate::references::field_relocation;
 use crate::relocations::Relocation;
 use crate::sections::Body;
-use crate::standings::Placement;
+use crate::symbol_values::Placement;
 use asm_base::Pos;
 use asm_frags::{Content, Data, Field, FieldSize, Frag, Laid, SHT_NOBITS, Section, put_bytes};
 use asm_relax::{laid_value, section_size};

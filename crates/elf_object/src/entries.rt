@@ -5,13 +5,14 @@ ghost use Rattle.elf_object.specs.SymbolTable as spec;
 ghost use Rattle.elf_object.specs.Views.{symbol_view};
 
 use crate::fields::{put_half, put_word, put_xword};
-use crate::standings::{
-    Home, Placement, Standing, binding_of, is_each_threads, is_file_local, is_local, standing_of,
+use crate::symbol_values::{
+    Placement, SymbolSection, SymbolValue, binding_of, is_file_local, is_local, is_thread_local,
+    symbol_value_of,
 };
 use asm_base::NoMemory;
 use asm_expr::{Linear, Name};
 use asm_frags::{Laid, Sections};
-use asm_relax::{laid_value, resolved};
+use asm_relax::{expand_assigned, laid_value};
 use asm_symbols::{Binding, Kind, Symbol, Visibility};
 use std::alloc::Global;
 
@@ -68,7 +69,7 @@ pub(crate) struct TableSymbol<'a> {
     pub(crate) binding: Binding,
     pub(crate) kind: SymbolType,
     pub(crate) visibility: Option<Visibility>,
-    pub(crate) home: Home,
+    pub(crate) section: SymbolSection,
     pub(crate) value: u64,
     /// In bytes.
     pub(crate) size: u64,
@@ -82,14 +83,14 @@ pub(crate) fn is_local_entry(symbol: &TableSymbol) -> bool
 }
 
 /// `SHN_UNDEF`, `SHN_ABS` and `SHN_COMMON`, and the header indices of sections.
-fn home_index(headers: &[usize], home: Home) -> usize
-    ensures { result ≡ spec.home_index headers.now home }
+fn section_index_of(headers: &[usize], section: SymbolSection) -> usize
+    ensures { result ≡ spec.section_index_of headers.now section }
 {
-    match home {
-        Home::Undefined => 0,
-        Home::Absolute => 0xfff1,
-        Home::Common => 0xfff2,
-        Home::InSection(number) => headers.get(number as usize).copied().unwrap_or(0),
+    match section {
+        SymbolSection::Undefined => 0,
+        SymbolSection::Absolute => 0xfff1,
+        SymbolSection::Common => 0xfff2,
+        SymbolSection::InSection(number) => headers.get(number as usize).copied().unwrap_or(0),
     }
 }
 
@@ -99,11 +100,11 @@ pub(crate) fn symbol_bytes(headers: &[usize], name: usize, symbol: &TableSymbol)
     ensures { result ≡ spec.symbol_bytes headers.now name (symbol_view symbol.now) }
 {
     let mut entry = [0; 24];
-    let home = home_index(headers, symbol.home);
+    let section = section_index_of(headers, symbol.section);
     put_word(&mut entry, name as u64);
     entry[4] = 16 * binding_number(symbol.binding) + symbol.kind.number();
     entry[5] = visibility_number(symbol.visibility);
-    put_half(&mut entry[6..], home as u64);
+    put_half(&mut entry[6..], section as u64);
     put_xword(&mut entry[8..], symbol.value);
     put_xword(&mut entry[16..], symbol.size);
     entry
@@ -123,10 +124,10 @@ fn said_type(kind: Option<Kind>) -> SymbolType
 }
 
 /// The type of a symbol that stands there. What is each thread's own has the type that says so, whatever else is said.
-fn type_of(sections: &Sections<Laid>, home: Home, kind: Option<Kind>) -> SymbolType
-    ensures { result ≡ spec.type_of sections.now home kind }
+fn type_of(sections: &Sections<Laid>, section: SymbolSection, kind: Option<Kind>) -> SymbolType
+    ensures { result ≡ spec.type_of sections.now section kind }
 {
-    if is_each_threads(sections, home) {
+    if is_thread_local(sections, section) {
         SymbolType::Tls
     } else {
         said_type(kind)
@@ -140,7 +141,7 @@ fn size_of(alloc: Global, at: Placement, size: &Option<Linear>) -> Result<u64, N
     match size {
         None => Ok(0),
         Some(form) => {
-            let made = resolved(alloc, at.symbols, form)?;
+            let made = expand_assigned(alloc, at.symbols, form)?;
             Ok(laid_value(at.symbols, at.sections, &made).unwrap_or(0))
         }
     }
@@ -161,26 +162,26 @@ fn entry_at<'a>(
     alloc: Global,
     at: Placement,
     symbol: &'a Symbol,
-    there: Standing,
+    there: SymbolValue,
 ) -> Result<TableSymbol<'a>, NoMemory>
     ensures { IfOk result (λ entry. symbol_view entry ≡ spec.entry_at at.entry.symbols.now at.entry.sections.now symbol.now there) }
 {
     Ok(TableSymbol {
         name: text_of(&symbol.name),
         binding: binding_of(&symbol.meaning, symbol.binding),
-        kind: type_of(at.sections, there.home, symbol.kind),
+        kind: type_of(at.sections, there.section, symbol.kind),
         visibility: symbol.visibility,
-        home: there.home,
+        section: there.section,
         value: there.value,
         size: size_of(alloc, at, &symbol.size)?,
     })
 }
 
 /// Whether the symbol stands in the table only where a relocation names it.
-fn needs_naming(symbol: &Symbol, there: Standing) -> bool
+fn needs_naming(symbol: &Symbol, there: SymbolValue) -> bool
     ensures { result ≡ spec.needs_naming symbol.now there }
 {
-    matches!(there.home, Home::Undefined)
+    matches!(there.section, SymbolSection::Undefined)
         || (is_file_local(&symbol.name) && is_local(binding_of(&symbol.meaning, symbol.binding)))
 }
 
@@ -194,7 +195,7 @@ pub(crate) fn listed<'a>(
 ) -> Result<Option<TableSymbol<'a>>, NoMemory>
     ensures { IfOk result (λ entry. option_map symbol_view entry ≡ spec.listed at.entry.symbols.now at.entry.sections.now named symbol.now) }
 {
-    match standing_of(alloc, at, &symbol.meaning)? {
+    match symbol_value_of(alloc, at, &symbol.meaning)? {
         Some(there) => {
             if needs_naming(symbol, there) && !named {
                 return Ok(None);
@@ -214,7 +215,7 @@ pub(crate) fn file_entry(name: &Name) -> TableSymbol<'_>
         binding: Binding::Local,
         kind: SymbolType::File,
         visibility: None,
-        home: Home::Absolute,
+        section: SymbolSection::Absolute,
         value: 0,
         size: 0,
     }
@@ -229,7 +230,7 @@ pub(crate) fn section_entry<'a>(number: usize) -> TableSymbol<'a>
         binding: Binding::Local,
         kind: SymbolType::Section,
         visibility: None,
-        home: Home::InSection(number as u64),
+        section: SymbolSection::InSection(number as u64),
         value: 0,
         size: 0,
     }

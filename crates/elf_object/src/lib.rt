@@ -15,11 +15,9 @@ mod references;
 mod relocations;
 mod searching;
 mod sections;
-mod standings;
 mod string_table;
 mod symbol_table;
-#[cfg(test)]
-mod tests;
+mod symbol_values;
 
 pub use faults::ObjectFault;
 pub use laws::{items_stand, locals_first, names_stand, sections_stand, targets_stand};

@@ -8,7 +8,7 @@ ghost use Rattle.elf_object.specs.Views.{symbol_view, named_view, numbers_view};
 use crate::entries::{TableSymbol, file_entry, is_local_entry, listed, section_entry};
 use crate::naming::Named;
 use crate::numbers::{Numbers, section_numbers, symbol_numbers};
-use crate::standings::Placement;
+use crate::symbol_values::Placement;
 use asm_base::NoMemory;
 use asm_expr::Name;
 use asm_symbols::Symbol;

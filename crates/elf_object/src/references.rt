@@ -7,7 +7,7 @@ ghost use Rattle.asm_relax.specs.Final.{final_told};
 ghost use Rattle.elf_object.specs.Relocations as spec;
 
 use crate::relocations::{Relocation, Target, kind_for};
-use crate::standings::{Placement, binding_of, is_local, is_merged};
+use crate::symbol_values::{Placement, binding_of, is_local, is_merged};
 use asm_base::NoMemory;
 use asm_expr::{Known, Linear, Look, Name, Term, copied_form, settled};
 use asm_frags::Field;
@@ -17,9 +17,9 @@ use std::alloc::{AllocError, Global};
 
 /// What a relocation names for a symbol, and what that lacks of the symbol's address.
 #[derive(Clone, Copy, PartialEq, Eq, Debug)]
-pub struct Aim {
+pub struct SymbolReference {
     pub target: Target,
-    pub more: u64,
+    pub addend: u64,
 }
 
 /// S + A, or, where it is relative, S + A - P.
@@ -31,20 +31,20 @@ pub struct Reference {
 }
 
 /// A local symbol is named by its section, unless the linker may move what stands there.
-fn aim_in(at: Placement, index: usize, local: bool, spot: Spot) -> Option<Aim>
-    ensures { result ≡ spec.aim_in at.entry.sections.now index local spot }
+fn label_reference(at: Placement, index: usize, local: bool, spot: Spot) -> Option<SymbolReference>
+    ensures { result ≡ spec.label_reference at.entry.sections.now index local spot }
 {
     match at.sections.as_slice().get(spot.section as usize) {
         Some(section) => {
             if local && !is_merged(section) {
-                Some(Aim {
+                Some(SymbolReference {
                     target: Target::OfSection(spot.section as usize),
-                    more: address_of(at.sections, spot.section, spot.item),
+                    addend: address_of(at.sections, spot.section, spot.item),
                 })
             } else {
-                Some(Aim {
+                Some(SymbolReference {
                     target: Target::OfSymbol(index),
-                    more: 0,
+                    addend: 0,
                 })
             }
         }
@@ -53,27 +53,27 @@ fn aim_in(at: Placement, index: usize, local: bool, spot: Spot) -> Option<Aim>
 }
 
 /// What a relocation names for the symbol at this index.
-fn aim_at(at: Placement, index: usize, symbol: &Symbol) -> Option<Aim>
-    ensures { result ≡ spec.aim_at at.entry.sections.now index symbol.now }
+fn reference_at(at: Placement, index: usize, symbol: &Symbol) -> Option<SymbolReference>
+    ensures { result ≡ spec.reference_at at.entry.sections.now index symbol.now }
 {
     let local = is_local(binding_of(&symbol.meaning, symbol.binding));
     match &symbol.meaning {
-        Meaning::Undefined | Meaning::Common { .. } => Some(Aim {
+        Meaning::Undefined | Meaning::Common { .. } => Some(SymbolReference {
             target: Target::OfSymbol(index),
-            more: 0,
+            addend: 0,
         }),
-        Meaning::Label(spot) | Meaning::Space(spot) => aim_in(at, index, local, *spot),
+        Meaning::Label(spot) | Meaning::Space(spot) => label_reference(at, index, local, *spot),
         Meaning::Assigned(_) => None,
     }
 }
 
 /// What a relocation names for this name.
-#[tactic(auto, unfolding(crate::specs::Relocations::aim_of))]
-fn aim_of(at: Placement, name: &Name) -> Option<Aim>
-    ensures { result ≡ spec.aim_of at.entry.symbols.now at.entry.sections.now name.now }
+#[tactic(auto, unfolding(crate::specs::Relocations::name_reference))]
+fn name_reference(at: Placement, name: &Name) -> Option<SymbolReference>
+    ensures { result ≡ spec.name_reference at.entry.symbols.now at.entry.sections.now name.now }
 {
     match at.symbols.find(name) {
-        Some(id) => aim_at(at, id.index() as usize, at.symbols.symbol(id)),
+        Some(id) => reference_at(at, id.index() as usize, at.symbols.symbol(id)),
         None => None,
     }
 }
@@ -88,14 +88,14 @@ fn own_address(section: usize, look: Look) -> Option<u64>
     }
 }
 
-/// The reference to an aim and a number.
-fn reference_to(relative: bool, number: u64, aim: Aim) -> Reference
-    ensures { result ≡ spec.reference relative number aim }
+/// The reference to a symbol or section, with a number added.
+fn reference_to(relative: bool, number: u64, to: SymbolReference) -> Reference
+    ensures { result ≡ spec.reference relative number to }
 {
     Reference {
-        target: aim.target,
+        target: to.target,
         relative,
-        addend: number.wrapping_add(aim.more),
+        addend: number.wrapping_add(to.addend),
     }
 }
 
@@ -103,8 +103,8 @@ fn reference_to(relative: bool, number: u64, aim: Aim) -> Reference
 fn direct(at: Placement, name: &Name, number: u64) -> Option<Reference>
     ensures { result ≡ spec.direct at.entry.symbols.now at.entry.sections.now name.now number }
 {
-    match aim_of(at, name) {
-        Some(aim) => Some(reference_to(false, number, aim)),
+    match name_reference(at, name) {
+        Some(to) => Some(reference_to(false, number, to)),
         None => None,
     }
 }
@@ -126,8 +126,8 @@ fn relative(
     };
     let address = own_address(section, view.look(from))?;
     let number = constant.wrapping_add(place).wrapping_sub(address);
-    match aim_of(at, name) {
-        Some(aim) => Some(reference_to(true, number, aim)),
+    match name_reference(at, name) {
+        Some(to) => Some(reference_to(true, number, to)),
         None => None,
     }
 }

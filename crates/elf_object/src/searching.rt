@@ -5,10 +5,10 @@ ghost use Rattle.std.specs.List.{position_or_len};
 ghost use Rattle.elf_object.specs.Faults as spec;
 
 use crate::faults::ObjectFault;
-use crate::standings::{Placement, is_file_local};
+use crate::symbol_values::{Placement, is_file_local};
 use asm_base::NoMemory;
 use asm_expr::Linear;
-use asm_relax::{laid_value, resolved};
+use asm_relax::{expand_assigned, laid_value};
 use asm_symbols::{Meaning, Symbol};
 use std::alloc::Global;
 
@@ -52,7 +52,7 @@ fn unknown_size(alloc: Global, at: Placement, size: &Option<Linear>) -> Result<b
     match size {
         None => Ok(false),
         Some(form) => {
-            let made = resolved(alloc, at.symbols, form)?;
+            let made = expand_assigned(alloc, at.symbols, form)?;
             Ok(laid_value(at.symbols, at.sections, &made).is_none())
         }
     }

@@ -7,11 +7,11 @@ use Rattle.asm_front.proofs.AnswerLemmas.{text_read, text_too_large}
 use Rattle.asm_front.proofs.AnswersReadBack.{answer_reads_back}
 use Rattle.asm_front.proofs.assembling.assemble.Goals as goal
 
-pub returns-in-Ok-begun-clause-outcome : goal.returns-in-Ok-begun-clause-outcome
-returns-in-Ok-begun-clause-outcome g c =
+pub returns-in-Ok-assemble_text-clause-outcome : goal.returns-in-Ok-assemble_text-clause-outcome
+returns-in-Ok-assemble_text-clause-outcome g c =
     subst (λ name. Assembles (flags_of c.args.options.now) (g.I.Inputs.contents c.args.ins.now) name c.answered.result) c.as_str-name.ensures.value
     (text_read (flags_of c.args.options.now) (g.I.Inputs.contents c.args.ins.now) c.as_str-name.result.now c.in-Ok.text (g.I.Inputs.rest c.read_text.new.ins)
-    c.in-Ok-begun.made.notes c.in-Ok-begun.made.object c.answered.result c.in-Ok.ensures.text c.in-Ok-begun.ensures c.answered.ensures)
+    c.in-Ok-assemble_text.made.notes c.in-Ok-assemble_text.made.object c.answered.result c.in-Ok.ensures.text c.in-Ok-assemble_text.ensures c.answered.ensures)
 
 pub returns-in-Err-TooLarge-clause-outcome : goal.returns-in-Err-TooLarge-clause-outcome
 returns-in-Err-TooLarge-clause-outcome g c =
@@ -21,8 +21,8 @@ returns-in-Err-TooLarge-clause-outcome g c =
     c.too_large.ensures
     (subst (λ notes. IsAnswered c.as_str-name.result.now notes (Err c.too_large.result) c.answered-in-Err-TooLarge.result) c.new.ensures c.answered-in-Err-TooLarge.ensures))
 
-pub returns-in-Ok-begun-clause-reads_back : goal.returns-in-Ok-begun-clause-reads_back
-returns-in-Ok-begun-clause-reads_back g c = answer_reads_back (flags_of c.args.options.now) (g.I.Inputs.contents c.args.ins.now) (string_bytes c.args.options.now.file) c.answered.result (returns-in-Ok-begun-clause-outcome g c)
+pub returns-in-Ok-assemble_text-clause-reads_back : goal.returns-in-Ok-assemble_text-clause-reads_back
+returns-in-Ok-assemble_text-clause-reads_back g c = answer_reads_back (flags_of c.args.options.now) (g.I.Inputs.contents c.args.ins.now) (string_bytes c.args.options.now.file) c.answered.result (returns-in-Ok-assemble_text-clause-outcome g c)
 
 pub returns-in-Err-TooLarge-clause-reads_back : goal.returns-in-Err-TooLarge-clause-reads_back
 returns-in-Err-TooLarge-clause-reads_back g c = answer_reads_back (flags_of c.args.options.now) (g.I.Inputs.contents c.args.ins.now) (string_bytes c.args.options.now.file) c.answered-in-Err-TooLarge.result (returns-in-Err-TooLarge-clause-outcome g c)

@@ -2,7 +2,7 @@
 use Rattle.std.proofs.Common.{refl}
 use Rattle.asm_symbols.specs.declared.entries.Meaning.TheVariants.{Assigned}
 use Rattle.asm_symbols.specs.SymbolMap.{with_meaning}
-use Rattle.asm_symbols.specs.Saying.{with_kind, with_size, with_visibility}
+use Rattle.asm_symbols.specs.Attributes.{with_kind, with_size, with_visibility}
 use Rattle.asm_symbols.proofs.OrderLemmas.{order_changed, order_defined, order_bound}
 use Rattle.asm_symbols.proofs.laws.order_is_kept.Goals as goal
 

@@ -1,4 +1,4 @@
--- An address changes neither alignment nor reach.
+-- An address changes neither alignment nor extent.
 use Rattle.std.proofs.Common.{◌≡◌, ◌<◌, length, ap, arith}
 use Rattle.asm_frags.specs.Addresses.{item_with_address}
 use Rattle.asm_frags.proofs.AddressLemmas.{changed_is, items_laid}
@@ -6,7 +6,7 @@ use Rattle.asm_frags.proofs.parts.Section+Laid.lay.Goals as goal
 
 pub invariant_of-self : goal.invariant_of-self
 invariant_of-self c =
-    items_laid c.self.inside.items.items c.args.item _ c.index_mut.result.now c.self.inside.alignment c.self.inside.reach c.self.invariant
+    items_laid c.self.inside.items.items c.args.item _ c.index_mut.result.now c.self.inside.alignment c.self.inside.extent c.self.invariant
     (ap (λ item. item.content) c.index_mut.ensures.value)
 
 pub returns : goal.returns

@@ -1,5 +1,5 @@
 -- At first there are no items.
-use Rattle.asm_frags.proofs.ReachLemmas.{no_items}
+use Rattle.asm_frags.proofs.KnownExtentLemmas.{no_items}
 use Rattle.asm_frags.proofs.parts.Section.new.Goals as goal
 
 pub invariant_of-result : goal.invariant_of-result

@@ -1,11 +1,11 @@
--- The greatest alignment is that of all items, and they reach as far as said.
+-- The greatest alignment is that of all items, and they extent as far as said.
 use Rattle.std.proofs.Common.{◌<◌, ◌^◌, length, rules}
-use Rattle.asm_frags.proofs.ReachLemmas.{items_more}
+use Rattle.asm_frags.proofs.KnownExtentLemmas.{items_more}
 use Rattle.asm_frags.proofs.parts.Section.put.Goals as goal
 
 pub invariant_of-self-2 : goal.invariant_of-self-2
 invariant_of-self-2 g c =
     let room : length c.self.inside.items.items < 2 ^ 28 = search rules in
     items_more c.self.inside.items.items c.push.new.self.items c.args.item c.self.inside.alignment c.asked_alignment-asked.result c.max-self-inside.result
-    c.self.inside.reach c.advanced-reach.result c.self.invariant room c.in_ok-push.ensures.items c.asked_alignment-asked.ensures c.max-self-inside.ensures
-    c.advanced-reach.ensures.reach c.advanced-reach.ensures.breaks c.advanced-reach.ensures.bytes
+    c.self.inside.extent c.advanced-extent.result c.self.invariant room c.in_ok-push.ensures.items c.asked_alignment-asked.ensures c.max-self-inside.ensures
+    c.advanced-extent.ensures.extent c.advanced-extent.ensures.breaks c.advanced-extent.ensures.bytes

@@ -1,6 +1,6 @@
 -- The symbol that is written keeps its name, and stays a label if it is one.
 use Rattle.std.proofs.Common.{refl}
-use Rattle.asm_symbols.specs.Saying.{with_kind}
+use Rattle.asm_symbols.specs.Attributes.{with_kind}
 use Rattle.asm_symbols.proofs.WriteLemmas.{written, written_sound}
 use Rattle.asm_symbols.proofs.symbol_map.Symbols.kind.Goals as goal
 

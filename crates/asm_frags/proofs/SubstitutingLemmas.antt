@@ -1,0 +1,103 @@
+-- What stays where the forms of fields are replaced.
+use Rattle.std.proofs.Common.{◌≡◌, ℕ, zero, suc, ◌+◌, ◌<◌, List, [], ◌∷◌, ◌++◌, length, map, take, drop, refl, sym, ap, ◌∙◌, arith, add-one, get_or, set}
+use Rattle.std.specs.List.{fold}
+use Rattle.std.proofs.lemmas.List.{length-map, append-nil, take_all, drop_all}
+use Rattle.asm_expr.specs.Forms.{Form}
+use Rattle.asm_frags.specs.declared.phases.Loose.{Loose}
+use Rattle.asm_frags.specs.declared.fields.Field.{Field}
+use Rattle.asm_frags.specs.declared.contents.Content.{Content}
+use Rattle.asm_frags.specs.declared.contents.Content.TheVariants.{Bytes, Fill, Align}
+use Rattle.asm_frags.specs.declared.items.Frag.{Frag}
+use Rattle.asm_frags.specs.declared.known_extents.KnownExtent.{KnownExtent}
+use Rattle.asm_frags.specs.Contents.{alignment_of}
+use Rattle.asm_frags.specs.DataOf.{field_end, FieldsStand, IsData}
+use Rattle.asm_frags.specs.Alignments.{alignment_of_all}
+use Rattle.asm_frags.specs.KnownExtents.{advanced, extent_of}
+use Rattle.asm_frags.specs.SectionOf.{SectionOf}
+use Rattle.asm_frags.specs.Sound.{AreNamed}
+use Rattle.asm_frags.specs.SoundItems.{AreItems}
+use Rattle.asm_frags.specs.Substituting.{substituted_field, substituted_content, laid_item, laid_section}
+
+-- the first so many are changed
+abbrev pub begun : {X : Type 0} → (X → X) → List X → ℕ → List X
+begun change all count = map change (take count all) ++ drop count all
+
+-- one more is changed
+pub begun_more : {X : Type 0} (change : X → X) (all : List X) (count : ℕ) (there : X) → count < length all → there ≡ get_or (begun change all count) count there
+    → set (begun change all count) count (change there) ≡ begun change all (suc count)
+begun_more change [] count there within is = absurd (omega arith)
+begun_more change (x ∷ all) zero there within is = ap (λ y. change y ∷ all) is
+begun_more change (x ∷ all) (suc count) there within is = ap (λ ys. change x ∷ ys) (begun_more change all count there (omega arith) is)
+
+-- all that a vector lends come back, and nothing else is in it
+pub all_back : {X : Type 0} (change : X → X) (before after : List X) (count : ℕ) → length before ≡ count → after ≡ map change before
+    → take count (after ++ drop (length after) before) ≡ map change before
+all_back change before after count long is =
+    let same : length after ≡ length before = ap length is ∙ length-map before change in
+    let none : drop (length after) before ≡ [] = drop_all (length after) before (omega arith) in
+    ap (λ ys. take count (after ++ ys)) none ∙ ap (take count) (append-nil after) ∙ take_all count after (omega arith) ∙ is
+
+module _ (substitute : Form → Form) where
+  -- a field more has its new form
+  pub field_more : (all fields : List Field) (count : ℕ) (there old : Field) (form : Form) → count < length all
+      → fields ≡ begun (substituted_field substitute) all count → there ≡ get_or fields count old → old ≡ there → form ≡ substitute there.form
+      → set fields count (record { offset = there.offset; size = there.size; form = form }) ≡ begun (substituted_field substitute) all (count + 1)
+  field_more all fields count there old form within held is same made =
+      let found : there ≡ get_or (begun (substituted_field substitute) all count) count there =
+      is ∙ ap (get_or fields count) same ∙ ap (λ (fs : List Field). get_or fs count there) held in
+      rw add-one (ap (λ (fs : List Field). set fs count (record { offset = there.offset; size = there.size; form = form })) held
+      ∙ ap (λ (f : Form). set (begun (substituted_field substitute) all count) count (record { offset = there.offset; size = there.size; form = f })) made
+      ∙ begun_more (substituted_field substitute) all count there within found)
+
+  stand-substituted : (bytes : List ℕ) (from : ℕ) (fields : List Field) → FieldsStand bytes from fields → FieldsStand bytes from (map (substituted_field substitute) fields)
+  stand-substituted bytes from [] stand = tt
+  stand-substituted bytes from (field ∷ fields) stand =
+      (stand.0, record { within = stand.1.within; zeros = stand.1.zeros }, stand-substituted bytes (field_end field) fields stand.2)
+
+  -- the fields stand where they stood
+  pub data_refitted : (bytes : List ℕ) (fields all : List Field) → IsData bytes fields → all ≡ map (substituted_field substitute) fields → IsData bytes all
+  data_refitted bytes fields all sound is = rw is (record { small = sound.small; stand = stand-substituted bytes 0 fields sound.stand })
+
+  same_alignment : (content : Content) → alignment_of (substituted_content substitute content) ≡ alignment_of content
+  same_alignment (Bytes held) = refl
+  same_alignment (Fill held) = refl
+  same_alignment (Align held) = refl
+
+  alignment-substituted : (items : List (Frag Loose (Unit {0}))) → alignment_of_all (map (laid_item substitute) items) ≡ alignment_of_all items
+  alignment-substituted [] = refl
+  alignment-substituted (item ∷ items) = rw (same_alignment item.content, alignment-substituted items) refl
+
+  same_step : (extent : KnownExtent) (item : Frag Loose (Unit {0})) (content : Content) → item.content ≡ content → advanced extent (laid_item substitute item) ≡ advanced extent item
+  same_step extent item (Bytes held) is = rw is refl
+  same_step extent item (Fill held) is = rw is refl
+  same_step extent item (Align held) is = rw is refl
+
+  extent-substituted : (extent : KnownExtent) (items : List (Frag Loose (Unit {0}))) → fold advanced extent (map (laid_item substitute) items) ≡ fold advanced extent items
+  extent-substituted extent [] = refl
+  extent-substituted extent (item ∷ items) =
+      ap (λ (r : KnownExtent). fold advanced r (map (laid_item substitute) items)) (same_step extent item item.content refl) ∙ extent-substituted (advanced extent item) items
+
+  -- alignment and extent look at no form
+  pub items_refitted : (items : List (Frag Loose (Unit {0}))) (all : List _) (alignment : ℕ) (extent : KnownExtent) → AreItems items alignment extent
+      → all ≡ map (laid_item substitute) items → AreItems all alignment extent
+  unfolding extent_of
+  items_refitted items all alignment extent sound is =
+      let long : length (map (laid_item substitute) items) ≡ length items = simp length-map in
+      rw is (record {
+        few = rw long sound.few;
+        aligned = sound.aligned ∙ sym (alignment-substituted items);
+        reaches = sound.reaches ∙ sym (extent-substituted (record { breaks = 0; bytes = 0 }) items);
+        breaks = rw long sound.breaks;
+        bytes = rw long sound.bytes;
+      })
+
+  names-substituted : (sections : List (SectionOf (Frag Loose (Unit {0})))) → map (λ section. section.name) (map (laid_section substitute) sections) ≡ map (λ section. section.name) sections
+  names-substituted [] = refl
+  names-substituted (section ∷ sections) = ap (λ (names : List (List ℕ)). section.name ∷ names) (names-substituted sections)
+
+  -- the sections keep their names
+  pub named_refitted : (names : List (List ℕ)) (sections : List (SectionOf (Frag Loose (Unit {0})))) (all : List _) → AreNamed names sections
+      → all ≡ map (laid_section substitute) sections → AreNamed names all
+  named_refitted names sections all sound is =
+      let long : length (map (laid_section substitute) sections) ≡ length sections = simp length-map in
+      rw is (record { named = sound.named ∙ sym (names-substituted sections); few = rw long sound.few; short = sound.short })
