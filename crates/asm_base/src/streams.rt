@@ -1,11 +1,13 @@
 //! The outside of files and standard streams. These tell nothing of contents: they are thin, and trusted.
 
-ghost use Rattle.std.specs.Prelude.{◌≡◌, None};
+ghost use Rattle.std.specs.Prelude.{◌≡◌, ◌≤◌, None};
+ghost use Rattle.asm_base.specs.Counts.{HasRisen};
 
 use crate::outside::{Channel, Console, Failed, Inputs, Output, failure};
-use std::fs;
+use std::alloc::Alloc;
+use std::fs::{self, Files, OpenFile};
 use std::io::{ErrorKind, Read, Write};
-use std::rt::Files;
+use std::os::unix::fs::MetadataExt;
 
 /// Files by their paths, and standard input under the empty name.
 #[derive(Drop)]
@@ -91,15 +93,18 @@ impl<'a, R: Files + Input> Inputs for FileInputs<'a, R> {
     }
 }
 
-/// A file by its path.
+/// A file by its path. Where a write or `finish` fails, the regular file that was created is removed, as GNU as does.
+/// What is removed is not proved.
 #[derive(Drop)]
-pub struct FileOutput<'a, R: Files> {
+pub struct FileOutput<'a, R: Files + Alloc> {
     rt: &'a R,
     file: Option<R::File>,
+    /// The name that the file was created by.
+    name: String<R::A>,
     faults: u64,
 }
 
-impl<'a, R: Files> FileOutput<'a, R> {
+impl<'a, R: Files + Alloc> FileOutput<'a, R> {
     /// Nothing is made yet.
     pub fn new(rt: &'a R) -> FileOutput<'a, R>
         ensures { result.faults ≡ 0 }
@@ -107,20 +112,53 @@ impl<'a, R: Files> FileOutput<'a, R> {
         FileOutput {
             rt,
             file: None,
+            name: String::new(rt.alloc()),
             faults: 0,
         }
     }
+
+    /// The name is that of this file, which is a regular one. Behind a symbolic link, as `/dev/stdout`, stands a file of another name.
+    fn is_named(&self, file: &R::File) -> bool {
+        match (
+            file.metadata(),
+            fs::symlink_metadata(self.rt, self.name.as_str()),
+        ) {
+            (Ok(open), Ok(named)) => {
+                open.is_file()
+                    && named.is_file()
+                    && open.dev() == named.dev()
+                    && open.ino() == named.ino()
+            }
+            _ => false,
+        }
+    }
+
+    /// A call on the file failed. A removal that is refused changes no answer.
+    fn give_up(&mut self, file: R::File) -> Failed
+        ensures risen { HasRisen self.old.faults self.new.faults }
+        ensures later { self.old.faults ≤ self.new.faults }
+    {
+        if self.is_named(&file) {
+            let _ = fs::remove_file(self.rt, self.name.as_str());
+        }
+        failure(&mut self.faults)
+    }
 }
 
-impl<'a, R: Files> Output for FileOutput<'a, R> {
+impl<'a, R: Files + Alloc> Output for FileOutput<'a, R> {
     ghost made = { λ _. None };
 
     ghost faults = { λ o. o.faults };
 
     fn create(&mut self, name: &str) -> Result<(), Failed> {
+        // Where memory for the name is refused, no file is created.
+        let Ok(kept) = String::from_str(self.rt.alloc(), name) else {
+            return Err(failure(&mut self.faults));
+        };
         match fs::create(self.rt, name) {
             Ok(file) => {
                 self.file = Some(file);
+                self.name = kept;
                 Ok(())
             }
             Err(_) => { Err(failure(&mut self.faults)) }
@@ -128,28 +166,25 @@ impl<'a, R: Files> Output for FileOutput<'a, R> {
     }
 
     fn write(&mut self, piece: &[u8]) -> Result<usize, Failed> {
-        let written = match self.file.take() {
-            Some(mut file) => {
-                let written = file.write(piece);
-                self.file = Some(file);
-                written
-            }
-            None => return Ok(piece.len()),
-        };
-        match written {
-            Ok(count) if count > 0 || piece.is_empty() => Ok(count),
-            _ => { Err(failure(&mut self.faults)) }
+        match self.file.take() {
+            Some(mut file) => match file.write(piece) {
+                Ok(count) if count > 0 || piece.is_empty() => {
+                    self.file = Some(file);
+                    Ok(count)
+                }
+                _ => Err(self.give_up(file)),
+            },
+            None => Err(failure(&mut self.faults)),
         }
     }
 
     fn finish(&mut self) -> Result<(), Failed> {
-        let flushed = match self.file.take() {
-            Some(mut file) => file.flush(),
-            None => return Ok(()),
-        };
-        match flushed {
-            Ok(()) => Ok(()),
-            Err(_) => { Err(failure(&mut self.faults)) }
+        match self.file.take() {
+            Some(mut file) => match file.flush() {
+                Ok(()) => Ok(()),
+                Err(_) => Err(self.give_up(file)),
+            },
+            None => Err(failure(&mut self.faults)),
         }
     }
 }
