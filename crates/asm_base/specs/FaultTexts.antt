@@ -1,5 +1,5 @@
 -- The texts of the messages, without the place.
-use Rattle.std.specs.Prelude.{ℕ, List, ◌++◌, codes, None, Some}
+use Rattle.std.specs.Prelude.{ℕ, List, ◌++◌, codes, Option, None, Some}
 use Rattle.std.specs.Fmt.{signed_decimal}
 use Rattle.asm_base.specs.declared.faults.StatementFault.{StatementFault}
 use Rattle.asm_base.specs.declared.faults.StatementFault.TheVariants as statement
@@ -14,6 +14,12 @@ use Rattle.asm_base.specs.declared.faults.Fault.TheVariants.{Statement, End, Scf
 use Rattle.asm_base.specs.declared.faults.Note.{Note}
 use Rattle.asm_base.specs.declared.faults.Note.TheVariants.{Written, CfiIgnored, ValueTruncated}
 
+-- what `.error` says with its text, and `.err` without one
+abbrev pub error_text : Option (List ℕ) → List ℕ
+error_text None = codes ".err encountered"
+error_text (Some text) = text
+
+-- the text of a fault of a statement
 abbrev pub statement_text : StatementFault → List ℕ
 statement_text statement.NulByte = codes "NUL byte in source"
 statement_text statement.UnclosedString = codes "string is not closed"
@@ -33,8 +39,7 @@ statement_text statement.EndWithoutBeginning = codes "end without a beginning"
 statement_text statement.NestedTooDeeply = codes "nested too deeply"
 statement_text statement.ExpansionTooLong = codes "expansion is too long"
 statement_text statement.MacroAlreadyDefined = codes "macro is already defined"
-statement_text (statement.ErrorDirective None) = codes ".err encountered"
-statement_text (statement.ErrorDirective (Some text)) = text
+statement_text (statement.ErrorDirective boxed) = error_text boxed.value
 statement_text statement.UnknownMnemonic = codes "unknown mnemonic"
 statement_text statement.UnknownDirective = codes "unknown directive"
 statement_text statement.BadOperand = codes "bad operand"

@@ -41,8 +41,8 @@ pub enum StatementFault {
     ExpansionTooLong,
     /// A macro of this name is there already.
     MacroAlreadyDefined,
-    /// `.err`, or `.error` with its text.
-    ErrorDirective(Option<Text>),
+    /// `.err`, or `.error` with its text. In a box, so that each result that holds a fault stays small.
+    ErrorDirective(Box<Option<Text>>),
     /// No instruction has this name.
     UnknownMnemonic,
     /// No directive has this name.
@@ -70,6 +70,9 @@ pub enum StatementFault {
     /// An included file's name is empty, or no text.
     BadFileName,
 }
+
+// A result of a statement is copied at each `?`.
+const _: () = prove!(size_of::<StatementFault>() <= 16);
 
 /// A fault that shows at the end of the source.
 #[derive(Clone, Copy, Drop)]

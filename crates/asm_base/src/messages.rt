@@ -1,12 +1,12 @@
 //! The texts of faults and notes, and the lines that a run says of them.
 
 ghost use Rattle.std.specs.Prelude.{◌≡◌, ◌++◌, IfOk, OnOk, Ok, codes, string_bytes};
-ghost use Rattle.asm_base.specs.FaultTexts.{register_name, statement_text, end_text, scfi_text, fault_text, note_text};
+ghost use Rattle.asm_base.specs.FaultTexts.{register_name, error_text, statement_text, end_text, scfi_text, fault_text, note_text};
 ghost use Rattle.asm_base.specs.Messages.{heading, position_text, error_line, warning_line};
 
 use crate::faults::{EndFault, Fault, Note, SavedRegister, ScfiFault, StatementFault};
 use crate::positions::{Files, Pos};
-use crate::texts::Bytes;
+use crate::texts::{Bytes, Text};
 use std::alloc::{AllocError, Global};
 
 /// Memory was refused.
@@ -22,6 +22,16 @@ fn register_name(register: SavedRegister) -> &'static str
         SavedRegister::R13 => "r13",
         SavedRegister::R14 => "r14",
         SavedRegister::R15 => "r15",
+    }
+}
+
+/// What `.error` says with its text, and `.err` without one.
+fn error_text(text: &Option<Text>) -> &[u8]
+    ensures { result.now ≡ error_text text.now }
+{
+    match text {
+        None => b".err encountered",
+        Some(text) => text.as_bytes(),
     }
 }
 
@@ -47,8 +57,7 @@ fn statement_text(fault: &StatementFault) -> &[u8]
         StatementFault::NestedTooDeeply => b"nested too deeply",
         StatementFault::ExpansionTooLong => b"expansion is too long",
         StatementFault::MacroAlreadyDefined => b"macro is already defined",
-        StatementFault::ErrorDirective(None) => b".err encountered",
-        StatementFault::ErrorDirective(Some(text)) => text.as_bytes(),
+        StatementFault::ErrorDirective(text) => error_text(text),
         StatementFault::UnknownMnemonic => b"unknown mnemonic",
         StatementFault::UnknownDirective => b"unknown directive",
         StatementFault::BadOperand => b"bad operand",
