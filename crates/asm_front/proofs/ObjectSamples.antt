@@ -39,6 +39,7 @@ symbol name what = record {
   binding = None;
   kind = None;
   size = None;
+  sized = 0;
   visibility = None;
 }
 
@@ -53,15 +54,15 @@ y = Plain (codes "y")
 
 -- `x` before the first item of `.data`, `y` of another object, and the place before the second item
 symbols : SymbolMap
-symbols = record { symbols = symbol x (label 1 0) ∷ symbol y meaning.Undefined ∷ symbol (Place 1 1) (label 1 1) ∷ []; files = []; counts = [] }
+symbols = record { symbols = symbol x (label 1 0) ∷ symbol y meaning.Undefined ∷ symbol (Place 1 1) (label 1 1) ∷ []; files = []; counts = []; sizes = 0 }
 
 -- the name of a file, and no symbol
 one_file : SymbolMap
-one_file = record { symbols = []; files = Plain (codes "q.c") ∷ []; counts = [] }
+one_file = record { symbols = []; files = Plain (codes "q.c") ∷ []; counts = []; sizes = 0 }
 
 -- `v` before the first item of the section behind `.bss`, said to be an object
 thread_local : SymbolMap
-thread_local = record { symbols = record (symbol (Plain (codes "v")) (label 3 0)) { kind = Some Object } ∷ []; files = []; counts = [] }
+thread_local = record { symbols = record (symbol (Plain (codes "v")) (label 3 0)) { kind = Some Object } ∷ []; files = []; counts = []; sizes = 0 }
 
 -- an item that is one field
 item : ℕ → ℕ → FieldSize → List Term → ℕ → LaidItem

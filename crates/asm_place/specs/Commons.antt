@@ -18,7 +18,7 @@ use Rattle.asm_symbols.specs.declared.entries.Definition.{Definition}
 use Rattle.asm_symbols.specs.declared.entries.Definition.TheVariants.{Common, Space}
 use Rattle.asm_symbols.specs.SymbolMap.{SymbolMap, names, index_of, with_symbol}
 use Rattle.asm_symbols.specs.Defining.{defined}
-use Rattle.asm_symbols.specs.Attributes.{with_kind, with_size}
+use Rattle.asm_symbols.specs.Attributes.{with_kind, with_next_size}
 use Rattle.asm_place.specs.Results.{◌>>=◌}
 use Rattle.asm_place.specs.Tables.{Table, symbol_of, changed_by, with_map, name_trees}
 use Rattle.asm_place.specs.Places.{spot_at}
@@ -54,7 +54,7 @@ space_kind map index = option_map_or (λ symbol. kind_or_object symbol.kind) (sl
 
 -- the symbol has this size, and is an object unless something else was said
 abbrev pub as_space : ℕ → SymbolMap → ℕ → SymbolMap
-as_space size map index = with_symbol (with_kind (space_kind map index)) (with_symbol (with_size (constant_form size)) map index) index
+as_space size map index = with_symbol (with_kind (space_kind map index)) (with_next_size (constant_form size) map index) index
 
 -- the symbol is defined so, and has this size
 abbrev pub spaced : ℕ → Definition → Table × ℕ → Result Table StatementFault

@@ -15,7 +15,7 @@ use Rattle.asm_symbols.specs.declared.entries.Kind.{Kind}
 use Rattle.asm_symbols.specs.declared.entries.Kind.TheVariants.{NoType, Object, Function, Tls, Common}
 use Rattle.asm_symbols.specs.declared.faults.SymFault.{SymFault}
 use Rattle.asm_symbols.specs.SymbolMap.{SymbolMap, with_symbol}
-use Rattle.asm_symbols.specs.Attributes.{bound, with_kind, with_size, with_visibility}
+use Rattle.asm_symbols.specs.Attributes.{bound, with_kind, with_next_size, with_visibility}
 use Rattle.asm_place.specs.declared.directives.SymbolAttribute.{SymbolAttribute}
 use Rattle.asm_place.specs.declared.directives.SymbolAttribute.TheVariants.{Bind, See}
 use Rattle.asm_place.specs.Results.{◌>>=◌, all_steps}
@@ -91,7 +91,7 @@ name_rest pos spot words form table = name_part pos spot (uses_dot spot form) wo
 
 -- the size is said of the symbol at this place
 abbrev pub sized : Pos → Form → Table × ℕ → Table
-sized pos form found = record (with_map found.0 (with_symbol (with_size form) found.0.symbols found.1)) { sized = insert_entry nat_eq found.0.sized found.1 pos }
+sized pos form found = record (with_map found.0 (with_next_size form found.0.symbols found.1)) { sized = insert_entry nat_eq found.0.sized found.1 pos }
 
 -- `.size`
 unfoldable pub place_size : Pos → List SpelledToken → Placed → Result Placed StatementFault

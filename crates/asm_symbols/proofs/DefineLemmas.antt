@@ -72,7 +72,7 @@ redefined_then (meaning.Assigned form) (definition.Common size align) made is = 
 redefined_then (meaning.Assigned form) (definition.Space spot) made is = cc
 
 module _ (symbols : List Symbol) (at : ℕ) (first second third : Symbol) (there : at < length symbols) (one : first ≡ get_or symbols at first) (two : second ≡ get_or symbols at second)
-    (three : third ≡ get_or symbols at third) (what : Definition) (made : Meaning) (is : redefined first.meaning what ≡ Ok made) (files : List Name) (counts new : List (ℕ × ℕ)) (grown : new ≡ raised second.name what counts) where
+    (three : third ≡ get_or symbols at third) (what : Definition) (made : Meaning) (is : redefined first.meaning what ≡ Ok made) (files : List Name) (sizes : ℕ) (counts new : List (ℕ × ℕ)) (grown : new ≡ raised second.name what counts) where
   -- the fields stay sound
   pub define_sound : (index : IndexedNames) (bytes : ℕ) → IsSound index symbols files counts bytes → IsSound index (set symbols at (with_meaning made third)) files new bytes
   define_sound index bytes sound =
@@ -82,8 +82,8 @@ module _ (symbols : List Symbol) (at : ℕ) (first second third : Symbol) (there
       rw (grown, ← same, parts.0, write) (IsSound-defined symbols at first (slice_get_read symbols (length symbols) at first refl there one) what index files counts bytes parts.1 sound)
 
   -- the map is the one that the definition says
-  pub define_gives : (let map : SymbolMap = record { symbols = symbols; files = files; counts = counts } in
-      let after : SymbolMap = record { symbols = set symbols at (with_meaning made third); files = files; counts = new } in defined map at what ≡ Ok after)
+  pub define_gives : (let map : SymbolMap = record { symbols = symbols; files = files; counts = counts; sizes = sizes } in
+      let after : SymbolMap = record { symbols = set symbols at (with_meaning made third); files = files; counts = new; sizes = sizes } in defined map at what ≡ Ok after)
   unfolding defined
   define_gives =
       let read = slice_get_read symbols (length symbols) at first refl there one in

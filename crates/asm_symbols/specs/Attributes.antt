@@ -1,5 +1,5 @@
 -- The bindings, kinds, sizes and visibilities that are said of symbols.
-use Rattle.std.specs.Prelude.{ℕ, Option, None, Some, Result, Ok, Err, slice_get}
+use Rattle.std.specs.Prelude.{ℕ, ◌+◌, Option, None, Some, Result, Ok, Err, slice_get}
 use Rattle.asm_expr.specs.Forms.{Form}
 use Rattle.asm_symbols.specs.declared.entries.Symbol.{Symbol}
 use Rattle.asm_symbols.specs.declared.entries.Meaning.{Meaning}
@@ -10,7 +10,7 @@ use Rattle.asm_symbols.specs.declared.entries.Kind.{Kind}
 use Rattle.asm_symbols.specs.declared.entries.Visibility.{Visibility}
 use Rattle.asm_symbols.specs.declared.faults.SymFault.{SymFault}
 use Rattle.asm_symbols.specs.declared.faults.SymFault.TheVariants.{BadSymbolUse}
-use Rattle.asm_symbols.specs.SymbolMap.{SymbolMap, with_symbol}
+use Rattle.asm_symbols.specs.SymbolMap.{SymbolMap, changed, with_symbol}
 use Rattle.asm_symbols.specs.Answering.{◌>>=◌}
 
 -- the binding of a symbol that has this one already: weak wins over global, and neither goes with local
@@ -37,11 +37,16 @@ with_binding binding symbol = record symbol { binding = Some binding }
 abbrev pub with_kind : Kind → Symbol → Symbol
 with_kind kind symbol = record symbol { kind = Some kind }
 
-abbrev pub with_size : Form → Symbol → Symbol
-with_size size symbol = record symbol { size = Some size }
+-- the symbol has this size, which is the one of this number among the sizes that are said
+abbrev pub with_size : Form → ℕ → Symbol → Symbol
+with_size size number symbol = record symbol { size = Some size; sized = number }
 
 abbrev pub with_visibility : Visibility → Symbol → Symbol
 with_visibility visibility symbol = record symbol { visibility = Some visibility }
+
+-- the map where the symbol has this size, and one size more is said
+abbrev pub with_next_size : Form → SymbolMap → ℕ → SymbolMap
+with_next_size size map index = record map { symbols = changed (with_size size (map.sizes + 1)) map.symbols index; sizes = map.sizes + 1 }
 
 -- the map where the symbol is bound so
 abbrev pub bound_by : Option Symbol → SymbolMap → ℕ → Binding → Result SymbolMap SymFault

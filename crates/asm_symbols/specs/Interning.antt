@@ -24,7 +24,7 @@ has_room map name = nat_lt (length map.symbols + length map.files) (2 ^ 24) && n
 
 -- a symbol of which nothing is known
 abbrev pub undefined : Name → Symbol
-undefined name = record { name = name; meaning = Undefined; binding = None; kind = None; size = None; visibility = None }
+undefined name = record { name = name; meaning = Undefined; binding = None; kind = None; size = None; sized = 0; visibility = None }
 
 -- the map with a symbol more
 abbrev pub with_name : SymbolMap → Name → SymbolMap

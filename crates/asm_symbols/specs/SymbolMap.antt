@@ -5,14 +5,15 @@ use Rattle.asm_expr.specs.Names.{same_name}
 use Rattle.asm_symbols.specs.declared.entries.Symbol.{Symbol}
 use Rattle.asm_symbols.specs.declared.entries.Meaning.{Meaning}
 
--- the symbols, the names of files, and for each numeric label that is defined how often it is
+-- the symbols, the names of files, for each numeric label that is defined how often it is, and how many sizes were said
 pub record SymbolMap : Type 0 where
   pub symbols : List Symbol
   pub files : List Name
   pub counts : List (ℕ × ℕ)
+  pub sizes : ℕ
 
 abbrev pub nothing_named : SymbolMap
-nothing_named = record { symbols = []; files = []; counts = [] }
+nothing_named = record { symbols = []; files = []; counts = []; sizes = 0 }
 
 -- the names of symbols, in the order in which they were first named
 abbrev pub names : List Symbol → List Name

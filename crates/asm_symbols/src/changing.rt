@@ -40,7 +40,7 @@ impl Symbols {
     ghost use Rattle.std.specs.Prelude.{◌≡◌, ◌<◌, length, Ok, OnErr};
     ghost use Rattle.asm_symbols.specs.SymbolMap.{with_symbol};
     ghost use Rattle.asm_symbols.specs.Answering.{Gives, GivesAlways};
-    ghost use Rattle.asm_symbols.specs.Attributes.{with_binding, with_kind, with_size, with_visibility, bound};
+    ghost use Rattle.asm_symbols.specs.Attributes.{with_binding, with_kind, with_next_size, with_visibility, bound};
 
     /// The symbol has this binding from now on.
     fn rebind(&mut self, id: SymId, binding: Binding)
@@ -64,15 +64,20 @@ impl Symbols {
         Ok(())
     }
 
-    /// The symbol has this size from now on.
+    /// The symbol has this size from now on, the last that was said.
     pub fn size(&mut self, id: SymId, size: Linear) -> Result<(), SymFault>
         requires { id < length self.old.symbols }
-        ensures gives { Gives self.new result (Ok (with_symbol (with_size size) self.old id)) }
+        ensures gives { Gives self.new result (Ok (with_next_size size self.old id)) }
         ensures unchanged { OnErr result (self.new ≡ self.old) }
         ensures length { length self.new.symbols ≡ length self.old.symbols }
     {
+        let Some(number) = self.sizes.checked_add(1) else {
+            return Err(SymFault::NoMemory);
+        };
         let symbol = &mut self.symbols[id.index() as usize];
         symbol.size = Some(size);
+        symbol.sized = number;
+        self.sizes = number;
         Ok(())
     }
 

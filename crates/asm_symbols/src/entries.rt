@@ -68,5 +68,7 @@ pub struct Symbol {
     pub binding: Option<Binding>,
     pub kind: Option<Kind>,
     pub size: Option<Linear>,
+    /// The number, from 1, of its size among all sizes that were said, in their order; 0 where it has none.
+    pub sized: u64,
     pub visibility: Option<Visibility>,
 }

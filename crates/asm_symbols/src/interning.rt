@@ -68,6 +68,7 @@ impl Symbols {
             binding: None,
             kind: None,
             size: None,
+            sized: 0,
             visibility: None,
         };
         self.symbols.reserve(1)?;

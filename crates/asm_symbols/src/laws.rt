@@ -19,7 +19,7 @@ ghost use Rattle.asm_symbols.specs.Counting.{counted, next_named};
 ghost use Rattle.asm_symbols.specs.Defining.{defined};
 ghost use Rattle.asm_symbols.specs.Assigning.{with_form, Leads};
 ghost use Rattle.asm_symbols.specs.LeadsBack.{leads_back};
-ghost use Rattle.asm_symbols.specs.Attributes.{bound_as, bound, with_kind, with_size, with_visibility};
+ghost use Rattle.asm_symbols.specs.Attributes.{bound_as, bound, with_kind, with_next_size, with_visibility};
 ghost use Rattle.asm_symbols.specs.Order.{KeepsOrder};
 ghost use Rattle.asm_symbols.specs.Sound.{is_label_of};
 
@@ -58,7 +58,7 @@ pub fn order_is_kept()
     ensures assign { (map : SymbolMap) (at : ℕ) (form : Form) → KeepsOrder map (with_form map at form) }
     ensures bind { (map made : SymbolMap) (at : ℕ) (binding : BindingValue) → bound map at binding ≡ Ok made → KeepsOrder map made }
     ensures kind { (map : SymbolMap) (at : ℕ) (kind : KindValue) → KeepsOrder map (with_symbol (with_kind kind) map at) }
-    ensures size { (map : SymbolMap) (at : ℕ) (size : Form) → KeepsOrder map (with_symbol (with_size size) map at) }
+    ensures size { (map : SymbolMap) (at : ℕ) (size : Form) → KeepsOrder map (with_next_size size map at) }
     ensures visibility { (map : SymbolMap) (at : ℕ) (visibility : VisibilityValue) → KeepsOrder map (with_symbol (with_visibility visibility) map at) }
 {}
 

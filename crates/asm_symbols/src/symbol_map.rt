@@ -17,6 +17,8 @@ pub struct Symbols {
     pub(crate) files: Vec<Name>,
     /// How often each numeric label is defined.
     pub(crate) counts: IndexMap<u64, u32>,
+    /// How many sizes were said.
+    pub(crate) sizes: u64,
     /// The bytes of all names that are texts, each with a zero byte.
     pub(crate) bytes: u64,
 }
@@ -27,7 +29,7 @@ impl Model for Symbols {
 
     ghost Value = { SymbolMap };
 
-    ghost view = { λ map. record { symbols = map.symbols.items; files = map.files.items; counts = map.counts.entries } };
+    ghost view = { λ map. record { symbols = map.symbols.items; files = map.files.items; counts = map.counts.entries; sizes = map.sizes } };
 
     ghost invariant = { λ map. IsSound map.index map.symbols.items map.files.items map.counts.entries map.bytes };
 }
@@ -47,6 +49,7 @@ impl Symbols {
             symbols: Vec::new(alloc),
             files: Vec::new(alloc),
             counts: IndexMap::new(alloc),
+            sizes: 0,
             bytes: 0,
         }
     }

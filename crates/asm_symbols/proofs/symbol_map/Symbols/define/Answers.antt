@@ -7,7 +7,7 @@ pub invariant_of-self-2 : goal.invariant_of-self-2
 invariant_of-self-2 c =
     let there = rw (← c.self.view_is, ← c.index-at.ensures) at c.requires in
     define_sound c.self.inside.symbols.items c.index-at.result c.index.result.now c.index-2.result.now c.index_mut-symbol.result.now there c.index.ensures c.index-2.ensures c.index_mut-symbol.ensures.value
-    c.args.what c.in_ok-made.made (sym c.in_ok-made.ensures) c.self.inside.files.items c.self.inside.counts.entries c.raise.new.counts.entries c.in_ok-raise.ensures.ok
+    c.args.what c.in_ok-made.made (sym c.in_ok-made.ensures) c.self.inside.files.items c.self.inside.sizes c.self.inside.counts.entries c.raise.new.counts.entries c.in_ok-raise.ensures.ok
     c.self.inside.index c.self.inside.bytes c.self.invariant
 
 pub returns-clause-gives : goal.returns-clause-gives
@@ -15,4 +15,4 @@ returns-clause-gives c =
     let there = rw (← c.self.view_is, ← c.index-at.ensures) at c.requires in
     rw (← c.self.view_is, ← c.index-at.ensures)
     (define_gives c.self.inside.symbols.items c.index-at.result c.index.result.now c.index-2.result.now c.index_mut-symbol.result.now there c.index.ensures c.index-2.ensures c.index_mut-symbol.ensures.value
-    c.args.what c.in_ok-made.made (sym c.in_ok-made.ensures) c.self.inside.files.items c.self.inside.counts.entries c.raise.new.counts.entries c.in_ok-raise.ensures.ok)
+    c.args.what c.in_ok-made.made (sym c.in_ok-made.ensures) c.self.inside.files.items c.self.inside.sizes c.self.inside.counts.entries c.raise.new.counts.entries c.in_ok-raise.ensures.ok)

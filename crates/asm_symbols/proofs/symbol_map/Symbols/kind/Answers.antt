@@ -13,5 +13,5 @@ invariant_of-self c =
 pub returns-clause-gives : goal.returns-clause-gives
 returns-clause-gives c =
     let there = rw (← c.self.view_is, ← c.index.ensures) at c.requires in
-    let made = written (with_kind c.args.kind) c.self.inside.symbols.items c.index.result c.index_mut-symbol.result.now there c.index_mut-symbol.ensures.value c.self.inside.files.items c.self.inside.counts.entries in
+    let made = written (with_kind c.args.kind) c.self.inside.symbols.items c.index.result c.index_mut-symbol.result.now there c.index_mut-symbol.ensures.value c.self.inside.files.items c.self.inside.counts.entries c.self.inside.sizes in
     rw (← c.self.view_is, ← c.index.ensures, made)

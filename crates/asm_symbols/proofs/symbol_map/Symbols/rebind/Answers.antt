@@ -13,5 +13,5 @@ invariant_of-self c =
 pub returns-clause-made : goal.returns-clause-made
 returns-clause-made c =
     let there = rw (← c.self.view_is, ← c.index.ensures) at c.requires in
-    let made = written (with_binding c.args.binding) c.self.inside.symbols.items c.index.result c.index_mut-symbol.result.now there c.index_mut-symbol.ensures.value c.self.inside.files.items c.self.inside.counts.entries in
+    let made = written (with_binding c.args.binding) c.self.inside.symbols.items c.index.result c.index_mut-symbol.result.now there c.index_mut-symbol.ensures.value c.self.inside.files.items c.self.inside.counts.entries c.self.inside.sizes in
     rw (← c.self.view_is, ← c.index.ensures, made)
