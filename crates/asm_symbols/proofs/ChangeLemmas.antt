@@ -7,7 +7,7 @@ use Rattle.asm_expr.specs.Names.{same_name}
 use Rattle.asm_symbols.specs.declared.entries.Symbol.{Symbol}
 use Rattle.asm_symbols.specs.SymbolMap.{names, changed}
 use Rattle.asm_symbols.specs.NameIndex.{IndexedNames}
-use Rattle.asm_symbols.specs.Sound.{is_label, is_label_of, AreCounted, IsSound}
+use Rattle.asm_symbols.specs.Sound.{means_label, is_label_of, AreCounted, IsSound}
 
 both : (a b : Bool) → (a && b) ≡ true → (a ≡ true) × (b ≡ true)
 both true true is = (refl, refl)
@@ -49,7 +49,7 @@ module _ (change : Symbol → Symbol) where
 
   -- what is a label stays one
   abbrev pub KeepsLabels : List Symbol → ℕ → Type 0
-  KeepsLabels symbols at = (symbol : Symbol) → slice_get symbols at ≡ Some symbol → is_label symbol.meaning ≡ true → is_label (change symbol).meaning ≡ true
+  KeepsLabels symbols at = (symbol : Symbol) → slice_get symbols at ≡ Some symbol → means_label symbol.meaning ≡ true → means_label (change symbol).meaning ≡ true
 
   and_stays : (a b c d : Bool) → a ≡ c → (b ≡ true → d ≡ true) → (a && b) ≡ true → (c && d) ≡ true
   and_stays a b c d same keeps is = let parts = both a b is in rw (← same, parts.0, keeps parts.1)
@@ -58,7 +58,7 @@ module _ (change : Symbol → Symbol) where
       → AreCounted symbols counts → AreCounted (changed change symbols at) counts
   AreCounted-changed keeps symbols counts at labels sound = record {
     labels = λ number instance some within. list_any-changed (is_label_of (naming.Numeric number instance)) symbols at
-        (λ symbol there is. and_stays (same_name (naming.Numeric number instance) symbol.name) (is_label symbol.meaning) (same_name (naming.Numeric number instance) (change symbol).name) (is_label (change symbol).meaning)
+        (λ symbol there is. and_stays (same_name (naming.Numeric number instance) symbol.name) (means_label symbol.meaning) (same_name (naming.Numeric number instance) (change symbol).name) (means_label (change symbol).meaning)
         (ap (same_name (naming.Numeric number instance)) (sym (keeps symbol))) (labels symbol there) is)
         (sound.labels number instance some within);
   }

@@ -13,7 +13,7 @@ use Rattle.asm_symbols.specs.declared.entries.Symbol.{Symbol}
 use Rattle.asm_symbols.specs.SymbolMap.{names, index_of}
 use Rattle.asm_symbols.specs.Counting.{counted}
 use Rattle.asm_symbols.proofs.IndexLemmas.{lookup-insert}
-use Rattle.asm_symbols.specs.Sound.{is_label, is_label_of, AreCounted}
+use Rattle.asm_symbols.specs.Sound.{means_label, is_label_of, AreCounted}
 
 none_behind : (o : Option ℕ) → option_map (λ i. i + 1) o ≡ None → o ≡ None
 none_behind None is = refl
@@ -27,7 +27,7 @@ step false label any o later is none = later is (none_behind o none)
 pub label_stands : (name : Name) (symbols : List Symbol) → list_any (is_label_of name) symbols ≡ true → index_of name (names symbols) ≡ None → ⊥
 label_stands name [] is none = cc
 label_stands name (symbol ∷ symbols) is none =
-    step (same_name name symbol.name) (is_label symbol.meaning) (list_any (is_label_of name) symbols) (index_of name (names symbols)) (label_stands name symbols) is none
+    step (same_name name symbol.name) (means_label symbol.meaning) (list_any (is_label_of name) symbols) (index_of name (names symbols)) (label_stands name symbols) is none
 
 -- the last instance is found exactly where some instance is counted
 pub none_exactly : (found : Option ℕ) (symbols : List Symbol) (counts : List (ℕ × ℕ)) (number instance : ℕ) → AreCounted symbols counts → instance ≡ counted counts number → instance ≢ 0

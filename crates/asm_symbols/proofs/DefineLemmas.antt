@@ -12,10 +12,10 @@ use Rattle.asm_symbols.specs.declared.entries.Meaning.TheVariants as meaning
 use Rattle.asm_symbols.specs.declared.entries.Definition.{Definition}
 use Rattle.asm_symbols.specs.declared.entries.Definition.TheVariants as definition
 use Rattle.asm_symbols.specs.SymbolMap.{SymbolMap, changed, with_meaning}
-use Rattle.asm_symbols.specs.Counting.{counted, raised}
+use Rattle.asm_symbols.specs.Counting.{counted, counts_after}
 use Rattle.asm_symbols.specs.Defining.{meant, redefined, defined}
 use Rattle.asm_symbols.specs.NameIndex.{IndexedNames}
-use Rattle.asm_symbols.specs.Sound.{is_label, is_label_of, AreCounted, IsSound}
+use Rattle.asm_symbols.specs.Sound.{means_label, is_label_of, AreCounted, IsSound}
 use Rattle.asm_symbols.proofs.SameNames.{own_name}
 use Rattle.asm_symbols.proofs.ChangeLemmas.{set_changed, IsSound-changed}
 use Rattle.asm_symbols.proofs.CountLemmas.{AreCounted-raised}
@@ -43,7 +43,7 @@ module _ (symbols : List Symbol) (at : ℕ) (old : Symbol) (there : slice_get sy
   raised_if false spot counts number instance name is sound = sound
 
   counted_by : (name : Name) (what : Definition) (counts : List (ℕ × ℕ)) → old.name ≡ name
-      → AreCounted (changed (with_meaning (meant what)) symbols at) counts → AreCounted (changed (with_meaning (meant what)) symbols at) (raised name what counts)
+      → AreCounted (changed (with_meaning (meant what)) symbols at) counts → AreCounted (changed (with_meaning (meant what)) symbols at) (counts_after name what counts)
   counted_by (naming.Numeric number instance) (definition.Label spot) counts name sound = raised_if (instance == counted counts number + 1) spot counts number instance name refl sound
   counted_by (naming.Numeric number instance) (definition.Common size align) counts name sound = sound
   counted_by (naming.Numeric number instance) (definition.Space spot) counts name sound = sound
@@ -51,8 +51,8 @@ module _ (symbols : List Symbol) (at : ℕ) (old : Symbol) (there : slice_get sy
   counted_by (naming.Place section item) what counts name sound = sound
 
   -- what is no label is defined
-  pub IsSound-defined : (what : Definition) (index : IndexedNames) (files : List Name) (counts : List (ℕ × ℕ)) (bytes : ℕ) → is_label old.meaning ≡ false
-      → IsSound index symbols files counts bytes → IsSound index (changed (with_meaning (meant what)) symbols at) files (raised old.name what counts) bytes
+  pub IsSound-defined : (what : Definition) (index : IndexedNames) (files : List Name) (counts : List (ℕ × ℕ)) (bytes : ℕ) → means_label old.meaning ≡ false
+      → IsSound index symbols files counts bytes → IsSound index (changed (with_meaning (meant what)) symbols at) files (counts_after old.name what counts) bytes
   IsSound-defined what index files counts bytes plain sound =
       let made = IsSound-changed (with_meaning (meant what)) (λ _. refl) index symbols files counts bytes at (λ symbol is label. let same : symbol ≡ old = cc in cc) sound in
       record { indexed = made.indexed; within = made.within; instances = counted_by old.name what counts refl made.instances }
@@ -62,7 +62,7 @@ same_read : (symbols : List Symbol) (at : ℕ) (a b : Symbol) → at < length sy
 same_read symbols at a b there one other = same_Some a b (sym (slice_get_read symbols (length symbols) at a refl there one) ∙ slice_get_read symbols (length symbols) at b refl there other)
 
 -- only what is no label is defined, as the definition says
-redefined_then : (meaning : Meaning) (what : Definition) (made : Meaning) → redefined meaning what ≡ Ok made → (made ≡ meant what) × (is_label meaning ≡ false)
+redefined_then : (meaning : Meaning) (what : Definition) (made : Meaning) → redefined meaning what ≡ Ok made → (made ≡ meant what) × (means_label meaning ≡ false)
 redefined_then meaning.Undefined what made is = (cc, refl)
 redefined_then (meaning.Label spot) what made is = cc
 redefined_then (meaning.Space spot) what made is = cc
@@ -72,7 +72,7 @@ redefined_then (meaning.Assigned form) (definition.Common size align) made is = 
 redefined_then (meaning.Assigned form) (definition.Space spot) made is = cc
 
 module _ (symbols : List Symbol) (at : ℕ) (first second third : Symbol) (there : at < length symbols) (one : first ≡ get_or symbols at first) (two : second ≡ get_or symbols at second)
-    (three : third ≡ get_or symbols at third) (what : Definition) (made : Meaning) (is : redefined first.meaning what ≡ Ok made) (files : List Name) (sizes : ℕ) (counts new : List (ℕ × ℕ)) (grown : new ≡ raised second.name what counts) where
+    (three : third ≡ get_or symbols at third) (what : Definition) (made : Meaning) (is : redefined first.meaning what ≡ Ok made) (files : List Name) (sizes : ℕ) (counts new : List (ℕ × ℕ)) (grown : new ≡ counts_after second.name what counts) where
   -- the fields stay sound
   pub define_sound : (index : IndexedNames) (bytes : ℕ) → IsSound index symbols files counts bytes → IsSound index (set symbols at (with_meaning made third)) files new bytes
   define_sound index bytes sound =

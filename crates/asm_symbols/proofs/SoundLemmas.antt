@@ -49,18 +49,18 @@ length-one xs x = length-append xs (x ∷ [])
 pub IsWithin-name : (ns files : List Name) (bytes : ℕ) (name : Name) → IsWithin ns files bytes → length ns + length files < 2 ^ 24 → bytes + name_size name ≤ 2 ^ 31
     → IsWithin (ns ++ name ∷ []) files (bytes + name_size name)
 IsWithin-name ns files bytes name within few small =
-    let sized : bytes ≡ sum_by name_size ns + sum_by name_size files = within.sized in
+    let total : bytes ≡ sum_by name_size ns + sum_by name_size files = within.total in
     let sum : sum_by name_size (ns ++ name ∷ []) ≡ sum_by name_size ns + name_size name = sum_by-one name_size ns name in
     let long : length (ns ++ name ∷ []) ≡ length ns + 1 = length-one ns name in
-    record { sized = omega arith; few = omega arith; small = small }
+    record { total = omega arith; few = omega arith; small = small }
 
 pub IsWithin-file : (ns files : List Name) (bytes : ℕ) (name : Name) → IsWithin ns files bytes → length ns + length files < 2 ^ 24 → bytes + name_size name ≤ 2 ^ 31
     → IsWithin ns (files ++ name ∷ []) (bytes + name_size name)
 IsWithin-file ns files bytes name within few small =
-    let sized : bytes ≡ sum_by name_size ns + sum_by name_size files = within.sized in
+    let total : bytes ≡ sum_by name_size ns + sum_by name_size files = within.total in
     let sum : sum_by name_size (files ++ name ∷ []) ≡ sum_by name_size files + name_size name = sum_by-one name_size files name in
     let long : length (files ++ name ∷ []) ≡ length files + 1 = length-one files name in
-    record { sized = omega arith; few = omega arith; small = small }
+    record { total = omega arith; few = omega arith; small = small }
 
 pub AreCounted-push : (symbols : List Symbol) (counts : List (ℕ × ℕ)) (symbol : Symbol) → AreCounted symbols counts → AreCounted (symbols ++ symbol ∷ []) counts
 AreCounted-push symbols counts symbol sound = record {

@@ -7,7 +7,7 @@ use Rattle.asm_symbols.specs.declared.entries.Symbol.{Symbol}
 use Rattle.asm_symbols.specs.SymbolMap.{SymbolMap, with_symbol}
 use Rattle.asm_symbols.specs.Attributes.{with_size, with_next_size}
 use Rattle.asm_symbols.specs.NameIndex.{IndexedNames}
-use Rattle.asm_symbols.specs.Sound.{is_label, is_label_at, IsSound}
+use Rattle.asm_symbols.specs.Sound.{means_label, is_label_at, IsSound}
 use Rattle.asm_symbols.proofs.ChangeLemmas.{set_changed, KeepsLabels, IsSound-changed}
 
 module _ (change : Symbol → Symbol) (symbols : List Symbol) (at : ℕ) (old : Symbol) (there : at < length symbols) (is : old ≡ get_or symbols at old) where
@@ -32,5 +32,5 @@ written_size size symbols at old there is files counts sizes number next = rw (n
 -- what is no label keeps nothing
 pub keeps_none : (change : Symbol → Symbol) (symbols : List Symbol) (at : ℕ) → is_label_at symbols at ≡ false → KeepsLabels change symbols at
 keeps_none change symbols at plain symbol there label =
-    let none : is_label symbol.meaning ≡ false = sym (ap (λ o. option_map_or (λ (s : Symbol). is_label s.meaning) o false) there) ∙ plain in
+    let none : means_label symbol.meaning ≡ false = sym (ap (λ o. option_map_or (λ (s : Symbol). means_label s.meaning) o false) there) ∙ plain in
     cc

@@ -13,29 +13,31 @@ use Rattle.asm_symbols.specs.declared.faults.SymFault.TheVariants.{SymbolAlready
 use Rattle.asm_symbols.specs.SymbolMap.{SymbolMap, names, index_of, with_symbol, with_meaning}
 
 -- whether the name is `.`, which is the place of a statement
-abbrev pub is_here : Name → Bool
-is_here (naming.Plain text) = bytes_eq text (codes ".")
-is_here _ = false
+abbrev pub is_dot : Name → Bool
+is_dot (naming.Plain text) = bytes_eq text (codes ".")
+is_dot _ = false
 
 -- why a symbol that is this takes no form; with `once` it takes one only if it is undefined
-abbrev pub refusal : Meaning → Bool → Option SymFault
-refusal meaning.Undefined once = None
-refusal (meaning.Assigned form) false = None
-refusal (meaning.Assigned form) true = Some SymbolAlreadyDefined
-refusal (meaning.Common size align) false = Some BadSymbolUse
-refusal (meaning.Common size align) true = Some SymbolAlreadyDefined
-refusal (meaning.Label spot) once = Some SymbolAlreadyDefined
-refusal (meaning.Space spot) once = Some SymbolAlreadyDefined
+abbrev pub refusal_of : Meaning → Bool → Option SymFault
+refusal_of meaning.Undefined once = None
+refusal_of (meaning.Assigned form) false = None
+refusal_of (meaning.Assigned form) true = Some SymbolAlreadyDefined
+refusal_of (meaning.Common size align) false = Some BadSymbolUse
+refusal_of (meaning.Common size align) true = Some SymbolAlreadyDefined
+refusal_of (meaning.Label spot) once = Some SymbolAlreadyDefined
+refusal_of (meaning.Space spot) once = Some SymbolAlreadyDefined
 
 -- why the symbol at this index takes no form
 unfoldable pub refusal_at : SymbolMap → ℕ → Bool → Option SymFault
-refusal_at map index once = option_and_then (λ symbol. if is_here symbol.name then Some BadSymbolUse else refusal symbol.meaning once) (slice_get map.symbols index)
+refusal_at map index once =
+    option_and_then (λ symbol. if is_dot symbol.name then Some BadSymbolUse else refusal_of symbol.meaning once) (slice_get map.symbols index)
 
 -- the form of an assigned symbol
 abbrev pub form_of : Meaning → Option Form
 form_of (meaning.Assigned form) = Some form
 form_of _ = None
 
+-- the form of the symbol at this index, if it is an assigned one
 abbrev pub form_at : List Symbol → ℕ → Option Form
 form_at symbols index = option_and_then (λ symbol. form_of symbol.meaning) (slice_get symbols index)
 
@@ -51,7 +53,13 @@ NamesSymbol symbols form index = IsNamedIn form.terms (names symbols) index
 -- the form leads to the symbol at this index: it names the symbol, or leads to an assigned one whose form does
 pub data Leads (symbols : List Symbol) (form : Form) : ℕ → Type 0 where
   straight : (index : ℕ) → NamesSymbol symbols form index → Leads symbols form index
-  further : (middle index : ℕ) (next : Form) → Leads symbols form middle → form_at symbols middle ≡ Some next → NamesSymbol symbols next index → Leads symbols form index
+  further : (middle index : ℕ) (next : Form) → Leads symbols form middle → form_at symbols middle ≡ Some next → NamesSymbol symbols next index
+      → Leads symbols form index
+
+-- the answer says whether the form leads to the symbol at this index
+abbrev pub TellsLeads : List Symbol → Form → ℕ → Bool → Type 0
+TellsLeads symbols form index true = Leads symbols form index
+TellsLeads symbols form index false = Leads symbols form index → ⊥
 
 -- the map where the symbol stands for the form
 abbrev pub with_form : SymbolMap → ℕ → Form → SymbolMap

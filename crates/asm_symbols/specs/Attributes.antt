@@ -31,9 +31,11 @@ abbrev pub bound_as : Meaning → Option Binding → Binding → Result Binding 
 bound_as (meaning.Common size align) before Local = Err BadSymbolUse
 bound_as _ before binding = rebound before binding
 
+-- the symbol has this binding
 abbrev pub with_binding : Binding → Symbol → Symbol
 with_binding binding symbol = record symbol { binding = Some binding }
 
+-- the symbol is of this kind
 abbrev pub with_kind : Kind → Symbol → Symbol
 with_kind kind symbol = record symbol { kind = Some kind }
 
@@ -41,6 +43,7 @@ with_kind kind symbol = record symbol { kind = Some kind }
 abbrev pub with_size : Form → ℕ → Symbol → Symbol
 with_size size number symbol = record symbol { size = Some size; sized = number }
 
+-- the symbol is as visible as this
 abbrev pub with_visibility : Visibility → Symbol → Symbol
 with_visibility visibility symbol = record symbol { visibility = Some visibility }
 
@@ -48,10 +51,11 @@ with_visibility visibility symbol = record symbol { visibility = Some visibility
 abbrev pub with_next_size : Form → SymbolMap → ℕ → SymbolMap
 with_next_size size map index = record map { symbols = changed (with_size size (map.sizes + 1)) map.symbols index; sizes = map.sizes + 1 }
 
--- the map where the symbol is bound so
+-- the map where the symbol that is found is bound so
 abbrev pub bound_by : Option Symbol → SymbolMap → ℕ → Binding → Result SymbolMap SymFault
 bound_by None map index binding = Err BadSymbolUse
 bound_by (Some symbol) map index binding = bound_as symbol.meaning symbol.binding binding >>= λ made. Ok (with_symbol (with_binding made) map index)
 
+-- the map where the symbol at this index is bound so
 unfoldable pub bound : SymbolMap → ℕ → Binding → Result SymbolMap SymFault
 bound map index binding = bound_by (slice_get map.symbols index) map index binding

@@ -18,11 +18,11 @@ use Rattle.asm_symbols.specs.Interning.{named}
 abbrev pub counted : List (ℕ × ℕ) → ℕ → ℕ
 counted counts number = unwrap_or (lookup (nat_eq number) counts) 0
 
--- a definition of the next instance of a numeric label counts
-abbrev pub raised : Name → Definition → List (ℕ × ℕ) → List (ℕ × ℕ)
-raised (naming.Numeric number instance) (definition.Label spot) counts =
+-- how often each numeric label is defined after this definition: the next instance counts, and no other
+abbrev pub counts_after : Name → Definition → List (ℕ × ℕ) → List (ℕ × ℕ)
+counts_after (naming.Numeric number instance) (definition.Label spot) counts =
     if instance == counted counts number + 1 then insert_entry nat_eq counts number instance else counts
-raised _ _ counts = counts
+counts_after _ _ counts = counts
 
 -- the instance behind those that are defined; none is above the last u32
 abbrev pub next_instance : ℕ → ℕ
@@ -39,15 +39,16 @@ last_named map number = last_by (counted map.counts number)
     last_by : ℕ → Option ℕ
     last_by count = if count == 0 then None else index_of (naming.Numeric number count) (names map.symbols)
 
--- the value of a form without names
-abbrev pub value_by : List Term → ℕ → Option ℤ
-value_by [] constant = Some (cast_signed w64 constant)
-value_by (term ∷ terms) constant = None
+-- the value of a form without names, as a signed number
+abbrev pub constant_value : List Term → ℕ → Option ℤ
+constant_value [] constant = Some (cast_signed w64 constant)
+constant_value (term ∷ terms) constant = None
 
 -- the value of an assigned symbol whose form has no names
-abbrev pub value_of : Meaning → Option ℤ
-value_of (meaning.Assigned form) = value_by form.terms form.constant
-value_of _ = None
+abbrev pub assigned_value : Meaning → Option ℤ
+assigned_value (meaning.Assigned form) = constant_value form.terms form.constant
+assigned_value _ = None
 
-unfoldable pub known_at : SymbolMap → ℕ → Option ℤ
-known_at map index = option_and_then (λ symbol. value_of symbol.meaning) (slice_get map.symbols index)
+-- the value of the symbol at this index, where it is known
+unfoldable pub known_value : SymbolMap → ℕ → Option ℤ
+known_value map index = option_and_then (λ symbol. assigned_value symbol.meaning) (slice_get map.symbols index)

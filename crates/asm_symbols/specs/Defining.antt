@@ -9,7 +9,7 @@ use Rattle.asm_symbols.specs.declared.entries.Definition.TheVariants.{Label, Com
 use Rattle.asm_symbols.specs.declared.faults.SymFault.{SymFault}
 use Rattle.asm_symbols.specs.declared.faults.SymFault.TheVariants.{SymbolAlreadyDefined, BadSymbolUse}
 use Rattle.asm_symbols.specs.SymbolMap.{SymbolMap, changed, with_meaning}
-use Rattle.asm_symbols.specs.Counting.{raised}
+use Rattle.asm_symbols.specs.Counting.{counts_after}
 use Rattle.asm_symbols.specs.Answering.{◌>>=◌}
 
 -- what a definition makes of a symbol that is undefined
@@ -30,12 +30,13 @@ redefined (meaning.Assigned form) (Space spot) = Err BadSymbolUse
 
 -- the map where the symbol is this
 abbrev pub with_defined : SymbolMap → ℕ → Name → Definition → Meaning → SymbolMap
-with_defined map index name what made = record map { symbols = changed (with_meaning made) map.symbols index; counts = raised name what map.counts }
+with_defined map index name what made = record map { symbols = changed (with_meaning made) map.symbols index; counts = counts_after name what map.counts }
 
--- the map where the symbol is defined so
+-- the map where the symbol that is found is defined so
 abbrev pub defined_by : Option Symbol → SymbolMap → ℕ → Definition → Result SymbolMap SymFault
 defined_by None map index what = Err BadSymbolUse
 defined_by (Some symbol) map index what = redefined symbol.meaning what >>= λ made. Ok (with_defined map index symbol.name what made)
 
+-- the map where the symbol at this index is defined so
 unfoldable pub defined : SymbolMap → ℕ → Definition → Result SymbolMap SymFault
 defined map index what = defined_by (slice_get map.symbols index) map index what

@@ -22,6 +22,14 @@ names_size map = sum_by name_size (names map.symbols) + sum_by name_size map.fil
 abbrev pub has_room : SymbolMap → Name → Bool
 has_room map name = nat_lt (length map.symbols + length map.files) (2 ^ 24) && nat_le (names_size map + name_size name) (2 ^ 31)
 
+-- the bytes that the name takes, if there are so many left
+abbrev pub size_within : Name → ℕ → Option ℕ
+size_within name room = if nat_le (name_size name) room then Some (name_size name) else None
+
+-- the bytes that the name takes, if there is room for it
+abbrev pub room_for : SymbolMap → Name → Option ℕ
+room_for map name = if has_room map name then Some (name_size name) else None
+
 -- a symbol of which nothing is known
 abbrev pub undefined : Name → Symbol
 undefined name = record { name = name; meaning = Undefined; binding = None; kind = None; size = None; sized = 0; visibility = None }
@@ -30,13 +38,17 @@ undefined name = record { name = name; meaning = Undefined; binding = None; kind
 abbrev pub with_name : SymbolMap → Name → SymbolMap
 with_name map name = record map { symbols = map.symbols ++ undefined name ∷ [] }
 
+-- the map with a symbol more of this name, and its index, if there is room for it
+abbrev pub added : SymbolMap → Name → Result (SymbolMap × ℕ) SymFault
+added map name = if has_room map name then Ok (with_name map name, length map.symbols) else Err BadSymbolUse
+
 -- the map where the name is a symbol's, and the symbol's index
 unfoldable pub named : SymbolMap → Name → Result (SymbolMap × ℕ) SymFault
 named map name = named_by (index_of name (names map.symbols)) map name
   where
     named_by : Option ℕ → SymbolMap → Name → Result (SymbolMap × ℕ) SymFault
     named_by (Some index) map name = Ok (map, index)
-    named_by None map name = if has_room map name then Ok (with_name map name, length map.symbols) else Err BadSymbolUse
+    named_by None map name = added map name
 
 -- the map with the name of a file more
 unfoldable pub with_file : SymbolMap → Name → Result SymbolMap SymFault

@@ -22,10 +22,11 @@ meaning_told (meaning.Common size align) = absent
 meaning_told (meaning.Space spot) = label spot.stretch spot.at
 meaning_told (meaning.Assigned made) = form_told made.terms made
 
-abbrev pub told_at : SymbolMap → Option ℕ → Told
-told_at map None = absent
-told_at map (Some index) = option_map_or (λ symbol. meaning_told symbol.meaning) (slice_get map.symbols index) absent
+-- what the symbol at this index is known as, if there is one
+abbrev pub symbol_told : SymbolMap → Option ℕ → Told
+symbol_told map None = absent
+symbol_told map (Some index) = option_map_or (λ symbol. meaning_told symbol.meaning) (slice_get map.symbols index) absent
 
 -- what the name is known as
 unfoldable pub told : SymbolMap → Name → Told
-told map name = told_at map (index_of name (names map.symbols))
+told map name = symbol_told map (index_of name (names map.symbols))

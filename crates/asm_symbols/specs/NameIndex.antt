@@ -14,6 +14,7 @@ pub record IndexedNames : Type 0 where
   pub texts : List (List ℕ × ℕ)
   pub numbered : List (Numbered × ℕ)
 
+-- the index of no names
 abbrev pub no_names : IndexedNames
 no_names = record { texts = []; numbered = [] }
 
@@ -21,9 +22,11 @@ no_names = record { texts = []; numbered = [] }
 abbrev pub plain_entry : Vec ℕ × ℕ → List ℕ × ℕ
 plain_entry entry = (entry.0.items, entry.1)
 
+-- all entries without where their texts lie in memory
 unfoldable pub plain_entries : List (Vec ℕ × ℕ) → List (List ℕ × ℕ)
 plain_entries entries = map plain_entry entries
 
+-- both are one name
 abbrev pub numbered_eq : Numbered → Numbered → Bool
 numbered_eq (Numeric number instance) (Numeric others last) = number == others && instance == last
 numbered_eq (Place section item) (Place others last) = section == others && item == last

@@ -13,33 +13,44 @@ use Rattle.asm_symbols.specs.Interning.{name_size}
 use Rattle.asm_symbols.specs.Counting.{counted}
 use Rattle.asm_symbols.specs.NameIndex.{IndexedNames, place_of}
 
+-- no two places have one name
+abbrev pub AreApart : List Name → Type 0
+AreApart ns =
+    (name : Name) (one other : ℕ) → slice_get ns one ≡ Some name → slice_get ns other ≡ Some name → one ≡ other
+
+-- each name is found where it stands
+abbrev pub AreFound : List Name → Type 0
+AreFound ns = (at : ℕ) (name : Name) → slice_get ns at ≡ Some name → index_of name ns ≡ Some at
+
 -- the index has the place of each name, and each name stands once
 pub record IsIndexed (index : IndexedNames) (ns : List Name) : Type 0 where
   pub found : (name : Name) → place_of index name ≡ index_of name ns
-  pub apart : (at : ℕ) (name : Name) → slice_get ns at ≡ Some name → index_of name ns ≡ Some at
+  pub apart : AreFound ns
 
 -- there are no more names, and no more bytes of them, than the limits allow
 pub record IsWithin (ns files : List Name) (bytes : ℕ) : Type 0 where
-  pub sized : bytes ≡ sum_by name_size ns + sum_by name_size files
+  pub total : bytes ≡ sum_by name_size ns + sum_by name_size files
   pub few : length ns + length files ≤ 2 ^ 24
   pub small : bytes ≤ 2 ^ 31
 
-abbrev pub is_label : Meaning → Bool
-is_label (meaning.Label spot) = true
-is_label _ = false
+-- the symbol is a label
+abbrev pub means_label : Meaning → Bool
+means_label (meaning.Label spot) = true
+means_label _ = false
 
 -- the symbol at this index is a label
 abbrev pub is_label_at : List Symbol → ℕ → Bool
-is_label_at symbols at = option_map_or (λ symbol. is_label symbol.meaning) (slice_get symbols at) false
+is_label_at symbols at = option_map_or (λ symbol. means_label symbol.meaning) (slice_get symbols at) false
 
 -- the symbol has this name and is a label
 abbrev pub is_label_of : Name → Symbol → Bool
-is_label_of name symbol = same_name name symbol.name && is_label symbol.meaning
+is_label_of name symbol = same_name name symbol.name && means_label symbol.meaning
 
 -- the instances of numeric labels that are counted are labels
 pub record AreCounted (symbols : List Symbol) (counts : List (ℕ × ℕ)) : Type 0 where
   pub labels : (number instance : ℕ) → 0 < instance → instance ≤ counted counts number → list_any (is_label_of (naming.Numeric number instance)) symbols ≡ true
 
+-- names are found by the index, keep the limits, and each counted instance is a label
 pub record IsSound (index : IndexedNames) (symbols : List Symbol) (files : List Name) (counts : List (ℕ × ℕ)) (bytes : ℕ) : Type 0 where
   pub indexed : IsIndexed index (names symbols)
   pub within : IsWithin (names symbols) files bytes

@@ -12,6 +12,7 @@ pub record SymbolMap : Type 0 where
   pub counts : List (ℕ × ℕ)
   pub sizes : ℕ
 
+-- the map at the beginning of a source
 abbrev pub nothing_named : SymbolMap
 nothing_named = record { symbols = []; files = []; counts = []; sizes = 0 }
 

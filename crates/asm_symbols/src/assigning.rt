@@ -1,7 +1,7 @@
 //! How a symbol is assigned a form that does not lead back to it.
 
 ghost use Rattle.std.specs.Prelude.{◌≡◌};
-ghost use Rattle.asm_symbols.specs.Assigning.{is_here, refusal};
+ghost use Rattle.asm_symbols.specs.Assigning.{is_dot, refusal_of};
 
 use crate::entries::Meaning;
 use crate::faults::SymFault;
@@ -12,8 +12,8 @@ use indexmap::IndexSet;
 use std::alloc::Global;
 
 /// Whether the name is `.`, which is the place of a statement.
-fn is_here(name: &Name) -> bool
-    ensures { result ≡ is_here name.now }
+fn is_dot(name: &Name) -> bool
+    ensures { result ≡ is_dot name.now }
 {
     match name {
         Name::Plain(text) => text.as_bytes() == b".".as_slice(),
@@ -22,8 +22,8 @@ fn is_here(name: &Name) -> bool
 }
 
 /// Why a symbol that is this takes no form.
-fn refusal(meaning: &Meaning, once: bool) -> Option<SymFault>
-    ensures { result ≡ refusal meaning.now once }
+fn refusal_of(meaning: &Meaning, once: bool) -> Option<SymFault>
+    ensures { result ≡ refusal_of meaning.now once }
 {
     match (meaning, once) {
         (Meaning::Undefined, _) | (Meaning::Assigned(_), false) => None,
@@ -33,11 +33,11 @@ fn refusal(meaning: &Meaning, once: bool) -> Option<SymFault>
 }
 
 impl Symbols {
-    ghost use Rattle.std.specs.Prelude.{◌≡◌, ◌<◌, false, length, Some, None, OnErr, IfOk, IfErr, MatchBool, slice_get, if◌then◌else◌};
+    ghost use Rattle.std.specs.Prelude.{◌≡◌, ◌<◌, false, length, OnErr, IfOk, IfErr};
     ghost use Rattle.asm_symbols.specs.SymbolMap.{names, with_symbol, with_meaning};
-    ghost use Rattle.asm_symbols.specs.Assigning.{refusal_at, form_at, Leads, Assigns};
+    ghost use Rattle.asm_symbols.specs.Assigning.{refusal_at, form_at, TellsLeads, Assigns};
     ghost use Rattle.asm_symbols.specs.Answering.{GivesUnlessFull};
-    ghost use Rattle.asm_symbols.specs.Searching.{seen_with, seen_behind};
+    ghost use Rattle.asm_symbols.specs.Searching.{seen_unless, seen_with, seen_behind};
     ghost use Rattle.asm_symbols.specs.LeadsBack.{leads_back, assigned};
     ghost use Rattle.asm_symbols.specs.Sound.{is_label_at};
     ghost use Rattle.asm_symbols.specs.declared.faults.SymFault.TheVariants.{NoMemory};
@@ -49,16 +49,19 @@ impl Symbols {
         ensures { result ≡ refusal_at self.now id once }
     {
         let symbol = self.symbol(id);
-        if is_here(&symbol.name) {
+        if is_dot(&symbol.name) {
             return Some(SymFault::BadSymbolUse);
         }
-        refusal(&symbol.meaning, once)
+        refusal_of(&symbol.meaning, once)
     }
 
-    /// Adds the symbols that the terms name to those that were seen. Answers whether the terms name the symbol.
+    /// Adds the symbols that the terms name to those that were seen. Answers whether the terms
+    /// name the symbol.
     #[tactic(auto, unfolding(crate::specs::Searching::seen_with))]
     fn see(&self, terms: &[Term], id: SymId, seen: &mut IndexSet<u32>) -> Result<bool, SymFault>
-        ensures back { IfOk result (λ back. seen_with (names self.now.symbols) id terms.now seen.old.keys ≡ (if back then None else Some seen.new.keys)) }
+        ensures value { IfOk result (λ back.
+            seen_with (names self.now.symbols) id terms.now seen.old.keys
+            ≡ seen_unless back seen.new.keys) }
         ensures memory { IfErr result (λ fault. fault ≡ NoMemory) }
     {
         for term in terms {
@@ -80,7 +83,9 @@ impl Symbols {
         seen: &mut IndexSet<u32>,
     ) -> Result<bool, SymFault>
         requires { middle < length self.now.symbols }
-        ensures back { IfOk result (λ back. seen_behind (names self.now.symbols) id (form_at self.now.symbols middle) seen.old.keys ≡ (if back then None else Some seen.new.keys)) }
+        ensures value { let form = form_at self.now.symbols middle in
+            IfOk result (λ back. seen_behind (names self.now.symbols) id form seen.old.keys
+            ≡ seen_unless back seen.new.keys) }
         ensures memory { IfErr result (λ fault. fault ≡ NoMemory) }
     {
         match &self.symbol(middle).meaning {
@@ -96,7 +101,7 @@ impl Symbols {
 
     /// Whether the form leads to the symbol. Each symbol is looked at once.
     fn leads_back(&self, form: &Linear, id: SymId) -> Result<bool, SymFault>
-        ensures back { IfOk result (λ back. MatchBool back (Leads self.now.symbols form.now id) (Leads self.now.symbols form.now id → ⊥)) }
+        ensures leads { IfOk result (TellsLeads self.now.symbols form.now id) }
         ensures value { IfOk result (λ back. leads_back self.now.symbols form.now id ≡ back) }
         ensures memory { IfErr result (λ fault. fault ≡ NoMemory) }
     {
@@ -120,10 +125,10 @@ impl Symbols {
     #[tactic(auto, unfolding(crate::specs::Assigning::refusal_at, crate::specs::LeadsBack::assigned))]
     pub fn assign(&mut self, id: SymId, form: Linear, once: bool) -> Result<(), SymFault>
         requires { id < length self.old.symbols }
-        ensures gives { Assigns self.old self.new id form (refusal_at self.old id once) result }
-        ensures made { GivesUnlessFull self.new result (assigned self.old id form once) }
+        ensures cause { Assigns self.old self.new id form (refusal_at self.old id once) result }
+        ensures value { GivesUnlessFull self.new result (assigned self.old id form once) }
         ensures unchanged { OnErr result (self.new ≡ self.old) }
-        ensures length { length self.new.symbols ≡ length self.old.symbols }
+        ensures kept { length self.new.symbols ≡ length self.old.symbols }
     {
         if let Some(fault) = self.refusal_at(id, once) {
             return Err(fault);
@@ -139,8 +144,8 @@ impl Symbols {
     fn redefine(&mut self, id: SymId, meaning: Meaning)
         requires there { id < length self.old.symbols }
         requires plain { is_label_at self.old.symbols id ≡ false }
-        ensures made { self.new ≡ with_symbol (with_meaning meaning) self.old id }
-        ensures length { length self.new.symbols ≡ length self.old.symbols }
+        ensures value { self.new ≡ with_symbol (with_meaning meaning) self.old id }
+        ensures kept { length self.new.symbols ≡ length self.old.symbols }
     {
         let symbol = &mut self.symbols[id.index() as usize];
         symbol.meaning = meaning;

@@ -45,8 +45,8 @@ impl Symbols {
     /// The symbol has this binding from now on.
     fn rebind(&mut self, id: SymId, binding: Binding)
         requires { id < length self.old.symbols }
-        ensures made { self.new ≡ with_symbol (with_binding binding) self.old id }
-        ensures length { length self.new.symbols ≡ length self.old.symbols }
+        ensures value { self.new ≡ with_symbol (with_binding binding) self.old id }
+        ensures kept { length self.new.symbols ≡ length self.old.symbols }
     {
         let symbol = &mut self.symbols[id.index() as usize];
         symbol.binding = Some(binding);
@@ -55,9 +55,10 @@ impl Symbols {
     /// The symbol is of this kind from now on.
     pub fn kind(&mut self, id: SymId, kind: Kind) -> Result<(), SymFault>
         requires { id < length self.old.symbols }
-        ensures gives { GivesAlways self.new result (Ok (with_symbol (with_kind kind) self.old id)) }
+        ensures value { GivesAlways self.new result
+            (Ok (with_symbol (with_kind kind) self.old id)) }
         ensures unchanged { OnErr result (self.new ≡ self.old) }
-        ensures length { length self.new.symbols ≡ length self.old.symbols }
+        ensures kept { length self.new.symbols ≡ length self.old.symbols }
     {
         let symbol = &mut self.symbols[id.index() as usize];
         symbol.kind = Some(kind);
@@ -67,9 +68,9 @@ impl Symbols {
     /// The symbol has this size from now on, the last that was said.
     pub fn size(&mut self, id: SymId, size: Linear) -> Result<(), SymFault>
         requires { id < length self.old.symbols }
-        ensures gives { Gives self.new result (Ok (with_next_size size self.old id)) }
+        ensures value { Gives self.new result (Ok (with_next_size size self.old id)) }
         ensures unchanged { OnErr result (self.new ≡ self.old) }
-        ensures length { length self.new.symbols ≡ length self.old.symbols }
+        ensures kept { length self.new.symbols ≡ length self.old.symbols }
     {
         let Some(number) = self.sizes.checked_add(1) else {
             return Err(SymFault::NoMemory);
@@ -84,9 +85,10 @@ impl Symbols {
     /// The symbol is as visible as this from now on.
     pub fn visibility(&mut self, id: SymId, visibility: Visibility) -> Result<(), SymFault>
         requires { id < length self.old.symbols }
-        ensures gives { GivesAlways self.new result (Ok (with_symbol (with_visibility visibility) self.old id)) }
+        ensures value { GivesAlways self.new result
+            (Ok (with_symbol (with_visibility visibility) self.old id)) }
         ensures unchanged { OnErr result (self.new ≡ self.old) }
-        ensures length { length self.new.symbols ≡ length self.old.symbols }
+        ensures kept { length self.new.symbols ≡ length self.old.symbols }
     {
         let symbol = &mut self.symbols[id.index() as usize];
         symbol.visibility = Some(visibility);
@@ -97,9 +99,9 @@ impl Symbols {
     #[tactic(auto, unfolding(crate::specs::Attributes::bound))]
     pub fn bind(&mut self, id: SymId, binding: Binding) -> Result<(), SymFault>
         requires { id < length self.old.symbols }
-        ensures gives { GivesAlways self.new result (bound self.old id binding) }
+        ensures value { GivesAlways self.new result (bound self.old id binding) }
         ensures unchanged { OnErr result (self.new ≡ self.old) }
-        ensures length { length self.new.symbols ≡ length self.old.symbols }
+        ensures kept { length self.new.symbols ≡ length self.old.symbols }
     {
         let symbol = self.symbol(id);
         let made = bound_as(&symbol.meaning, symbol.binding, binding)?;

@@ -1,7 +1,7 @@
 //! The instances of numeric labels, and the values of assigned symbols.
 
 ghost use Rattle.std.specs.Prelude.{◌≡◌};
-ghost use Rattle.asm_symbols.specs.Counting.{value_of};
+ghost use Rattle.asm_symbols.specs.Counting.{assigned_value};
 
 use crate::entries::Meaning;
 use crate::ids::SymId;
@@ -9,8 +9,8 @@ use crate::symbol_map::Symbols;
 use asm_expr::Name;
 
 /// The value of an assigned symbol whose form has no names.
-fn value_of(meaning: &Meaning) -> Option<i64>
-    ensures { result ≡ value_of meaning.now }
+fn assigned_value(meaning: &Meaning) -> Option<i64>
+    ensures { result ≡ assigned_value meaning.now }
 {
     match meaning {
         Meaning::Assigned(form) => {
@@ -26,13 +26,13 @@ fn value_of(meaning: &Meaning) -> Option<i64>
 
 impl Symbols {
     ghost use Rattle.std.specs.Prelude.{◌≡◌, ◌<◌, ◌↔◌, length, IsNone, IfSome};
-    ghost use Rattle.asm_symbols.specs.Counting.{counted, last_named, known_at};
+    ghost use Rattle.asm_symbols.specs.Counting.{counted, last_named, known_value};
 
     /// The last instance of the numeric label that is defined.
     #[tactic(auto, unfolding(crate::specs::Counting::last_named))]
     pub fn numeric_back(&self, number: u64) -> Option<SymId>
-        ensures last { result ≡ last_named self.now number }
-        ensures there { IfSome result (λ id. id < length self.now.symbols) }
+        ensures value { result ≡ last_named self.now number }
+        ensures within { IfSome result (λ id. id < length self.now.symbols) }
         ensures none { IsNone result ↔ (counted self.now.counts number ≡ 0) }
     {
         let _ = &self.counts;
@@ -43,12 +43,12 @@ impl Symbols {
         self.find(&Name::Numeric { number, instance })
     }
 
-    /// The value of the symbol, where it is known: that of an assigned symbol whose form has no names.
-    #[tactic(auto, unfolding(crate::specs::Counting::known_at))]
+    /// The value of the symbol, where it is known: an assigned symbol's whose form has no names.
+    #[tactic(auto, unfolding(crate::specs::Counting::known_value))]
     pub fn known(&self, id: SymId) -> Option<i64>
         requires { id < length self.now.symbols }
-        ensures { result ≡ known_at self.now id }
+        ensures { result ≡ known_value self.now id }
     {
-        value_of(&self.symbol(id).meaning)
+        assigned_value(&self.symbol(id).meaning)
     }
 }

@@ -1,7 +1,7 @@
 //! How a label, common space or space of this object defines a symbol.
 
 ghost use Rattle.std.specs.Prelude.{◌≡◌, OnOk, OnErr, IfErr};
-ghost use Rattle.asm_symbols.specs.Counting.{raised};
+ghost use Rattle.asm_symbols.specs.Counting.{counts_after};
 ghost use Rattle.asm_symbols.specs.Defining.{meant, redefined};
 ghost use Rattle.asm_symbols.specs.declared.faults.SymFault.TheVariants.{NoMemory};
 
@@ -36,9 +36,9 @@ fn redefined(meaning: &Meaning, what: Definition) -> Result<Meaning, SymFault>
     }
 }
 
-/// A definition of the next instance of a numeric label counts.
+/// A label that is the next instance of its number counts.
 fn raise(counts: &mut IndexMap<u64, u32>, name: &Name, what: Definition) -> Result<(), SymFault>
-    ensures ok { OnOk result (counts.new.entries ≡ raised name.now what counts.old.entries) }
+    ensures ok { OnOk result (counts.new.entries ≡ counts_after name.now what counts.old.entries) }
     ensures memory { IfErr result (λ fault. fault ≡ NoMemory) }
     ensures err { OnErr result (counts.new.entries ≡ counts.old.entries) }
 {
@@ -64,9 +64,9 @@ impl Symbols {
     #[tactic(auto, unfolding(crate::specs::Defining::defined))]
     pub fn define(&mut self, id: SymId, what: Definition) -> Result<(), SymFault>
         requires { id < length self.old.symbols }
-        ensures gives { Gives self.new result (defined self.old id what) }
+        ensures value { Gives self.new result (defined self.old id what) }
         ensures unchanged { OnErr result (self.new ≡ self.old) }
-        ensures length { length self.new.symbols ≡ length self.old.symbols }
+        ensures kept { length self.new.symbols ≡ length self.old.symbols }
     {
         let at = id.index() as usize;
         let made = redefined(&self.symbols[at].meaning, what)?;

@@ -2,7 +2,8 @@
 
 use asm_expr::{Linear, Name};
 
-/// The place of a label: an item of a section, the stretch that it stands in, and its distance from the beginning of the stretch.
+/// The place of a label: an item of a section, the stretch that it stands in, and its distance
+/// from the beginning of the stretch.
 #[derive(Clone, Copy, PartialEq, Eq, Debug)]
 pub struct Spot {
     pub section: u32,
@@ -68,7 +69,8 @@ pub struct Symbol {
     pub binding: Option<Binding>,
     pub kind: Option<Kind>,
     pub size: Option<Linear>,
-    /// The number, from 1, of its size among all sizes that were said, in their order; 0 where it has none.
+    /// The number of its size among all sizes in the order in which they were said, from 1; 0 where
+    /// it has none.
     pub sized: u64,
     pub visibility: Option<Visibility>,
 }

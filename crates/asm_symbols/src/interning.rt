@@ -1,7 +1,7 @@
 //! How a name becomes a symbol, and what room there is for names.
 
-ghost use Rattle.std.specs.Prelude.{◌≡◌, Some, None, nat_le, if◌then◌else◌};
-ghost use Rattle.asm_symbols.specs.Interning.{name_size};
+ghost use Rattle.std.specs.Prelude.{◌≡◌};
+ghost use Rattle.asm_symbols.specs.Interning.{size_within};
 
 use crate::copies::copied_name;
 use crate::entries::{Meaning, Symbol};
@@ -18,7 +18,7 @@ const MOST_BYTES: u64 = 0x8000_0000;
 
 /// The bytes that the name takes, if there is room for them.
 fn size_within(name: &Name, room: u64) -> Option<u64>
-    ensures { result ≡ (if nat_le (name_size name.now) room then Some (name_size name.now) else None) }
+    ensures { result ≡ size_within name.now room }
 {
     match name {
         Name::Plain(text) => {
@@ -34,16 +34,15 @@ fn size_within(name: &Name, room: u64) -> Option<u64>
 }
 
 impl Symbols {
-    ghost use Rattle.std.specs.Prelude.{◌≡◌, ◌<◌, ◌≤◌, length, Some, None, OnErr, IfOk, if◌then◌else◌, Ok, Err};
+    ghost use Rattle.std.specs.Prelude.{◌≡◌, ◌<◌, ◌≤◌, length, None, OnErr, IfOk};
     ghost use Rattle.asm_symbols.specs.SymbolMap.{names, index_of};
     ghost use Rattle.asm_symbols.specs.Answering.{Gives, GivesSymbol};
-    ghost use Rattle.asm_symbols.specs.Interning.{name_size, has_room, with_name, named, with_file};
+    ghost use Rattle.asm_symbols.specs.Interning.{room_for, added, named, with_file};
     ghost use Rattle.asm_symbols.specs.Counting.{next_named};
-    ghost use Rattle.asm_symbols.specs.declared.faults.SymFault.TheVariants.{BadSymbolUse};
 
     /// The bytes that the name takes, if there is room for one more.
     fn room(&self, name: &Name) -> Option<u64>
-        ensures { result ≡ (if has_room self.now name.now then Some (name_size name.now) else None) }
+        ensures { result ≡ room_for self.now name.now }
     {
         if self.symbols.len() + self.files.len() < MOST_NAMES {
             size_within(name, MOST_BYTES - self.bytes)
@@ -55,7 +54,7 @@ impl Symbols {
     /// A symbol more, of which nothing is known.
     fn add(&mut self, name: &Name) -> Result<SymId, SymFault>
         requires { index_of name.now (names self.old.symbols) ≡ None }
-        ensures gives { GivesSymbol self.new result (if has_room self.old name.now then Ok (with_name self.old name.now, length self.old.symbols) else Err BadSymbolUse) }
+        ensures value { GivesSymbol self.new result (added self.old name.now) }
         ensures unchanged { OnErr result (self.new ≡ self.old) }
     {
         let Some(size) = self.room(name) else {
@@ -81,9 +80,9 @@ impl Symbols {
     /// The symbol of the name, which is put last if it is not there.
     #[tactic(auto, unfolding(crate::specs::Interning::named))]
     pub fn name_of(&mut self, name: &Name) -> Result<SymId, SymFault>
-        ensures gives { GivesSymbol self.new result (named self.old name.now) }
-        ensures there { IfOk result (λ id. id < length self.new.symbols) }
-        ensures length { length self.old.symbols ≤ length self.new.symbols }
+        ensures value { GivesSymbol self.new result (named self.old name.now) }
+        ensures within { IfOk result (λ id. id < length self.new.symbols) }
+        ensures kept { length self.old.symbols ≤ length self.new.symbols }
         ensures unchanged { OnErr result (self.new ≡ self.old) }
     {
         if let Some(id) = self.find(name) {
@@ -95,8 +94,8 @@ impl Symbols {
     /// The name of a file more.
     #[tactic(auto, unfolding(crate::specs::Interning::with_file))]
     pub fn file(&mut self, name: &Name) -> Result<(), SymFault>
-        ensures gives { Gives self.new result (with_file self.old name.now) }
-        ensures length { length self.new.symbols ≡ length self.old.symbols }
+        ensures value { Gives self.new result (with_file self.old name.now) }
+        ensures kept { length self.new.symbols ≡ length self.old.symbols }
         ensures unchanged { OnErr result (self.new ≡ self.old) }
     {
         let Some(size) = self.room(name) else {
@@ -110,9 +109,9 @@ impl Symbols {
     /// The symbol of the instance of a numeric label that is defined next.
     #[tactic(auto, unfolding(crate::specs::Counting::next_named))]
     pub fn numeric_next(&mut self, number: u64) -> Result<SymId, SymFault>
-        ensures gives { GivesSymbol self.new result (next_named self.old number) }
-        ensures there { IfOk result (λ id. id < length self.new.symbols) }
-        ensures length { length self.old.symbols ≤ length self.new.symbols }
+        ensures value { GivesSymbol self.new result (next_named self.old number) }
+        ensures within { IfOk result (λ id. id < length self.new.symbols) }
+        ensures kept { length self.old.symbols ≤ length self.new.symbols }
         ensures unchanged { OnErr result (self.new ≡ self.old) }
     {
         let instance = self.count(number).saturating_add(1);

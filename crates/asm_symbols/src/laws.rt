@@ -1,9 +1,7 @@
 //! What holds of every symbol map and of every call.
 
-ghost use Rattle.std.specs.Prelude.{◌≡◌, ◌<◌, ◌≤◌, ◌+◌, ◌^◌, true, length, ℕ, List, Ok, Err, Option, Some, None, slice_get};
+ghost use Rattle.std.specs.Prelude.{◌≡◌, ◌≤◌, ◌+◌, ◌^◌, true, length, ℕ, List, Ok, Err, Option, Some};
 ghost use Rattle.asm_expr.specs.declared.naming.Name.{Name as NameValue};
-ghost use Rattle.asm_expr.specs.declared.naming.Name.TheVariants.{Numeric};
-ghost use Rattle.std.specs.List.{list_any};
 ghost use Rattle.asm_expr.specs.Forms.{Form};
 ghost use Rattle.asm_symbols.specs.declared.entries.Symbol.{Symbol as SymbolEntry};
 ghost use Rattle.asm_symbols.specs.declared.entries.Definition.{Definition as DefinitionValue};
@@ -13,22 +11,22 @@ ghost use Rattle.asm_symbols.specs.declared.entries.Binding.TheVariants.{Local, 
 ghost use Rattle.asm_symbols.specs.declared.entries.Kind.{Kind as KindValue};
 ghost use Rattle.asm_symbols.specs.declared.entries.Visibility.{Visibility as VisibilityValue};
 ghost use Rattle.asm_symbols.specs.declared.faults.SymFault.TheVariants.{BadSymbolUse};
-ghost use Rattle.asm_symbols.specs.SymbolMap.{SymbolMap, names, index_of, with_symbol};
+ghost use Rattle.asm_symbols.specs.SymbolMap.{SymbolMap, names, with_symbol};
 ghost use Rattle.asm_symbols.specs.Interning.{names_size, named, with_file};
-ghost use Rattle.asm_symbols.specs.Counting.{counted, next_named};
+ghost use Rattle.asm_symbols.specs.Counting.{next_named};
 ghost use Rattle.asm_symbols.specs.Defining.{defined};
 ghost use Rattle.asm_symbols.specs.Assigning.{with_form, Leads};
 ghost use Rattle.asm_symbols.specs.LeadsBack.{leads_back};
 ghost use Rattle.asm_symbols.specs.Attributes.{bound_as, bound, with_kind, with_next_size, with_visibility};
 ghost use Rattle.asm_symbols.specs.Order.{KeepsOrder};
-ghost use Rattle.asm_symbols.specs.Sound.{is_label_of};
+ghost use Rattle.asm_symbols.specs.Sound.{AreApart, AreFound, AreCounted};
 
 use crate::symbol_map::Symbols;
 
 /// No two symbols have one name, and each is found by its own.
 pub fn names_are_apart(map: &Symbols)
-    ensures apart { (name : NameValue) (one other : ℕ) → slice_get (names map.now.symbols) one ≡ Some name → slice_get (names map.now.symbols) other ≡ Some name → one ≡ other }
-    ensures found { (name : NameValue) (at : ℕ) → slice_get (names map.now.symbols) at ≡ Some name → index_of name (names map.now.symbols) ≡ Some at }
+    ensures apart { AreApart (names map.now.symbols) }
+    ensures found { AreFound (names map.now.symbols) }
 {
     let _ = &map.index;
 }
@@ -43,7 +41,7 @@ pub fn names_are_few(map: &Symbols)
 
 /// The instances of a numeric label that are counted are labels.
 pub fn counted_are_labels(map: &Symbols)
-    ensures { (number instance : ℕ) → 0 < instance → instance ≤ counted map.now.counts number → list_any (is_label_of (Numeric number instance)) map.now.symbols ≡ true }
+    ensures { AreCounted map.now.symbols map.now.counts }
 {
     let _ = &map.index;
 }
@@ -51,28 +49,47 @@ pub fn counted_are_labels(map: &Symbols)
 /// Every call keeps the order in which symbols were first named.
 #[tactic(auto, unfolding(crate::specs::Interning::named, crate::specs::Interning::with_file, crate::specs::Counting::next_named))]
 pub fn order_is_kept()
-    ensures name_of { (map made : SymbolMap) (name : NameValue) (at : ℕ) → named map name ≡ Ok (made, at) → KeepsOrder map made }
-    ensures numeric_next { (map made : SymbolMap) (number at : ℕ) → next_named map number ≡ Ok (made, at) → KeepsOrder map made }
-    ensures file { (map made : SymbolMap) (name : NameValue) → with_file map name ≡ Ok made → KeepsOrder map made }
-    ensures define { (map made : SymbolMap) (at : ℕ) (what : DefinitionValue) → defined map at what ≡ Ok made → KeepsOrder map made }
-    ensures assign { (map : SymbolMap) (at : ℕ) (form : Form) → KeepsOrder map (with_form map at form) }
-    ensures bind { (map made : SymbolMap) (at : ℕ) (binding : BindingValue) → bound map at binding ≡ Ok made → KeepsOrder map made }
-    ensures kind { (map : SymbolMap) (at : ℕ) (kind : KindValue) → KeepsOrder map (with_symbol (with_kind kind) map at) }
-    ensures size { (map : SymbolMap) (at : ℕ) (size : Form) → KeepsOrder map (with_next_size size map at) }
-    ensures visibility { (map : SymbolMap) (at : ℕ) (visibility : VisibilityValue) → KeepsOrder map (with_symbol (with_visibility visibility) map at) }
+    ensures name_of { (map made : SymbolMap) (name : NameValue) (at : ℕ)
+        → named map name ≡ Ok (made, at) → KeepsOrder map made }
+    ensures numeric_next { (map made : SymbolMap) (number at : ℕ)
+        → next_named map number ≡ Ok (made, at) → KeepsOrder map made }
+    ensures file { (map made : SymbolMap) (name : NameValue)
+        → with_file map name ≡ Ok made → KeepsOrder map made }
+    ensures define { (map made : SymbolMap) (at : ℕ) (what : DefinitionValue)
+        → defined map at what ≡ Ok made → KeepsOrder map made }
+    ensures assign { (map : SymbolMap) (at : ℕ) (form : Form)
+        → KeepsOrder map (with_form map at form) }
+    ensures bind { (map made : SymbolMap) (at : ℕ) (binding : BindingValue)
+        → bound map at binding ≡ Ok made → KeepsOrder map made }
+    ensures kind { (map : SymbolMap) (at : ℕ) (kind : KindValue)
+        → KeepsOrder map (with_symbol (with_kind kind) map at) }
+    ensures size { (map : SymbolMap) (at : ℕ) (size : Form)
+        → KeepsOrder map (with_next_size size map at) }
+    ensures visibility { (map : SymbolMap) (at : ℕ) (visibility : VisibilityValue)
+        → KeepsOrder map (with_symbol (with_visibility visibility) map at) }
 {}
 
-/// The program that decides whether a form leads back to a symbol answers true exactly where it does.
+/// The program that decides whether a form leads back to a symbol answers true exactly where it
+/// does.
 pub fn leads_is_decided()
-    ensures back { (symbols : List SymbolEntry) (form : Form) (at : ℕ) → leads_back symbols form at ≡ true → Leads symbols form at }
-    ensures leads { (symbols : List SymbolEntry) (form : Form) (at : ℕ) → Leads symbols form at → leads_back symbols form at ≡ true }
+    ensures back { (symbols : List SymbolEntry) (form : Form) (at : ℕ)
+        → leads_back symbols form at ≡ true → Leads symbols form at }
+    ensures leads { (symbols : List SymbolEntry) (form : Form) (at : ℕ)
+        → Leads symbols form at → leads_back symbols form at ≡ true }
 {}
 
 /// Weak wins over global in either order, and neither goes with local.
 pub fn weak_wins()
     ensures weak_last { (meaning : MeaningValue) → bound_as meaning (Some Global) Weak ≡ Ok Weak }
     ensures global_last { (meaning : MeaningValue) → bound_as meaning (Some Weak) Global ≡ Ok Weak }
-    ensures local_last { (meaning : MeaningValue) → (bound_as meaning (Some Global) Local ≡ Err BadSymbolUse) × (bound_as meaning (Some Weak) Local ≡ Err BadSymbolUse) }
-    ensures local_first { (meaning : MeaningValue) → (bound_as meaning (Some Local) Global ≡ Err BadSymbolUse) × (bound_as meaning (Some Local) Weak ≡ Err BadSymbolUse) }
-    ensures again { (meaning : MeaningValue) (before : Option BindingValue) (binding made : BindingValue) → bound_as meaning before binding ≡ Ok made → bound_as meaning (Some made) binding ≡ Ok made }
+    ensures local_last { (meaning : MeaningValue)
+        → (bound_as meaning (Some Global) Local ≡ Err BadSymbolUse)
+        × (bound_as meaning (Some Weak) Local ≡ Err BadSymbolUse) }
+    ensures local_first { (meaning : MeaningValue)
+        → (bound_as meaning (Some Local) Global ≡ Err BadSymbolUse)
+        × (bound_as meaning (Some Local) Weak ≡ Err BadSymbolUse) }
+    ensures again { (meaning : MeaningValue) (before : Option BindingValue)
+        → (binding made : BindingValue)
+        → bound_as meaning before binding ≡ Ok made
+        → bound_as meaning (Some made) binding ≡ Ok made }
 {}

@@ -1,4 +1,5 @@
-//! The symbol map: the symbols of a source in the order in which they are first named, and what is known of each.
+//! The symbol map: the symbols of a source in the order in which they are first named, and what
+//! is known of each.
 #![tactic(auto)]
 
 mod assigning;

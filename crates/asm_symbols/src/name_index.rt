@@ -27,7 +27,10 @@ impl Model for NameIndex {
 
     ghost Value = { IndexedNames };
 
-    ghost view = { λ index. record { texts = plain_entries index.texts.entries; numbered = index.numbered.entries } };
+    ghost view = { λ index. record {
+      texts = plain_entries index.texts.entries;
+      numbered = index.numbered.entries;
+    } };
 }
 
 impl NameIndex {

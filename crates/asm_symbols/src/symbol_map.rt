@@ -29,15 +29,21 @@ impl Model for Symbols {
 
     ghost Value = { SymbolMap };
 
-    ghost view = { λ map. record { symbols = map.symbols.items; files = map.files.items; counts = map.counts.entries; sizes = map.sizes } };
+    ghost view = { λ map. record {
+      symbols = map.symbols.items;
+      files = map.files.items;
+      counts = map.counts.entries;
+      sizes = map.sizes;
+    } };
 
-    ghost invariant = { λ map. IsSound map.index map.symbols.items map.files.items map.counts.entries map.bytes };
+    ghost invariant = { λ map.
+        IsSound map.index map.symbols.items map.files.items map.counts.entries map.bytes };
 }
 
 impl Symbols {
     ghost use Rattle.std.specs.Prelude.{◌≡◌, ◌<◌, length, slice_get, Some, IfSome};
     ghost use Rattle.asm_symbols.specs.SymbolMap.{nothing_named, names, index_of};
-    ghost use Rattle.asm_symbols.specs.Counting.{counted, last_named, known_at};
+    ghost use Rattle.asm_symbols.specs.Counting.{counted, last_named, known_value};
 
     /// No symbols.
     pub fn new(alloc: Global) -> Symbols
@@ -64,7 +70,7 @@ impl Symbols {
     /// The symbol of the name.
     pub fn find(&self, name: &Name) -> Option<SymId>
         ensures value { result ≡ index_of name.now (names self.now.symbols) }
-        ensures there { IfSome result (λ id. id < length self.now.symbols) }
+        ensures within { IfSome result (λ id. id < length self.now.symbols) }
     {
         match self.index.find(name) {
             Some(place) => Some(SymId::new(place)),

@@ -10,7 +10,7 @@ pub invariant_of-self-2 : goal.invariant_of-self-2
 invariant_of-self-2 c =
     let room = rw (← c.self.view_is) at (room_there c.args.self.now c.args.name.now c.in-Some.size c.in-Some.ensures) in
     let new = rw (← c.self.view_is) at c.requires in
-    let sized : c.self.inside.bytes ≡ sum_by name_size (names c.self.inside.symbols.items) + sum_by name_size c.self.inside.files.items = c.self.invariant.within.sized in
+    let total : c.self.inside.bytes ≡ sum_by name_size (names c.self.inside.symbols.items) + sum_by name_size c.self.inside.files.items = c.self.invariant.within.total in
     let small : c.self.inside.bytes + name_size c.args.name.now ≤ 2 ^ 31 = omega (arith, room.small) in
     let sound = IsSound-name c.self.inside.index c.self.inside.symbols.items c.self.inside.files.items c.self.inside.counts.entries c.self.inside.bytes c.args.name.now c.self.invariant new room.few small in
     let long : c.len-place.result ≡ length c.self.inside.symbols.items = omega arith in

@@ -10,8 +10,8 @@ invariant_of-self-2 c =
     c.args.what c.in_ok-made.made (sym c.in_ok-made.ensures) c.self.inside.files.items c.self.inside.sizes c.self.inside.counts.entries c.raise.new.counts.entries c.in_ok-raise.ensures.ok
     c.self.inside.index c.self.inside.bytes c.self.invariant
 
-pub returns-clause-gives : goal.returns-clause-gives
-returns-clause-gives c =
+pub returns-clause-value : goal.returns-clause-value
+returns-clause-value c =
     let there = rw (← c.self.view_is, ← c.index-at.ensures) at c.requires in
     rw (← c.self.view_is, ← c.index-at.ensures)
     (define_gives c.self.inside.symbols.items c.index-at.result c.index.result.now c.index-2.result.now c.index_mut-symbol.result.now there c.index.ensures c.index-2.ensures c.index_mut-symbol.ensures.value

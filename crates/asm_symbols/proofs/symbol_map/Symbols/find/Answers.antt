@@ -3,7 +3,7 @@ use Rattle.std.proofs.Common.{Some, sym, ap, ◌∙◌}
 use Rattle.asm_symbols.proofs.RoomLemmas.{index_of-within}
 use Rattle.asm_symbols.proofs.symbol_map.Symbols.find.Goals as goal
 
-pub returns-in-Some-clause-there : goal.returns-in-Some-clause-there
-returns-in-Some-clause-there c =
+pub returns-in-Some-clause-within : goal.returns-in-Some-clause-within
+returns-in-Some-clause-within c =
     let place = sym (c.self.invariant.indexed.found c.args.name.now) ∙ sym c.in-Some.ensures ∙ ap Some (sym c.new.ensures) in
     rw (← c.self.view_is) (index_of-within c.args.name.now c.self.inside.symbols.items c.new.result place)

@@ -10,8 +10,8 @@ invariant_of-self c =
     written_sound (with_binding c.args.binding) c.self.inside.symbols.items c.index.result c.index_mut-symbol.result.now there c.index_mut-symbol.ensures.value (λ _. refl) (λ _ _ is. is)
     c.self.inside.index c.self.inside.files.items c.self.inside.counts.entries c.self.inside.bytes c.self.invariant
 
-pub returns-clause-made : goal.returns-clause-made
-returns-clause-made c =
+pub returns-clause-value : goal.returns-clause-value
+returns-clause-value c =
     let there = rw (← c.self.view_is, ← c.index.ensures) at c.requires in
     let made = written (with_binding c.args.binding) c.self.inside.symbols.items c.index.result c.index_mut-symbol.result.now there c.index_mut-symbol.ensures.value c.self.inside.files.items c.self.inside.counts.entries c.self.inside.sizes in
     rw (← c.self.view_is, ← c.index.ensures, made)

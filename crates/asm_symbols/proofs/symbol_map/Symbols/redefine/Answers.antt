@@ -12,8 +12,8 @@ invariant_of-self c =
     (keeps_none (with_meaning c.args.meaning) c.self.inside.symbols.items c.index.result plain)
     c.self.inside.index c.self.inside.files.items c.self.inside.counts.entries c.self.inside.bytes c.self.invariant
 
-pub returns-clause-made : goal.returns-clause-made
-returns-clause-made c =
+pub returns-clause-value : goal.returns-clause-value
+returns-clause-value c =
     let there = rw (← c.self.view_is, ← c.index.ensures) at c.requires.there in
     let made = written (with_meaning c.args.meaning) c.self.inside.symbols.items c.index.result c.index_mut-symbol.result.now there c.index_mut-symbol.ensures.value c.self.inside.files.items c.self.inside.counts.entries c.self.inside.sizes in
     rw (← c.self.view_is, ← c.index.ensures, made)
