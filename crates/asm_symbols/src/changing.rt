@@ -1,9 +1,9 @@
 //! Changes of one symbol, each of one field.
 
 ghost use Rattle.std.specs.Prelude.{◌≡◌};
-ghost use Rattle.asm_symbols.specs.Attributes.{rebound, bound_as};
+ghost use Rattle.asm_symbols.specs.Attributes.{rebound, bound_as, with_size};
 
-use crate::entries::{Binding, Kind, Meaning, Visibility};
+use crate::entries::{Binding, Kind, Meaning, Symbol, Visibility};
 use crate::faults::SymFault;
 use crate::ids::SymId;
 use crate::symbol_map::Symbols;
@@ -34,6 +34,14 @@ fn bound_as(
         (Meaning::Common { .. }, Binding::Local) => Err(SymFault::BadSymbolUse),
         _ => rebound(before, binding),
     }
+}
+
+/// The symbol has this size, which is the one of this number among those that are said.
+fn set_size(symbol: &mut Symbol, size: Linear, number: u64)
+    ensures { symbol.new ≡ with_size size number symbol.old }
+{
+    symbol.size = Some(size);
+    symbol.sized = number;
 }
 
 impl Symbols {
@@ -75,9 +83,7 @@ impl Symbols {
         let Some(number) = self.sizes.checked_add(1) else {
             return Err(SymFault::NoMemory);
         };
-        let symbol = &mut self.symbols[id.index() as usize];
-        symbol.size = Some(size);
-        symbol.sized = number;
+        set_size(&mut self.symbols[id.index() as usize], size, number);
         self.sizes = number;
         Ok(())
     }

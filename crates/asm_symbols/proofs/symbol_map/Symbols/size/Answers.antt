@@ -7,12 +7,13 @@ use Rattle.asm_symbols.proofs.symbol_map.Symbols.size.Goals as goal
 pub invariant_of-self : goal.invariant_of-self
 invariant_of-self c =
     let there = rw (← c.self.view_is, ← c.index.ensures) at c.requires in
-    written_sound (with_size c.args.size c.in-Some.number) c.self.inside.symbols.items c.index.result c.index_mut-symbol.result.now there c.index_mut-symbol.ensures.value (λ _. refl) (λ _ _ is. is)
-    c.self.inside.index c.self.inside.files.items c.self.inside.counts.entries c.self.inside.bytes c.self.invariant
+    rw c.set_size.ensures
+    (written_sound (with_size c.args.size c.in-Some.number) c.self.inside.symbols.items c.index.result c.index_mut.result.now there c.index_mut.ensures.value (λ _. refl) (λ _ _ is. is)
+    c.self.inside.index c.self.inside.files.items c.self.inside.counts.entries c.self.inside.bytes c.self.invariant)
 
 pub returns-clause-value : goal.returns-clause-value
 returns-clause-value c =
     let there = rw (← c.self.view_is, ← c.index.ensures) at c.requires in
-    let made = written_size c.args.size c.self.inside.symbols.items c.index.result c.index_mut-symbol.result.now there c.index_mut-symbol.ensures.value
+    let made = written_size c.args.size c.self.inside.symbols.items c.index.result c.index_mut.result.now there c.index_mut.ensures.value
     c.self.inside.files.items c.self.inside.counts.entries c.self.inside.sizes c.in-Some.number c.in-Some.ensures.1 in
-    rw (← c.self.view_is, ← c.index.ensures, made)
+    rw (← c.self.view_is, ← c.index.ensures, c.set_size.ensures, made)
