@@ -28,11 +28,11 @@ module _ {P Address : Type 0} where
   same_step : (extent : KnownExtent) (new old : Frag P Address) → new.content ≡ old.content → advanced extent new ≡ advanced extent old
   same_step extent new old same = rw same refl
 
-  same_reach : (extent : KnownExtent) (items : List (Frag P Address)) (number : ℕ) (new d : Frag P Address) → new.content ≡ (get_or items number d).content
+  same_extent : (extent : KnownExtent) (items : List (Frag P Address)) (number : ℕ) (new d : Frag P Address) → new.content ≡ (get_or items number d).content
       → fold advanced extent (set items number new) ≡ fold advanced extent items
-  same_reach extent [] number new d same = refl
-  same_reach extent (item ∷ items) zero new d same = ap (λ (r : KnownExtent). fold advanced r items) (same_step extent new item same)
-  same_reach extent (item ∷ items) (suc number) new d same = same_reach (advanced extent item) items number new d same
+  same_extent extent [] number new d same = refl
+  same_extent extent (item ∷ items) zero new d same = ap (λ (r : KnownExtent). fold advanced r items) (same_step extent new item same)
+  same_extent extent (item ∷ items) (suc number) new d same = same_extent (advanced extent item) items number new d same
 
   -- alignment and extent look at no address
   pub items_laid : (items : List (Frag P Address)) (number : ℕ) (new d : Frag P Address) (alignment : ℕ) (extent : KnownExtent) → AreItems items alignment extent
@@ -41,7 +41,7 @@ module _ {P Address : Type 0} where
   items_laid items number new d alignment extent sound same = record {
     few = let few = sound.few in rw length-set few;
     aligned = sound.aligned ∙ sym (same_alignment items number new d same);
-    reaches = sound.reaches ∙ sym (same_reach (record { breaks = 0; bytes = 0 }) items number new d same);
+    known = sound.known ∙ sym (same_extent (record { breaks = 0; bytes = 0 }) items number new d same);
     breaks = let breaks = sound.breaks in rw length-set breaks;
     bytes = let bytes = sound.bytes in rw length-set bytes;
   }

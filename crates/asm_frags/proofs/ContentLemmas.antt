@@ -28,8 +28,8 @@ zeros_are_known (Bytes held) at = refl
 zeros_are_known (Fill held) at = sym (list_all-repeated is_zero held.count (unit_of held))
 zeros_are_known (Align held) at = sym (list_all-replicate is_zero (padding (2 ^ held.log) at) 0 refl)
 
-pub padding_reaches : (alignment at : ℕ) → 0 < alignment → (at + padding alignment at) % alignment ≡ 0
-padding_reaches alignment at positive =
+pub padding_to_multiple : (alignment at : ℕ) → 0 < alignment → (at + padding alignment at) % alignment ≡ 0
+padding_to_multiple alignment at positive =
     let below : at % alignment < alignment = mod-lt at positive in
     let whole : at % alignment + (alignment - at % alignment) ≡ alignment = omega arith in
     add-mod-mod at (alignment - at % alignment) alignment ∙ sym (mod-add-mod at alignment (alignment - at % alignment))

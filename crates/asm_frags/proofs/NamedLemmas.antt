@@ -6,7 +6,7 @@ use Rattle.std.specs.Global.{Vec}
 use Rattle.std.proofs.lemmas.List.{length-map, map-append}
 use Rattle.std.proofs.Math.Seq.{map-set_same}
 use Rattle.std.proofs.lemmas.List.Elements.{All-append}
-use Rattle.asm_frags.specs.SectionOf.{SectionOf, is_named, number_of}
+use Rattle.asm_frags.specs.SectionOf.{SectionOf, is_section_named, number_of}
 use Rattle.asm_frags.specs.Sound.{AreNamed, plain_names}
 
 prefix_len-map : {X Y : Type 0} (p : Y → Bool) (f : X → Y) (xs : List X) → prefix_len p (map f xs) ≡ prefix_len (λ x. p (f x)) xs
@@ -30,7 +30,7 @@ module _ {Item : Type 0} (keys : List (Vec ℕ)) (sections : List (SectionOf Ite
       sym (position-map (bytes_eq name) (λ (key : Vec ℕ). key.items) keys) ∙ ap (position (bytes_eq name)) sound.named
       ∙ position-map (bytes_eq name) (λ (section : SectionOf Item). section.name) sections
 
-  pub any_same : (name : List ℕ) → list_any (λ (key : Vec ℕ). bytes_eq name key.items) keys ≡ list_any (is_named name) sections
+  pub any_same : (name : List ℕ) → list_any (λ (key : Vec ℕ). bytes_eq name key.items) keys ≡ list_any (is_section_named name) sections
   unfolding plain_names
   any_same name =
       sym (list_any-map (bytes_eq name) (λ (key : Vec ℕ). key.items) keys) ∙ ap (list_any (bytes_eq name)) sound.named
@@ -77,11 +77,11 @@ plain_more keys key = map-append (λ (k : Vec ℕ). k.items) keys (key ∷ [])
 -- a key more, for a section more whose name none has
 pub added : {Item : Type 0} (keys more : List (Vec ℕ)) (key : Vec ℕ) (sections all : List (SectionOf Item)) (section : SectionOf Item) → AreNamed (plain_names keys) sections
     → more ≡ cond (list_any (λ (k : Vec ℕ). bytes_eq key.items k.items) keys) keys (keys ++ key ∷ []) → key.items ≡ section.name
-    → list_any (is_named section.name) sections ≡ false → length sections < 30003 → length section.name ≤ 65536 → all ≡ sections ++ section ∷ []
+    → list_any (is_section_named section.name) sections ≡ false → length sections < 30003 → length section.name ≤ 65536 → all ≡ sections ++ section ∷ []
     → AreNamed (plain_names more) all
 added keys more key sections all section sound put same new few short last =
     let none : list_any (λ (k : Vec ℕ). bytes_eq key.items k.items) keys ≡ false =
-    any_same keys sections sound key.items ∙ ap (λ (name : List ℕ). list_any (is_named name) sections) same ∙ new in
+    any_same keys sections sound key.items ∙ ap (λ (name : List ℕ). list_any (is_section_named name) sections) same ∙ new in
     let behind : more ≡ keys ++ key ∷ [] = put ∙ ap (λ (b : Bool). cond b keys (keys ++ key ∷ [])) none in
     rw (behind, last, plain_more keys key, same) (named_more (plain_names keys) sections section sound few short)
 

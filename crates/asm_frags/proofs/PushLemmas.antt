@@ -5,7 +5,7 @@ use Rattle.asm_frags.specs.declared.faults.FragFault.{FragFault}
 use Rattle.asm_frags.specs.declared.faults.FragFault.TheVariants.{BadSection, NoMemory}
 use Rattle.asm_frags.specs.declared.items.Frag.{Frag}
 use Rattle.asm_frags.specs.SectionOf.{SectionOf, with_item}
-use Rattle.asm_frags.specs.Answers.{Changes, refuses, put}
+use Rattle.asm_frags.specs.Answers.{Changes, refuses, with_item_or_fault}
 use Rattle.asm_frags.specs.Sections.{replaced, pushed}
 
 module _ {P Address : Type 0} where
@@ -18,7 +18,7 @@ module _ {P Address : Type 0} where
   put_name false old new item is = let same : with_item old item ≡ new = cc in ap (λ (s : SectionOf (Frag P Address)). s.name) (sym same)
 
   -- a section keeps its name
-  pub name_kept : (old new : SectionOf (Frag P Address)) (item : Frag P Address) (answer : Result (Unit {0}) FragFault) → Changes old new answer (put old item) → new.name ≡ old.name
+  pub name_kept : (old new : SectionOf (Frag P Address)) (item : Frag P Address) (answer : Result (Unit {0}) FragFault) → Changes old new answer (with_item_or_fault old item) → new.name ≡ old.name
   unfolding answered
   name_kept old new item (Ok done) changed = put_name (refuses old item) old new item changed
   name_kept old new item (Err BadSection) changed = ap (λ (s : SectionOf (Frag P Address)). s.name) changed.1
@@ -33,11 +33,11 @@ module _ {P Address : Type 0} where
 
   -- what the section answers is what the sections answer
   pub pushed_changes : (sections : List (SectionOf (Frag P Address))) (number : ℕ) (old new d : SectionOf (Frag P Address)) (item : Frag P Address) (answer : Result (Unit {0}) FragFault)
-      → slice_get sections number ≡ Some old → old ≡ get_or sections number d → Changes old new answer (put old item)
+      → slice_get sections number ≡ Some old → old ≡ get_or sections number d → Changes old new answer (with_item_or_fault old item)
       → Changes sections (set sections number new) answer (pushed sections number item)
   pushed_changes sections number old new d item answer found there changed = rw found (by_answer answer changed)
     where
-      by_answer : (answer : Result (Unit {0}) FragFault) → Changes old new answer (put old item) → Changes sections (set sections number new) answer (replaced sections number (put old item))
+      by_answer : (answer : Result (Unit {0}) FragFault) → Changes old new answer (with_item_or_fault old item) → Changes sections (set sections number new) answer (replaced sections number (with_item_or_fault old item))
       by_answer (Ok done) changed = ap (replaced sections number) changed
       by_answer (Err BadSection) changed = (ap (replaced sections number) changed.0, same_place sections number old new d there changed.1)
-      by_answer (Err NoMemory) changed = (ok_replaced sections number (put old item) changed.0, same_place sections number old new d there changed.1)
+      by_answer (Err NoMemory) changed = (ok_replaced sections number (with_item_or_fault old item) changed.0, same_place sections number old new d there changed.1)

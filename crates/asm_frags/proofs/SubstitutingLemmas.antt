@@ -1,4 +1,4 @@
--- What stays where the forms of fields are replaced.
+-- What is kept where the forms of fields are substituted.
 use Rattle.std.proofs.Common.{◌≡◌, ℕ, zero, suc, ◌+◌, ◌<◌, List, [], ◌∷◌, ◌++◌, length, map, take, drop, refl, sym, ap, ◌∙◌, arith, add-one, get_or, set}
 use Rattle.std.specs.List.{fold}
 use Rattle.std.proofs.lemmas.List.{length-map, append-nil, take_all, drop_all}
@@ -18,18 +18,18 @@ use Rattle.asm_frags.specs.Sound.{AreNamed}
 use Rattle.asm_frags.specs.SoundItems.{AreItems}
 use Rattle.asm_frags.specs.Substituting.{substituted_field, substituted_content, laid_item, laid_section}
 
--- the first so many are changed
-abbrev pub begun : {X : Type 0} → (X → X) → List X → ℕ → List X
-begun change all count = map change (take count all) ++ drop count all
+-- the elements before an index are changed, and the others are not
+abbrev pub front_changed : {X : Type 0} → (X → X) → List X → ℕ → List X
+front_changed change all count = map change (take count all) ++ drop count all
 
--- one more is changed
-pub begun_more : {X : Type 0} (change : X → X) (all : List X) (count : ℕ) (there : X) → count < length all → there ≡ get_or (begun change all count) count there
-    → set (begun change all count) count (change there) ≡ begun change all (suc count)
-begun_more change [] count there within is = absurd (omega arith)
-begun_more change (x ∷ all) zero there within is = ap (λ y. change y ∷ all) is
-begun_more change (x ∷ all) (suc count) there within is = ap (λ ys. change x ∷ ys) (begun_more change all count there (omega arith) is)
+-- the element at the index is changed too
+pub front_changed_more : {X : Type 0} (change : X → X) (all : List X) (count : ℕ) (there : X) → count < length all → there ≡ get_or (front_changed change all count) count there
+    → set (front_changed change all count) count (change there) ≡ front_changed change all (suc count)
+front_changed_more change [] count there within is = absurd (omega arith)
+front_changed_more change (x ∷ all) zero there within is = ap (λ y. change y ∷ all) is
+front_changed_more change (x ∷ all) (suc count) there within is = ap (λ ys. change x ∷ ys) (front_changed_more change all count there (omega arith) is)
 
--- all that a vector lends come back, and nothing else is in it
+-- a vector whose elements were lent has the changed ones and nothing else
 pub all_back : {X : Type 0} (change : X → X) (before after : List X) (count : ℕ) → length before ≡ count → after ≡ map change before
     → take count (after ++ drop (length after) before) ≡ map change before
 all_back change before after count long is =
@@ -38,16 +38,16 @@ all_back change before after count long is =
     ap (λ ys. take count (after ++ ys)) none ∙ ap (take count) (append-nil after) ∙ take_all count after (omega arith) ∙ is
 
 module _ (substitute : Form → Form) where
-  -- a field more has its new form
+  -- the field at the index has its substituted form
   pub field_more : (all fields : List Field) (count : ℕ) (there old : Field) (form : Form) → count < length all
-      → fields ≡ begun (substituted_field substitute) all count → there ≡ get_or fields count old → old ≡ there → form ≡ substitute there.form
-      → set fields count (record { offset = there.offset; size = there.size; form = form }) ≡ begun (substituted_field substitute) all (count + 1)
+      → fields ≡ front_changed (substituted_field substitute) all count → there ≡ get_or fields count old → old ≡ there → form ≡ substitute there.form
+      → set fields count (record { offset = there.offset; size = there.size; form = form }) ≡ front_changed (substituted_field substitute) all (count + 1)
   field_more all fields count there old form within held is same made =
-      let found : there ≡ get_or (begun (substituted_field substitute) all count) count there =
+      let found : there ≡ get_or (front_changed (substituted_field substitute) all count) count there =
       is ∙ ap (get_or fields count) same ∙ ap (λ (fs : List Field). get_or fs count there) held in
       rw add-one (ap (λ (fs : List Field). set fs count (record { offset = there.offset; size = there.size; form = form })) held
-      ∙ ap (λ (f : Form). set (begun (substituted_field substitute) all count) count (record { offset = there.offset; size = there.size; form = f })) made
-      ∙ begun_more (substituted_field substitute) all count there within found)
+      ∙ ap (λ (f : Form). set (front_changed (substituted_field substitute) all count) count (record { offset = there.offset; size = there.size; form = f })) made
+      ∙ front_changed_more (substituted_field substitute) all count there within found)
 
   stand-substituted : (bytes : List ℕ) (from : ℕ) (fields : List Field) → FieldsStand bytes from fields → FieldsStand bytes from (map (substituted_field substitute) fields)
   stand-substituted bytes from [] stand = tt
@@ -55,8 +55,8 @@ module _ (substitute : Form → Form) where
       (stand.0, record { within = stand.1.within; zeros = stand.1.zeros }, stand-substituted bytes (field_end field) fields stand.2)
 
   -- the fields stand where they stood
-  pub data_refitted : (bytes : List ℕ) (fields all : List Field) → IsData bytes fields → all ≡ map (substituted_field substitute) fields → IsData bytes all
-  data_refitted bytes fields all sound is = rw is (record { small = sound.small; stand = stand-substituted bytes 0 fields sound.stand })
+  pub data_substituted : (bytes : List ℕ) (fields all : List Field) → IsData bytes fields → all ≡ map (substituted_field substitute) fields → IsData bytes all
+  data_substituted bytes fields all sound is = rw is (record { small = sound.small; stand = stand-substituted bytes 0 fields sound.stand })
 
   same_alignment : (content : Content) → alignment_of (substituted_content substitute content) ≡ alignment_of content
   same_alignment (Bytes held) = refl
@@ -78,15 +78,15 @@ module _ (substitute : Form → Form) where
       ap (λ (r : KnownExtent). fold advanced r (map (laid_item substitute) items)) (same_step extent item item.content refl) ∙ extent-substituted (advanced extent item) items
 
   -- alignment and extent look at no form
-  pub items_refitted : (items : List (Frag Loose (Unit {0}))) (all : List _) (alignment : ℕ) (extent : KnownExtent) → AreItems items alignment extent
+  pub items_substituted : (items : List (Frag Loose (Unit {0}))) (all : List _) (alignment : ℕ) (extent : KnownExtent) → AreItems items alignment extent
       → all ≡ map (laid_item substitute) items → AreItems all alignment extent
   unfolding extent_of
-  items_refitted items all alignment extent sound is =
+  items_substituted items all alignment extent sound is =
       let long : length (map (laid_item substitute) items) ≡ length items = simp length-map in
       rw is (record {
         few = rw long sound.few;
         aligned = sound.aligned ∙ sym (alignment-substituted items);
-        reaches = sound.reaches ∙ sym (extent-substituted (record { breaks = 0; bytes = 0 }) items);
+        known = sound.known ∙ sym (extent-substituted (record { breaks = 0; bytes = 0 }) items);
         breaks = rw long sound.breaks;
         bytes = rw long sound.bytes;
       })
@@ -96,8 +96,8 @@ module _ (substitute : Form → Form) where
   names-substituted (section ∷ sections) = ap (λ (names : List (List ℕ)). section.name ∷ names) (names-substituted sections)
 
   -- the sections keep their names
-  pub named_refitted : (names : List (List ℕ)) (sections : List (SectionOf (Frag Loose (Unit {0})))) (all : List _) → AreNamed names sections
+  pub named_substituted : (names : List (List ℕ)) (sections : List (SectionOf (Frag Loose (Unit {0})))) (all : List _) → AreNamed names sections
       → all ≡ map (laid_section substitute) sections → AreNamed names all
-  named_refitted names sections all sound is =
+  named_substituted names sections all sound is =
       let long : length (map (laid_section substitute) sections) ≡ length sections = simp length-map in
       rw is (record { named = sound.named ∙ sym (names-substituted sections); few = rw long sound.few; short = sound.short })

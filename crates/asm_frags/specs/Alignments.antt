@@ -3,7 +3,7 @@ use Rattle.std.specs.Prelude.{ℕ, max, List, [], ◌∷◌}
 use Rattle.asm_frags.specs.declared.items.Frag.{Frag}
 use Rattle.asm_frags.specs.Contents.{alignment_of}
 
--- the greatest alignment that an item asks for, and 1 where none does
+-- `sh_addralign`: the greatest alignment of an item, and 1 where no item is aligned
 abbrev pub alignment_of_all : {P Address : Type 0} → List (Frag P Address) → ℕ
 alignment_of_all [] = 1
 alignment_of_all (item ∷ items) = max (alignment_of item.content) (alignment_of_all items)

@@ -1,9 +1,9 @@
--- Sections as values.
+-- Sections as values: what a section header says, and the items.
 use Rattle.std.specs.Prelude.{ℕ, ◌==◌, ◌&&◌, Bool, List, [], ◌∷◌, ◌++◌, Option, position}
 use Rattle.std.specs.Str.{bytes_eq}
 use Rattle.asm_frags.specs.declared.flags.SectionFlags.{SectionFlags}
 
--- a section, and its items in order
+-- a section: its name, `sh_flags`, `sh_type`, `sh_entsize`, and its items in order
 pub record SectionOf (Item : Type 0) : Type 0 where
   pub name : List ℕ
   pub flags : SectionFlags
@@ -15,7 +15,7 @@ pub record SectionOf (Item : Type 0) : Type 0 where
 abbrev pub new_section : {Item : Type 0} → List ℕ → SectionFlags → ℕ → ℕ → SectionOf Item
 new_section name flags kind entry_size = record { name = name; flags = flags; kind = kind; entry_size = entry_size; items = [] }
 
--- the item last
+-- the section with the item last
 abbrev pub with_item : {Item : Type 0} → SectionOf Item → Item → SectionOf Item
 with_item section item = record section { items = section.items ++ item ∷ [] }
 
@@ -23,9 +23,10 @@ with_item section item = record section { items = section.items ++ item ∷ [] }
 abbrev pub is_alike : {Item : Type 0} → SectionOf Item → SectionFlags → ℕ → ℕ → Bool
 is_alike section flags kind entry_size = (section.flags.0 == flags.0) && (section.kind == kind) && (section.entry_size == entry_size)
 
-abbrev pub is_named : {Item : Type 0} → List ℕ → SectionOf Item → Bool
-is_named name section = bytes_eq name section.name
+-- the section has this name
+abbrev pub is_section_named : {Item : Type 0} → List ℕ → SectionOf Item → Bool
+is_section_named name section = bytes_eq name section.name
 
 -- the number of the first section of this name
 abbrev pub number_of : {Item : Type 0} → List ℕ → List (SectionOf Item) → Option ℕ
-number_of name sections = position (is_named name) sections
+number_of name sections = position (is_section_named name) sections

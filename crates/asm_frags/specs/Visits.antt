@@ -1,9 +1,9 @@
--- What a visitor answers for an item, by cases of what it holds.
+-- The answer of a visitor of an item, by the kind of the item.
 use Rattle.asm_frags.specs.declared.contents.Content.{Content}
 use Rattle.asm_frags.specs.declared.contents.Content.TheVariants.{Bytes, Fill, Align}
 use Rattle.asm_frags.specs.DataOf.{DataOf, FillOf, AlignOf}
 
--- the visitor at first, the answer, and the visitor at last
+-- the visitor before, the answer, and the visitor after, as the law for the kind of the item relates them
 abbrev pub Visits : {V Out : Type 0} (bytes_gives : V → DataOf → Out → V → Type 0) (fill_gives : V → FillOf → Out → V → Type 0)
     (align_gives : V → AlignOf → Out → V → Type 0) → Content → V → Out → V → Type 0
 Visits bytes_gives fill_gives align_gives (Bytes held) first answer last = bytes_gives first held answer last

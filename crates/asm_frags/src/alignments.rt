@@ -1,4 +1,4 @@
-//! The alignments that items ask for.
+//! The alignments that items require of their section.
 
 ghost use Rattle.std.specs.Prelude.{◌≡◌, ◌^◌};
 ghost use Rattle.asm_frags.specs.Contents.{alignment_of};
@@ -7,7 +7,7 @@ use crate::contents::{Align, Content, Data, Fill};
 use crate::visiting::FragVisit;
 use crate::walking::visit;
 
-/// Tells the alignment that an item asks its section for.
+/// Tells the alignment that an item requires of its section.
 #[derive(Clone, Copy, Debug)]
 pub struct AskedAlignment;
 
@@ -33,7 +33,7 @@ impl FragVisit for AskedAlignment {
     }
 }
 
-/// The alignment that the item asks its section for: 1 unless it aligns.
+/// The alignment that the item requires of its section: 1 unless it aligns.
 pub fn asked_alignment(content: &Content) -> u64
     ensures { result ≡ alignment_of content.now }
 {

@@ -1,4 +1,4 @@
-//! Bytes of items that are collected in a vector.
+//! A vector as a taker of the bytes of items.
 
 ghost use Rattle.std.specs.Prelude.{◌≡◌, ◌++◌, OnOk, replicate};
 ghost use Rattle.asm_frags.specs.Contents.{repeated};
@@ -6,16 +6,16 @@ ghost use Rattle.asm_frags.specs.Contents.{repeated};
 use crate::pieces::TakesBytes;
 use std::alloc::AllocError;
 
-/// One byte so many times.
+/// Appends a byte `count` times.
 fn add_run(bytes: &mut Vec<u8>, byte: u8, count: u64) -> Result<(), AllocError>
     ensures { OnOk result (bytes.new.items ≡ bytes.old.items ++ replicate count byte) }
 {
-    // So many bytes can't be held.
+    // A vector has at most `usize::MAX` bytes.
     let length = bytes.len().checked_add(count as usize).ok_or(AllocError)?;
     bytes.resize(length, byte)
 }
 
-/// Each unit one after the other.
+/// Appends a unit `count` times.
 fn add_units(bytes: &mut Vec<u8>, unit: &[u8], count: u64) -> Result<(), AllocError>
     ensures { OnOk result (bytes.new.items ≡ bytes.old.items ++ repeated count unit.now) }
 {
@@ -29,7 +29,8 @@ fn add_units(bytes: &mut Vec<u8>, unit: &[u8], count: u64) -> Result<(), AllocEr
 impl TakesBytes for Vec<u8> {
     type Out = Result<(), AllocError>;
 
-    ghost takes = { λ before bytes answer after. OnOk answer (after.items ≡ before.items ++ bytes) };
+    ghost takes = { λ before bytes answer after.
+        OnOk answer (after.items ≡ before.items ++ bytes) };
 
     fn bytes(&mut self, bytes: &[u8]) -> Result<(), AllocError> {
         self.extend_from_slice(bytes)

@@ -1,4 +1,4 @@
-//! What items hold: bytes with fields, so many units, or zeros up to a multiple.
+//! The contents of items: bytes with fields, a fill, or an alignment.
 
 ghost use Rattle.std.specs.Prelude.{◌≡◌, ◌≤◌, ◌^◌, OnOk, OnErr, IfOk, IfErr, take};
 ghost use Rattle.asm_frags.specs.DataOf.{IsData, no_data, with_bytes, with_field};
@@ -15,7 +15,7 @@ use std::marker::Model;
 /// The most bytes of an item.
 const MOST_BYTES: usize = 1 << 33;
 
-/// Bytes, and the fields in them: they stand one behind the other, and the bytes at a field are 0.
+/// Bytes with fields. The fields stand in order and apart, and the bytes at a field are 0.
 #[derive(Drop)]
 pub struct Data {
     bytes: Vec<u8>,
@@ -43,7 +43,7 @@ impl Data {
         }
     }
 
-    /// Puts bytes last. An item of more than 2^33 bytes can't be held.
+    /// Appends bytes. An item has at most 2^33 bytes; more are refused as want of memory.
     #[tactic(auto, using(crate::proofs::DataLemmas::with_bytes_is))]
     pub fn add_bytes(&mut self, bytes: &[u8]) -> Result<(), AllocError>
         ensures ok { OnOk result (self.new ≡ with_bytes self.old bytes.now) }
@@ -55,7 +55,7 @@ impl Data {
         self.bytes.extend_from_slice(bytes)
     }
 
-    /// Puts a field last, over zeros. An item of more than 2^33 bytes can't be held.
+    /// Appends a field, over zeros. An item has at most 2^33 bytes; more are refused as want of memory.
     #[tactic(auto, using(crate::proofs::DataLemmas::with_field_is))]
     pub fn add_field(&mut self, size: FieldSize, form: Linear) -> Result<(), AllocError>
         ensures ok { OnOk result (self.new ≡ with_field self.old size form) }
@@ -67,25 +67,26 @@ impl Data {
         }
         self.fields.reserve(1)?;
         self.bytes.extend_from_slice(size.blank())?;
-        // There is room for one.
+        // `reserve` made room for it.
         self.fields.push(Field { offset, size, form }).unwrap();
         Ok(())
     }
 
-    /// The same with the form of each field replaced.
-    pub(crate) fn substituted<R: Substitution>(self, substitute: &R) -> Result<Data, FragFault>
-        ensures ok { IfOk result (λ made. made ≡ substituted_data (R.substitute substitute.now) self) }
+    /// The bytes with the form of each field substituted.
+    pub(crate) fn substituted<R: Substitution>(self, substitution: &R) -> Result<Data, FragFault>
+        ensures ok { IfOk result (λ made.
+            made ≡ substituted_data (R.substitute substitution.now) self) }
         ensures memory { IfErr result (λ fault. fault ≡ NoMemory) }
     {
         let Data { bytes, mut fields } = self;
-        substitute_fields(&mut fields, substitute)?;
+        substitute_fields(&mut fields, substitution)?;
         Ok(Data { bytes, fields })
     }
 
     /// The bytes, which are 0 at each field.
     pub fn bytes(&self) -> &[u8]
         ensures bytes { result.now ≡ self.now.bytes }
-        ensures stand { IsData self.now.bytes self.now.fields }
+        ensures within { IsData self.now.bytes self.now.fields }
     {
         self.bytes.as_slice()
     }
@@ -93,13 +94,13 @@ impl Data {
     /// The fields, in the order of their offsets.
     pub fn fields(&self) -> &[Field]
         ensures fields { result.now ≡ self.now.fields }
-        ensures stand { IsData self.now.bytes self.now.fields }
+        ensures within { IsData self.now.bytes self.now.fields }
     {
         self.fields.as_slice()
     }
 }
 
-/// So many units of `size` bytes: the low 4 bytes of a value, then zeros.
+/// `count` units of `size` bytes: the low 4 bytes of a value, then zeros (GNU as manual, ".fill").
 #[derive(Drop)]
 pub struct Fill {
     count: u64,
@@ -130,23 +131,23 @@ impl Fill {
         Fill { count, size, value }
     }
 
-    /// How many units there are.
+    /// The number of units.
     pub fn count(&self) -> u64
         ensures count { result ≡ self.now.count }
-        ensures few { result ≤ 2 ^ 30 }
+        ensures within { result ≤ 2 ^ 30 }
     {
         self.count
     }
 
-    /// How long a unit is, in bytes.
+    /// The size of a unit in bytes.
     pub fn size(&self) -> u64
         ensures size { result ≡ self.now.size }
-        ensures small { result ≤ 8 }
+        ensures within { result ≤ 8 }
     {
         self.size
     }
 
-    /// A unit, as far as its size goes.
+    /// The bytes of a unit; those past its size are of no account.
     #[tactic(auto, using(crate::proofs::Units::unit_is), unfolding(crate::specs::Contents::unit_of))]
     pub fn unit(&self) -> [u8; 8]
         ensures { take self.now.size result ≡ unit_of self.now }
@@ -155,7 +156,7 @@ impl Fill {
         [one, two, three, four, 0, 0, 0, 0]
     }
 
-    /// What a unit begins with.
+    /// The value that a unit holds.
     pub fn value(&self) -> u64
         ensures { result ≡ self.now.value }
     {
@@ -163,7 +164,7 @@ impl Fill {
     }
 }
 
-/// Zeros up to a multiple of a power of two.
+/// Zeros up to the next multiple of a power of two (GNU as manual, ".p2align").
 #[derive(Drop)]
 pub struct Align {
     log: u8,
@@ -181,7 +182,7 @@ impl Model for Align {
 }
 
 impl Align {
-    /// Up to a multiple of 2^log.
+    /// An alignment to a multiple of 2^log.
     pub fn new(log: u8) -> Align
         requires { log ≤ 30 }
         ensures { result ≡ record { log = log } }
@@ -189,16 +190,16 @@ impl Align {
         Align { log }
     }
 
-    /// The power of two.
+    /// The exponent of the power of two.
     pub fn log(&self) -> u8
         ensures log { result ≡ self.now.log }
-        ensures small { result ≤ 30 }
+        ensures within { result ≤ 30 }
     {
         self.log
     }
 }
 
-/// What an item holds.
+/// The contents of an item.
 #[derive(Drop)]
 pub enum Content {
     Bytes(Data),
@@ -207,13 +208,14 @@ pub enum Content {
 }
 
 impl Content {
-    /// The same with the form of each field replaced.
-    pub(crate) fn substituted<R: Substitution>(self, substitute: &R) -> Result<Content, FragFault>
-        ensures ok { IfOk result (λ made. made ≡ substituted_content (R.substitute substitute.now) self) }
+    /// The contents with the form of each field substituted.
+    pub(crate) fn substituted<R: Substitution>(self, substitution: &R) -> Result<Content, FragFault>
+        ensures ok { IfOk result (λ made.
+            made ≡ substituted_content (R.substitute substitution.now) self) }
         ensures memory { IfErr result (λ fault. fault ≡ NoMemory) }
     {
         match self {
-            Content::Bytes(held) => Ok(Content::Bytes(held.substituted(substitute)?)),
+            Content::Bytes(held) => Ok(Content::Bytes(held.substituted(substitution)?)),
             Content::Fill(held) => Ok(Content::Fill(held)),
             Content::Align(held) => Ok(Content::Align(held)),
         }

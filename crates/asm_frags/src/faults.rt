@@ -1,4 +1,4 @@
-//! What sections refuse.
+//! The faults of sections.
 
 ghost use Rattle.std.specs.Prelude.{◌≡◌};
 ghost use Rattle.asm_frags.specs.declared.faults.FragFault.TheVariants.{NoMemory};
@@ -9,7 +9,8 @@ use thiserror::Error;
 /// A fault of a section.
 #[derive(Clone, Copy, Debug, PartialEq, Eq, Error)]
 pub enum FragFault {
-    /// A section has other flags, another type or another entry size, there are too many, or it takes no bytes but zeros.
+    /// A section is named again with other flags, another type or another entry size, there are too many sections, or bytes
+    /// are put into one of type `SHT_NOBITS`.
     #[error("bad section")]
     BadSection,
     /// Memory ran out.

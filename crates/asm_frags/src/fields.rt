@@ -1,11 +1,11 @@
-//! Fields of items: what is written over zeros once its value is known.
+//! Fields of items: values that are written over zeros once they are known.
 
 ghost use Rattle.std.specs.Prelude.{◌≡◌, replicate};
 ghost use Rattle.asm_frags.specs.Fields.{width, fits};
 
 use asm_expr::Linear;
 
-/// How long a field is.
+/// The size of a field.
 #[derive(Clone, Copy, PartialEq, Eq, Debug)]
 pub enum FieldSize {
     /// 1 byte.
@@ -31,7 +31,7 @@ impl FieldSize {
         }
     }
 
-    /// Whether the field holds the value, a number modulo 2^64: as a number of so many bits, with a sign or without.
+    /// Whether the field holds the value, a number modulo 2^64, as a number with a sign or without.
     #[tactic(auto, unfolding(crate::specs::Fields::fits))]
     pub fn fits(self, value: u64) -> bool
         ensures { result ≡ fits self value }
@@ -44,7 +44,7 @@ impl FieldSize {
         }
     }
 
-    /// What stands at a field.
+    /// The bytes that stand at a field: zeros.
     pub(crate) fn blank(self) -> &'static [u8]
         ensures { result.now ≡ replicate (width self) 0 }
     {
@@ -60,9 +60,9 @@ impl FieldSize {
 /// A field of an item.
 #[derive(Drop)]
 pub struct Field {
-    /// Where it begins in the item, in bytes.
+    /// Its offset in the item, in bytes.
     pub offset: usize,
     pub size: FieldSize,
-    /// What its value is made of.
+    /// The form whose value it holds.
     pub form: Linear,
 }

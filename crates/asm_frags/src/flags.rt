@@ -4,7 +4,7 @@ ghost use Rattle.std.specs.Prelude.{⊤, [], ◌∷◌, codes};
 
 use bitflags::{Flag, Flags, bitflag_items};
 
-/// `sh_type` of bytes that the source defines.
+/// `sh_type` of bytes that the program defines.
 pub const SHT_PROGBITS: u32 = 1;
 
 /// `sh_type` of notes.
@@ -42,7 +42,8 @@ impl Flags for SectionFlags {
 
     ghost exact = { ⊤ };
 
-    ghost table = { (codes "WRITE", 1) ∷ (codes "ALLOC", 2) ∷ (codes "EXECINSTR", 4) ∷ (codes "MERGE", 16) ∷ (codes "STRINGS", 32) ∷ (codes "TLS", 1024) ∷ [] };
+    ghost table = { (codes "WRITE", 1) ∷ (codes "ALLOC", 2) ∷ (codes "EXECINSTR", 4)
+        ∷ (codes "MERGE", 16) ∷ (codes "STRINGS", 32) ∷ (codes "TLS", 1024) ∷ [] };
 
     ghost set_of = { λ flags. flags.0 };
 

@@ -1,4 +1,4 @@
-//! Items of sections.
+//! Items of sections: a statement's place and contents, and an address once it is laid out.
 
 ghost use Rattle.std.specs.Prelude.{◌≡◌, IfOk, IfErr};
 
@@ -12,7 +12,7 @@ use asm_base::Pos;
 #[derive(Drop)]
 #[non_exhaustive]
 pub struct Frag<P: Phase> {
-    /// Where its statement stands.
+    /// The place of its statement.
     pub pos: Pos,
     pub content: Content,
     pub address: P::Address,
@@ -34,8 +34,7 @@ impl Frag<Loose> {
         }
     }
 
-    /// The item with its address. Layout alone calls this: no other crate makes an item that is laid out. An address of 0
-    /// that stands there before layout is set means nothing yet.
+    /// The item at this address. Only layout calls this; no other crate makes an item that is laid out.
     pub fn at(self, address: u64) -> Frag<Laid>
         ensures pos { result.pos ≡ self.pos }
         ensures content { result.content ≡ self.content }
@@ -52,12 +51,13 @@ impl Frag<Loose> {
             address,
         }
     }
-    /// The item with the form of each field replaced, at address 0, which means nothing yet.
+
+    /// The item with the form of each field substituted, at address 0 until layout sets its address.
     pub(crate) fn substituted<R: Substitution>(
         self,
-        substitute: &R,
+        substitution: &R,
     ) -> Result<Frag<Laid>, FragFault>
-        ensures ok { IfOk result (λ made. made ≡ laid_item (R.substitute substitute.now) self) }
+        ensures ok { IfOk result (λ made. made ≡ laid_item (R.substitute substitution.now) self) }
         ensures memory { IfErr result (λ fault. fault ≡ NoMemory) }
     {
         let Frag {
@@ -65,6 +65,6 @@ impl Frag<Loose> {
             content,
             address: (),
         } = self;
-        Ok(Frag::new(pos, content.substituted(substitute)?).at(0))
+        Ok(Frag::new(pos, content.substituted(substitution)?).at(0))
     }
 }

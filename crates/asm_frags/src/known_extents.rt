@@ -1,4 +1,4 @@
-//! How far a section reaches, for what asks whether two places are a known number of bytes apart.
+//! The known extent of a section, from which the distance of two places follows before layout.
 
 ghost use Rattle.std.specs.Prelude.{◌≡◌, ◌+◌, ◌*◌, ◌<◌, ◌≤◌, ◌^◌, Some, None, IfSome, length};
 ghost use Rattle.asm_frags.specs.KnownExtents as spec;
@@ -9,12 +9,13 @@ use crate::phases::Phase;
 use crate::visiting::FragVisit;
 use crate::walking::visit;
 
-/// How far a section reaches. Two places of one section with as many breaks before them are the difference of their bytes apart.
+/// What is known of the extent of a section before layout. Two places of one section with as many breaks before them
+/// are the difference of their bytes apart.
 #[derive(Clone, Copy, PartialEq, Eq, Debug)]
 pub struct KnownExtent {
-    /// How many items stand there whose size depends on their address.
+    /// The number of items whose size depends on their address.
     pub breaks: u64,
-    /// How many bytes stand behind the last of them.
+    /// The number of bytes behind the last of them.
     pub bytes: u64,
 }
 
@@ -25,11 +26,13 @@ pub struct FixedSize;
 impl FragVisit for FixedSize {
     type Out = Option<u64>;
 
-    ghost bytes_gives = { λ before held answer after. (answer ≡ Some (length held.bytes)) × IfSome answer (λ size. size ≤ 2 ^ 33) };
+    ghost bytes_gives = { λ before held answer after.
+        spec.IsFixedSize (Some (length held.bytes)) answer };
 
-    ghost fill_gives = { λ before held answer after. (answer ≡ Some (held.count * held.size)) × IfSome answer (λ size. size ≤ 2 ^ 33) };
+    ghost fill_gives = { λ before held answer after.
+        spec.IsFixedSize (Some (held.count * held.size)) answer };
 
-    ghost align_gives = { λ before held answer after. (answer ≡ None) × IfSome answer (λ size. size ≤ 2 ^ 33) };
+    ghost align_gives = { λ before held answer after. spec.IsFixedSize None answer };
 
     fn bytes(&mut self, held: &Data) -> Option<u64> {
         Some(held.bytes().len() as u64)
@@ -44,17 +47,17 @@ impl FragVisit for FixedSize {
     }
 }
 
-/// How many bytes the item has, where they are as many at each address.
+/// The size of the item in bytes, where it is the same at each address.
 pub fn fixed_size(content: &Content) -> Option<u64>
     ensures size { result ≡ spec.fixed_size_of content.now }
-    ensures most { IfSome result (λ size. size ≤ 2 ^ 33) }
+    ensures within { IfSome result (λ size. size ≤ 2 ^ 33) }
 {
     let mut visitor = FixedSize;
     visit(content, &mut visitor)
 }
 
 impl KnownExtent {
-    /// An item further.
+    /// The extent with an item more.
     pub(crate) fn advanced<P: Phase>(self, item: &Frag<P>) -> KnownExtent
         requires few { self.breaks < 2 ^ 28 }
         requires short { self.bytes ≤ 2 ^ 61 }

@@ -1,4 +1,4 @@
-//! Sections: what a header says of them, and their items in order.
+//! Sections: the words of their headers, and their items in order.
 
 ghost use Rattle.std.specs.Prelude.{◌≡◌, ◌<◌, ◌≤◌, ◌^◌, length, map, IfOk, IfErr};
 ghost use Rattle.asm_frags.specs.Substituting.{laid_item, laid_section};
@@ -39,7 +39,13 @@ impl<P: Phase> Model for Section<P> {
 
     ghost Value = { SectionOf (Frag P P.Address) };
 
-    ghost view = { λ inside. record { name = inside.name; flags = inside.flags; kind = inside.kind; entry_size = inside.entry_size; items = inside.items.items } };
+    ghost view = { λ inside. record {
+      name = inside.name;
+      flags = inside.flags;
+      kind = inside.kind;
+      entry_size = inside.entry_size;
+      items = inside.items.items;
+    } };
 
     ghost invariant = { λ inside. AreItems inside.items.items inside.alignment inside.extent };
 }
@@ -48,7 +54,7 @@ impl<P: Phase> Section<P> {
     ghost use Rattle.asm_frags.specs.Alignments.{alignment_of_all};
     ghost use Rattle.asm_frags.specs.KnownExtents.{extent_of};
     ghost use Rattle.asm_frags.specs.SectionOf.{new_section, is_alike};
-    ghost use Rattle.asm_frags.specs.Answers.{Changes, put};
+    ghost use Rattle.asm_frags.specs.Answers.{Changes, with_item_or_fault};
 
     /// A section without items.
     pub fn new(
@@ -105,19 +111,19 @@ impl<P: Phase> Section<P> {
     /// The items in order.
     pub fn items(&self) -> &[Frag<P>]
         ensures items { result.now ≡ self.now.items }
-        ensures few { length result.now ≤ 2 ^ 28 }
+        ensures within { length result.now ≤ 2 ^ 28 }
     {
         self.items.as_slice()
     }
 
-    /// The greatest alignment that an item asks for, and 1 where none does.
+    /// `sh_addralign`: the greatest alignment of an item, and 1 where no item is aligned.
     pub fn alignment(&self) -> u64
         ensures { result ≡ alignment_of_all self.now.items }
     {
         self.alignment
     }
 
-    /// How far the section reaches.
+    /// The known extent of the section.
     pub fn extent(&self) -> KnownExtent
         ensures extent { result ≡ extent_of self.now.items }
         ensures breaks { result.breaks ≤ 2 ^ 28 }
@@ -133,10 +139,10 @@ impl<P: Phase> Section<P> {
         self.flags == flags && self.kind == kind && self.entry_size == entry_size
     }
 
-    /// Puts the item last. `BadSection` comes exactly where the item is not known to be zeros and the section takes no bytes.
-    /// More than 2^28 items can't be held.
+    /// Puts the item last. `BadSection` comes exactly where the section has the type `SHT_NOBITS` and the item is not known
+    /// to be zeros. A section has at most 2^28 items; one more is refused as want of memory.
     pub fn put(&mut self, item: Frag<P>) -> Result<(), FragFault>
-        ensures { Changes self.old self.new result (put self.old item) }
+        ensures { Changes self.old self.new result (with_item_or_fault self.old item) }
     {
         if self.kind == SHT_NOBITS && !is_known_zeros(&item.content) {
             return Err(FragFault::BadSection);
@@ -153,30 +159,32 @@ impl<P: Phase> Section<P> {
     }
 }
 
-/// The items with the form of each field replaced, at address 0.
+/// The items with the form of each field substituted, at address 0.
 fn substitute_items<R: Substitution>(
     alloc: Global,
     items: Vec<Frag<Loose>>,
-    substitute: &R,
+    substitution: &R,
 ) -> Result<Vec<Frag<Laid>>, FragFault>
-    ensures ok { IfOk result (λ made. made.items ≡ map (laid_item (R.substitute substitute.now)) items.items) }
+    ensures ok { IfOk result (λ made.
+        made.items ≡ map (laid_item (R.substitute substitution.now)) items.items) }
     ensures memory { IfErr result (λ fault. fault ≡ NoMemory) }
 {
     let mut made = Vec::with_capacity(alloc, items.len())?;
     for item in items {
-        made.push(item.substituted(substitute)?)?;
+        made.push(item.substituted(substitution)?)?;
     }
     Ok(made)
 }
 
 impl Section<Loose> {
-    /// The section with the form of each field replaced, each item at address 0, which means nothing yet.
+    /// The section with the form of each field substituted, each item at address 0.
     pub(crate) fn substituted<R: Substitution>(
         self,
         alloc: Global,
-        substitute: &R,
+        substitution: &R,
     ) -> Result<Section<Laid>, FragFault>
-        ensures ok { IfOk result (λ made. made ≡ laid_section (R.substitute substitute.now) self) }
+        ensures ok { IfOk result (λ made.
+            made ≡ laid_section (R.substitute substitution.now) self) }
         ensures memory { IfErr result (λ fault. fault ≡ NoMemory) }
     {
         let Section {
@@ -188,7 +196,7 @@ impl Section<Loose> {
             alignment,
             extent,
         } = self;
-        let items = substitute_items(alloc, items, substitute)?;
+        let items = substitute_items(alloc, items, substitution)?;
         Ok(Section {
             name,
             flags,

@@ -1,26 +1,26 @@
 //! The bytes of items, piece by piece.
 
-ghost use Rattle.std.specs.Prelude.{◌≡◌, ℕ, ◌^◌, List, replicate};
-ghost use Rattle.asm_frags.specs.Contents.{repeated, unit_of, bytes_at, padding};
+ghost use Rattle.std.specs.Prelude.{◌≡◌, ℕ, List};
+ghost use Rattle.asm_frags.specs.Contents.{repeated, fill_bytes, padding_bytes, bytes_at};
 
 use crate::contents::{Align, Content, Data, Fill};
 use crate::sizes::padding;
 use crate::visiting::FragVisit;
 use crate::walking::visit;
 
-/// What takes bytes, piece by piece.
+/// A taker of bytes, piece by piece.
 pub trait TakesBytes {
-    /// Whether a piece was taken.
+    /// The answer for a piece: whether it was taken.
     type Out;
 
-    /// What takes before, the bytes, the answer, and what takes after.
+    /// The taker before, the bytes, the answer, and the taker after.
     ghost takes: { Self → List ℕ → Self.Out → Self → Type 0 };
 
     /// Takes these bytes.
     fn bytes(&mut self, bytes: &[u8]) -> Self::Out
         ensures { takes self.old bytes.now result self.new };
 
-    /// Takes the unit so many times.
+    /// Takes the unit `count` times.
     fn repeated(&mut self, unit: &[u8], count: u64) -> Self::Out
         ensures { takes self.old (repeated count unit.now) result self.new };
 }
@@ -34,11 +34,17 @@ pub struct BytesAt<'a, T> {
 impl<'a, T: TakesBytes> FragVisit for BytesAt<'a, T> {
     type Out = T::Out;
 
-    ghost bytes_gives = { λ before held answer after. (after.taker.ghost_name ≡ before.taker.ghost_name) × T.takes before.taker.now held.bytes answer after.taker.now };
+    ghost bytes_gives = { λ before held answer after.
+        (after.taker.ghost_name ≡ before.taker.ghost_name)
+        × T.takes before.taker.now held.bytes answer after.taker.now };
 
-    ghost fill_gives = { λ before held answer after. (after.taker.ghost_name ≡ before.taker.ghost_name) × T.takes before.taker.now (repeated held.count (unit_of held)) answer after.taker.now };
+    ghost fill_gives = { λ before held answer after.
+        (after.taker.ghost_name ≡ before.taker.ghost_name)
+        × T.takes before.taker.now (fill_bytes held) answer after.taker.now };
 
-    ghost align_gives = { λ before held answer after. (after.taker.ghost_name ≡ before.taker.ghost_name) × T.takes before.taker.now (replicate (padding (2 ^ held.log) before.at) 0) answer after.taker.now };
+    ghost align_gives = { λ before held answer after.
+        (after.taker.ghost_name ≡ before.taker.ghost_name)
+        × T.takes before.taker.now (padding_bytes held before.at) answer after.taker.now };
 
     fn bytes(&mut self, held: &Data) -> T::Out {
         self.taker.bytes(held.bytes())

@@ -42,12 +42,12 @@ impl<P: Phase> Model for Sections<P> {
 }
 
 impl<P: Phase> Sections<P> {
-    ghost use Rattle.asm_frags.specs.SectionOf.{is_named, number_of};
+    ghost use Rattle.asm_frags.specs.SectionOf.{is_section_named, number_of};
 
     /// How many sections there are.
     pub fn len(&self) -> usize
         ensures len { result ≡ length self.now }
-        ensures few { result ≤ 30003 }
+        ensures within { result ≤ 30003 }
     {
         self.sections.len()
     }
@@ -62,7 +62,7 @@ impl<P: Phase> Sections<P> {
     /// The sections, in the order of their numbers.
     pub fn as_slice(&self) -> &[Section<P>]
         ensures sections { result.now ≡ self.now }
-        ensures few { length result.now ≤ 30003 }
+        ensures within { length result.now ≤ 30003 }
     {
         self.sections.as_slice()
     }
@@ -71,7 +71,7 @@ impl<P: Phase> Sections<P> {
     pub fn find(&self, name: &[u8]) -> Option<u32>
         ensures number { result ≡ number_of name.now self.now }
         ensures within { IfSome result (λ number. number < length self.now) }
-        ensures found { is_some result ≡ list_any (is_named name.now) self.now }
+        ensures presence { is_some result ≡ list_any (is_section_named name.now) self.now }
     {
         match self.names.get_index_of(name) {
             Some(number) => Some(number as u32),
@@ -83,7 +83,7 @@ impl<P: Phase> Sections<P> {
     pub fn section(&self, number: u32) -> &Section<P>
         requires { number < length self.now }
         ensures section { slice_get self.now number ≡ Some result.now }
-        ensures short { length result.now.name ≤ 2 ^ 16 }
+        ensures within { length result.now.name ≤ 2 ^ 16 }
     {
         &self.sections[number as usize]
     }
@@ -91,16 +91,16 @@ impl<P: Phase> Sections<P> {
 
 impl Sections<Loose> {
     ghost use Rattle.asm_frags.specs.Sections.{first_sections, entered, Enters, pushed, new_last};
-    ghost use Rattle.asm_frags.specs.SectionOf.{new_section, is_named, number_of};
+    ghost use Rattle.asm_frags.specs.SectionOf.{new_section, is_section_named, number_of};
     ghost use Rattle.asm_frags.specs.Answers.{Changes};
 
-    /// A section more of the three that are there from the beginning.
+    /// Adds one of the first three sections.
     fn begin(&mut self, name: &[u8], flags: SectionFlags, kind: u32) -> Result<(), FragFault>
-        requires new { list_any (is_named name.now) self.old ≡ false }
+        requires new { list_any (is_section_named name.now) self.old ≡ false }
         requires short { length name.now ≤ 2 ^ 16 }
         requires few { length self.old < 3 }
         ensures ok { OnOk result (self.new ≡ self.old ++ new_section name.now flags kind 0 ∷ []) }
-        ensures err { IfErr result (λ fault. fault ≡ NoMemory) }
+        ensures memory { IfErr result (λ fault. fault ≡ NoMemory) }
     {
         let name = Text::new(Vec::from_slice(self.alloc, name)?);
         match self.add(name, flags, kind, 0) {
@@ -113,7 +113,7 @@ impl Sections<Loose> {
     #[tactic(auto, unfolding(crate::specs::Sections::first_sections))]
     pub fn new(alloc: Global) -> Result<Sections<Loose>, FragFault>
         ensures ok { IfOk result (λ sections. sections ≡ first_sections) }
-        ensures err { IfErr result (λ fault. fault ≡ NoMemory) }
+        ensures memory { IfErr result (λ fault. fault ≡ NoMemory) }
     {
         let mut sections = Sections {
             alloc,
@@ -128,7 +128,7 @@ impl Sections<Loose> {
         Ok(sections)
     }
 
-    /// A section more, whose name is new.
+    /// Adds a section whose name is new, and gives its number.
     fn add(
         &mut self,
         name: Text,
@@ -136,9 +136,10 @@ impl Sections<Loose> {
         kind: u32,
         entry_size: u64,
     ) -> Result<u32, FragFault>
-        requires new { list_any (is_named name) self.old ≡ false }
+        requires new { list_any (is_section_named name) self.old ≡ false }
         requires short { length name ≤ 2 ^ 16 }
-        ensures { Enters self.old self.new result (new_last self.old (new_section name flags kind entry_size)) }
+        ensures { Enters self.old self.new result
+            (new_last self.old (new_section name flags kind entry_size)) }
     {
         let number = self.sections.len();
         if number >= MOST_SECTIONS {
@@ -147,15 +148,15 @@ impl Sections<Loose> {
         let key = Vec::from_slice(self.alloc, name.as_bytes())?;
         self.sections.reserve(1)?;
         self.names.insert(key)?;
-        // There is room for one.
+        // `reserve` made room for it.
         self.sections
             .push(Section::new(self.alloc, name, flags, kind, entry_size))
             .unwrap();
         Ok(number as u32)
     }
 
-    /// The number of the section of this name, which is made and put last if it is not there. `BadSection` comes exactly
-    /// where the section has other flags, another type or another entry size, or where 30,003 are there and it would be one more.
+    /// The number of the section of this name, which is added where the name is new. `BadSection` comes exactly where the
+    /// section has other flags, another type or another entry size, or where it would be one more than 30,003.
     pub fn enter(
         &mut self,
         name: Text,
@@ -178,8 +179,8 @@ impl Sections<Loose> {
         }
     }
 
-    /// Puts the item last in the section of this number. `BadSection` comes exactly where the item is not known to be
-    /// zeros and the section takes no bytes.
+    /// Puts the item last in the section of this number. `BadSection` comes exactly where the section has the type
+    /// `SHT_NOBITS` and the item is not known to be zeros.
     pub fn push(&mut self, section: u32, item: Frag<Loose>) -> Result<(), FragFault>
         requires { section < length self.old }
         ensures { Changes self.old self.new result (pushed self.old section item) }
@@ -189,18 +190,19 @@ impl Sections<Loose> {
     }
 }
 
-/// The sections with the form of each field replaced, each item at address 0.
+/// The sections with the form of each field substituted, each item at address 0.
 fn substitute_sections<R: Substitution>(
     alloc: Global,
     sections: Vec<Section<Loose>>,
-    substitute: &R,
+    substitution: &R,
 ) -> Result<Vec<Section<Laid>>, FragFault>
-    ensures ok { IfOk result (λ made. made.items ≡ map (laid_section (R.substitute substitute.now)) sections.items) }
+    ensures ok { IfOk result (λ made.
+        made.items ≡ map (laid_section (R.substitute substitution.now)) sections.items) }
     ensures memory { IfErr result (λ fault. fault ≡ NoMemory) }
 {
     let mut made = Vec::with_capacity(alloc, sections.len())?;
     for section in sections {
-        made.push(section.substituted(alloc, substitute)?)?;
+        made.push(section.substituted(alloc, substitution)?)?;
     }
     Ok(made)
 }
@@ -208,10 +210,11 @@ fn substitute_sections<R: Substitution>(
 impl Sections<Loose> {
     ghost use Rattle.asm_frags.specs.Substituting.{laid_sections};
 
-    /// The sections as layout takes them over: the form of each field is replaced, and each item is at address 0, which
-    /// means nothing before `lay` sets it. The old items of a section are let go before the next section is made.
-    pub fn substituted<R: Substitution>(self, substitute: &R) -> Result<Sections<Laid>, FragFault>
-        ensures ok { IfOk result (λ laid. laid ≡ laid_sections (R.substitute substitute.now) self) }
+    /// The sections as layout takes them over: the form of each field is substituted, and each item is at address 0 until
+    /// `lay` sets its address. The old items of a section are let go before the next section is made.
+    pub fn substituted<R: Substitution>(self, substitution: &R) -> Result<Sections<Laid>, FragFault>
+        ensures ok { IfOk result (λ laid.
+            laid ≡ laid_sections (R.substitute substitution.now) self) }
         ensures memory { IfErr result (λ fault. fault ≡ NoMemory) }
     {
         let Sections {
@@ -219,7 +222,7 @@ impl Sections<Loose> {
             names,
             sections,
         } = self;
-        let sections = substitute_sections(alloc, sections, substitute)?;
+        let sections = substitute_sections(alloc, sections, substitution)?;
         Ok(Sections {
             alloc,
             names,
@@ -231,12 +234,12 @@ impl Sections<Loose> {
 impl Sections<Laid> {
     ghost use Rattle.asm_frags.specs.Addresses.{HasItem, with_address};
 
-    /// Sets the address of the item of this index in the section of this number. It takes no memory.
+    /// Sets the address of the item of this index in the section of this number, without memory.
     pub fn lay(&mut self, section: u32, item: usize, address: u64)
         requires section { section < length self.old }
         requires item { HasItem self.old section item }
         ensures sections { self.new ≡ with_address self.old section item address }
-        ensures same { length self.new ≡ length self.old }
+        ensures kept { length self.new ≡ length self.old }
     {
         self.sections[section as usize].lay(item, address);
     }

@@ -7,17 +7,17 @@ use crate::contents::{Align, Content, Data, Fill};
 use crate::visiting::FragVisit;
 use crate::walking::visit;
 
-/// How many bytes there are from an address up to a multiple of 2^log.
+/// The number of bytes from an address up to the next multiple of 2^log.
 pub(crate) fn padding(log: u8, at: u64) -> u64
     requires { log ≤ 30 }
     ensures padding { result ≡ spec.padding (2 ^ log) at }
-    ensures small { result ≤ 2 ^ 30 }
+    ensures within { result ≤ 2 ^ 30 }
 {
     let alignment = 1u64 << log;
     (alignment - at % alignment) % alignment
 }
 
-/// Counts the bytes of an item at its address.
+/// Tells the size of an item at its address.
 #[derive(Clone, Copy, Debug)]
 pub struct SizeAt {
     pub at: u64,
@@ -26,11 +26,12 @@ pub struct SizeAt {
 impl FragVisit for SizeAt {
     type Out = u64;
 
-    ghost bytes_gives = { λ before held answer after. (answer ≡ length held.bytes) × (answer ≤ 2 ^ 33) };
+    ghost bytes_gives = { λ before held answer after. spec.IsSize (length held.bytes) answer };
 
-    ghost fill_gives = { λ before held answer after. (answer ≡ held.count * held.size) × (answer ≤ 2 ^ 33) };
+    ghost fill_gives = { λ before held answer after. spec.IsSize (held.count * held.size) answer };
 
-    ghost align_gives = { λ before held answer after. (answer ≡ spec.padding (2 ^ held.log) before.at) × (answer ≤ 2 ^ 33) };
+    ghost align_gives = { λ before held answer after.
+        spec.IsSize (spec.padding (2 ^ held.log) before.at) answer };
 
     fn bytes(&mut self, held: &Data) -> u64 {
         held.bytes().len() as u64
@@ -45,10 +46,10 @@ impl FragVisit for SizeAt {
     }
 }
 
-/// How many bytes the item has at this address.
+/// The size of the item at this address, in bytes.
 pub fn size(content: &Content, at: u64) -> u64
     ensures size { result ≡ spec.size_at content.now at }
-    ensures most { result ≤ 2 ^ 33 }
+    ensures within { result ≤ 2 ^ 33 }
 {
     let mut visitor = SizeAt { at };
     visit(content, &mut visitor)

@@ -1,4 +1,4 @@
-//! What replaces the forms of fields, once layout knows more than the source said.
+//! The substitution of forms in fields, by which layout puts in what only the whole source tells.
 
 ghost use Rattle.std.specs.Prelude.{◌≡◌, IfOk, IfErr, OnOk, map};
 ghost use Rattle.asm_expr.specs.Forms.{Form};
@@ -9,27 +9,28 @@ use crate::faults::FragFault;
 use crate::fields::Field;
 use asm_expr::Linear;
 
-/// What replaces forms.
+/// A substitution of forms.
 pub trait Substitution {
-    /// The form in the place of a form.
+    /// The form that replaces a form.
     ghost substitute: { Self → Form → Form };
 
-    /// The form in the place of this one.
+    /// The form that replaces this one.
     fn substitute(&self, form: &Linear) -> Result<Linear, FragFault>
         ensures ok { IfOk result (λ made. made ≡ substitute self.now form.now) }
         ensures memory { IfErr result (λ fault. fault ≡ NoMemory) };
 }
 
-/// Replaces the form of each field.
+/// Substitutes the form of each field.
 pub(crate) fn substitute_fields<R: Substitution>(
     fields: &mut [Field],
-    substitute: &R,
+    substitution: &R,
 ) -> Result<(), FragFault>
-    ensures ok { OnOk result (fields.new ≡ map (substituted_field (R.substitute substitute.now)) fields.old) }
+    ensures ok { OnOk result (
+        fields.new ≡ map (substituted_field (R.substitute substitution.now)) fields.old) }
     ensures memory { IfErr result (λ fault. fault ≡ NoMemory) }
 {
     for field in fields.iter_mut() {
-        field.form = substitute.substitute(&field.form)?;
+        field.form = substitution.substitute(&field.form)?;
     }
     Ok(())
 }

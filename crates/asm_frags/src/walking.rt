@@ -1,13 +1,14 @@
-//! One way over an item, for every visitor.
+//! The dispatch of an item to a visitor.
 
 ghost use Rattle.asm_frags.specs.Visits.{Visits};
 
 use crate::contents::Content;
 use crate::visiting::FragVisit;
 
-/// The visitor's answer for what the item holds.
+/// The visitor's answer for the contents of an item.
 pub fn visit<V: FragVisit>(content: &Content, visitor: &mut V) -> V::Out
-    ensures { Visits V.bytes_gives V.fill_gives V.align_gives content.now visitor.old result visitor.new }
+    ensures { Visits V.bytes_gives V.fill_gives V.align_gives
+        content.now visitor.old result visitor.new }
 {
     match content {
         Content::Bytes(held) => visitor.bytes(held),

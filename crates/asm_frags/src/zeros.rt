@@ -1,4 +1,4 @@
-//! Items that are known to be zeros, which a section without bytes takes.
+//! Items that are known to be zeros: all that a section of type `SHT_NOBITS` takes.
 
 ghost use Rattle.std.specs.Prelude.{◌≡◌, ◌==◌, ◌||◌, ◌&&◌, true};
 ghost use Rattle.std.specs.List.{list_all};
@@ -23,9 +23,11 @@ pub struct KnownZeros;
 impl FragVisit for KnownZeros {
     type Out = bool;
 
-    ghost bytes_gives = { λ before held answer after. answer ≡ (spec.are_none held.fields && list_all is_zero held.bytes) };
+    ghost bytes_gives = { λ before held answer after.
+        answer ≡ (spec.are_none held.fields && list_all is_zero held.bytes) };
 
-    ghost fill_gives = { λ before held answer after. answer ≡ ((held.count == 0) || list_all is_zero (spec.unit_of held)) };
+    ghost fill_gives = { λ before held answer after.
+        answer ≡ ((held.count == 0) || list_all is_zero (spec.unit_of held)) };
 
     ghost align_gives = { λ before held answer after. answer ≡ true };
 
@@ -43,7 +45,7 @@ impl FragVisit for KnownZeros {
     }
 }
 
-/// Whether the item is known to be zeros: each byte is 0, and none is a field's.
+/// Whether the item is known to be zeros: each byte is 0, and none belongs to a field.
 pub fn is_known_zeros(content: &Content) -> bool
     ensures { result ≡ spec.is_known_zeros content.now }
 {

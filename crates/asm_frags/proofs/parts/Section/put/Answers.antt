@@ -1,4 +1,4 @@
--- The greatest alignment is that of all items, and they extent as far as said.
+-- Alignment and known extent are those of all items with the new one.
 use Rattle.std.proofs.Common.{◌<◌, ◌^◌, length, rules}
 use Rattle.asm_frags.proofs.KnownExtentLemmas.{items_more}
 use Rattle.asm_frags.proofs.parts.Section.put.Goals as goal

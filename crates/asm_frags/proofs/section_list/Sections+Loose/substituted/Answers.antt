@@ -1,7 +1,7 @@
 -- The sections keep their names.
-use Rattle.asm_frags.proofs.SubstitutingLemmas.{named_refitted}
+use Rattle.asm_frags.proofs.SubstitutingLemmas.{named_substituted}
 use Rattle.asm_frags.proofs.section_list.Sections+Loose.substituted.Goals as goal
 
 pub invariant_of-result : goal.invariant_of-result
 invariant_of-result g c =
-    named_refitted (g.R.Substitution.substitute c.args.substitute.now) _ c.self.inside.sections.items c.in_ok-sections.sections.items c.self.invariant c.in_ok-sections.ensures.ok
+    named_substituted (g.R.Substitution.substitute c.args.substitution.now) _ c.self.inside.sections.items c.in_ok-sections.sections.items c.self.invariant c.in_ok-sections.ensures.ok

@@ -17,11 +17,11 @@ returns-in-Some-clause-within g c =
     let same = count_same c.self.inside.names.keys c.self.inside.sections.items c.self.invariant in
     rw (← c.self.view_is) (omega (arith, c.in-Some.ensures.within))
 
-pub returns-in-Some-clause-found : goal.returns-in-Some-clause-found
-returns-in-Some-clause-found g c = rw (← c.self.view_is) (c.in-Some.ensures.found ∙ any_same c.self.inside.names.keys c.self.inside.sections.items c.self.invariant c.args.name.now)
+pub returns-in-Some-clause-presence : goal.returns-in-Some-clause-presence
+returns-in-Some-clause-presence g c = rw (← c.self.view_is) (c.in-Some.ensures.found ∙ any_same c.self.inside.names.keys c.self.inside.sections.items c.self.invariant c.args.name.now)
 
 pub returns-in-None-clause-number : goal.returns-in-None-clause-number
 returns-in-None-clause-number g c = rw (← c.self.view_is) (c.in-None.ensures.index ∙ number_same c.self.inside.names.keys c.self.inside.sections.items c.self.invariant c.args.name.now)
 
-pub returns-in-None-clause-found : goal.returns-in-None-clause-found
-returns-in-None-clause-found g c = rw (← c.self.view_is) (c.in-None.ensures.found ∙ any_same c.self.inside.names.keys c.self.inside.sections.items c.self.invariant c.args.name.now)
+pub returns-in-None-clause-presence : goal.returns-in-None-clause-presence
+returns-in-None-clause-presence g c = rw (← c.self.view_is) (c.in-None.ensures.found ∙ any_same c.self.inside.names.keys c.self.inside.sections.items c.self.invariant c.args.name.now)

@@ -3,8 +3,8 @@ use Rattle.std.proofs.Common.{sym}
 use Rattle.asm_frags.proofs.NamedLemmas.{short_at}
 use Rattle.asm_frags.proofs.section_list.Sections.section.Goals as goal
 
-pub returns-clause-short : goal.returns-clause-short
-returns-clause-short g c =
+pub returns-clause-within : goal.returns-clause-within
+returns-clause-within g c =
     let within = c.requires in
     let short = short_at _ c.self.inside.sections.items c.args.number c.index.result.now c.self.invariant (rw c.self.view_is within) in
     rw (sym c.index.ensures) at short
