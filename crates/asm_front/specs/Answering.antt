@@ -8,7 +8,7 @@ use Rattle.asm_front.specs.declared.answers.AsmFault.TheVariants.{Source, Read, 
 use Rattle.asm_place.specs.declared.place_faults.LocatedFault.{LocatedFault}
 use Rattle.asm_place.specs.declared.place_faults.LocatedFault.TheVariants as stop
 
--- what was made is handed on with the files and the notes, unless memory is refused
+-- the object or fault is answered with the notes and the names of the files, unless memory runs out
 abbrev pub IsAnswered : List ℕ → List Noted → Result (List ℕ) LocatedFault → Result Assembled AsmFault → Type 0
 IsAnswered name notes (Ok object) (Ok made) = (made.object ≡ object) × (made.notes ≡ notes) × (made.files ≡ files_of name)
 IsAnswered name notes (Ok object) (Err (Source fault pos told_notes files)) = ⊥

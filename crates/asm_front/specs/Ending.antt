@@ -1,4 +1,4 @@
--- The end of a source: the layout of what was placed, and its object, or the first fault that shows there.
+-- The end of a source: the layout of what was placed, and its object, or the first fault of either.
 use Rattle.std.specs.Prelude.{ℕ, ◌^◌, Bool, true, false, List, nat_eq, nat_lt, if◌then◌else◌, Option, None, Some, option_map, unwrap_or, slice_get, Result, Ok, Err}
 use Rattle.std.specs.Map.{lookup}
 use Rattle.asm_base.specs.declared.faults.EndFault.{EndFault}
@@ -17,7 +17,7 @@ use Rattle.asm_place.specs.Places.{LooseSection}
 use Rattle.asm_place.specs.Sources.{FaultAt, fault_at}
 use Rattle.asm_front.specs.declared.ending.Ended.{Ended}
 
--- what the command line asks of the assembly
+-- the options that the assembly depends on
 pub record Flags : Type 0 where
   pub no_warn : Bool
   pub fatal_warnings : Bool
@@ -27,7 +27,7 @@ pub record NotedObject : Type 0 where
   pub object : List ℕ
   pub notes : List Noted
 
--- a fault that shows at the end, and where it stands
+-- a fault that is found at the end of a source, and its place
 abbrev pub ended_at : EndFault → Pos → Ended
 ended_at fault pos = record { fault = fault; pos = pos }
 
@@ -40,11 +40,11 @@ layout_end (layout.DistanceOutOfRange pos distance) = ended_at end.DistanceOutOf
 abbrev pub source_start : Pos
 source_start = record { file = 0; line = 1 }
 
--- where a symbol is first named
+-- the place where a symbol is first named
 abbrev pub named_at : List Pos → ℕ → Pos
 named_at named index = unwrap_or (slice_get named index) source_start
 
--- where the size of a symbol is said; there are at most 2^24 symbols
+-- the place of the `.size` statement of a symbol; there are at most 2^24 symbols
 abbrev pub sized_at : List (ℕ × Pos) → ℕ → Pos
 sized_at sized index = if nat_lt index (2 ^ 32) then unwrap_or (lookup (nat_eq index) sized) source_start else source_start
 
@@ -56,25 +56,26 @@ object_end table (object.NoRelocation pos) = ended_at end.NoRelocation pos
 object_end table (object.SizeNotKnown index) = ended_at end.NoRelocation (sized_at table.sized index)
 object_end table object.NoMemory = ended_at end.NoRelocation source_start
 
--- the first warning, where warnings are to refuse the run
+-- the place of the first warning, where warnings are to refuse the run
 abbrev pub first_warning : Bool → List Noted → Option Pos
 first_warning false notes = None
 first_warning true notes = option_map (λ noted. noted.pos) (slice_get notes 0)
 
+-- the fault at the end, with the notes
 abbrev pub end_fault : Ended → List Noted → Result NotedObject FaultAt
 end_fault ended notes = Err (fault_at (End ended.fault) ended.pos notes)
 
--- the object, unless a warning refuses it
+-- the object with the notes, unless a warning refuses it
 abbrev pub warned_end : Option Pos → List Noted → List ℕ → Result NotedObject FaultAt
 warned_end None notes made = Ok (record { object = made; notes = notes })
 warned_end (Some pos) notes made = end_fault (ended_at end.WarningsAreErrors pos) notes
 
--- the same, by what the object answers
+-- the object or its fault, with the notes; a warning refuses it last
 abbrev pub made_end : Bool → Table → List Noted → Result (List ℕ) ObjectFault → Result NotedObject FaultAt
 made_end fatal table notes (Ok made) = warned_end (first_warning fatal notes) notes made
 made_end fatal table notes (Err fault) = end_fault (object_end table fault) notes
 
--- the same, by what the layout answers
+-- the object of a layout, or the fault of the layout or of the object, with the notes
 abbrev pub laid_end : Bool → Table → List Noted → Result LaidSections LayoutFault → Result NotedObject FaultAt
 laid_end fatal table notes (Ok sections) = made_end fatal table notes (object_of table.symbols sections)
 laid_end fatal table notes (Err fault) = end_fault (layout_end fault) notes

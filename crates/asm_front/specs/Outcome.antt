@@ -12,12 +12,12 @@ use Rattle.asm_front.specs.declared.answers.Assembled.{Assembled}
 use Rattle.asm_front.specs.declared.answers.AsmFault.{AsmFault}
 use Rattle.asm_front.specs.declared.answers.AsmFault.TheVariants.{Source, Read, NoMemory}
 
--- how messages show the source: standard input has no name
+-- the name of the source in messages; standard input has none of its own
 abbrev pub shown_name : List ℕ → List ℕ
 shown_name [] = codes "{standard input}"
 shown_name (byte ∷ bytes) = byte ∷ bytes
 
--- the files that were started
+-- the names of the files of the source
 abbrev pub files_of : List ℕ → List (List ℕ)
 files_of name = shown_name name ∷ []
 
@@ -25,7 +25,7 @@ files_of name = shown_name name ∷ []
 abbrev pub main_file : ℕ
 main_file = 0
 
--- what the options ask of the assembly; the synthesis of frame tables is not there yet
+-- the options that the assembly depends on
 abbrev pub flags_of : Options → Flags
 flags_of options = record { no_warn = options.no_warn; fatal_warnings = options.fatal_warnings }
 
@@ -36,7 +36,7 @@ AssemblesAs name assembly (Err (Source fault pos notes files)) = (assembly ≡ E
 AssemblesAs name assembly (Err Read) = Unit {0}
 AssemblesAs name assembly (Err NoMemory) = Unit {0}
 
--- a source that is not there gives neither
+-- the answer for the file of a name; a file that does not exist has neither object nor fault
 abbrev pub AssemblesFile : Flags → List ℕ → Option (List ℕ) → Result Assembled AsmFault → Type 0
 AssemblesFile flags name (Some source) result = AssemblesAs name (assembly_of flags main_file source) result
 AssemblesFile flags name None (Ok made) = ⊥
@@ -44,7 +44,7 @@ AssemblesFile flags name None (Err (Source fault pos notes files)) = ⊥
 AssemblesFile flags name None (Err Read) = Unit {0}
 AssemblesFile flags name None (Err NoMemory) = Unit {0}
 
--- what stands under the name, where the contents are told
+-- the answer for the contents of the name, where the input tells them
 abbrev pub Assembles : Flags → Option Contents → List ℕ → Result Assembled AsmFault → Type 0
 Assembles flags None name result = Unit {0}
 Assembles flags (Some contents) name result = AssemblesFile flags name (contents name) result
@@ -56,7 +56,7 @@ HasAssemblyCause (Err (Source fault pos notes files)) before now = now ≡ befor
 HasAssemblyCause (Err Read) before now = (before ≤ now) × HasRisen before now
 HasAssemblyCause (Err NoMemory) before now = now ≡ before
 
--- told or not, the files are those that were started
+-- the files are those of the source, whether contents are told or not
 abbrev pub NamesFiles : List ℕ → Result Assembled AsmFault → Type 0
 NamesFiles name (Ok made) = made.files ≡ files_of name
 NamesFiles name (Err (Source fault pos notes files)) = files ≡ files_of name

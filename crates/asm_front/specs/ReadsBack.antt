@@ -1,4 +1,4 @@
--- What the bytes of a written object read as, at the place of each instruction.
+-- The bytes of an object at the place of each instruction, read as instructions.
 use Rattle.std.specs.Prelude.{ℕ, ◌+◌, ◌≡◌, List, ◌∷◌, ◌++◌, drop, Option, None, Some, Result, Ok, Err}
 use Rattle.asm_base.specs.Inputs.{Contents}
 use Rattle.asm_lines.specs.Statements.{StatementAt, statements_of}
@@ -26,7 +26,7 @@ pub record ReadsAt (bytes : List ℕ) (at : ℕ) (mnemonic : Mnemonic) : Type 0 
   pub only : (front after : List ℕ) (other : Mnemonic) → drop at bytes ≡ front ++ after → Reads front other
       → (other ≡ mnemonic) × (front ≡ instruction)
 
--- where an item stands in the file
+-- the offset of an item in the file
 abbrev pub file_place : SymbolMap → LaidSections → ℕ → ℕ → ℕ
 file_place symbols sections section item = section_offset symbols sections section + address_of sections section item
 
@@ -38,12 +38,13 @@ ReadsBack flags source object =
     → place_all (before ++ s ∷ after) (nothing_placed flags.no_warn) ≡ Ok whole → layout_of whole.table.symbols whole.sections ≡ Ok laid
     → instruction_of s ≡ Some row → ReadsAt object (file_place whole.table.symbols laid placed.current (next_item placed)) row.mnemonic
 
--- where the contents are told, an object that is answered reads back as its source
+-- where the source is told, its object reads back as the source
 abbrev pub AnswerReadsBack : Flags → Option (List ℕ) → Result Assembled AsmFault → Type 0
 AnswerReadsBack flags None result = Unit {0}
 AnswerReadsBack flags (Some source) (Ok made) = ReadsBack flags source made.object
 AnswerReadsBack flags (Some source) (Err fault) = Unit {0}
 
+-- where the contents of the name are told, the object reads back as they
 abbrev pub ReadsBackFrom : Flags → Option Contents → List ℕ → Result Assembled AsmFault → Type 0
 ReadsBackFrom flags None name result = Unit {0}
 ReadsBackFrom flags (Some contents) name result = AnswerReadsBack flags (contents name) result

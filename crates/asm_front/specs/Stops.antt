@@ -22,7 +22,7 @@ abbrev pub MakesNoted : List Noted → Result (List ℕ) LocatedFault → Result
 MakesNoted notes (Ok object) answer = answer ≡ Ok (record { object = object; notes = notes })
 MakesNoted notes (Err stop) answer = Stops stop notes answer
 
--- a fault of the lines of the file
+-- a fault of the lines of the file, as the fault of the assembly
 abbrev pub line_stop : ℕ → LineFault → LocatedFault
 line_stop file (line.NulByte number) = Source (Statement statement.NulByte) (pos_at file number)
 line_stop file (line.UnclosedString number) = Source (Statement statement.UnclosedString) (pos_at file number)
@@ -30,15 +30,15 @@ line_stop file (line.UnclosedComment number) = Source (Statement statement.Unclo
 line_stop file (line.StatementTooLong number) = Source (Statement statement.StatementTooLong) (pos_at file number)
 line_stop file line.NoMemory = NoMemory
 
--- the fault of a file that is too large, which stands at its first line
+-- the fault of a file that is too large, at its first line
 abbrev pub too_large_stop : ℕ → LocatedFault
 too_large_stop file = Source (Statement statement.FileTooLarge) (pos_at file 1)
 
--- a fault that shows at the end
+-- a fault that is found at the end of a source, as the fault of the assembly
 abbrev pub end_stop : EndFault → Pos → LocatedFault
 end_stop fault pos = Source (End fault) pos
 
--- the fault of the object
+-- the fault of the object, as the fault of the assembly
 abbrev pub object_stop : Table → ObjectFault → LocatedFault
 object_stop table (object.UndefinedLocalSymbol index) = end_stop end.UndefinedLocalSymbol (named_at table.named index)
 object_stop table (object.NoRelocation pos) = end_stop end.NoRelocation pos

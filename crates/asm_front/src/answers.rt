@@ -1,22 +1,22 @@
-//! What the assembler is asked for, and what it answers.
+//! The options of the assembler, and its answers.
 
 use asm_base::{Fault, Files, Notes, Pos};
 use elf_object::Object;
 
-/// What the command line asks for.
+/// The options of a command line.
 #[derive(Drop)]
 pub struct Options {
     /// The name of the source file; the empty name is standard input.
     pub file: String,
-    /// Frame tables are to be synthesized. Nothing reads this yet.
+    /// Frame tables are to be synthesized (`--scfi=experimental`). `assemble` does not read it.
     pub scfi: bool,
-    /// No warning is to be made.
+    /// Warnings are not to be made (`--no-warn`).
     pub no_warn: bool,
-    /// A warning is to refuse the run at its end.
+    /// A warning is to refuse the run at its end (`--fatal-warnings`).
     pub fatal_warnings: bool,
 }
 
-/// An object with what is to be told of it.
+/// An object, with the notes of its source and the names of its files.
 #[derive(Drop)]
 pub struct Assembled {
     pub notes: Notes,
@@ -27,10 +27,10 @@ pub struct Assembled {
 /// Why there is no object.
 #[derive(Drop)]
 pub enum AsmFault {
-    /// The first fault of the source, where it stands, the notes before it, and the names of the files.
+    /// The first fault of the source, its place, the notes before it, and the names of the files.
     Source(Fault, Pos, Notes, Files),
     /// The input failed. Its count of failures has risen.
     Read,
-    /// Memory was refused.
+    /// Memory ran out.
     NoMemory,
 }

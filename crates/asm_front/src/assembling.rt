@@ -27,7 +27,7 @@ use std::alloc::{AllocError, Global};
 /// The number of the source file, which is the only one.
 const MAIN_FILE: u32 = 0;
 
-/// The place of a fault of the lines.
+/// A fault of the lines, as the fault of the assembly.
 fn line_stop(fault: LineFault) -> LocatedFault
     ensures { result ≡ line_stop main_file fault }
 {
@@ -64,7 +64,7 @@ fn line_stop(fault: LineFault) -> LocatedFault
     }
 }
 
-/// What is made of these statements, by an assembler.
+/// The notes of the statements, with their object or first fault.
 #[tactic(auto, using(crate::proofs::AnswerLemmas::stopped))]
 fn assemble_statements(
     alloc: Global,
@@ -84,7 +84,7 @@ fn assemble_statements(
     }
 }
 
-/// What is made of a text that is not too large, by an assembler that has placed nothing.
+/// The notes of a text that is not too large, with its object or first fault, by an assembler that has placed nothing.
 #[tactic(auto, unfolding(crate::specs::Assembly::assembly_of_lines))]
 fn made_of_text(alloc: Global, options: &Options, assembler: Assembler, text: &Text) -> Made
     requires { placed_by assembler ≡ nothing_placed options.now.no_warn }
@@ -104,7 +104,7 @@ fn made_of_text(alloc: Global, options: &Options, assembler: Assembler, text: &T
     }
 }
 
-/// What is made of a text, unless memory is refused.
+/// The notes of a text that is not too large, with its object or first fault.
 fn assemble_text(alloc: Global, options: &Options, text: &Text) -> Result<Made, NoMemory>
     ensures { IfOk result (λ made. MakesNoted made.notes made.object (assembly_of_lines (flags_of options.now) main_file text.now)) }
 {
@@ -125,7 +125,7 @@ fn shown_name(alloc: Global, name: &str) -> Result<String, NoMemory>
     }
 }
 
-/// The files that were started.
+/// The names of the files of the source.
 fn started_files(alloc: Global, name: &str) -> Result<Files, NoMemory>
     ensures { IfOk result (λ files. files ≡ files_of name.now) }
 {

@@ -1,4 +1,4 @@
-//! The end of a source: the layout of what was placed, and its object, or the first fault that shows there.
+//! The end of a source: the layout of what was placed, and its object, or the first fault of either.
 
 ghost use Rattle.std.specs.Prelude.{◌≡◌, Ok};
 ghost use Rattle.asm_front.specs.Ending as spec;
@@ -11,7 +11,7 @@ use asm_relax::{LayoutFault, Plan};
 use elf_object::{Object, ObjectFault};
 use std::alloc::Global;
 
-/// A fault that shows at the end, and where it stands.
+/// A fault that is found at the end of a source, and its place.
 #[derive(Clone, Copy, Drop)]
 pub(crate) struct Ended {
     pub(crate) fault: EndFault,
@@ -37,14 +37,14 @@ fn layout_end(fault: LayoutFault) -> Ended
     }
 }
 
-/// Where a symbol is first named.
+/// The place where a symbol is first named.
 fn named_at(named: &[Pos], index: usize) -> Pos
     ensures { result ≡ spec.named_at named.now index }
 {
     named.get(index).copied().unwrap_or(SOURCE_START)
 }
 
-/// Where the size of a symbol is said.
+/// The place of the `.size` statement of a symbol.
 fn sized_at(table: &SymbolUses, index: usize) -> Pos
     ensures { result ≡ spec.sized_at table.now.sized index }
 {
@@ -55,14 +55,14 @@ fn sized_at(table: &SymbolUses, index: usize) -> Pos
     }
 }
 
-/// A fault at the end, as that which ends the assembly.
+/// A fault that is found at the end of a source, as the fault of the assembly.
 fn end_stop(fault: EndFault, pos: Pos) -> LocatedFault
     ensures { result ≡ end_stop fault pos }
 {
     LocatedFault::Source(Fault::End(fault), pos)
 }
 
-/// The fault of the object: at the first statement that names the symbol, at that of the field, or where the size is said.
+/// The fault of the object, at the first statement that names the symbol, at that of the field, or at the `.size` statement.
 fn object_stop(table: &SymbolUses, fault: ObjectFault) -> LocatedFault
     ensures { result ≡ object_stop table.now fault }
 {
@@ -80,7 +80,7 @@ fn object_stop(table: &SymbolUses, fault: ObjectFault) -> LocatedFault
     }
 }
 
-/// Where the first warning stands, where warnings are to refuse the run.
+/// The place of the first warning, where warnings are to refuse the run.
 fn first_warning(fatal: bool, notes: &[Noted]) -> Option<Pos>
     ensures { result ≡ spec.first_warning fatal notes.now }
 {
@@ -93,14 +93,14 @@ fn first_warning(fatal: bool, notes: &[Noted]) -> Option<Pos>
     }
 }
 
-/// What is made at the end: the notes, and the object or why there is none.
+/// The notes of a source, and its object or fault.
 #[derive(Drop)]
 pub(crate) struct Made {
     pub(crate) notes: Notes,
     pub(crate) object: Result<Object, LocatedFault>,
 }
 
-/// The object of what is laid out, or the first fault there.
+/// The object of a layout, or its first fault; warnings come last.
 fn laid_end(
     alloc: Global,
     fatal: bool,
@@ -119,7 +119,7 @@ fn laid_end(
     }
 }
 
-/// The object of sections that have no addresses yet, or the first fault at the end of the source.
+/// The object of the placed sections, or the first fault of layout and object.
 #[tactic(auto, unfolding(crate::specs::Ending::finished))]
 fn finished_object(
     alloc: Global,
@@ -140,7 +140,7 @@ fn finished_object(
     }
 }
 
-/// The object of what was placed, or the first fault at the end of the source, with the notes.
+/// The notes of what was placed, with its object or the first fault of layout and object.
 pub(crate) fn finished(alloc: Global, fatal: bool, parts: Placed) -> Made
     ensures made { MakesNoted result.notes result.object (spec.finished fatal parts.sections parts.table parts.notes) }
     ensures notes { result.notes ≡ parts.notes }
