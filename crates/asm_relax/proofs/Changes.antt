@@ -1,4 +1,4 @@
--- Lists of which one is changed, once and again.
+-- Lists of which one element is changed.
 use Rattle.std.proofs.Common.{◌≡◌, ℕ, zero, suc, ◌<◌, ◌≤◌, List, [], ◌∷◌, Option, Some, None, length, map, refl, sym, ap, ◌∙◌, arith}
 use Rattle.std.specs.Prelude.{slice_get}
 use Rattle.asm_frags.specs.Addresses.{changed_there, changed_at}

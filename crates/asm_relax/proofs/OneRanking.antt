@@ -1,7 +1,8 @@
 -- There is just one ranking: two agree on what is taken before each round, and so on all numbers.
-use Rattle.std.proofs.Common.{◌≡◌, ℕ, zero, suc, ◌<◌, nat_lt, Bool, true, false, List, [], ◌∷◌, Option, Some, None, length, map, get_or, refl, sym, ap, ◌∙◌, subst, arith}
+use Rattle.std.proofs.Common.{◌≡◌, ℕ, zero, suc, ◌+◌, ◌<◌, nat_lt, Bool, true, false, cond, List, [], ◌∷◌, Option, Some, None, length, map, get_or, refl, sym, ap, ◌∙◌, subst, arith}
+use Rattle.std.specs.Prelude.{count_by, fold}
 use Rattle.std.proofs.lemmas.Bool.Decides.{nat_tests}
-use Rattle.asm_relax.specs.Ranks.{Ranks, is_below, counted, levels_below, numbers_at, Holds, Misses, IsNumber, IsRanking}
+use Rattle.asm_relax.specs.Ranks.{Ranks, is_taken_before, levels_below, numbers_at, Holds, Misses, IsNumber, IsRanking}
 
 abbrev number_of : Ranks → ℕ → ℕ → Option ℕ
 number_of ranks item level = get_or (numbers_at ranks item) level None
@@ -22,17 +23,24 @@ lengths_at (x ∷ xs) [] same item = absurd cc
 lengths_at (x ∷ xs) (y ∷ ys) same zero = cc
 lengths_at (x ∷ xs) (y ∷ ys) same (suc item) = let later : lengths xs ≡ lengths ys = cc in lengths_at xs ys later item
 
-counts_same : (p : Option ℕ → Bool) (xs ys : List (Option ℕ)) → length xs ≡ length ys → ((k : ℕ) → k < length xs → p (get_or xs k None) ≡ p (get_or ys k None)) → counted p xs ≡ counted p ys
-counts_same p [] [] long alike = refl
-counts_same p [] (y ∷ ys) long alike = absurd (omega arith)
-counts_same p (x ∷ xs) [] long alike = absurd (omega arith)
-counts_same p (x ∷ xs) (y ∷ ys) long alike =
+-- numbers that a test tells alike are counted alike, whatever is counted before
+counts_from : (p : Option ℕ → Bool) (before : ℕ) (xs ys : List (Option ℕ)) → length xs ≡ length ys
+    → ((k : ℕ) → k < length xs → p (get_or xs k None) ≡ p (get_or ys k None))
+    → fold (λ n x. n + cond (p x) 1 0) before xs ≡ fold (λ n x. n + cond (p x) 1 0) before ys
+counts_from p before [] [] long alike = refl
+counts_from p before [] (y ∷ ys) long alike = absurd (omega arith)
+counts_from p before (x ∷ xs) [] long alike = absurd (omega arith)
+counts_from p before (x ∷ xs) (y ∷ ys) long alike =
     let first : p x ≡ p y = alike 0 (omega arith) in
-    let later = counts_same p xs ys (omega arith) (λ k inside. alike (suc k) (omega arith)) in
-    rw (first, later)
+    let later = counts_from p (before + cond (p y) 1 0) xs ys (omega arith) (λ k inside. alike (suc k) (omega arith)) in
+    ap (λ (b : Bool). fold (λ n x. n + cond (p x) 1 0) (before + cond b 1 0) xs) first ∙ later
+
+counts_same : (p : Option ℕ → Bool) (xs ys : List (Option ℕ)) → length xs ≡ length ys
+    → ((k : ℕ) → k < length xs → p (get_or xs k None) ≡ p (get_or ys k None)) → count_by p xs ≡ count_by p ys
+counts_same p xs ys long alike = counts_from p 0 xs ys long alike
 
 levels_same : (p : Option ℕ → Bool) (v w : Ranks) → lengths v ≡ lengths w
-    → ((i k : ℕ) → i < length v → k < length (numbers_at v i) → p (number_of v i k) ≡ p (number_of w i k)) → map (λ numbers. counted p numbers) v ≡ map (λ numbers. counted p numbers) w
+    → ((i k : ℕ) → i < length v → k < length (numbers_at v i) → p (number_of v i k) ≡ p (number_of w i k)) → map (λ numbers. count_by p numbers) v ≡ map (λ numbers. count_by p numbers) w
 levels_same p [] [] same alike = refl
 levels_same p [] (y ∷ ys) same alike = absurd cc
 levels_same p (x ∷ xs) [] same alike = absurd cc
@@ -73,7 +81,7 @@ abbrev AgreeBefore : Ranks → Ranks → ℕ → Type 0
 AgreeBefore v w r = (q : ℕ) → q < r → levels_below q v ≡ levels_below q w
 
 -- what is taken before a round by the one is taken by the other
-forward : (need : List ℕ → List ℕ) (v w : Ranks) (i k r : ℕ) → AgreeBefore v w r → (a b : Option ℕ) → IsNumber need v i k a → IsNumber need w i k b → is_below r a ≡ true → is_below r b ≡ true
+forward : (need : List ℕ → List ℕ) (v w : Ranks) (i k r : ℕ) → AgreeBefore v w r → (a b : Option ℕ) → IsNumber need v i k a → IsNumber need w i k b → is_taken_before r a ≡ true → is_taken_before r b ≡ true
 forward need v w i k r agree None b one other below = absurd cc
 forward need v w i k r agree (Some n) None one other below =
     not_held need v w i k n (agree n (grind (arith, nat_tests))) one.1 (other n one.0) (false ≡ true)
@@ -107,8 +115,8 @@ module _ (need : List ℕ → List ℕ) (tops : List ℕ) (v w : Ranks) (one : I
 
   next_agrees : (r : ℕ) → AgreeBefore v w r → levels_below r v ≡ levels_below r w
   next_agrees r agree =
-      levels_same (is_below r) v w same_lengths
-      (λ i k inside above. both_ways (is_below r (number_of v i k)) (is_below r (number_of w i k))
+      levels_same (is_taken_before r) v w same_lengths
+      (λ i k inside above. both_ways (is_taken_before r (number_of v i k)) (is_taken_before r (number_of w i k))
       (forward need v w i k r agree (number_of v i k) (number_of w i k) (one.numbers i k inside above) (number_there i k inside above))
       (forward need w v i k r (back_again v w r agree) (number_of w i k) (number_of v i k) (number_there i k inside above) (one.numbers i k inside above)))
 

@@ -1,4 +1,4 @@
--- What names and forms are where each item has its address.
+-- The meaning of names and the values of forms at the addresses of a layout.
 use Rattle.std.specs.Prelude.{ℕ, ◌+◌, ◌-◌, List, length, Option, None, Some, slice_get}
 use Rattle.std.specs.Option.{option_map_or}
 use Rattle.asm_expr.specs.declared.naming.Name.{Name}
@@ -14,26 +14,27 @@ use Rattle.asm_frags.specs.Contents.{size_at}
 use Rattle.asm_frags.specs.SectionOf.{SectionOf}
 use Rattle.asm_relax.specs.Expanding.{expanded}
 
--- where the item ends
-abbrev pub end_of : {P : Type 0} → Frag P ℕ → ℕ
-end_of item = wrapped (item.address + size_at item.content item.address)
+-- the address behind the item
+abbrev pub item_end : {P : Type 0} → Frag P ℕ → ℕ
+item_end item = wrapped (item.address + size_at item.content item.address)
 
--- the size of a section: where its last item ends
+-- `sh_size`: the address behind the last item
 unfoldable pub size_of : {P : Type 0} → List (Frag P ℕ) → ℕ
-size_of items = option_map_or end_of (slice_get items (length items - 1)) 0
+size_of items = option_map_or item_end (slice_get items (length items - 1)) 0
 
 -- the address of the item at this index; behind the last item stands the section's end
 unfoldable pub address_in : {P : Type 0} → List (Frag P ℕ) → ℕ → ℕ
 address_in items index = option_map_or (λ item. item.address) (slice_get items index) (size_of items)
 
+-- the address of the item at this index of a section, and 0 where there is no such section
 unfoldable pub address_of : {P : Type 0} → List (SectionOf (Frag P ℕ)) → ℕ → ℕ → ℕ
 address_of sections section item = option_map_or (λ found. address_in found.items item) (slice_get sections section) 0
 
--- a place is a label of its section at its address
+-- a place is known as a label of its section at its address
 abbrev pub spot_told : {P : Type 0} → List (SectionOf (Frag P ℕ)) → Spot → Told
 spot_told sections spot = label spot.section (address_of sections spot.section spot.item)
 
--- labels and space of this object have places, and of all else nothing is known
+-- labels and space of this object are known by their places, and other symbols are not known
 abbrev pub final_meaning : {P : Type 0} → List (SectionOf (Frag P ℕ)) → Meaning → Told
 final_meaning sections meaning.Undefined = absent
 final_meaning sections (meaning.Label spot) = spot_told sections spot
@@ -41,22 +42,23 @@ final_meaning sections (meaning.Common size align) = absent
 final_meaning sections (meaning.Space spot) = spot_told sections spot
 final_meaning sections (meaning.Assigned form) = absent
 
+-- what the symbol at this index is known as
 abbrev pub final_at : {P : Type 0} → SymbolMap → List (SectionOf (Frag P ℕ)) → Option ℕ → Told
 final_at map sections None = absent
 final_at map sections (Some index) = option_map_or (λ symbol. final_meaning sections symbol.meaning) (slice_get map.symbols index) absent
 
--- what the name is known as at the end
+-- what a name is known as in the layout
 unfoldable pub final_told : {P : Type 0} → SymbolMap → List (SectionOf (Frag P ℕ)) → Name → Told
 final_told map sections name = final_at map sections (index_of name (names map.symbols))
 
--- what a form is at the end: labels of one section that cancel are replaced by their addresses
+-- a form in the layout: assigned symbols are expanded, and labels of one section that cancel are replaced by their addresses
 unfoldable pub final_form : {P : Type 0} → SymbolMap → List (SectionOf (Frag P ℕ)) → Form → Form
 final_form map sections made = settled (final_told map sections) (expanded map made)
 
--- the value of a form whose assigned symbols are put in, where no name is left at the end
+-- the value in the layout of an expanded form, where all of its names cancel
 unfoldable pub laid_value : {P : Type 0} → SymbolMap → List (SectionOf (Frag P ℕ)) → Form → Option ℕ
 laid_value map sections made = constant_left (settled (final_told map sections) made)
 
--- the value of a form, where no name is left at the end
+-- the value in the layout of a form, where all of its names cancel
 abbrev pub field_value : {P : Type 0} → SymbolMap → List (SectionOf (Frag P ℕ)) → Form → Option ℕ
 field_value map sections made = laid_value map sections (expanded map made)

@@ -1,4 +1,4 @@
--- Items one behind the other, by the levels that they have.
+-- The layout of sections by the levels of their items: each item behind the one before.
 use Rattle.std.specs.Prelude.{◌≡◌, ℕ, ◌+◌, List, [], ◌∷◌, ◌++◌, length, map, drop, Some, slice_get, slice_index_or}
 use Rattle.asm_frags.specs.declared.contents.Content.{Content}
 use Rattle.asm_frags.specs.declared.contents.Content.TheVariants.{Bytes, Fill, Align}
@@ -14,13 +14,13 @@ top (Bytes held) = 0
 top (Fill held) = 0
 top (Align held) = 0
 
--- the bytes that an item of this level has at an address
+-- the size of an item of this level at an address
 abbrev pub size_with : Content → ℕ → ℕ → ℕ
 size_with (Bytes held) level at = size_at (Bytes held) at
 size_with (Fill held) level at = size_at (Fill held) at
 size_with (Align held) level at = size_at (Align held) at
 
--- the least level that holds what the item has to hold where all stands so
+-- the least level that is enough for the item in this layout
 abbrev pub needed_by : {P : Type 0} → SymbolMap → List (SectionOf (Frag P ℕ)) → Content → ℕ
 needed_by map sections (Bytes held) = 0
 needed_by map sections (Fill held) = 0
@@ -31,6 +31,7 @@ abbrev pub all_items : {Item : Type 0} → List (SectionOf Item) → List Item
 all_items [] = []
 all_items (section ∷ sections) = section.items ++ all_items sections
 
+-- the number of levels above the lowest of each item
 abbrev pub tops : {P : Type 0} → List (SectionOf (Frag P ℕ)) → List ℕ
 tops sections = map (λ item. top item.content) (all_items sections)
 
@@ -38,21 +39,22 @@ tops sections = map (λ item. top item.content) (all_items sections)
 abbrev pub lowest_levels : {P : Type 0} → List (SectionOf (Frag P ℕ)) → List ℕ
 lowest_levels sections = map (λ item. 0) (all_items sections)
 
--- the items from this address on, each behind the one before
+-- the items of these levels from this address on, each behind the one before
 unfoldable pub laid_from : {P : Type 0} → List ℕ → ℕ → List (Frag P ℕ) → List (Frag P ℕ)
 laid_from levels at [] = []
 laid_from levels at (item ∷ items) =
     item_with_address at item ∷ laid_from (drop 1 levels) (at + size_with item.content (slice_index_or levels 0 0) at) items
 
-abbrev pub laid_section : {P : Type 0} → List ℕ → SectionOf (Frag P ℕ) → SectionOf (Frag P ℕ)
-laid_section levels section = record section { items = laid_from levels 0 section.items }
+-- the section with its items from address 0 on
+abbrev pub laid_out_section : {P : Type 0} → List ℕ → SectionOf (Frag P ℕ) → SectionOf (Frag P ℕ)
+laid_out_section levels section = record section { items = laid_from levels 0 section.items }
 
--- the sections, each from address 0 on
+-- the sections with the items of each from address 0 on
 unfoldable pub laid_out : {P : Type 0} → List ℕ → List (SectionOf (Frag P ℕ)) → List (SectionOf (Frag P ℕ))
 laid_out levels [] = []
-laid_out levels (section ∷ sections) = laid_section levels section ∷ laid_out (drop (length section.items) levels) sections
+laid_out levels (section ∷ sections) = laid_out_section levels section ∷ laid_out (drop (length section.items) levels) sections
 
--- the level that each item needs where the items have these
+-- the level that each item needs in the layout by these levels
 unfoldable pub needed : {P : Type 0} → SymbolMap → List (SectionOf (Frag P ℕ)) → List ℕ → List ℕ
 needed {P} map sections levels = needed_levels (all_items (laid_out levels sections))
   where
@@ -60,14 +62,15 @@ needed {P} map sections levels = needed_levels (all_items (laid_out levels secti
     needed_levels [] = []
     needed_levels (item ∷ items) = needed_by map (laid_out levels sections) item.content ∷ needed_levels items
 
--- the sections where nothing is said of addresses
+-- the section with all addresses 0
 abbrev pub without_address : {P : Type 0} → SectionOf (Frag P ℕ) → SectionOf (Frag P ℕ)
 without_address section = record section { items = map (item_with_address 0) section.items }
 
+-- the sections with all addresses 0
 abbrev pub without_addresses : {P : Type 0} → List (SectionOf (Frag P ℕ)) → List (SectionOf (Frag P ℕ))
 without_addresses sections = map without_address sections
 
--- the section's first item stands at 0, and each next one behind the one before, as large as its level makes it
+-- the first item is at address 0, and each next one behind the one before, which has the size of its level
 pub record IsInRow {P : Type 0} (levels : List ℕ) (items : List (Frag P ℕ)) : Type 0 where
   pub first : (item : Frag P ℕ) → slice_get items 0 ≡ Some item → item.address ≡ 0
   pub next : (index : ℕ) (item after : Frag P ℕ) → slice_get items index ≡ Some item → slice_get items (index + 1) ≡ Some after

@@ -1,4 +1,4 @@
--- Items one behind the other, while each has one level.
+-- The layout of items that have one level each: each behind the one before.
 use Rattle.std.specs.Prelude.{ℕ, zero, suc, ◌+◌, List, [], ◌∷◌, slice_get}
 use Rattle.std.specs.Option.{option_map_or}
 use Rattle.asm_frags.specs.declared.items.Frag.{Frag}
@@ -11,18 +11,20 @@ unfoldable pub placed_from : {P : Type 0} → ℕ → List (Frag P ℕ) → List
 placed_from at [] = []
 placed_from at (item ∷ items) = item_with_address at item ∷ placed_from (at + size_at item.content at) items
 
+-- the section with its items from address 0 on
 abbrev pub placed_section : {P : Type 0} → SectionOf (Frag P ℕ) → SectionOf (Frag P ℕ)
 placed_section section = record section { items = placed_from 0 section.items }
 
--- the address behind so many items: the sum of their sizes, each at its address
+-- the address behind the first items, as many as the number says: the sum of their sizes, each at its address
 abbrev pub behind : {P : Type 0} → ℕ → ℕ → List (Frag P ℕ) → ℕ
 behind zero at items = at
 behind (suc count) at [] = at
 behind (suc count) at (item ∷ items) = behind count (at + size_at item.content at) items
 
--- the bytes of an item at an address
+-- the size at an address of the item at this index, and 0 where there is none
 abbrev pub size_in : {P : Type 0} → List (Frag P ℕ) → ℕ → ℕ → ℕ
 size_in items item at = option_map_or (λ found. size_at found.content at) (slice_get items item) 0
 
+-- the size at an address of the item at this index of a section, and 0 where there is none
 unfoldable pub size_there : {P : Type 0} → List (SectionOf (Frag P ℕ)) → ℕ → ℕ → ℕ → ℕ
 size_there sections number item at = option_map_or (λ section. size_in section.items item at) (slice_get sections number) 0

@@ -1,4 +1,4 @@
--- What a layout is refused for: a section that is too large, and else a field that does not hold its value.
+-- The range checks of a layout: a section that is too large, and else a field that does not hold its value.
 use Rattle.std.specs.Prelude.{ℕ, ◌^◌, nat_lt, Bool, List, Option, None, Some, option_map, if◌then◌else◌}
 use Rattle.std.specs.List.{find}
 use Rattle.asm_base.specs.declared.positions.Pos.{Pos}
@@ -11,36 +11,40 @@ use Rattle.asm_frags.specs.Contents.{fields_of}
 use Rattle.asm_frags.specs.SectionOf.{SectionOf}
 use Rattle.asm_relax.specs.declared.faults.LayoutFault.{LayoutFault}
 use Rattle.asm_relax.specs.declared.faults.LayoutFault.TheVariants.{SectionTooLarge, DistanceOutOfRange}
-use Rattle.asm_relax.specs.Final.{end_of, size_of, laid_value}
+use Rattle.asm_relax.specs.Final.{item_end, size_of, laid_value}
 use Rattle.asm_relax.specs.Faults.{or_later, first_of}
 
--- a section has at most 2^30 bytes
+-- a section that ends at this address is too large: it has more than 2^30 bytes
 abbrev pub is_large : ℕ → Bool
 is_large end = nat_lt (2 ^ 30) end
 
+-- the item ends past the most bytes of a section
 abbrev pub ends_large : {P : Type 0} → Frag P ℕ → Bool
-ends_large item = is_large (end_of item)
+ends_large item = is_large (item_end item)
 
--- the first item that ends past that, in a section that does
+-- the fault of a section that is too large, at the first item that ends past the most bytes
 abbrev pub large_section : {P : Type 0} → SectionOf (Frag P ℕ) → Option LayoutFault
 large_section section =
     if is_large (size_of section.items) then option_map (λ item. SectionTooLarge item.pos (size_of section.items)) (find ends_large section.items) else None
 
--- a field without a value is left to the linker
+-- the fault of a field that does not hold its value; a field without a value is left to the linker
 abbrev pub misfit : Pos → FieldSize → Option ℕ → Option LayoutFault
 misfit pos size None = None
 misfit pos size (Some value) = if fits size value then None else Some (DistanceOutOfRange pos value)
 
 module _ {P : Type 0} (map : SymbolMap) (sections : List (SectionOf (Frag P ℕ))) where
-  abbrev pub field_fault : Pos → Field → Option LayoutFault
-  field_fault pos field = misfit pos field.size (laid_value map sections field.form)
+  -- the fault of a field whose value is out of its range
+  abbrev pub field_misfit : Pos → Field → Option LayoutFault
+  field_misfit pos field = misfit pos field.size (laid_value map sections field.form)
 
-  abbrev pub item_fault : Frag P ℕ → Option LayoutFault
-  item_fault item = first_of (field_fault item.pos) (fields_of item.content)
+  -- the fault of the first such field of an item
+  abbrev pub item_misfit : Frag P ℕ → Option LayoutFault
+  item_misfit item = first_of (field_misfit item.pos) (fields_of item.content)
 
-  abbrev pub section_fault : SectionOf (Frag P ℕ) → Option LayoutFault
-  section_fault section = first_of item_fault section.items
+  -- the fault of the first such field of a section
+  abbrev pub section_misfit : SectionOf (Frag P ℕ) → Option LayoutFault
+  section_misfit section = first_of item_misfit section.items
 
-  -- the first fault: sections that are too large come before all fields
+  -- the first fault of a layout: sections that are too large come before all fields
   unfoldable pub first_fault : Option LayoutFault
-  first_fault = or_later (first_of large_section sections) (first_of section_fault sections)
+  first_fault = or_later (first_of large_section sections) (first_of section_misfit sections)

@@ -1,4 +1,4 @@
--- From sections to their layout.
+-- From the sections of a source to their layout.
 use Rattle.std.specs.Prelude.{◌≡◌, ℕ, List, Option, None, Some, Result, Ok, Err}
 use Rattle.asm_symbols.specs.SymbolMap.{SymbolMap}
 use Rattle.asm_frags.specs.declared.phases.Loose.{Loose}
@@ -12,20 +12,24 @@ use Rattle.asm_relax.specs.Ranks.{IsLayout}
 use Rattle.asm_relax.specs.Layout.{tops, needed, lowest_levels, laid_out}
 use Rattle.asm_relax.specs.RangeChecks.{first_fault}
 
+-- the sections of a source
 abbrev pub LooseSections : Type 0
 LooseSections = List (SectionOf (Frag Loose (Unit {0})))
 
+-- an item with an address
 abbrev pub LaidItem : Type 0
 LaidItem = Frag Laid ℕ
 
+-- the sections of a layout
 abbrev pub LaidSections : Type 0
 LaidSections = List (SectionOf LaidItem)
 
--- what is to be laid out: the symbols, and the sections where assigned symbols are put into fields
+-- a plan of a layout: the symbols, and the sections with assigned symbols expanded in their fields
 pub record PlanOf : Type 0 where
   pub map : SymbolMap
   pub sections : LaidSections
 
+-- the sections with assigned symbols expanded in their fields, at address 0
 unfoldable pub planned : SymbolMap → LooseSections → LaidSections
 planned map sections = laid_sections (expanded map) sections
 
@@ -33,28 +37,30 @@ planned map sections = laid_sections (expanded map) sections
 abbrev pub plan_of : SymbolMap → LooseSections → PlanOf
 plan_of map sections = record { map = map; sections = planned map sections }
 
+-- the value, or the fault where there is one
 abbrev pub unless : {A E : Type 0} → Option E → A → Result A E
 unless None made = Ok made
 unless (Some fault) made = Err fault
 
--- the sections with their addresses, while each item has its lowest level alone
+-- the sections laid out with each item at its lowest level, which is the only one
 unfoldable pub settled_sections : LaidSections → LaidSections
 settled_sections sections = laid_out (lowest_levels sections) sections
 
--- the sections with their addresses, or the first fault
+-- the layout of a plan, or its first fault
 abbrev pub settled_plan : SymbolMap → LaidSections → Result LaidSections LayoutFault
 settled_plan map sections = unless (first_fault map (settled_sections sections)) (settled_sections sections)
 
+-- the layout of the sections of a source, or its first fault
 abbrev pub layout_of : SymbolMap → LooseSections → Result LaidSections LayoutFault
 layout_of map sections = settled_plan map (planned map sections)
 
--- the sections are laid out by the levels of the one ranking, which so many rounds give
+-- the sections are laid out by the levels of the one ranking, which are reached in this number of rounds
 pub record IsLaidOut (map : SymbolMap) (sections laid : LaidSections) (rounds : ℕ) : Type 0 where
   pub levels : List ℕ
   pub layout : IsLayout (needed map sections) (tops sections) levels rounds
   pub placed : laid ≡ laid_out levels sections
 
--- what settling answers, by what its definition answers
+-- the answer is that of the definition, and where there is no fault, so are the sections
 abbrev pub Settles : {T : Type 0} → LaidSections → Result T LayoutFault → Result LaidSections LayoutFault → Type 0
 Settles laid (Ok done) due = due ≡ Ok laid
 Settles laid (Err fault) due = due ≡ Err fault

@@ -1,4 +1,4 @@
-//! Assigned symbols in forms: each is put in by its last form, until none is left.
+//! The expansion of assigned symbols in forms: each is replaced by the form that it was assigned last, until none is left.
 
 ghost use Rattle.std.specs.Prelude.{◌≡◌, IfOk, option_map};
 ghost use Rattle.asm_symbols.specs.Assigning.{form_of};
@@ -32,7 +32,7 @@ fn assigned<'a>(symbols: &'a Symbols, name: &Name) -> Option<&'a Linear>
     }
 }
 
-/// The form and so many times what stands for the term's name.
+/// The form plus the term, with the term's name replaced by its form where it is an assigned symbol.
 fn plus_term(
     alloc: Global,
     symbols: &Symbols,
@@ -50,7 +50,7 @@ fn plus_term(
     }
 }
 
-/// Puts each assigned symbol that stands in the form in once.
+/// The form with each of its assigned symbols replaced once.
 fn expand_once(alloc: Global, symbols: &Symbols, form: &Linear) -> Result<Linear, NoMemory>
     ensures { IfOk result (λ made. made ≡ expanded_once symbols.now form.now) }
 {
@@ -62,7 +62,7 @@ fn expand_once(alloc: Global, symbols: &Symbols, form: &Linear) -> Result<Linear
     Ok(made)
 }
 
-/// Whether an assigned symbol stands in the form.
+/// Whether the form names an assigned symbol.
 fn names_assigned(symbols: &Symbols, form: &Linear) -> bool
     ensures { result ≡ names_assigned symbols.now form.now }
 {
@@ -71,8 +71,8 @@ fn names_assigned(symbols: &Symbols, form: &Linear) -> bool
         .any(|term| assigned(symbols, &term.name).is_some())
 }
 
-/// The form in which no assigned symbol is left: no chain of them is longer than there are symbols. A form without assigned symbols
-/// is only copied.
+/// The form expanded until it names no assigned symbol: no chain of them is longer than the number of symbols. A form
+/// without assigned symbols is only copied.
 pub fn expand_assigned(alloc: Global, symbols: &Symbols, form: &Linear) -> Result<Linear, NoMemory>
     ensures { IfOk result (λ made. made ≡ expanded symbols.now form.now) }
 {

@@ -1,4 +1,4 @@
-//! What a layout is refused for.
+//! The faults of a layout.
 
 use asm_base::Pos;
 use thiserror::Error;
@@ -15,7 +15,7 @@ pub enum LayoutFault {
 }
 
 impl LayoutFault {
-    /// Where the statement stands.
+    /// The place of the statement.
     pub fn pos(&self) -> Pos {
         match self {
             LayoutFault::SectionTooLarge { pos, .. } => *pos,

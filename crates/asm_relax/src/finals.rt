@@ -1,4 +1,4 @@
-//! What names and forms are where each item has its address.
+//! The meaning of names and the values of forms at the addresses of a layout.
 
 ghost use Rattle.std.specs.Prelude.{◌≡◌, IfOk};
 ghost use Rattle.asm_expr.specs.Knowledge.{told_by};
@@ -12,14 +12,14 @@ use asm_frags::{Laid, Sections};
 use asm_symbols::{Meaning, Spot, Symbols};
 use std::alloc::{AllocError, Global};
 
-/// The symbols and where they stand.
+/// What the symbols are known as in a layout.
 #[derive(Clone, Copy)]
 pub struct FinalView<'a> {
     pub symbols: &'a Symbols,
     pub sections: &'a Sections<Laid>,
 }
 
-/// A place, as a label of its section at its address.
+/// A place, known as a label of its section at its address.
 fn spot_look<'a>(sections: &Sections<Laid>, spot: &Spot) -> Look<'a>
     ensures { told_by result ≡ spot_told sections.now spot.now }
 {
@@ -29,7 +29,7 @@ fn spot_look<'a>(sections: &Sections<Laid>, spot: &Spot) -> Look<'a>
     }
 }
 
-/// What a symbol that is this is known as.
+/// What a symbol of this meaning is known as.
 fn look_of<'a>(sections: &Sections<Laid>, meaning: &Meaning) -> Look<'a>
     ensures { told_by result ≡ final_meaning sections.now meaning.now }
 {
@@ -69,7 +69,8 @@ impl Known for FinalView<'_> {
     }
 }
 
-/// What the form is at the end: labels of one section that cancel are replaced by their addresses.
+/// The form in a layout: assigned symbols are expanded, and labels of one section that cancel are replaced by their
+/// addresses.
 #[tactic(auto, unfolding(crate::specs::Final::final_form))]
 pub fn final_form(
     alloc: Global,
@@ -86,7 +87,7 @@ pub fn final_form(
     }
 }
 
-/// The value of a form whose assigned symbols are put in, where no name is left at the end. It takes no memory.
+/// The value in a layout of an expanded form, where all of its names cancel. It takes no memory.
 #[tactic(auto, unfolding(crate::specs::Final::laid_value))]
 pub fn laid_value(symbols: &Symbols, sections: &Sections<Laid>, form: &Linear) -> Option<u64>
     ensures { result ≡ laid_value symbols.now sections.now form.now }

@@ -1,29 +1,29 @@
-//! Where items stand, and where sections end.
+//! The addresses of items, and the sizes of sections.
 
 ghost use Rattle.std.specs.Prelude.{◌≡◌};
-ghost use Rattle.asm_relax.specs.Final.{end_of, size_of, address_in, address_of};
+ghost use Rattle.asm_relax.specs.Final.{item_end, size_of, address_in, address_of};
 
 use asm_frags::{Frag, Laid, Section, Sections, size};
 
-/// Where the item ends.
-pub(crate) fn end_of(item: &Frag<Laid>) -> u64
-    ensures { result ≡ end_of item.now }
+/// The address behind the item.
+pub(crate) fn item_end(item: &Frag<Laid>) -> u64
+    ensures { result ≡ item_end item.now }
 {
     item.address.wrapping_add(size(&item.content, item.address))
 }
 
-/// The size of a section: where its last item ends.
+/// `sh_size`: the address behind the last item.
 #[tactic(auto, unfolding(crate::specs::Final::size_of))]
 pub fn section_size(section: &Section<Laid>) -> u64
     ensures { result ≡ size_of section.now.items }
 {
     match section.items() {
         [] => 0,
-        [.., last] => end_of(last),
+        [.., last] => item_end(last),
     }
 }
 
-/// The address of the item at this index; behind the last item stands the section's end.
+/// The address of the item at this index, and behind the last item the section's end.
 #[tactic(auto, unfolding(crate::specs::Final::address_in))]
 fn address_in(section: &Section<Laid>, item: u64) -> u64
     ensures { result ≡ address_in section.now.items item }
@@ -34,7 +34,8 @@ fn address_in(section: &Section<Laid>, item: u64) -> u64
     }
 }
 
-/// The address of the item at this index of a section; behind the last item stands the section's end. It is 0 where there is no such section.
+/// The address of the item at this index of a section, and behind the last item the section's end. It is 0 where there
+/// is no such section.
 #[tactic(auto, unfolding(crate::specs::Final::address_of))]
 pub fn address_of(sections: &Sections<Laid>, section: u32, item: u64) -> u64
     ensures { result ≡ address_of sections.now section item }

@@ -1,4 +1,4 @@
-//! From sections to their layout: all memory is taken when a plan is made.
+//! From sections to their layout. Making the plan takes all memory, and settling it none.
 
 ghost use Rattle.std.specs.Prelude.{◌≡◌};
 
@@ -13,7 +13,7 @@ use asm_symbols::Symbols;
 use std::alloc::{AllocError, Global};
 use std::marker::Model;
 
-/// Puts assigned symbols into forms.
+/// The expansion of assigned symbols, as the substitution of forms.
 #[derive(Clone, Copy)]
 struct AssignedExpansion<'a> {
     alloc: Global,
@@ -23,21 +23,21 @@ struct AssignedExpansion<'a> {
 impl Substitution for AssignedExpansion<'_> {
     ghost use Rattle.asm_relax.specs.Expanding.{expanded};
 
-    ghost substitute = { λ puts form. expanded puts.symbols.now form };
+    ghost substitute = { λ expansion form. expanded expansion.symbols.now form };
 
     fn substitute(&self, form: &Linear) -> Result<Linear, FragFault> {
         Ok(expand_assigned(self.alloc, self.symbols, form)?)
     }
 }
 
-/// What settling took.
+/// What a layout took.
 #[derive(Clone, Copy, PartialEq, Eq, Debug)]
 pub struct Settled {
-    /// How many rounds there were: one more than raised levels.
+    /// The number of rounds: one more than those that raised levels.
     pub rounds: u64,
 }
 
-/// Sections that are to be laid out, and the symbols that their fields name.
+/// A plan of a layout: the sections, and the symbols that their fields name.
 #[derive(Drop)]
 pub struct Plan<'a> {
     symbols: &'a Symbols,
@@ -56,7 +56,7 @@ impl<'a> Plan<'a> {
     ghost use Rattle.std.specs.Prelude.{◌≡◌, IfOk};
     ghost use Rattle.asm_relax.specs.Settling.{plan_of, settled_sections, settled_plan, Settles, IsLaidOut};
 
-    /// A plan of the sections, with assigned symbols put into their fields. It takes all memory that layout takes.
+    /// A plan of the sections, with assigned symbols expanded in their fields. It takes all memory that layout takes.
     #[tactic(auto, unfolding(crate::specs::Settling::planned))]
     pub fn new(
         alloc: Global,
@@ -65,20 +65,22 @@ impl<'a> Plan<'a> {
     ) -> Result<Plan<'a>, NoMemory>
         ensures { IfOk result (λ plan. plan ≡ plan_of symbols.now sections) }
     {
-        let puts = AssignedExpansion { alloc, symbols };
-        match sections.substituted(&puts) {
+        let expansion = AssignedExpansion { alloc, symbols };
+        match sections.substituted(&expansion) {
             Ok(sections) => Ok(Plan { symbols, sections }),
             Err(_) => Err(AllocError),
         }
     }
 
-    /// Gives each item its address, and answers the first fault where there is one. It takes no memory.
+    /// Sets the address of each item, and answers the first fault where there is one. It takes no memory.
     #[tactic(auto, using(crate::proofs::SettlingLemmas::placed_is_settled, crate::proofs::SettlingLemmas::placed_is_laid_out))]
     pub fn settle(&mut self) -> Result<Settled, LayoutFault>
-        ensures answer { Settles self.new.sections result (settled_plan self.old.map self.old.sections) }
-        ensures layout { IfOk result (λ done. IsLaidOut self.old.map self.old.sections self.new.sections done.rounds) }
-        ensures placed { self.new.sections ≡ settled_sections self.old.sections }
-        ensures map { self.new.map ≡ self.old.map }
+        ensures value { Settles self.new.sections result
+            (settled_plan self.old.map self.old.sections) }
+        ensures layout { IfOk result (λ done.
+            IsLaidOut self.old.map self.old.sections self.new.sections done.rounds) }
+        ensures sections { self.new.sections ≡ settled_sections self.old.sections }
+        ensures kept { self.new.map ≡ self.old.map }
     {
         lay_all(&mut self.sections);
         match first_fault(self.symbols, &self.sections) {

@@ -1,15 +1,15 @@
-//! What a layout is refused for: a section that is too large, and else a field that does not hold its value.
+//! The range checks of a layout: sections that are too large, and then fields that do not hold their values.
 
 ghost use Rattle.std.specs.Prelude.{◌≡◌, ◌<◌, ◌≤◌, option_map};
 ghost use Rattle.std.specs.List.{find};
 ghost use Rattle.asm_frags.specs.Contents.{fields_of};
-ghost use Rattle.asm_relax.specs.Final.{end_of};
+ghost use Rattle.asm_relax.specs.Final.{item_end};
 ghost use Rattle.asm_relax.specs.Faults.{first_of};
-ghost use Rattle.asm_relax.specs.RangeChecks.{is_large, ends_large, large_section, misfit, field_fault, item_fault, section_fault, first_fault};
+ghost use Rattle.asm_relax.specs.RangeChecks.{is_large, ends_large, large_section, misfit, field_misfit, item_misfit, section_misfit, first_fault};
 
 use crate::faults::LayoutFault;
 use crate::finals::laid_value;
-use crate::places::{end_of, section_size};
+use crate::places::{item_end, section_size};
 use asm_base::Pos;
 use asm_frags::{Content, Field, Frag, Laid, Section, Sections};
 use asm_symbols::Symbols;
@@ -17,7 +17,7 @@ use asm_symbols::Symbols;
 /// The most bytes of a section.
 const MOST_BYTES: u64 = 1 << 30;
 
-/// Whether what ends here is too large for a section.
+/// Whether a section that ends at this address is too large.
 fn is_large(end: u64) -> bool
     ensures { result ≡ is_large end }
 {
@@ -25,13 +25,13 @@ fn is_large(end: u64) -> bool
 }
 
 /// The first item that ends past the most bytes of a section.
-fn first_large(items: &[Frag<Laid>]) -> Option<&Frag<Laid>>
+fn first_large_item(items: &[Frag<Laid>]) -> Option<&Frag<Laid>>
     ensures { option_map (λ item. item.now) result ≡ find ends_large items.now }
 {
-    items.iter().find(|item| is_large(end_of(item)))
+    items.iter().find(|item| is_large(item_end(item)))
 }
 
-/// A section that is too large, at the first item that ends past the most bytes.
+/// The fault of a section that is too large, at the first item that ends past the most bytes.
 fn large_section(section: &Section<Laid>) -> Option<LayoutFault>
     ensures { result ≡ large_section section.now }
 {
@@ -39,7 +39,7 @@ fn large_section(section: &Section<Laid>) -> Option<LayoutFault>
     if !is_large(size) {
         return None;
     }
-    match first_large(section.items()) {
+    match first_large_item(section.items()) {
         Some(first) => Some(LayoutFault::SectionTooLarge {
             pos: first.pos,
             size,
@@ -48,8 +48,8 @@ fn large_section(section: &Section<Laid>) -> Option<LayoutFault>
     }
 }
 
-/// The first section that is too large.
-fn large_first(sections: &[Section<Laid>]) -> Option<LayoutFault>
+/// The fault of the first section that is too large.
+fn first_large_section(sections: &[Section<Laid>]) -> Option<LayoutFault>
     ensures { result ≡ first_of large_section sections.now }
 {
     for section in sections {
@@ -61,14 +61,14 @@ fn large_first(sections: &[Section<Laid>]) -> Option<LayoutFault>
     None
 }
 
-/// The field where it has a value that it does not hold.
-fn field_fault(
+/// The fault of a field that has a value and does not hold it.
+fn field_misfit(
     symbols: &Symbols,
     sections: &Sections<Laid>,
     pos: Pos,
     field: &Field,
 ) -> Option<LayoutFault>
-    ensures { result ≡ field_fault symbols.now sections.now pos field.now }
+    ensures { result ≡ field_misfit symbols.now sections.now pos field.now }
 {
     let distance = laid_value(symbols, sections, &field.form)?;
     if field.size.fits(distance) {
@@ -88,17 +88,17 @@ fn fields_of(content: &Content) -> &[Field]
     }
 }
 
-/// The first field of an item that does not hold its value.
-fn item_fault(
+/// The fault of the first field of an item that does not hold its value.
+fn item_misfit(
     symbols: &Symbols,
     sections: &Sections<Laid>,
     item: &Frag<Laid>,
 ) -> Option<LayoutFault>
-    ensures { result ≡ item_fault symbols.now sections.now item.now }
+    ensures { result ≡ item_misfit symbols.now sections.now item.now }
 {
     let fields = fields_of(&item.content);
     for field in fields {
-        let found = field_fault(symbols, sections, item.pos, field);
+        let found = field_misfit(symbols, sections, item.pos, field);
         if found.is_some() {
             return found;
         }
@@ -106,17 +106,17 @@ fn item_fault(
     None
 }
 
-/// The first field of a section that does not hold its value.
-fn section_fault(
+/// The fault of the first field of a section that does not hold its value.
+fn section_misfit(
     symbols: &Symbols,
     sections: &Sections<Laid>,
     section: &Section<Laid>,
 ) -> Option<LayoutFault>
-    ensures { result ≡ section_fault symbols.now sections.now section.now }
+    ensures { result ≡ section_misfit symbols.now sections.now section.now }
 {
     let items = section.items();
     for item in items {
-        let found = item_fault(symbols, sections, item);
+        let found = item_misfit(symbols, sections, item);
         if found.is_some() {
             return found;
         }
@@ -124,13 +124,13 @@ fn section_fault(
     None
 }
 
-/// The first field that does not hold its value.
-fn misfit_first(symbols: &Symbols, sections: &Sections<Laid>) -> Option<LayoutFault>
-    ensures { result ≡ first_of (section_fault symbols.now sections.now) sections.now }
+/// The fault of the first field that does not hold its value.
+fn first_misfit(symbols: &Symbols, sections: &Sections<Laid>) -> Option<LayoutFault>
+    ensures { result ≡ first_of (section_misfit symbols.now sections.now) sections.now }
 {
     let all = sections.as_slice();
     for section in all {
-        let found = section_fault(symbols, sections, section);
+        let found = section_misfit(symbols, sections, section);
         if found.is_some() {
             return found;
         }
@@ -143,9 +143,9 @@ fn misfit_first(symbols: &Symbols, sections: &Sections<Laid>) -> Option<LayoutFa
 pub(crate) fn first_fault(symbols: &Symbols, sections: &Sections<Laid>) -> Option<LayoutFault>
     ensures { result ≡ first_fault symbols.now sections.now }
 {
-    let found = large_first(sections.as_slice());
+    let found = first_large_section(sections.as_slice());
     if found.is_some() {
         return found;
     }
-    misfit_first(symbols, sections)
+    first_misfit(symbols, sections)
 }

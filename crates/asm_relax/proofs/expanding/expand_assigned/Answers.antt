@@ -1,4 +1,4 @@
--- Assigned symbols are put in once more.
+-- Each round expands the form once more.
 use Rattle.std.proofs.Common.{sym, ◌∙◌}
 use Rattle.asm_relax.proofs.ExpandingLemmas.{expanded_start, expanded_step, expanded_early, expanded_done}
 use Rattle.asm_relax.proofs.expanding.expand_assigned.Goals as goal

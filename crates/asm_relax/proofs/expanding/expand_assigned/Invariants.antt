@@ -1,4 +1,4 @@
--- What is left to put in gives the same form.
+-- What is left of the expansion gives the whole one.
 use Rattle.std.proofs.Common.{◌≡◌}
 use Rattle.asm_relax.specs.Expanding.{expanded_within, expanded}
 use Rattle.asm_relax.proofs.expanding.expand_assigned.Given as goal

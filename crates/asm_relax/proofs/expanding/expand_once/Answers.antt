@@ -1,4 +1,4 @@
--- The next of the terms is put in.
+-- The next term is added.
 use Rattle.asm_relax.proofs.ExpandingLemmas.{plus_step, plus_done}
 use Rattle.asm_relax.proofs.expanding.expand_once.Goals as goal
 

@@ -1,4 +1,4 @@
--- The terms so far, with those to come, give all.
+-- The terms so far with those that follow give the whole form.
 use Rattle.std.proofs.Common.{◌≡◌, drop}
 use Rattle.asm_relax.specs.Expanding.{plus_terms, expanded_once}
 use Rattle.asm_relax.proofs.expanding.expand_once.Given as goal

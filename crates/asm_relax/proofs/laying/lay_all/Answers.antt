@@ -11,7 +11,7 @@ loop-number-preserved c = record {
   sections =
       c.lay_section.ensures.sections ∙ ap (λ (all : LaidSections). changed_at placed_section all c.loop-number.number) c.loop-number.invariant.sections
       ∙ (let one : suc c.loop-number.number ≡ c.loop-number.number + 1 = omega arith in rw one at (front_next placed_section c.loop-number.number c.args.sections.now (let all = c.len-count.ensures.len in let inside = c.loop-number-test.true in omega arith)));
-  same = c.lay_section.ensures.same ∙ c.loop-number.invariant.same;
+  same = c.lay_section.ensures.kept ∙ c.loop-number.invariant.same;
 }
 
 pub returns : goal.returns

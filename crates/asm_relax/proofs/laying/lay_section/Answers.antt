@@ -25,9 +25,9 @@ loop-item-preserved c =
           c.loop-item.invariant.sections c.loop-item.invariant.behind c.lay_item-at.ensures.sections;
       behind =
           behind_step c.args.sections.now c.loop-item.sections c.args.number c.loop-item.item c.loop-item.at c.lay_item-at.result c.section.result.now c.section.ensures.section inside
-          c.loop-item.invariant.sections c.loop-item.invariant.behind c.lay_item-at.ensures.next;
-      small = let before = c.loop-item.invariant.small in let most = c.lay_item-at.ensures.most in omega arith;
-      same = c.lay_item-at.ensures.same ∙ c.loop-item.invariant.same;
+          c.loop-item.invariant.sections c.loop-item.invariant.behind c.lay_item-at.ensures.value;
+      small = let before = c.loop-item.invariant.small in let within = c.lay_item-at.ensures.within in omega arith;
+      same = c.lay_item-at.ensures.kept ∙ c.loop-item.invariant.same;
     }
 
 pub returns-clause-sections : goal.returns-clause-sections

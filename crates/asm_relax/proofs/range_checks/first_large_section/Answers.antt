@@ -2,7 +2,7 @@
 use Rattle.std.proofs.Common.{sym, ◌∙◌}
 use Rattle.asm_relax.specs.RangeChecks.{large_section}
 use Rattle.asm_relax.proofs.FirstLemmas.{first_step, first_found, first_done}
-use Rattle.asm_relax.proofs.range_checks.large_first.Goals as goal
+use Rattle.asm_relax.proofs.range_checks.first_large_section.Goals as goal
 
 pub returns-then-is_some : goal.returns-then-is_some
 returns-then-is_some c =

@@ -1,8 +1,8 @@
 -- The fields so far hold their values.
 use Rattle.std.proofs.Common.{◌≡◌, drop}
 use Rattle.asm_relax.specs.Faults.{first_of}
-use Rattle.asm_relax.specs.RangeChecks.{field_fault, item_fault}
-use Rattle.asm_relax.proofs.range_checks.item_fault.Given as goal
+use Rattle.asm_relax.specs.RangeChecks.{field_misfit, item_misfit}
+use Rattle.asm_relax.proofs.range_checks.item_misfit.Given as goal
 
 abbrev pub invariant-loop-field : goal.invariant-loop-field
-invariant-loop-field l = first_of (field_fault l.symbols l.sections l.item.pos) (drop l.field-index l.fields) ≡ item_fault l.symbols l.sections l.item
+invariant-loop-field l = first_of (field_misfit l.symbols l.sections l.item.pos) (drop l.field-index l.fields) ≡ item_misfit l.symbols l.sections l.item
