@@ -3,6 +3,7 @@ use Rattle.std.specs.Prelude.{ℕ, List, ◌++◌}
 use Rattle.asm_base.specs.declared.outside.Channel.{Channel}
 use Rattle.asm_base.specs.declared.outside.Channel.TheVariants.{Out, Err}
 
+-- what was said on standard output, and on standard error
 pub record Said : Type 0 where
   pub out : List ℕ
   pub err : List ℕ

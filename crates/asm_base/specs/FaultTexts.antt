@@ -54,6 +54,7 @@ statement_text statement.UnbalancedCfiState = codes "CFI states do not balance"
 statement_text statement.FunctionSplit = codes "function is split over sections"
 statement_text statement.BadFileName = codes "bad file name"
 
+-- the text of a fault that shows at the end of the source
 abbrev pub end_text : EndFault → List ℕ
 end_text end.UndefinedLocalSymbol = codes "undefined local symbol"
 end_text end.NoRelocation = codes "no relocation for this value"
@@ -63,6 +64,7 @@ end_text end.SectionTooLarge = codes "section is too large"
 end_text end.UnclosedProcedure = codes "CFI procedure is not closed"
 end_text end.WarningsAreErrors = codes "warnings are treated as errors"
 
+-- the name of a register that calls keep (psABI for AMD64, section 3.2.1)
 abbrev pub register_name : SavedRegister → List ℕ
 register_name Rbx = codes "rbx"
 register_name Rbp = codes "rbp"
@@ -71,6 +73,7 @@ register_name R13 = codes "r13"
 register_name R14 = codes "r14"
 register_name R15 = codes "r15"
 
+-- the text of a fault of the synthesis of frame tables
 abbrev pub scfi_text : ScfiFault → List ℕ
 scfi_text scfi.FrameLost = codes "SCFI: frame is lost"
 scfi_text (scfi.RegisterLost register) = codes "SCFI: %" ++ register_name register ++ codes " is lost"
@@ -85,11 +88,13 @@ scfi_text scfi.RunsPastEnd = codes "SCFI: function runs past its end"
 scfi_text scfi.UnsupportedStackUse = codes "SCFI: unsupported stack use"
 scfi_text scfi.OffsetTooLarge = codes "SCFI: offset is too large"
 
+-- the text of any fault
 abbrev pub fault_text : Fault → List ℕ
 fault_text (Statement fault) = statement_text fault
 fault_text (End fault) = end_text fault
 fault_text (Scfi fault) = scfi_text fault
 
+-- the text of a warning
 abbrev pub note_text : Note → List ℕ
 note_text (Written text) = text
 note_text CfiIgnored = codes "CFI directives are ignored under synthesis"

@@ -1,9 +1,14 @@
 -- What a name has in an input in memory whose calls may fail.
-use Rattle.std.specs.Prelude.{ℕ, List, [], ◌∷◌, Option, None, Some, if◌then◌else◌}
+use Rattle.std.specs.Prelude.{ℕ, Bool, nat_eq, List, [], ◌∷◌, Option, None, Some, if◌then◌else◌}
+use Rattle.std.specs.List.{list_any}
 use Rattle.std.specs.Str.{bytes_eq}
 use Rattle.asm_base.specs.declared.memory.MemoryFile.{MemoryFile}
 use Rattle.asm_base.specs.declared.faulty.Unlisted.{Unlisted}
 use Rattle.asm_base.specs.declared.faulty.Unlisted.TheVariants.{Missing, Empty}
+
+-- the call of this number is one of those that fail
+abbrev pub is_listed : ℕ → List ℕ → Bool
+is_listed number failing = list_any (λ call. nat_eq call number) failing
 
 -- what a name has that no file has
 abbrev pub unlisted_contents : Unlisted → Option (List ℕ)
@@ -13,4 +18,5 @@ unlisted_contents Empty = Some []
 -- the bytes of the first file of this name
 abbrev pub contents_named : List MemoryFile → Unlisted → List ℕ → Option (List ℕ)
 contents_named [] unlisted name = unlisted_contents unlisted
-contents_named (f ∷ files) unlisted name = if bytes_eq f.name.now name then Some f.bytes.now else contents_named files unlisted name
+contents_named (f ∷ files) unlisted name =
+    if bytes_eq f.name.now name then Some f.bytes.now else contents_named files unlisted name

@@ -9,23 +9,26 @@ use Rattle.asm_base.specs.declared.notes.Noted.{Noted}
 use Rattle.asm_base.specs.declared.positions.Pos.{Pos}
 
 -- the name of a file's number
-abbrev pub file_name : List (List ℕ) → ℕ → List ℕ
-file_name files file = slice_index_or files file []
+abbrev pub name_of_file : List (List ℕ) → ℕ → List ℕ
+name_of_file files file = slice_index_or files file []
 
 -- `FILE:LINE: `
 abbrev pub position_text : List (List ℕ) → Pos → List ℕ
-position_text files pos = file_name files pos.file ++ codes ":" ++ decimal pos.line ++ codes ": "
+position_text files pos = name_of_file files pos.file ++ codes ":" ++ decimal pos.line ++ codes ": "
 
 -- `FILE: Assembler messages:`, which stands before the first message
 abbrev pub heading : List (List ℕ) → Pos → List ℕ
-heading files pos = file_name files pos.file ++ codes ": Assembler messages:\n"
+heading files pos = name_of_file files pos.file ++ codes ": Assembler messages:\n"
 
+-- `FILE:LINE: Error: TEXT` and a line end
 abbrev pub error_line : List (List ℕ) → Fault → Pos → List ℕ
 error_line files fault pos = position_text files pos ++ codes "Error: " ++ fault_text fault ++ codes "\n"
 
+-- `FILE:LINE: Warning: TEXT` and a line end
 abbrev pub warning_line : List (List ℕ) → Note → Pos → List ℕ
 warning_line files note pos = position_text files pos ++ codes "Warning: " ++ note_text note ++ codes "\n"
 
+-- the line of a note at its place
 abbrev pub noted_line : List (List ℕ) → Noted → List ℕ
 noted_line files noted = warning_line files noted.note noted.pos
 

@@ -1,11 +1,13 @@
 -- What an output has made: nothing, or one file, and what its calls do to it.
 use Rattle.std.specs.Prelude.{ℕ, Bool, true, false, List, [], ◌++◌, if◌then◌else◌}
 
+-- a file: its name, the bytes that it has, and whether it is finished
 pub record MadeFile : Type 0 where
   pub name : List ℕ
   pub bytes : List ℕ
   pub finished : Bool
 
+-- what an output has made
 pub data Made : Type 0 where
   nothing : Made
   file : MadeFile → Made

@@ -18,6 +18,7 @@ is_space BlockComment = true
 is_space OpenComment = true
 is_space _ = false
 
+-- the piece is a comment, closed or not
 abbrev pub is_comment : PieceKind → Bool
 is_comment LineComment = true
 is_comment BlockComment = true

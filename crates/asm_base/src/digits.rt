@@ -7,7 +7,7 @@ ghost use Rattle.asm_base.specs.Digits.{digit_of};
 #[tactic(auto, unfolding(crate::specs::Digits::digit_of))]
 pub fn digit_of(byte: u8) -> u64
     ensures value { result ≡ digit_of byte }
-    ensures small { result ≤ 16 }
+    ensures within { result ≤ 16 }
 {
     match byte {
         b'0'..=b'9' => u64::from(byte - b'0'),

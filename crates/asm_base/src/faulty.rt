@@ -1,8 +1,8 @@
 //! The outside in memory with failures: chosen calls fail, and a call reads, writes or says a few bytes at a time.
 
-ghost use Rattle.std.specs.Prelude.{◌≡◌, ◌<◌, ◌≤◌, ◌+◌, ◌-◌, ◌^◌, [], max, min, nat_eq, option_map};
-ghost use Rattle.std.specs.List.{list_any};
+ghost use Rattle.std.specs.Prelude.{◌≡◌, ◌<◌, ◌≤◌, ◌+◌, ◌-◌, ◌^◌, [], max, min, option_map};
 ghost use Rattle.asm_base.specs.Faulty as named;
+ghost use Rattle.asm_base.specs.Faulty.{is_listed};
 
 use crate::memory::{MemoryConsole, MemoryFile, MemoryOutput, Stage};
 use crate::outside::{Channel, Console, Failed, Inputs, Output, failure};
@@ -42,7 +42,7 @@ impl<'a> Calls<'a> {
 
     /// Whether the next call fails, which counts as made.
     fn next_fails(&mut self) -> bool
-        ensures fails { result ≡ list_any (λ call. nat_eq call self.old.made) self.old.failing.now }
+        ensures value { result ≡ is_listed self.old.made self.old.failing.now }
         ensures made { self.new.made ≡ min (self.old.made + 1) (2 ^ 64 - 1) }
         ensures failing { self.new.failing ≡ self.old.failing }
         ensures largest { self.new.largest ≡ self.old.largest }
@@ -54,8 +54,8 @@ impl<'a> Calls<'a> {
 
     /// How many of so many bytes a call takes.
     fn piece(&self, bytes: usize) -> usize
-        ensures at_most { result ≤ bytes }
-        ensures some { 0 < bytes → 0 < result }
+        ensures within { result ≤ bytes }
+        ensures progress { 0 < bytes → 0 < result }
         ensures largest { result ≤ max self.now.largest 1 }
     {
         bytes.min(self.largest.max(1))
@@ -77,7 +77,8 @@ fn contents_named<'a>(
     unlisted: Unlisted,
     name: &str,
 ) -> Option<&'a [u8]>
-    ensures { option_map (λ bytes. bytes.now) result ≡ named.contents_named files.now unlisted name.now }
+    ensures { option_map (λ bytes. bytes.now) result
+        ≡ named.contents_named files.now unlisted name.now }
 {
     for file in files {
         if file.name == name {

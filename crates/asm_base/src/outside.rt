@@ -14,8 +14,8 @@ pub struct Failed;
 
 /// A call failed: its count rises, and stands still at its type's end.
 pub(crate) fn failure(count: &mut u64) -> Failed
-    ensures risen { HasRisen count.old count.new }
-    ensures later { count.old ≤ count.new }
+    ensures cause { HasRisen count.old count.new }
+    ensures kept { count.old ≤ count.new }
 {
     *count = count.saturating_add(1);
     Failed
@@ -42,7 +42,8 @@ pub trait Inputs {
     fn start(&mut self, name: &str) -> Result<(), Failed>
         ensures contents { contents self.new ≡ contents self.old }
         ensures cause { HasCause (faults self.old) (faults self.new) result }
-        ensures missing { CountsMissing (contents self.old) name.now (missing self.old) (missing self.new) }
+        ensures missing { CountsMissing (contents self.old) name.now
+            (missing self.old) (missing self.new) }
         ensures found { OnOk result (missing self.new ≡ missing self.old) }
         ensures taken { taken self.new ≡ taken self.old }
         ensures started { Starts (contents self.old) name.now result (rest self.new) }
@@ -68,7 +69,8 @@ pub trait Output {
 
     /// Makes a file of this name, without bytes.
     fn create(&mut self, name: &str) -> Result<(), Failed>
-        ensures ok { OnOk result (made self.new ≡ option_map (after_create name.now) (made self.old)) }
+        ensures ok { OnOk result
+            (made self.new ≡ option_map (after_create name.now) (made self.old)) }
         ensures err { OnErr result (made self.new ≡ made self.old) }
         ensures cause { HasCause (faults self.old) (faults self.new) result };
 
@@ -76,7 +78,8 @@ pub trait Output {
     fn write(&mut self, piece: &[u8]) -> Result<usize, Failed>
         ensures some { IfOk result (λ n. 0 < length piece.now → 0 < n) }
         ensures at_most { IfOk result (λ n. n ≤ length piece.now) }
-        ensures ok { IfOk result (λ n. made self.new ≡ option_map (after_write (take n piece.now)) (made self.old)) }
+        ensures ok { IfOk result
+            (λ n. made self.new ≡ option_map (after_write (take n piece.now)) (made self.old)) }
         ensures err { OnErr result (made self.new ≡ made self.old) }
         ensures cause { HasCause (faults self.old) (faults self.new) result };
 
@@ -110,7 +113,8 @@ pub trait Console {
     fn say(&mut self, to: Channel, piece: &[u8]) -> Result<usize, Failed>
         ensures some { IfOk result (λ n. 0 < length piece.now → 0 < n) }
         ensures at_most { IfOk result (λ n. n ≤ length piece.now) }
-        ensures ok { IfOk result (λ n. said self.new ≡ option_map (after_say to (take n piece.now)) (said self.old)) }
+        ensures ok { IfOk result
+            (λ n. said self.new ≡ option_map (after_say to (take n piece.now)) (said self.old)) }
         ensures err { OnErr result (said self.new ≡ said self.old) }
         ensures cause { HasCause (faults self.old) (faults self.new) result };
 }

@@ -156,7 +156,7 @@ fn comment_piece(rest: &[u8]) -> FirstPiece
     requires { 0 < length rest.now }
     ensures kind { result.kind ≡ comment_kind (drop 1 rest.now) }
     ensures length { result.length ≡ piece_length result.kind rest.now }
-    ensures some { 0 < result.length }
+    ensures progress { 0 < result.length }
     ensures within { result.length ≤ 1 + length rest.now }
 {
     let inner = &rest[1..];
@@ -179,7 +179,7 @@ fn comment_piece(rest: &[u8]) -> FirstPiece
 fn string_piece(rest: &[u8]) -> FirstPiece
     ensures kind { result.kind ≡ string_kind rest.now }
     ensures length { result.length ≡ piece_length result.kind rest.now }
-    ensures some { 0 < result.length }
+    ensures progress { 0 < result.length }
     ensures within { result.length ≤ 1 + length rest.now }
 {
     let before_close = quoted_length(rest);
@@ -201,7 +201,7 @@ fn string_piece(rest: &[u8]) -> FirstPiece
 pub fn first_piece(first: u8, rest: &[u8]) -> FirstPiece
     ensures kind { result.kind ≡ piece_kind first rest.now }
     ensures length { result.length ≡ piece_length result.kind rest.now }
-    ensures some { 0 < result.length }
+    ensures progress { 0 < result.length }
     ensures within { result.length ≤ 1 + length rest.now }
 {
     if first == b'\n' {

@@ -63,15 +63,16 @@ fn read_piece<I: Inputs>(
 ) -> Result<usize, TextFault>
     requires room { 0 < length buffer.old }
     requires few { vec_len bytes.old ≤ most_bytes }
-    ensures told { OnOk result (ReadsOn (I.rest ins.old) bytes.old.items (I.rest ins.new) bytes.new.items) }
-    ensures stopped { IfErr result (λ fault. StopsReading fault) }
-    ensures at_end { IfOk result (λ count. count ≡ 0 → IsAtEnd (I.rest ins.new)) }
-    ensures len { IfOk result (λ count. vec_len bytes.new ≡ vec_len bytes.old + count) }
-    ensures few { vec_len bytes.new ≤ most_bytes + 1 }
+    ensures value { OnOk result
+        (ReadsOn (I.rest ins.old) bytes.old.items (I.rest ins.new) bytes.new.items) }
+    ensures err { IfErr result (λ fault. StopsReading fault) }
+    ensures end { IfOk result (λ count. count ≡ 0 → IsAtEnd (I.rest ins.new)) }
+    ensures length { IfOk result (λ count. vec_len bytes.new ≡ vec_len bytes.old + count) }
+    ensures within { vec_len bytes.new ≤ most_bytes + 1 }
     ensures cause { HasReadCause result (I.faults ins.old) (I.faults ins.new) }
     ensures taken { IfOk result (λ count. I.taken ins.new ≡ grown count (I.taken ins.old)) }
-    ensures later { I.taken ins.old ≤ I.taken ins.new }
-    ensures at_most { I.taken ins.new + vec_len bytes.old ≤ I.taken ins.old + (most_bytes + 1) }
+    ensures kept { I.taken ins.old ≤ I.taken ins.new }
+    ensures room { I.taken ins.new + vec_len bytes.old ≤ I.taken ins.old + (most_bytes + 1) }
     ensures contents { I.contents ins.new ≡ I.contents ins.old }
     ensures missing { I.missing ins.new ≡ I.missing ins.old }
 {
@@ -111,8 +112,10 @@ pub fn read_text<I: Inputs>(alloc: Global, ins: &mut I, name: &str) -> Result<Te
     ensures taken { TakesBytes result (I.taken ins.old) (I.taken ins.new) }
     ensures whole { OnOk result (IsAtEnd (I.rest ins.new)) }
     ensures contents { I.contents ins.new ≡ I.contents ins.old }
-    ensures found { result ≡ Err TextFault.Read ⊎ (I.missing ins.new ≡ I.missing ins.old) }
-    ensures missing { CountsMissing (I.contents ins.old) name.now (I.missing ins.old) (I.missing ins.new) }
+    ensures unchanged { result ≡ Err TextFault.Read
+        ⊎ (I.missing ins.new ≡ I.missing ins.old) }
+    ensures missing { CountsMissing (I.contents ins.old) name.now
+        (I.missing ins.old) (I.missing ins.new) }
 {
     ins.start(name)?;
     read_rest(alloc, ins)

@@ -17,7 +17,8 @@ fn put_warnings(
     notes: &[Noted],
     files: &Files,
 ) -> Result<(), NoMemory>
-    ensures { OnOk result (text.new.items ≡ text.old.items ++ flat_map (noted_line files.now) notes.now) }
+    ensures { OnOk result
+        (text.new.items ≡ text.old.items ++ flat_map (noted_line files.now) notes.now) }
 {
     for noted in notes {
         let line = warning(alloc, &noted.note, &noted.pos, files)?;

@@ -135,8 +135,8 @@ impl<'a, R: Files + Alloc> FileOutput<'a, R> {
 
     /// A call on the file failed. A removal that is refused changes no answer.
     fn give_up(&mut self, file: R::File) -> Failed
-        ensures risen { HasRisen self.old.faults self.new.faults }
-        ensures later { self.old.faults ≤ self.new.faults }
+        ensures cause { HasRisen self.old.faults self.new.faults }
+        ensures kept { self.old.faults ≤ self.new.faults }
     {
         if self.is_named(&file) {
             let _ = fs::remove_file(self.rt, self.name.as_str());

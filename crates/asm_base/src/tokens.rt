@@ -62,8 +62,8 @@ impl<'a> Model for Tokens<'a> {
 impl<'a> Tokens<'a> {
     /// Reads the tokens of a statement: blanks and comments stand between them.
     pub fn read(alloc: Global, statement: &'a [u8]) -> Result<Tokens<'a>, AllocError>
-        ensures tokens { IfOk result (λ tokens. tokens ≡ tokens_of statement.now) }
-        ensures inline { length (tokens_of statement.now) ≤ 8 → IsOk result }
+        ensures value { IfOk result (λ tokens. tokens ≡ tokens_of statement.now) }
+        ensures memory { length (tokens_of statement.now) ≤ 8 → IsOk result }
     {
         let mut list = SmallVec::new(alloc);
         let mut at = 0;
@@ -146,7 +146,7 @@ fn token_length(kind: TokenKind, first: u8, rest: &[u8], piece: FirstPiece) -> u
     requires piece_some { 0 < piece.length }
     requires piece_within { piece.length ≤ 1 + length rest.now }
     ensures value { result ≡ token_length kind first rest.now }
-    ensures some { 0 < result }
+    ensures progress { 0 < result }
     ensures within { result ≤ 1 + length rest.now }
 {
     match kind {

@@ -13,7 +13,7 @@ use Rattle.asm_base.specs.Pieces.{Piece, ends_statement}
 use Rattle.asm_base.specs.Dividing.{first_piece, piece_kind, piece_length, pieces_from, pieces_of}
 use Rattle.asm_lines.specs.declared.faults.Found.{Found}
 use Rattle.asm_lines.specs.declared.faults.LineFault.TheVariants.{NulByte}
-use Rattle.asm_lines.specs.LineNumbers.{end_of, line_of, part}
+use Rattle.asm_lines.specs.LineNumbers.{end_of_pieces, line_of, bytes_between}
 use Rattle.asm_lines.specs.Intervals.{intervals_of, trimmed}
 use Rattle.asm_lines.specs.Faults.{earlier, first_long, first_open, found_at, nul_found, nul_offset, source_found}
 use Rattle.asm_lines.specs.Statements.{StatementAt, statement_in, statement_of, statements_in, statements_of, unless_found}
@@ -72,7 +72,7 @@ one_before : (file : ℕ) (source : List ℕ) (kept : List Piece) (later : List 
     → LinesNeverFall (filter_map (statement_in file source) later) → LinesNeverFall (cons_option (statement_of file source kept) (filter_map (statement_in file source) later))
 one_before file source [] later behind rises = rises
 one_before file source (first ∷ others) later behind rises =
-    let statement : StatementAt = record { file = file; line = line_of source first.start; bytes = part source first.start (end_of first others) } in
+    let statement : StatementAt = record { file = file; line = line_of source first.start; bytes = bytes_between source first.start (end_of_pieces first others) } in
     AllPairs-cons (λ one other. one.line ≤ other.line) statement (filter_map (statement_in file source) later)
     (All-from_recursion (λ other. statement.line ≤ other.line) (filter_map (statement_in file source) later) (all_later file source first.start later behind.0)) rises
 
@@ -101,7 +101,7 @@ no_nul_in source none = λ k d within. eqb-false (get_or source k d) 0 (fails_be
 one_no_nul : (file : ℕ) (source : List ℕ) (kept : List Piece) (statements : List StatementAt) → All (λ byte. byte ≢ 0) source → AllByRecursion HasNoNul statements → AllByRecursion HasNoNul (cons_option (statement_of file source kept) statements)
 one_no_nul file source [] statements none later = later
 one_no_nul file source (first ∷ others) statements none later =
-    (All-take (λ byte. byte ≢ 0) (end_of first others - first.start) (drop first.start source) (All-drop (λ byte. byte ≢ 0) first.start source none), later)
+    (All-take (λ byte. byte ≢ 0) (end_of_pieces first others - first.start) (drop first.start source) (All-drop (λ byte. byte ≢ 0) first.start source none), later)
 
 all_no_nul : (file : ℕ) (source : List ℕ) (intervals : List (List Piece)) → All (λ byte. byte ≢ 0) source → AllByRecursion HasNoNul (filter_map (statement_in file source) intervals)
 all_no_nul file source [] none = tt

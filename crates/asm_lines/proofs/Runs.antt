@@ -11,7 +11,7 @@ use Rattle.asm_base.specs.Pieces.{Piece, IsDivision, IsDivisionFrom, ends_statem
 use Rattle.asm_base.specs.Dividing.{pieces_of}
 use Rattle.asm_lines.specs.declared.faults.Found.{Found}
 use Rattle.asm_lines.specs.declared.faults.LineFault.TheVariants.{StatementTooLong}
-use Rattle.asm_lines.specs.LineNumbers.{end_of, line_of, part}
+use Rattle.asm_lines.specs.LineNumbers.{end_of_pieces, line_of, bytes_between}
 use Rattle.asm_lines.specs.Intervals.{before_others, intervals_of, own_length, trimmed, without_space_after, without_space_before}
 use Rattle.asm_lines.specs.Faults.{earlier, first_long, first_open, found_at, long_found, longest_statement, nul_found, source_found}
 use Rattle.asm_lines.specs.Statements.{StatementAt, statement_in, statement_of, statements_in, statements_of}
@@ -176,7 +176,7 @@ pub record Spells (start : ℕ) (text : List ℕ) (first : Piece) (others : List
   pub rest : List ℕ
   pub begins : first.start ≡ start
   pub stands : text ≡ flat_map (λ piece. piece.bytes) (first ∷ others) ++ rest
-  pub ends : end_of first others ≡ start + length (flat_map (λ piece. piece.bytes) (first ∷ others))
+  pub ends : end_of_pieces first others ≡ start + length (flat_map (λ piece. piece.bytes) (first ∷ others))
 
 spells : (start : ℕ) (text : List ℕ) (first : Piece) (others after : List Piece) → IsDivisionFrom start text (first ∷ (others ++ after)) → Spells start text first others
 spells start text first [] after (rest, text_is, start_is, piece_is, later) = record {
@@ -195,10 +195,10 @@ spells start text first (next ∷ others) after (rest, text_is, start_is, piece_
       ends = omega (arith, more.ends, length-append first.bytes bytes);
     }
 
-part_spells : (source : List ℕ) (start : ℕ) (first : Piece) (others : List Piece) → Spells start (drop start source) first others → part source first.start (end_of first others) ≡ flat_map (λ piece. piece.bytes) (first ∷ others)
+part_spells : (source : List ℕ) (start : ℕ) (first : Piece) (others : List Piece) → Spells start (drop start source) first others → bytes_between source first.start (end_of_pieces first others) ≡ flat_map (λ piece. piece.bytes) (first ∷ others)
 part_spells source start first others spelled =
     let bytes = flat_map (λ piece. piece.bytes) (first ∷ others) in
-    let long : end_of first others - first.start ≡ length bytes = omega (arith, spelled.begins, spelled.ends) in
+    let long : end_of_pieces first others - first.start ≡ length bytes = omega (arith, spelled.begins, spelled.ends) in
     ap (λ n. take n (drop first.start source)) long ∙ ap (λ k. take (length bytes) (drop k source)) spelled.begins ∙ ap (take (length bytes)) spelled.stands ∙ take-append_seam bytes spelled.rest
 
 drop_none : (source : List ℕ) → source ≡ drop 0 source
@@ -206,7 +206,7 @@ drop_none [] = refl
 drop_none (byte ∷ rest) = refl
 
 run_spells : (source : List ℕ) (before : List Piece) (first : Piece) (others after : List Piece) → IsDivision source (pieces_of source) → pieces_of source ≡ before ++ (first ∷ others) ++ after
-    → part source first.start (end_of first others) ≡ flat_map (λ piece. piece.bytes) (first ∷ others)
+    → bytes_between source first.start (end_of_pieces first others) ≡ flat_map (λ piece. piece.bytes) (first ∷ others)
 run_spells source before first others after division stands =
     let Front : List ℕ → Type 0 = λ these. IsDivisionFrom 0 these (pieces_of source) in
     let Divides : List Piece → Type 0 = λ these. IsDivisionFrom 0 (drop 0 source) these in

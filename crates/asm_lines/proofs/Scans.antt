@@ -9,7 +9,7 @@ use Rattle.asm_lines.specs.declared.intervals.PieceAt.{PieceAt}
 use Rattle.asm_lines.specs.declared.intervals.Span.{Span}
 use Rattle.asm_lines.specs.declared.intervals.Scan.{Scan}
 use Rattle.asm_lines.specs.Intervals.{before_others, own_bytes, own_length, trimmed, without_space_after, without_space_before}
-use Rattle.asm_lines.specs.LineNumbers.{end_of, end_of_piece}
+use Rattle.asm_lines.specs.LineNumbers.{end_of_pieces, end_of_piece}
 use Rattle.asm_lines.specs.Faults.{first_open, open_by, long_found, earlier}
 use Rattle.asm_lines.specs.Statements.{statement_of, statement_in}
 use Rattle.asm_lines.specs.Scan.{EndsBy, begun, extended, found_by_scan, interval_found, long_by_span, nothing_scanned, own_by, piece_at, scan_of, statement_by_span, unclosed_by, with_piece}
@@ -66,7 +66,7 @@ unclosed_of source scan (piece ∷ pieces) =
 -- where the pieces end, behind this offset
 ends_behind : ℕ → List Piece → ℕ
 ends_behind end [] = end
-ends_behind end (piece ∷ pieces) = end_of piece pieces
+ends_behind end (piece ∷ pieces) = end_of_pieces piece pieces
 
 -- how long the statement is with the pieces
 own_behind : ℕ → ℕ → List Piece → ℕ
@@ -156,7 +156,7 @@ word_kept : (piece : Piece) (kept : List Piece) → is_space piece.kind ≡ fals
 word_kept piece [] word = rw word refl
 word_kept piece (next ∷ others) word = refl
 
-behind_end : (piece : Piece) (kept : List Piece) → ends_behind (end_of_piece piece) kept ≡ end_of piece kept
+behind_end : (piece : Piece) (kept : List Piece) → ends_behind (end_of_piece piece) kept ≡ end_of_pieces piece kept
 unfolding ends_behind
 behind_end piece [] = refl
 behind_end piece (next ∷ others) = refl

@@ -15,6 +15,7 @@ use Rattle.asm_lines.specs.Intervals.{intervals_of, trimmed, own_length}
 abbrev pub longest_statement : ℕ
 longest_statement = 2 ^ 16
 
+-- a fault at an offset
 abbrev pub found_at : ℕ → LineFault → Found
 found_at offset fault = record { offset = offset; fault = fault }
 
@@ -39,10 +40,11 @@ open_by source OpenString start = Some (found_at start (UnclosedString (line_of 
 open_by source OpenComment start = Some (found_at start (UnclosedComment (line_of source start)))
 open_by source _ start = None
 
+-- the fault of a piece that does not close
 abbrev pub open_found : List ℕ → Piece → Option Found
 open_found source piece = open_by source piece.kind piece.start
 
--- the first of them
+-- the first string or comment that does not close
 abbrev pub first_open : List ℕ → List Piece → Option Found
 first_open source [] = None
 first_open source (piece ∷ pieces) = option_or (open_found source piece) (first_open source pieces)
@@ -53,7 +55,7 @@ long_found source [] = None
 long_found source (first ∷ others) =
     if nat_lt longest_statement (own_length (first ∷ others)) then Some (found_at first.start (StatementTooLong (line_of source first.start))) else None
 
--- the first of them
+-- the first statement that is too long
 abbrev pub first_long : List ℕ → List (List Piece) → Option Found
 first_long source [] = None
 first_long source (interval ∷ later) = option_or (long_found source (trimmed interval)) (first_long source later)

@@ -30,6 +30,7 @@ trimmed interval = without_space_after (without_space_before interval)
 abbrev pub own_bytes : Piece → ℕ
 own_bytes piece = if is_comment piece.kind then 0 else length piece.bytes
 
+-- how many bytes the pieces add to their statement
 abbrev pub own_length : List Piece → ℕ
 own_length [] = 0
 own_length (piece ∷ pieces) = own_bytes piece + own_length pieces

@@ -16,10 +16,10 @@ abbrev pub end_of_piece : Piece → ℕ
 end_of_piece piece = piece.start + length piece.bytes
 
 -- the offset behind the last of these pieces
-abbrev pub end_of : Piece → List Piece → ℕ
-end_of piece [] = end_of_piece piece
-end_of piece (next ∷ others) = end_of next others
+abbrev pub end_of_pieces : Piece → List Piece → ℕ
+end_of_pieces piece [] = end_of_piece piece
+end_of_pieces piece (next ∷ others) = end_of_pieces next others
 
 -- the part of a source between two offsets
-abbrev pub part : List ℕ → ℕ → ℕ → List ℕ
-part source from to = take (to - from) (drop from source)
+abbrev pub bytes_between : List ℕ → ℕ → ℕ → List ℕ
+bytes_between source from to = take (to - from) (drop from source)

@@ -10,7 +10,7 @@ use Rattle.asm_lines.specs.declared.faults.LineFault.TheVariants.{UnclosedString
 use Rattle.asm_lines.specs.declared.intervals.PieceAt.{PieceAt}
 use Rattle.asm_lines.specs.declared.intervals.Span.{Span}
 use Rattle.asm_lines.specs.declared.intervals.Scan.{Scan}
-use Rattle.asm_lines.specs.LineNumbers.{line_of, part}
+use Rattle.asm_lines.specs.LineNumbers.{line_of, bytes_between}
 use Rattle.asm_lines.specs.Intervals.{trimmed}
 use Rattle.asm_lines.specs.Faults.{longest_statement, found_at, earlier, first_open, long_found}
 use Rattle.asm_lines.specs.Statements.{StatementAt}
@@ -29,6 +29,7 @@ abbrev pub later_pieces : List Piece → List Piece
 later_pieces [] = []
 later_pieces (piece ∷ pieces) = if ends_statement piece.kind then pieces else later_pieces pieces
 
+-- what is known before the first piece of an interval
 abbrev pub nothing_scanned : Scan
 nothing_scanned = record { span = None; unclosed = None }
 
@@ -40,9 +41,11 @@ piece_at source piece = record { kind = piece.kind; start = piece.start; length 
 abbrev pub plain_run : ℕ → ℕ → ℕ → PieceAt
 plain_run start length line = record { kind = Other; start = start; length = length; line = line }
 
+-- how many bytes the piece adds to its statement
 abbrev pub own_by : PieceAt → ℕ
 own_by piece = if is_comment piece.kind then 0 else piece.length
 
+-- the fault of a piece that does not close, by its class
 abbrev pub unclosed_by : PieceKind → PieceAt → Option Found
 unclosed_by OpenString piece = Some (found_at piece.start (UnclosedString piece.line))
 unclosed_by OpenComment piece = Some (found_at piece.start (UnclosedComment piece.line))
@@ -59,6 +62,7 @@ extended span piece =
     if is_space piece.kind then record { begin = span.begin; line = span.line; end = span.end; own = span.own; passed = passed }
     else record { begin = span.begin; line = span.line; end = piece.start + piece.length; own = passed; passed = passed }
 
+-- the span, if a statement began, with one piece more
 abbrev pub with_piece : Option Span → PieceAt → Option Span
 with_piece None piece = if is_space piece.kind then None else Some (begun piece)
 with_piece (Some span) piece = Some (extended span piece)
@@ -71,11 +75,12 @@ scanned scan piece = record { span = with_piece scan.span piece; unclosed = opti
 unfoldable pub scan_of : List ℕ → Scan → List Piece → Scan
 scan_of source scan pieces = fold (λ known piece. scanned known (piece_at source piece)) scan pieces
 
--- what a scanned interval is refused for
+-- the fault of a span of more than 65536 bytes
 abbrev pub long_by_span : Option Span → Option Found
 long_by_span None = None
 long_by_span (Some span) = if nat_lt longest_statement span.own then Some (found_at span.begin (StatementTooLong span.line)) else None
 
+-- what a scanned interval is refused for: the earlier of its two faults
 abbrev pub found_by_scan : Scan → Option Found
 found_by_scan scan = earlier scan.unclosed (long_by_span scan.span)
 
@@ -86,7 +91,7 @@ interval_found source interval = earlier (first_open source interval) (long_foun
 -- the statement of a scanned interval
 abbrev pub statement_by_span : ℕ → List ℕ → Option Span → Option StatementAt
 statement_by_span file source None = None
-statement_by_span file source (Some span) = Some (record { file = file; line = span.line; bytes = part source span.begin span.end })
+statement_by_span file source (Some span) = Some (record { file = file; line = span.line; bytes = bytes_between source span.begin span.end })
 
 -- the span ends before this offset
 abbrev pub EndsBy : ℕ → Option Span → Type 0

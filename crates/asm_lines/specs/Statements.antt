@@ -7,7 +7,7 @@ use Rattle.asm_lines.specs.declared.faults.LineFault.{LineFault}
 use Rattle.asm_lines.specs.declared.faults.LineFault.TheVariants.{NoMemory}
 use Rattle.asm_lines.specs.declared.faults.Found.{Found}
 use Rattle.asm_lines.specs.Intervals.{intervals_of, trimmed}
-use Rattle.asm_lines.specs.LineNumbers.{line_of, end_of, part}
+use Rattle.asm_lines.specs.LineNumbers.{line_of, end_of_pieces, bytes_between}
 use Rattle.asm_lines.specs.Faults.{source_found}
 
 -- a statement, and where it stands: the part of the source from its first to its last byte, with the comments between them, which are none of its own
@@ -20,12 +20,13 @@ pub record StatementAt : Type 0 where
 abbrev pub statement_of : ℕ → List ℕ → List Piece → Option StatementAt
 statement_of file source [] = None
 statement_of file source (first ∷ others) =
-    Some (record { file = file; line = line_of source first.start; bytes = part source first.start (end_of first others) })
+    Some (record { file = file; line = line_of source first.start; bytes = bytes_between source first.start (end_of_pieces first others) })
 
 -- the statement of an interval
 abbrev pub statement_in : ℕ → List ℕ → List Piece → Option StatementAt
 statement_in file source interval = statement_of file source (trimmed interval)
 
+-- the statements, unless the source has a fault
 abbrev pub unless_found : Option Found → List StatementAt → Result (List StatementAt) LineFault
 unless_found None statements = Ok statements
 unless_found (Some found) statements = Err found.fault

@@ -136,7 +136,7 @@ impl Scan {
         requires within { EndsBy piece.start self.span }
         requires room { piece.start + piece.length ≤ usize.MAX }
         ensures value { result ≡ spec.scanned self piece }
-        ensures ends { EndsBy (piece.start + piece.length) result.span }
+        ensures within { EndsBy (piece.start + piece.length) result.span }
     {
         Scan {
             span: with_piece(self.span, piece),
@@ -178,11 +178,13 @@ fn plain_run(start: usize, length: usize, line: u32) -> PieceAt
 pub(crate) fn first_interval(source: &[u8], from: usize, line: u32) -> Interval
     requires within { from < length source.now }
     requires line { line ≡ line_of source.now from }
-    ensures scan { result.scan ≡ scan_of source.now nothing_scanned (spec.first_interval (pieces_at source.now from)) }
-    ensures later { pieces_at source.now result.next ≡ spec.later_pieces (pieces_at source.now from) }
+    ensures scan { result.scan
+        ≡ scan_of source.now nothing_scanned (spec.first_interval (pieces_at source.now from)) }
+    ensures rest { pieces_at source.now result.next
+        ≡ spec.later_pieces (pieces_at source.now from) }
     ensures line { result.line ≡ line_of source.now result.next }
-    ensures ends { EndsBy result.next result.scan.span }
-    ensures more { from < result.next }
+    ensures span { EndsBy result.next result.scan.span }
+    ensures progress { from < result.next }
     ensures within { result.next ≤ length source.now }
 {
     let mut scan = Scan {

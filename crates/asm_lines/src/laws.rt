@@ -8,7 +8,8 @@ use asm_base::one_division;
 
 /// Each statement is a run of whole pieces of the source, on the line where the first stands, and has at most 65536 bytes of its own.
 pub fn statements_are_whole()
-    ensures { (file : ℕ) (source : List ℕ) → IfOk (statements_of file source) (All (IsRun source)) }
+    ensures { (file : ℕ) (source : List ℕ)
+        → IfOk (statements_of file source) (All (IsRun source)) }
 {
     one_division();
 }

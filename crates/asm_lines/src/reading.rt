@@ -35,7 +35,8 @@ pub fn read_statements<'a>(
     text: &'a Text,
     file: u32,
 ) -> Result<Statements<'a>, LineFault>
-    ensures grammar { (pieces : List Piece) → IsDivision text.now pieces → Gives result (statements_in file text.now pieces) }
+    ensures grammar { (pieces : List Piece) → IsDivision text.now pieces
+        → Gives result (statements_in file text.now pieces) }
     ensures value { Gives result (statements_of file text.now) }
 {
     one_division();

@@ -18,14 +18,14 @@ returns-then-ends_statement-clause-scan c =
     let source = c.args.source.now in
     let front : drop c.loop-first.at source ≡ c.in-Some.first.now ∷ c.in-Some.rest.now = sym (take_rest source c.loop-first.at) ∙ c.in-Some.ensures.cases.0 in
     let piece = c.first_piece-piece.ensures in
-    scan_ends source _ _ _ _ _ _ _ front piece.length piece.some piece.kind (sym c.ends_statement.ensures ∙ c.if-ends_statement.true) c.loop-first.invariant.scan
+    scan_ends source _ _ _ _ _ _ _ front piece.length piece.progress piece.kind (sym c.ends_statement.ensures ∙ c.if-ends_statement.true) c.loop-first.invariant.scan
 
-pub returns-then-ends_statement-clause-later : goal.returns-then-ends_statement-clause-later
-returns-then-ends_statement-clause-later c =
+pub returns-then-ends_statement-clause-rest : goal.returns-then-ends_statement-clause-rest
+returns-then-ends_statement-clause-rest c =
     let source = c.args.source.now in
     let front : drop c.loop-first.at source ≡ c.in-Some.first.now ∷ c.in-Some.rest.now = sym (take_rest source c.loop-first.at) ∙ c.in-Some.ensures.cases.0 in
     let piece = c.first_piece-piece.ensures in
-    later_ends source _ _ _ _ _ _ front piece.length piece.some piece.kind (sym c.ends_statement.ensures ∙ c.if-ends_statement.true) c.loop-first.invariant.later
+    later_ends source _ _ _ _ _ _ front piece.length piece.progress piece.kind (sym c.ends_statement.ensures ∙ c.if-ends_statement.true) c.loop-first.invariant.later
 
 pub returns-then-ends_statement-clause-line : goal.returns-then-ends_statement-clause-line
 returns-then-ends_statement-clause-line c =
@@ -42,7 +42,7 @@ loop-first-preserved-then-plain-gt0 c =
       line = line_of_run source c.loop-first.at c.plain_length-plain.result c.loop-first.line (omega arith) c.loop-first.invariant.line;
       scan = scan_plain source c.loop-first.at c.plain_length-plain.result c.loop-first.line c.loop-first.scan _ _ c.if-plain-gt0.true run c.loop-first.invariant.line known c.loop-first.invariant.scan;
       later = later_plain source c.loop-first.at c.plain_length-plain.result _ run c.loop-first.invariant.later;
-      ends = subst (λ (piece : PieceAt). EndsBy (piece.start + piece.length) c.with-scan.result.span) c.plain_run.ensures c.with-scan.ensures.ends;
+      ends = subst (λ (piece : PieceAt). EndsBy (piece.start + piece.length) c.with-scan.result.span) c.plain_run.ensures c.with-scan.ensures.within;
       begins = omega arith;
     }
 
@@ -56,9 +56,9 @@ loop-first-preserved c =
     record {
       within = omega (arith, length-drop c.loop-first.at source, ap length front, piece.within);
       line = line_more source c.loop-first.at c.first_piece-piece.result.length c.loop-first.line _ c.loop-first.invariant.line (c.line_behind-line_there.ensures ∙ part);
-      scan = scan_more source _ _ _ _ c.loop-first.line _ _ _ _ front piece.length piece.some piece.within piece.kind c.loop-first.invariant.line goes_on c.with-scan-in-Some.ensures.value c.loop-first.invariant.scan;
-      later = later_more source _ _ _ _ _ _ front piece.length piece.some piece.kind goes_on c.loop-first.invariant.later;
-      ends = c.with-scan-in-Some.ensures.ends;
+      scan = scan_more source _ _ _ _ c.loop-first.line _ _ _ _ front piece.length piece.progress piece.within piece.kind c.loop-first.invariant.line goes_on c.with-scan-in-Some.ensures.value c.loop-first.invariant.scan;
+      later = later_more source _ _ _ _ _ _ front piece.length piece.progress piece.kind goes_on c.loop-first.invariant.later;
+      ends = c.with-scan-in-Some.ensures.within;
       begins = omega arith;
     }
 
@@ -68,8 +68,8 @@ returns-clause-scan c =
     let nothing : length (drop c.loop-first.at source) ≡ 0 = rw take_rest at c.in_default.ensures.cases in
     scan_at_end source c.loop-first.at _ _ (omega (arith, length-drop c.loop-first.at source)) c.loop-first.invariant.scan
 
-pub returns-clause-later : goal.returns-clause-later
-returns-clause-later c =
+pub returns-clause-rest : goal.returns-clause-rest
+returns-clause-rest c =
     let source = c.args.source.now in
     let nothing : length (drop c.loop-first.at source) ≡ 0 = rw take_rest at c.in_default.ensures.cases in
     later_at_end source c.loop-first.at _ (omega (arith, length-drop c.loop-first.at source)) c.loop-first.invariant.later

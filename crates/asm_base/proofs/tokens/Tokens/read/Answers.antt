@@ -25,8 +25,8 @@ unfolding token_kind
 token_length-requires-clause-class c =
     c.token_kind-kind.ensures ∙ ap (token_kind_by c.in-Some.first.now) c.first_piece-piece.ensures.kind
 
-pub returns-in_err-push-clause-inline : goal.returns-in_err-push-clause-inline
-returns-in_err-push-clause-inline c = λ few.
+pub returns-in_err-push-clause-memory : goal.returns-in_err-push-clause-memory
+returns-in_err-push-clause-memory c = λ few.
     let s = c.args.statement.now in
     let front : drop c.loop-first.at s ≡ c.in-Some.first.now ∷ c.in-Some.rest.now = sym (take_rest s c.loop-first.at) ∙ c.in-Some.ensures.cases.0 in
     let not_space = ap is_space (sym c.first_piece-piece.ensures.kind) ∙ sym c.is_space.ensures ∙ c.if-is_space.false in
@@ -50,8 +50,8 @@ loop-first-preserved c =
       all = read_token _ _ _ s c.loop-first.at c.in-Some.first.now c.in-Some.rest.now c.token_length.result _ front not_space length_is c.in_ok-push.ensures.ok kind part refl c.loop-first.invariant.all;
     }
 
-pub returns-clause-tokens : goal.returns-clause-tokens
-returns-clause-tokens c =
+pub returns-clause-value : goal.returns-clause-value
+returns-clause-value c =
     let s = c.args.statement.now in
     let nothing : length (drop c.loop-first.at s) ≡ 0 = rw take_rest at c.in_default.ensures.cases in
     read_end _ _ s c.loop-first.at (omega (arith, length-drop c.loop-first.at s)) c.loop-first.invariant.all
