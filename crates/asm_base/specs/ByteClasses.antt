@@ -15,15 +15,16 @@ is_blank byte = byte == 32 || byte == 9
 unfoldable pub is_name_start : ℕ → Bool
 is_name_start byte = is_ascii_alphabetic byte || byte == 95 || byte == 46 || nat_le 128 byte
 
--- what begins a name, a digit or `$`: it goes on with a name
+-- what begins a name, a digit or `$`: it continues a name
 unfoldable pub is_name_byte : ℕ → Bool
 is_name_byte byte = is_name_start byte || is_ascii_digit byte || byte == 36
 
--- punctuation but for quotes, `#` and `;` (what begins a name is asked for before it)
+-- punctuation other than quotes, `#` and `;` (what begins a name is tested first)
 unfoldable pub is_operator_byte : ℕ → Bool
-is_operator_byte byte = is_ascii_punctuation byte && not (list_any (λ mark. mark == byte) (codes "\"'#;"))
+is_operator_byte byte =
+    is_ascii_punctuation byte && not (list_any (λ mark. mark == byte) (codes "\"'#;"))
 
--- this byte stands in front
+-- the bytes begin with this byte
 abbrev pub begins_with : ℕ → List ℕ → Bool
 begins_with byte [] = false
 begins_with byte (first ∷ rest) = first == byte

@@ -5,15 +5,15 @@ use Rattle.std.specs.Prelude.{◌≡◌, ℕ, ◌+◌, ◌-◌, ◌^◌, ◌<◌
 abbrev pub last_count : ℕ
 last_count = 2 ^ 64 - 1
 
--- a count is higher than before, or stands at its end
+-- a count has risen, or stands at its greatest number
 abbrev pub HasRisen : ℕ → ℕ → Type 0
 HasRisen before now = min (before + 1) last_count ≤ now
 
--- the opposite: no call failed in between
+-- the opposite of risen: no call failed in between
 abbrev pub IsQuiet : ℕ → ℕ → Type 0
 IsQuiet before now = now < min (before + 1) last_count
 
--- a count that grows by n and stands still at its end
+-- a count that grows by n, up to its greatest number
 abbrev pub grown : ℕ → ℕ → ℕ
 grown n before = max before (min (before + n) last_count)
 

@@ -13,25 +13,31 @@ line_length bytes = position_or_len is_feed bytes
 -- how many bytes stand before the first `*/`, or all
 unfoldable pub comment_length : List ℕ → ℕ
 comment_length [] = 0
-comment_length (byte ∷ rest) = if byte == 42 && begins_with 47 rest then 0 else suc (comment_length rest)
+comment_length (byte ∷ rest) =
+    if byte == 42 && begins_with 47 rest then 0 else suc (comment_length rest)
 
--- how many bytes stand before the first `"` that no backslash escapes, or before the end of the line; the flag says that a backslash escapes the first of the bytes
+-- how many bytes stand before the first unescaped `"` or the end of the line; the flag says that the first byte is escaped
 unfoldable pub quoted_length : Bool → List ℕ → ℕ
 quoted_length escaped [] = 0
 quoted_length true (byte ∷ rest) = if is_feed byte then 0 else suc (quoted_length false rest)
-quoted_length false (byte ∷ rest) = if is_feed byte || byte == 34 then 0 else suc (quoted_length (byte == 92) rest)
+quoted_length false (byte ∷ rest) =
+    if is_feed byte || byte == 34 then 0 else suc (quoted_length (byte == 92) rest)
 
 -- of what begins with `/*`, by what follows that
 abbrev pub comment_kind : List ℕ → PieceKind
-comment_kind inner = if nat_lt (comment_length inner) (length inner) then BlockComment else OpenComment
+comment_kind inner =
+    if nat_lt (comment_length inner) (length inner) then BlockComment else OpenComment
 
 -- of what begins with `"`, by what follows that
 abbrev pub string_kind : List ℕ → PieceKind
-string_kind rest = if begins_with 34 (drop (quoted_length false rest) rest) then String else OpenString
+string_kind rest =
+    if begins_with 34 (drop (quoted_length false rest) rest) then String else OpenString
 
 -- the byte is a piece of the class `Other` whatever follows it
 unfoldable pub is_plain : ℕ → Bool
-is_plain byte = not (is_feed byte || byte == 59 || is_blank byte || byte == 13 || byte == 35 || byte == 47 || byte == 39 || byte == 34)
+is_plain byte =
+    not (is_feed byte || byte == 59 || is_blank byte || byte == 13 || byte == 35 || byte == 47
+    || byte == 39 || byte == 34)
 
 -- the class of the piece that begins with this byte
 unfoldable pub piece_kind : ℕ → List ℕ → PieceKind

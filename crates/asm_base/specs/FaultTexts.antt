@@ -76,11 +76,14 @@ register_name R15 = codes "r15"
 -- the text of a fault of the synthesis of frame tables
 abbrev pub scfi_text : ScfiFault → List ℕ
 scfi_text scfi.FrameLost = codes "SCFI: frame is lost"
-scfi_text (scfi.RegisterLost register) = codes "SCFI: %" ++ register_name register ++ codes " is lost"
+scfi_text (scfi.RegisterLost register) =
+    codes "SCFI: %" ++ register_name register ++ codes " is lost"
 scfi_text scfi.ReturnAddressOverwritten = codes "SCFI: return address is overwritten"
 scfi_text (scfi.StackNotRestored None) = codes "SCFI: stack is not restored: unknown"
-scfi_text (scfi.StackNotRestored (Some distance)) = codes "SCFI: stack is not restored: " ++ signed_decimal distance
-scfi_text (scfi.RegisterNotRestored register) = codes "SCFI: %" ++ register_name register ++ codes " is not restored"
+scfi_text (scfi.StackNotRestored (Some distance)) =
+    codes "SCFI: stack is not restored: " ++ signed_decimal distance
+scfi_text (scfi.RegisterNotRestored register) =
+    codes "SCFI: %" ++ register_name register ++ codes " is not restored"
 scfi_text scfi.UntraceableJump = codes "SCFI: jump cannot be traced"
 scfi_text scfi.CallIntoFunction = codes "SCFI: call into the function"
 scfi_text scfi.NotInstructions = codes "SCFI: code is not instructions"

@@ -12,7 +12,8 @@ StartsFile None result rest = IsErr result
 StartsFile (Some bytes) result rest = OnOk result (rest ≡ Some bytes)
 
 -- starting a name, where the contents are told
-abbrev pub Starts : {E : Type 0} → Option Contents → List ℕ → Result Unit E → Option (List ℕ) → Type 0
+abbrev pub Starts : {E : Type 0} → Option Contents → List ℕ → Result Unit E → Option (List ℕ)
+    → Type 0
 Starts None name result rest = Unit {0}
 Starts (Some contents) name result rest = StartsFile (contents name) result rest
 

@@ -10,7 +10,8 @@ use Rattle.asm_base.specs.declared.memory.Stage.TheVariants.{Nothing, Begun, Fin
 -- the bytes of the first file of this name, or none
 abbrev pub bytes_named : List MemoryFile → List ℕ → List ℕ
 bytes_named [] name = []
-bytes_named (f ∷ files) name = if bytes_eq f.name.now name then f.bytes.now else bytes_named files name
+bytes_named (f ∷ files) name =
+    if bytes_eq f.name.now name then f.bytes.now else bytes_named files name
 
 -- a name that no file has is there, and empty
 abbrev pub contents_in : List MemoryFile → Contents

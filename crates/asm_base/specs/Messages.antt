@@ -22,11 +22,13 @@ heading files pos = name_of_file files pos.file ++ codes ": Assembler messages:\
 
 -- `FILE:LINE: Error: TEXT` and a line end
 abbrev pub error_line : List (List ℕ) → Fault → Pos → List ℕ
-error_line files fault pos = position_text files pos ++ codes "Error: " ++ fault_text fault ++ codes "\n"
+error_line files fault pos =
+    position_text files pos ++ codes "Error: " ++ fault_text fault ++ codes "\n"
 
 -- `FILE:LINE: Warning: TEXT` and a line end
 abbrev pub warning_line : List (List ℕ) → Note → Pos → List ℕ
-warning_line files note pos = position_text files pos ++ codes "Warning: " ++ note_text note ++ codes "\n"
+warning_line files note pos =
+    position_text files pos ++ codes "Warning: " ++ note_text note ++ codes "\n"
 
 -- the line of a note at its place
 abbrev pub noted_line : List (List ℕ) → Noted → List ℕ
@@ -35,9 +37,12 @@ noted_line files noted = warning_line files noted.note noted.pos
 -- what a run that succeeds says
 abbrev pub remarks : List (List ℕ) → List Noted → List ℕ
 remarks files [] = []
-remarks files (first ∷ others) = heading files first.pos ++ flat_map (noted_line files) (first ∷ others)
+remarks files (first ∷ others) =
+    heading files first.pos ++ flat_map (noted_line files) (first ∷ others)
 
 -- what a run says that is refused for this fault
 abbrev pub refusal : List (List ℕ) → List Noted → Fault → Pos → List ℕ
 refusal files [] fault pos = heading files pos ++ error_line files fault pos
-refusal files (first ∷ others) fault pos = heading files first.pos ++ flat_map (noted_line files) (first ∷ others) ++ error_line files fault pos
+refusal files (first ∷ others) fault pos =
+    heading files first.pos ++ flat_map (noted_line files) (first ∷ others)
+    ++ error_line files fault pos

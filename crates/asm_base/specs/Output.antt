@@ -19,7 +19,9 @@ after_create name made = file (record { name = name; bytes = []; finished = fals
 -- a file that is not finished has these bytes more
 abbrev pub after_write : List ℕ → Made → Made
 after_write piece nothing = nothing
-after_write piece (file f) = if f.finished then file f else file (record { name = f.name; bytes = f.bytes ++ piece; finished = false })
+after_write piece (file f) =
+    if f.finished then file f
+    else file (record { name = f.name; bytes = f.bytes ++ piece; finished = false })
 
 -- a file that is there is finished
 abbrev pub after_finish : Made → Made

@@ -51,36 +51,48 @@ has_close (byte ∷ rest) = (byte == 42 && begins_with 47 rest) || has_close res
 -- what a string may hold: no line feed, and a `"` or a `\` only behind a `\` of its own
 pub data IsQuoted : List ℕ → Type 0 where
   empty : IsQuoted []
-  plain : (byte : ℕ) (rest : List ℕ) → is_feed byte ≡ false → byte ≢ 34 → byte ≢ 92 → IsQuoted rest → IsQuoted (byte ∷ rest)
-  escape : (byte : ℕ) (rest : List ℕ) → is_feed byte ≡ false → IsQuoted rest → IsQuoted (92 ∷ byte ∷ rest)
+  plain : (byte : ℕ) (rest : List ℕ) → is_feed byte ≡ false → byte ≢ 34 → byte ≢ 92
+      → IsQuoted rest → IsQuoted (byte ∷ rest)
+  escape : (byte : ℕ) (rest : List ℕ) → is_feed byte ≡ false → IsQuoted rest
+      → IsQuoted (92 ∷ byte ∷ rest)
 
 -- the same, where a `\` may stand last
 abbrev pub IsOpenQuoted : List ℕ → Type 0
-IsOpenQuoted bytes = IsQuoted bytes ⊎ ((front : List ℕ) × (bytes ≡ front ++ 92 ∷ []) × IsQuoted front)
+IsOpenQuoted bytes =
+    IsQuoted bytes ⊎ ((front : List ℕ) × (bytes ≡ front ++ 92 ∷ []) × IsQuoted front)
 
 -- the byte, before what follows it, begins a piece of a class of its own
 abbrev pub begins_class : ℕ → List ℕ → Bool
 begins_class byte rest =
-    is_feed byte || byte == 59 || is_blank_before byte rest || byte == 35 || (byte == 47 && begins_with 42 rest) || (byte == 39 && line_goes_on rest) || byte == 34
+    is_feed byte || byte == 59 || is_blank_before byte rest || byte == 35
+    || (byte == 47 && begins_with 42 rest) || (byte == 39 && line_goes_on rest) || byte == 34
 
--- the bytes are a piece of this class, before what follows them; the first `*/` of a block comment ends it, and its `*` is none of the `/*`
+-- the bytes are a piece of this class, before what follows them; a block comment ends at its first `*/`
 abbrev pub IsPiece : PieceKind → List ℕ → List ℕ → Type 0
 IsPiece LineFeed bytes rest = bytes ≡ codes "\n"
 IsPiece Semicolon bytes rest = bytes ≡ codes ";"
 IsPiece Blank bytes rest = (byte : ℕ) × (bytes ≡ byte ∷ []) × (is_blank_before byte rest ≡ true)
-IsPiece LineComment bytes rest = (inner : List ℕ) × (bytes ≡ codes "#" ++ inner) × IsOnLine inner × EndsLine rest
-IsPiece BlockComment bytes rest = (inner : List ℕ) × (bytes ≡ codes "/*" ++ inner ++ codes "*/") × (has_close (inner ++ codes "*") ≡ false)
-IsPiece OpenComment bytes rest = (inner : List ℕ) × (bytes ≡ codes "/*" ++ inner) × (has_close inner ≡ false) × (rest ≡ [])
-IsPiece Character bytes rest = (byte : ℕ) × (bytes ≡ codes "'" ++ byte ∷ []) × (is_feed byte ≡ false)
-IsPiece String bytes rest = (inner : List ℕ) × (bytes ≡ codes "\"" ++ inner ++ codes "\"") × IsQuoted inner
-IsPiece OpenString bytes rest = (inner : List ℕ) × (bytes ≡ codes "\"" ++ inner) × IsOpenQuoted inner × EndsLine rest
+IsPiece LineComment bytes rest =
+    (inner : List ℕ) × (bytes ≡ codes "#" ++ inner) × IsOnLine inner × EndsLine rest
+IsPiece BlockComment bytes rest =
+    (inner : List ℕ) × (bytes ≡ codes "/*" ++ inner ++ codes "*/")
+    × (has_close (inner ++ codes "*") ≡ false)
+IsPiece OpenComment bytes rest =
+    (inner : List ℕ) × (bytes ≡ codes "/*" ++ inner) × (has_close inner ≡ false) × (rest ≡ [])
+IsPiece Character bytes rest =
+    (byte : ℕ) × (bytes ≡ codes "'" ++ byte ∷ []) × (is_feed byte ≡ false)
+IsPiece String bytes rest =
+    (inner : List ℕ) × (bytes ≡ codes "\"" ++ inner ++ codes "\"") × IsQuoted inner
+IsPiece OpenString bytes rest =
+    (inner : List ℕ) × (bytes ≡ codes "\"" ++ inner) × IsOpenQuoted inner × EndsLine rest
 IsPiece Other bytes rest = (byte : ℕ) × (bytes ≡ byte ∷ []) × (begins_class byte rest ≡ false)
 
 -- the text from this offset on is these pieces, one after the other
 abbrev pub IsDivisionFrom : ℕ → List ℕ → List Piece → Type 0
 IsDivisionFrom start text [] = text ≡ []
 IsDivisionFrom start text (piece ∷ pieces) =
-    (rest : List ℕ) × (text ≡ piece.bytes ++ rest) × (piece.start ≡ start) × IsPiece piece.kind piece.bytes rest × IsDivisionFrom (start + length piece.bytes) rest pieces
+    (rest : List ℕ) × (text ≡ piece.bytes ++ rest) × (piece.start ≡ start)
+    × IsPiece piece.kind piece.bytes rest × IsDivisionFrom (start + length piece.bytes) rest pieces
 
 -- the text is these pieces, one after the other
 abbrev pub IsDivision : List ℕ → List Piece → Type 0

@@ -12,12 +12,17 @@ begins_with_digit radix (first ∷ rest) = is_digit_of radix first
 abbrev pub AreDigits : ℕ → List ℕ → Type 0
 AreDigits radix digits = All (λ digit. is_digit_of radix digit ≡ true) digits
 
--- the bytes stand for the value: each for itself, but for a backslash with what belongs to it, where no further digit stands behind an escape that could take it
+-- the bytes stand for the value: each for itself, but for escapes, which take as many digits as they can
 pub data StandsFor : List ℕ → List ℕ → Type 0 where
   nothing : StandsFor [] []
-  plain : (byte : ℕ) (rest value : List ℕ) → byte ≢ 92 → StandsFor rest value → StandsFor (byte ∷ rest) (byte ∷ value)
-  control : (byte : ℕ) (rest value : List ℕ) → is_digit_of 8 byte ≡ false → byte ≢ 120 → StandsFor rest value → StandsFor (92 ∷ byte ∷ rest) (control_byte byte ∷ value)
-  octal : (bytes digits rest value : List ℕ) → bytes ≡ digits ++ rest → AreDigits 8 digits → 1 ≤ length digits → length digits ≤ 3
-      → (length digits ≡ 3) ⊎ (begins_with_digit 8 rest ≡ false) → StandsFor rest value → StandsFor (92 ∷ bytes) (low_byte 8 digits ∷ value)
-  hexadecimal : (bytes digits rest value : List ℕ) → bytes ≡ digits ++ rest → AreDigits 16 digits → begins_with_digit 16 rest ≡ false
+  plain : (byte : ℕ) (rest value : List ℕ) → byte ≢ 92 → StandsFor rest value
+      → StandsFor (byte ∷ rest) (byte ∷ value)
+  control : (byte : ℕ) (rest value : List ℕ) → is_digit_of 8 byte ≡ false → byte ≢ 120
+      → StandsFor rest value → StandsFor (92 ∷ byte ∷ rest) (control_byte byte ∷ value)
+  octal : (bytes digits rest value : List ℕ) → bytes ≡ digits ++ rest → AreDigits 8 digits
+      → 1 ≤ length digits → length digits ≤ 3
+      → (length digits ≡ 3) ⊎ (begins_with_digit 8 rest ≡ false) → StandsFor rest value
+      → StandsFor (92 ∷ bytes) (low_byte 8 digits ∷ value)
+  hexadecimal : (bytes digits rest value : List ℕ) → bytes ≡ digits ++ rest → AreDigits 16 digits
+      → begins_with_digit 16 rest ≡ false
       → StandsFor rest value → StandsFor (92 ∷ 120 ∷ bytes) (low_byte 16 digits ∷ value)

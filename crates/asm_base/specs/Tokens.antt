@@ -29,7 +29,8 @@ long_operators =
 -- the byte and the one after it are one of them
 unfoldable pub is_long_operator : ℕ → List ℕ → Bool
 is_long_operator first [] = false
-is_long_operator first (second ∷ rest) = list_any (starts_with nat_eq (first ∷ second ∷ [])) long_operators
+is_long_operator first (second ∷ rest) =
+    list_any (starts_with nat_eq (first ∷ second ∷ [])) long_operators
 
 -- the class of a token that is no word, by its first byte and its piece
 abbrev pub kind_by_piece : ℕ → PieceKind → TokenKind
@@ -40,13 +41,14 @@ kind_by_piece first _ = Other
 
 -- the same of any token
 abbrev pub token_kind_by : ℕ → PieceKind → TokenKind
-token_kind_by first kind = if is_name_start first then Name else (if is_ascii_digit first then Digits else kind_by_piece first kind)
+token_kind_by first kind =
+    if is_name_start first then Name else (if is_ascii_digit first then Digits else kind_by_piece first kind)
 
 -- the class of the token that begins with this byte
 unfoldable pub token_kind : ℕ → List ℕ → TokenKind
 token_kind first rest = token_kind_by first (piece_kind first rest)
 
--- how many bytes a token of this class has, of which this is the first; one that is no word and no operator is a whole piece
+-- how many bytes a token of this class has; one that is no word and no operator is a whole piece
 unfoldable pub token_length : TokenKind → ℕ → List ℕ → ℕ
 token_length Name first rest = 1 + prefix_len is_name_byte rest
 token_length Digits first rest = 1 + prefix_len is_name_byte rest

@@ -12,7 +12,8 @@ most_bytes = 2 ^ 26
 
 -- what was the whole before, with these bytes read and that rest, is the whole after
 abbrev pub ReadsOn : Option (List ℕ) → List ℕ → Option (List ℕ) → List ℕ → Type 0
-ReadsOn old read new more = (whole : Option (List ℕ)) → Consumes whole old read → Consumes whole new more
+ReadsOn old read new more =
+    (whole : Option (List ℕ)) → Consumes whole old read → Consumes whole new more
 
 -- a fault of the input or of memory, which may come after any byte
 abbrev pub StopsReading : TextFault → Type 0
@@ -23,7 +24,8 @@ StopsReading NoMemory = Unit {0}
 -- what is left of the started file is read to its end, or is too large
 abbrev pub ReadsRest : Option (List ℕ) → Result (List ℕ) TextFault → Option (List ℕ) → Type 0
 ReadsRest None result rest = Unit {0}
-ReadsRest (Some bytes) (Ok text) rest = (text ≡ bytes) × (length bytes ≤ most_bytes) × (rest ≡ Some [])
+ReadsRest (Some bytes) (Ok text) rest =
+    (text ≡ bytes) × (length bytes ≤ most_bytes) × (rest ≡ Some [])
 ReadsRest (Some bytes) (Err TooLarge) rest = most_bytes < length bytes
 ReadsRest (Some bytes) (Err Read) rest = Unit {0}
 ReadsRest (Some bytes) (Err NoMemory) rest = Unit {0}
@@ -37,7 +39,8 @@ ReadsFile None (Err Read) rest = Unit {0}
 ReadsFile None (Err NoMemory) rest = Unit {0}
 
 -- reading a name, where the contents are told
-abbrev pub ReadsName : Option Contents → List ℕ → Result (List ℕ) TextFault → Option (List ℕ) → Type 0
+abbrev pub ReadsName : Option Contents → List ℕ → Result (List ℕ) TextFault → Option (List ℕ)
+    → Type 0
 ReadsName None name result rest = Unit {0}
 ReadsName (Some contents) name result rest = ReadsFile (contents name) result rest
 
@@ -50,5 +53,7 @@ HasReadCause (Err NoMemory) before now = now ≡ before
 
 -- at most one byte more than the most is read, and so many where the file is too large
 abbrev pub TakesBytes : Result (List ℕ) TextFault → ℕ → ℕ → Type 0
-TakesBytes (Err TooLarge) before now = (min (before + (most_bytes + 1)) last_count ≤ now) × (before ≤ now) × (now ≤ before + (most_bytes + 1))
+TakesBytes (Err TooLarge) before now =
+    (min (before + (most_bytes + 1)) last_count ≤ now) × (before ≤ now)
+    × (now ≤ before + (most_bytes + 1))
 TakesBytes result before now = (before ≤ now) × (now ≤ before + (most_bytes + 1))

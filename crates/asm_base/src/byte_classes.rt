@@ -19,7 +19,7 @@ pub fn is_name_start(byte: u8) -> bool
     byte.is_ascii_alphabetic() || byte == b'_' || byte == b'.' || byte >= 0x80
 }
 
-/// Whether the byte goes on with a name.
+/// Whether the byte continues a name.
 #[tactic(auto, unfolding(crate::specs::ByteClasses::is_name_byte))]
 pub fn is_name_byte(byte: u8) -> bool
     ensures { result ≡ is_name_byte byte }
@@ -35,7 +35,7 @@ pub(crate) fn is_operator_byte(byte: u8) -> bool
     byte.is_ascii_punctuation() && !b"\"'#;".contains(&byte)
 }
 
-/// Whether this byte stands in front.
+/// Whether the bytes begin with this byte.
 pub(crate) fn begins_with(byte: u8, bytes: &[u8]) -> bool
     ensures { result ≡ begins_with byte bytes.now }
 {
@@ -45,7 +45,7 @@ pub(crate) fn begins_with(byte: u8, bytes: &[u8]) -> bool
     }
 }
 
-/// Whether a byte stands in front that is no line feed.
+/// Whether the bytes begin with a byte other than a line feed.
 pub(crate) fn line_goes_on(bytes: &[u8]) -> bool
     ensures { result ≡ line_goes_on bytes.now }
 {

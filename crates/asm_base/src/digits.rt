@@ -1,9 +1,9 @@
-//! What digits count (GNU as manual, "Integers").
+//! The values of digits (GNU as manual, "Integers").
 
 ghost use Rattle.std.specs.Prelude.{◌≡◌, ◌≤◌};
 ghost use Rattle.asm_base.specs.Digits.{digit_of};
 
-/// What a digit of any radix up to 16 counts, and 16 for any other byte.
+/// The value of a digit of any radix up to 16, and 16 for any other byte.
 #[tactic(auto, unfolding(crate::specs::Digits::digit_of))]
 pub fn digit_of(byte: u8) -> u64
     ensures value { result ≡ digit_of byte }

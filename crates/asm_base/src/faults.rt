@@ -23,11 +23,11 @@ pub enum StatementFault {
     ExpressionTooDeep,
     /// The right side of `/` or `%` is 0.
     DivisionByZero,
-    /// A value is needed where it is not known yet.
+    /// A value is needed where it is not known.
     ValueNotKnown,
     /// An operator other than `+` and `-` has an operand that is no constant.
     NotASumOfSymbols,
-    /// A line of a macro, repeat, conditional or include has not its form.
+    /// A line of a macro, repeat, conditional or include is malformed.
     BadMacroLine,
     /// A call leaves out an argument that is required.
     MissingArgument,
@@ -39,7 +39,7 @@ pub enum StatementFault {
     NestedTooDeeply,
     /// Expansion gives more than 2^22 statements.
     ExpansionTooLong,
-    /// A macro of this name is there already.
+    /// A macro of this name is already defined.
     MacroAlreadyDefined,
     /// `.err`, or `.error` with its text. In a box, so that each result that holds a fault stays small.
     ErrorDirective(Box<Option<Text>>),
@@ -47,7 +47,7 @@ pub enum StatementFault {
     UnknownMnemonic,
     /// No directive has this name.
     UnknownDirective,
-    /// An operand has not its form, is missing, or is one too many.
+    /// An operand is malformed, missing, or one too many.
     BadOperand,
     /// The instruction has no form with these operands.
     NoSuchForm,
@@ -57,7 +57,7 @@ pub enum StatementFault {
     OutOfRange,
     /// A section is used against its flags or its type.
     BadSection,
-    /// A symbol is defined that is defined already.
+    /// A symbol is defined twice.
     SymbolAlreadyDefined,
     /// A symbol is used in a way that its other uses rule out.
     BadSymbolUse,
@@ -83,7 +83,7 @@ pub enum EndFault {
     NoRelocation,
     /// A distance does not fit its field.
     DistanceOutOfRange,
-    /// An `.org` lies before what stands already.
+    /// An `.org` moves backwards.
     OrgMovesBackwards,
     /// A section has more than 2^30 bytes.
     SectionTooLarge,
@@ -111,7 +111,7 @@ pub enum ScfiFault {
     FrameLost,
     /// The register's value at entry is nowhere.
     RegisterLost(SavedRegister),
-    /// A store or a stack pointer above it gives up the return address.
+    /// The return address is overwritten, or the stack pointer rises above it.
     ReturnAddressOverwritten,
     /// The function is left with this distance of the stack pointer from the frame address, in bytes, or an unknown one.
     StackNotRestored(Option<i64>),
@@ -123,7 +123,7 @@ pub enum ScfiFault {
     CallIntoFunction,
     /// Data stands in the function's flow.
     NotInstructions,
-    /// The function's last instruction goes on behind it.
+    /// Control runs past the function's last instruction.
     RunsPastEnd,
     /// A form of `push`, `pop` or `ret` that the synthesis does not follow.
     UnsupportedStackUse,

@@ -15,12 +15,12 @@ pub struct Calls<'a> {
     failing: &'a [u64],
     /// The most bytes that a call takes; 0 counts as 1.
     largest: usize,
-    /// How many calls came.
+    /// How many calls were made.
     made: u64,
 }
 
 impl<'a> Calls<'a> {
-    /// No call yet.
+    /// No call was made.
     pub fn new(failing: &'a [u64], largest: usize) -> Calls<'a>
         ensures failing { result.failing.now ≡ failing.now }
         ensures largest { result.largest ≡ largest }
@@ -33,14 +33,14 @@ impl<'a> Calls<'a> {
         }
     }
 
-    /// How many calls came.
+    /// How many calls were made.
     pub fn made(&self) -> u64
         ensures { result ≡ self.now.made }
     {
         self.made
     }
 
-    /// Whether the next call fails, which counts as made.
+    /// Whether the next call fails. It counts as made.
     fn next_fails(&mut self) -> bool
         ensures value { result ≡ is_listed self.old.made self.old.failing.now }
         ensures made { self.new.made ≡ min (self.old.made + 1) (2 ^ 64 - 1) }
@@ -52,7 +52,7 @@ impl<'a> Calls<'a> {
         fails
     }
 
-    /// How many of so many bytes a call takes.
+    /// How many of these bytes a call takes.
     fn piece(&self, bytes: usize) -> usize
         ensures within { result ≤ bytes }
         ensures progress { 0 < bytes → 0 < result }
@@ -104,7 +104,7 @@ pub struct FaultyInputs<'a> {
 }
 
 impl<'a> FaultyInputs<'a> {
-    /// No file is started yet, so nothing is left to read.
+    /// No file is started, so nothing is left to read.
     pub fn new(
         files: &'a [MemoryFile<'a>],
         unlisted: Unlisted,
@@ -129,7 +129,7 @@ impl<'a> FaultyInputs<'a> {
         }
     }
 
-    /// How many calls came.
+    /// How many calls were made.
     pub fn calls(&self) -> u64
         ensures { result ≡ self.now.calls.made }
     {
@@ -189,7 +189,7 @@ pub struct FaultyOutput<'a> {
 }
 
 impl<'a> FaultyOutput<'a> {
-    /// Nothing is made yet.
+    /// Nothing is made.
     pub fn new(alloc: Global, calls: Calls<'a>) -> FaultyOutput<'a>
         ensures stage { result.inner.stage ≡ Stage.Nothing }
         ensures calls { result.calls ≡ calls.entry }
@@ -208,7 +208,7 @@ impl<'a> FaultyOutput<'a> {
         &self.inner
     }
 
-    /// How many calls came.
+    /// How many calls were made.
     pub fn calls(&self) -> u64
         ensures { result ≡ self.now.calls.made }
     {
@@ -255,7 +255,7 @@ pub struct FaultyConsole<'a> {
 }
 
 impl<'a> FaultyConsole<'a> {
-    /// Nothing is said yet.
+    /// Nothing is said.
     pub fn new(alloc: Global, calls: Calls<'a>) -> FaultyConsole<'a>
         ensures out { result.inner.out.items ≡ [] }
         ensures err { result.inner.err.items ≡ [] }
@@ -275,7 +275,7 @@ impl<'a> FaultyConsole<'a> {
         &self.inner
     }
 
-    /// How many calls came.
+    /// How many calls were made.
     pub fn calls(&self) -> u64
         ensures { result ≡ self.now.calls.made }
     {

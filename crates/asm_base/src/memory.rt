@@ -34,7 +34,7 @@ pub struct MemoryInputs<'a> {
 }
 
 impl<'a> MemoryInputs<'a> {
-    /// No file is started yet, so nothing is left to read.
+    /// No file is started, so nothing is left to read.
     pub fn new(files: &'a [MemoryFile<'a>]) -> MemoryInputs<'a>
         ensures files { result.files.now ≡ files.now }
         ensures rest { result.rest.now ≡ [] }
@@ -98,7 +98,7 @@ pub struct MemoryOutput {
 }
 
 impl MemoryOutput {
-    /// Nothing is made yet.
+    /// Nothing is made.
     pub fn new(alloc: Global) -> MemoryOutput
         ensures stage { result.stage ≡ Stage.Nothing }
         ensures faults { result.faults ≡ 0 }
@@ -180,7 +180,7 @@ pub struct MemoryConsole {
 }
 
 impl MemoryConsole {
-    /// Nothing is said yet.
+    /// Nothing is said.
     pub fn new(alloc: Global) -> MemoryConsole
         ensures out { result.out.items ≡ [] }
         ensures err { result.err.items ≡ [] }

@@ -74,7 +74,7 @@ pub trait Output {
         ensures err { OnErr result (made self.new ≡ made self.old) }
         ensures cause { HasCause (faults self.old) (faults self.new) result };
 
-    /// Appends a front of the piece, at least one byte of one that is not empty, and answers its length in bytes.
+    /// Appends a prefix of the piece, at least one byte of one that is not empty, and answers its length in bytes.
     fn write(&mut self, piece: &[u8]) -> Result<usize, Failed>
         ensures some { IfOk result (λ n. 0 < length piece.now → 0 < n) }
         ensures at_most { IfOk result (λ n. n ≤ length piece.now) }
@@ -109,7 +109,7 @@ pub trait Console {
     /// How often a call failed. The count never falls.
     ghost faults: { Self → ℕ };
 
-    /// Says a front of the piece, at least one byte of one that is not empty, and answers its length in bytes.
+    /// Says a prefix of the piece, at least one byte of one that is not empty, and answers its length in bytes.
     fn say(&mut self, to: Channel, piece: &[u8]) -> Result<usize, Failed>
         ensures some { IfOk result (λ n. 0 < length piece.now → 0 < n) }
         ensures at_most { IfOk result (λ n. n ≤ length piece.now) }

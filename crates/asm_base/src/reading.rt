@@ -48,14 +48,14 @@ impl From<AllocError> for TextFault {
     }
 }
 
-/// A buffer of so many bytes.
+/// A buffer of this many bytes.
 fn make_buffer(alloc: Global, bytes: usize) -> Result<Vec<u8>, AllocError>
     ensures { IfOk result (λ buffer. vec_len buffer ≡ bytes) }
 {
     vec![in alloc; 0u8; bytes]
 }
 
-/// Reads the next bytes of the started file to the end of those read so far, and answers how many.
+/// Reads the next bytes of the started file to the end of those already read, and answers how many.
 fn read_piece<I: Inputs>(
     ins: &mut I,
     buffer: &mut [u8],

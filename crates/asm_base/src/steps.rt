@@ -25,7 +25,7 @@ impl<L: Ledger> Model for Steps<L> {
 impl<L: Ledger> Steps<L> {
     ghost use Rattle.std.specs.Prelude.{◌≡◌, ◌+◌, ◌<◌};
 
-    /// No step yet, on a ledger that nothing else counts on.
+    /// No step, on a ledger that nothing else counts on.
     pub fn new(blank: Blank) -> Steps<L>
         requires name { blank.name ≡ L.name }
         requires parts { blank.parts ≡ L.parts }

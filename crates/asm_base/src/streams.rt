@@ -23,7 +23,7 @@ pub struct FileInputs<'a, R: Files + Input> {
 }
 
 impl<'a, R: Files + Input> FileInputs<'a, R> {
-    /// No file is started yet, so nothing is left to read.
+    /// No file is started, so nothing is left to read.
     pub fn new(rt: &'a R) -> FileInputs<'a, R>
         ensures faults { result.faults ≡ 0 }
         ensures missing { result.missing ≡ 0 }
@@ -99,13 +99,13 @@ impl<'a, R: Files + Input> Inputs for FileInputs<'a, R> {
 pub struct FileOutput<'a, R: Files + Alloc> {
     rt: &'a R,
     file: Option<R::File>,
-    /// The name that the file was created by.
+    /// The name under which the file was created.
     name: String<R::A>,
     faults: u64,
 }
 
 impl<'a, R: Files + Alloc> FileOutput<'a, R> {
-    /// Nothing is made yet.
+    /// Nothing is made.
     pub fn new(rt: &'a R) -> FileOutput<'a, R>
         ensures { result.faults ≡ 0 }
     {
@@ -117,7 +117,7 @@ impl<'a, R: Files + Alloc> FileOutput<'a, R> {
         }
     }
 
-    /// The name is that of this file, which is a regular one. Behind a symbolic link, as `/dev/stdout`, stands a file of another name.
+    /// The name is the name of this very file, and the file is a regular one: no device, no pipe, and nothing behind a symbolic link.
     fn is_named(&self, file: &R::File) -> bool {
         match (
             file.metadata(),

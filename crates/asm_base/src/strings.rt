@@ -18,7 +18,7 @@ fn is_digit_of(radix: u64, byte: u8) -> bool
     digit_of(byte) < radix
 }
 
-/// How many digits of the radix stand in front.
+/// How many digits of the radix the bytes begin with.
 fn digit_count(radix: u64, bytes: &[u8]) -> usize
     ensures value { result ≡ prefix_len (is_digit_of radix) bytes.now }
     ensures within { result ≤ length bytes.now }

@@ -1,17 +1,16 @@
 -- A run of bytes that are pieces of their own is scanned as one piece.
-use Rattle.std.proofs.Common.{◌≡◌, ℕ, zero, suc, ◌+◌, ◌<◌, ◌≤◌, Bool, true, false, not, cond, ◌&&◌, ◌||◌, ◌==◌, List, [], ◌∷◌, length, get_or, take, drop, min, Option, Some, None, refl, sym, ap, subst, ◌∙◌, arith}
+use Rattle.std.proofs.Common.{◌≡◌, ℕ, zero, suc, ◌+◌, ◌<◌, ◌≤◌, Bool, true, false, not, cond, ◌&&◌, ◌||◌, ◌==◌, List, [], ◌∷◌, get_or, take, drop, min, Option, Some, None, refl, sym, ap, subst, ◌∙◌, arith}
 use Rattle.std.specs.Prelude.{count_by}
 use Rattle.std.specs.List.{prefix_len}
 use Rattle.std.specs.Option.{option_or}
-use Rattle.std.proofs.lemmas.List.{drop-drop, drop_more, length-drop}
+use Rattle.std.proofs.lemmas.List.{drop-drop, drop_more}
 use Rattle.std.proofs.lemmas.List.Sums.{prefix_len_passes, prefix_len-le-length, sum_by-cons}
 use Rattle.asm_base.specs.ByteClasses.{is_feed, is_blank, begins_with, line_goes_on}
-use Rattle.asm_base.specs.Pieces.{Piece, ends_statement}
+use Rattle.asm_base.specs.Pieces.{Piece}
 use Rattle.asm_base.specs.Dividing.{comment_kind, is_plain, piece_kind, piece_length, string_kind}
 use Rattle.asm_base.specs.declared.pieces.PieceKind.{PieceKind}
 use Rattle.asm_base.specs.declared.pieces.PieceKind.TheVariants.{LineFeed, Semicolon, Blank, LineComment, Character, Other}
 use Rattle.asm_lines.specs.declared.faults.Found.{Found}
-use Rattle.asm_lines.specs.declared.intervals.PieceAt.{PieceAt}
 use Rattle.asm_lines.specs.declared.intervals.Scan.{Scan}
 use Rattle.asm_lines.specs.declared.intervals.Span.{Span}
 use Rattle.asm_lines.specs.LineNumbers.{line_of, last_line}

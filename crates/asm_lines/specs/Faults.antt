@@ -58,8 +58,10 @@ long_found source (first ∷ others) =
 -- the first statement that is too long
 abbrev pub first_long : List ℕ → List (List Piece) → Option Found
 first_long source [] = None
-first_long source (interval ∷ later) = option_or (long_found source (trimmed interval)) (first_long source later)
+first_long source (interval ∷ later) =
+    option_or (long_found source (trimmed interval)) (first_long source later)
 
 -- the first fault of a source that has these pieces, in order of place
 unfoldable pub source_found : List ℕ → List Piece → Option Found
-source_found source pieces = earlier (nul_found source) (earlier (first_open source pieces) (first_long source (intervals_of pieces)))
+source_found source pieces =
+    earlier (nul_found source) (earlier (first_open source pieces) (first_long source (intervals_of pieces)))

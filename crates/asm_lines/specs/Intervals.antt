@@ -10,7 +10,8 @@ intervals_of pieces = slice_split (λ piece. ends_statement piece.kind) pieces
 -- without the blanks and comments in front
 abbrev pub without_space_before : List Piece → List Piece
 without_space_before [] = []
-without_space_before (piece ∷ pieces) = if is_space piece.kind then without_space_before pieces else (piece ∷ pieces)
+without_space_before (piece ∷ pieces) =
+    if is_space piece.kind then without_space_before pieces else (piece ∷ pieces)
 
 -- a piece before others; a blank or a comment before none is left out
 abbrev pub before_others : Piece → List Piece → List Piece

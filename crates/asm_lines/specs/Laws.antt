@@ -13,7 +13,7 @@ abbrev pub last_of : Piece → List Piece → Piece
 last_of piece [] = piece
 last_of piece (next ∷ others) = last_of next others
 
--- the statement is whole pieces of the source: none ends a statement, and neither the first nor the last is a blank or a comment
+-- the statement is whole pieces of the source, none ends a statement, and it neither begins nor ends with a blank or a comment
 pub record IsRun (source : List ℕ) (statement : StatementAt) : Type 0 where
   pub before : List Piece
   pub first : Piece

@@ -22,7 +22,8 @@ pieces_at source offset = pieces_from 0 offset (drop offset source)
 -- those of the first interval
 abbrev pub first_interval : List Piece → List Piece
 first_interval [] = []
-first_interval (piece ∷ pieces) = if ends_statement piece.kind then [] else (piece ∷ first_interval pieces)
+first_interval (piece ∷ pieces) =
+    if ends_statement piece.kind then [] else (piece ∷ first_interval pieces)
 
 -- those behind the end of the first interval
 abbrev pub later_pieces : List Piece → List Piece
@@ -35,7 +36,8 @@ nothing_scanned = record { span = None; unclosed = None }
 
 -- the piece where it stands in the source
 abbrev pub piece_at : List ℕ → Piece → PieceAt
-piece_at source piece = record { kind = piece.kind; start = piece.start; length = length piece.bytes; line = line_of source piece.start }
+piece_at source piece =
+    record { kind = piece.kind; start = piece.start; length = length piece.bytes; line = line_of source piece.start }
 
 -- a run of pieces of one byte each, as one
 abbrev pub plain_run : ℕ → ℕ → ℕ → PieceAt
@@ -53,7 +55,8 @@ unclosed_by _ piece = None
 
 -- the span of a statement that begins with this piece
 abbrev pub begun : PieceAt → Span
-begun piece = record { begin = piece.start; line = piece.line; end = piece.start + piece.length; own = piece.length; passed = piece.length }
+begun piece =
+    record { begin = piece.start; line = piece.line; end = piece.start + piece.length; own = piece.length; passed = piece.length }
 
 -- the span with one piece more, which its end and its length take in unless it is a blank or a comment
 abbrev pub extended : Span → PieceAt → Span
@@ -69,7 +72,8 @@ with_piece (Some span) piece = Some (extended span piece)
 
 -- what is known with one piece more
 abbrev pub scanned : Scan → PieceAt → Scan
-scanned scan piece = record { span = with_piece scan.span piece; unclosed = option_or scan.unclosed (unclosed_by piece.kind piece) }
+scanned scan piece =
+    record { span = with_piece scan.span piece; unclosed = option_or scan.unclosed (unclosed_by piece.kind piece) }
 
 -- what is known with these pieces more
 unfoldable pub scan_of : List ℕ → Scan → List Piece → Scan
@@ -78,7 +82,8 @@ scan_of source scan pieces = fold (λ known piece. scanned known (piece_at sourc
 -- the fault of a span of more than 65536 bytes
 abbrev pub long_by_span : Option Span → Option Found
 long_by_span None = None
-long_by_span (Some span) = if nat_lt longest_statement span.own then Some (found_at span.begin (StatementTooLong span.line)) else None
+long_by_span (Some span) =
+    if nat_lt longest_statement span.own then Some (found_at span.begin (StatementTooLong span.line)) else None
 
 -- what a scanned interval is refused for: the earlier of its two faults
 abbrev pub found_by_scan : Scan → Option Found
@@ -86,12 +91,14 @@ found_by_scan scan = earlier scan.unclosed (long_by_span scan.span)
 
 -- what an interval is refused for
 abbrev pub interval_found : List ℕ → List Piece → Option Found
-interval_found source interval = earlier (first_open source interval) (long_found source (trimmed interval))
+interval_found source interval =
+    earlier (first_open source interval) (long_found source (trimmed interval))
 
 -- the statement of a scanned interval
 abbrev pub statement_by_span : ℕ → List ℕ → Option Span → Option StatementAt
 statement_by_span file source None = None
-statement_by_span file source (Some span) = Some (record { file = file; line = span.line; bytes = bytes_between source span.begin span.end })
+statement_by_span file source (Some span) =
+    Some (record { file = file; line = span.line; bytes = bytes_between source span.begin span.end })
 
 -- the span ends before this offset
 abbrev pub EndsBy : ℕ → Option Span → Type 0

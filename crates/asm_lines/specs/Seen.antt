@@ -4,4 +4,5 @@ use Rattle.asm_lines.specs.Statements.{StatementAt}
 
 -- the statement with its file, its line and its bytes
 abbrev pub seen : Statement → StatementAt
-seen statement = record { file = statement.pos.file; line = statement.pos.line; bytes = statement.bytes.now }
+seen statement =
+    record { file = statement.pos.file; line = statement.pos.line; bytes = statement.bytes.now }

@@ -10,7 +10,7 @@ use Rattle.asm_lines.specs.Intervals.{intervals_of, trimmed}
 use Rattle.asm_lines.specs.LineNumbers.{line_of, end_of_pieces, bytes_between}
 use Rattle.asm_lines.specs.Faults.{source_found}
 
--- a statement, and where it stands: the part of the source from its first to its last byte, with the comments between them, which are none of its own
+-- a statement and its place: the bytes of the source from its first to its last, comments between them included
 pub record StatementAt : Type 0 where
   pub file : ℕ
   pub line : ℕ
@@ -33,7 +33,8 @@ unless_found (Some found) statements = Err found.fault
 
 -- the first fault of a source that has these pieces, or else its statements
 unfoldable pub statements_in : ℕ → List ℕ → List Piece → Result (List StatementAt) LineFault
-statements_in file source pieces = unless_found (source_found source pieces) (filter_map (statement_in file source) (intervals_of pieces))
+statements_in file source pieces =
+    unless_found (source_found source pieces) (filter_map (statement_in file source) (intervals_of pieces))
 
 -- the first fault of a source, or else its statements
 unfoldable pub statements_of : ℕ → List ℕ → Result (List StatementAt) LineFault
@@ -45,6 +46,7 @@ Fails NoMemory wanted = Unit {0}
 Fails fault wanted = wanted ≡ Err fault
 
 -- a call gives what is wanted
-abbrev pub Gives : Result (List StatementAt) LineFault → Result (List StatementAt) LineFault → Type 0
+abbrev pub Gives : Result (List StatementAt) LineFault → Result (List StatementAt) LineFault
+    → Type 0
 Gives (Ok statements) wanted = wanted ≡ Ok statements
 Gives (Err fault) wanted = Fails fault wanted

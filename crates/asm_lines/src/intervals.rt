@@ -33,9 +33,9 @@ pub(crate) struct Span {
     pub line: u32,
     /// The offset behind its last byte so far.
     pub end: usize,
-    /// How many bytes it has up to there, those of comments not counted.
+    /// How many bytes it has up to there, comments not counted.
     pub own: usize,
-    /// The same with the blanks behind that.
+    /// The same, with the blanks that follow it.
     pub passed: usize,
 }
 

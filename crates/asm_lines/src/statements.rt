@@ -4,7 +4,7 @@ use asm_base::Pos;
 use std::marker::Model;
 use std::slice;
 
-/// A statement: the part of the source from its first to its last byte that is of no blank and no comment. Comments between them stand in it.
+/// A statement: the bytes of the source from its first to its last one that is in no blank and no comment. Comments between these are included.
 #[derive(Clone, Copy, Debug)]
 pub struct Statement<'a> {
     /// The file, and the line of the first byte.
