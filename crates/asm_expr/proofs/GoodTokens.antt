@@ -19,8 +19,8 @@ use Rattle.asm_expr.specs.declared.trees.Written.TheVariants.{Plain, Back, Next}
 use Rattle.asm_expr.specs.Trees.{Tree, number, name, here}
 use Rattle.asm_expr.specs.Gives.{◌>>=◌}
 use Rattle.asm_expr.specs.Numbers.{numeral, spelled_number}
-use Rattle.asm_expr.specs.Leaves.{character_code, between_quotes, is_symbol_name, last_byte, without_last, is_label, label_written, digits_leaf, leaf_by, leaf_of}
-use Rattle.asm_expr.specs.Reading.{Placed, reading_of}
+use Rattle.asm_expr.specs.Leaves.{character_code, between_quotes, is_symbol_name, last_byte, without_last, is_numeric_label, label_written, digits_leaf, leaf_by, leaf_of}
+use Rattle.asm_expr.specs.Reading.{ReadTree, reading_of}
 use Rattle.asm_expr.specs.Grammar.{Writes, leaf, prefixed, between, enclosed}
 use Rattle.asm_expr.specs.Shown.{is_byte, IsWritable, IsShowable, IsReadBack}
 use Rattle.asm_expr.proofs.ReadingLemmas.{steps}
@@ -273,7 +273,7 @@ quoted_good false text tree named all is = cc
 leaf_good : (kind : TokenKind) (bytes : List ℕ) (tree : Tree) → list_all is_byte bytes ≡ true → Named kind bytes → leaf_by kind bytes ≡ Ok tree → IsShowable tree
 unfolding digits_leaf
 leaf_good Name bytes tree all named is = seen _ tree (word_good _ bytes named all) is
-leaf_good Digits bytes tree all named is = digits_good (is_label bytes) bytes tree is
+leaf_good Digits bytes tree all named is = digits_good (is_numeric_label bytes) bytes tree is
 leaf_good Character bytes tree all named is =
     let s = steps (character_code bytes) (λ n. Ok (number n)) tree is in
     seen (number s.middle) tree (character_good s.middle bytes all s.begins) s.ends
@@ -298,7 +298,7 @@ writes_good _ _ _ _ (enclosed most level tree opening closing inside text is end
     writes_good most tree 1 inside within (good_front inside (closing ∷ []) parts.1)
 
 -- what is read from a statement is shown, and read back
-pub read_is_shown : OnlyValue → (statement : List ℕ) (at : ℕ) (found : Placed) → list_all is_byte statement ≡ true → reading_of (tokens_of statement) at ≡ Ok found → IsReadBack found.tree
+pub read_is_shown : OnlyValue → (statement : List ℕ) (at : ℕ) (found : ReadTree) → list_all is_byte statement ≡ true → reading_of (tokens_of statement) at ≡ Ok found → IsReadBack found.tree
 read_is_shown only statement at found all is =
     let text = read_is_text (tokens_of statement) at found is in
     let good = good_drop at (tokens_of statement) (tokens_good 0 0 statement all) in

@@ -4,8 +4,8 @@ use Rattle.asm_base.specs.Tokens.{SpelledToken}
 use Rattle.asm_expr.specs.declared.faults.ExprFault.{ExprFault}
 use Rattle.asm_expr.specs.Trees.{Tree}
 use Rattle.asm_expr.specs.Gives.{◌>>=◌}
-use Rattle.asm_expr.specs.Reading.{Reading, Read, read, reading, reading_of, Placed}
-use Rattle.asm_expr.specs.Grammar.{IsTextOf, IsFoundIn, IsReadAs, goes_on}
+use Rattle.asm_expr.specs.Reading.{Reading, Read, read, reading, reading_of, ReadTree}
+use Rattle.asm_expr.specs.Grammar.{IsTextOf, IsFoundIn, IsReadAs, operator_follows}
 use Rattle.asm_expr.proofs.ReadingLemmas.{steps}
 use Rattle.asm_expr.proofs.ParsingLemmas.{stops}
 use Rattle.asm_expr.proofs.Marks.{in_one, one_in, in_higher}
@@ -18,7 +18,7 @@ behind_text : (before text : List SpelledToken) → drop (length before) (before
 behind_text [] text = refl
 behind_text (token ∷ before) text = behind_text before text
 
-pub text_is_read : (tree : Tree) (before text behind : List SpelledToken) → IsTextOf tree text → goes_on behind ≡ false → IsReadAs tree before text behind
+pub text_is_read : (tree : Tree) (before text behind : List SpelledToken) → IsTextOf tree text → operator_follows behind ≡ false → IsReadAs tree before text behind
 unfolding reading_of
 text_is_read tree before text behind is none =
     let quiet = in_one behind none in
@@ -31,14 +31,14 @@ text_is_read tree before text behind is none =
     ∙ ap (λ (r : Read). r >>= (λ found. Ok (record { tree = found.tree; next = length (before ++ (text ++ behind)) - length found.rest }))) begins
     ∙ ap (λ (n : ℕ). Ok (record { tree = tree; next = n })) next
 
-placed_by : Reading → ℕ → Placed
+placed_by : Reading → ℕ → ReadTree
 placed_by r n = record { tree = r.tree; next = n }
 
-same_placed : (one other : Placed) → (let made : Result Placed ExprFault = Ok one in made ≡ Ok other) → one ≡ other
+same_placed : (one other : ReadTree) → (let made : Result ReadTree ExprFault = Ok one in made ≡ Ok other) → one ≡ other
 same_placed one other is = cc
 
 -- a reading that is placed begins with a text
-pub read_is_text : (tokens : List SpelledToken) (at : ℕ) (found : Placed) → reading_of tokens at ≡ Ok found → IsFoundIn tokens at found
+pub read_is_text : (tokens : List SpelledToken) (at : ℕ) (found : ReadTree) → reading_of tokens at ≡ Ok found → IsFoundIn tokens at found
 unfolding reading_of placed_by
 read_is_text tokens at found is =
     let s = steps (reading 1 0 (drop at tokens)) (λ found. Ok (record { tree = found.tree; next = length tokens - length found.rest })) found is in
@@ -62,4 +62,4 @@ pub text_has_one_tree : (one other : Tree) (text : List SpelledToken) → IsText
 text_has_one_tree one other text is also =
     let a = text_is_read one [] text [] is refl in
     let b = text_is_read other [] text [] also refl in
-    ap (λ (p : Placed). p.tree) (same_placed (record { tree = one; next = 0 + length text }) (record { tree = other; next = 0 + length text }) (sym a ∙ b))
+    ap (λ (p : ReadTree). p.tree) (same_placed (record { tree = one; next = 0 + length text }) (record { tree = other; next = 0 + length text }) (sym a ∙ b))

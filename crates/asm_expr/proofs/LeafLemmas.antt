@@ -11,7 +11,7 @@ use Rattle.asm_expr.specs.declared.trees.Written.TheVariants.{Plain}
 use Rattle.asm_expr.specs.Trees.{Tree, number, name, here, height}
 use Rattle.asm_expr.specs.Gives.{◌>>=◌}
 use Rattle.asm_expr.specs.Numbers.{numeral, spelled_number}
-use Rattle.asm_expr.specs.Leaves.{character_code, between_quotes, is_symbol_name, last_byte, without_last, is_label, label_written, digits_leaf, leaf_by, leaf_of}
+use Rattle.asm_expr.specs.Leaves.{character_code, between_quotes, is_symbol_name, last_byte, without_last, is_numeric_label, label_written, digits_leaf, leaf_by, leaf_of}
 use Rattle.asm_expr.proofs.ReadingLemmas.{steps}
 
 -- no operator stands in it
@@ -43,7 +43,7 @@ quoted_seen false text tree is = cc
 leaf_by_kind : (kind : TokenKind) (bytes : List ℕ) (tree : Tree) → leaf_by kind bytes ≡ Ok tree → IsLeaf tree
 unfolding digits_leaf
 leaf_by_kind Name bytes tree is = seen _ tree (word_seen _ bytes) is
-leaf_by_kind Digits bytes tree is = digits_seen (is_label bytes) bytes tree is
+leaf_by_kind Digits bytes tree is = digits_seen (is_numeric_label bytes) bytes tree is
 leaf_by_kind Character bytes tree is =
     let s = steps (character_code bytes) (λ n. Ok (number n)) tree is in
     seen (number s.middle) tree (a_number s.middle) s.ends

@@ -8,7 +8,7 @@ pub mod Fuel
 pub mod TokenLists
 pub mod LeafLemmas
 pub mod ParsingLemmas
-pub mod PlacedLemmas
+pub mod ReadTreeLemmas
 pub mod Marks
 pub mod WrittenIsRead
 pub mod ReadIsWritten

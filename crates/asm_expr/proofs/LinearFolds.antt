@@ -8,7 +8,7 @@ use Rattle.asm_expr.specs.Forms.{Form}
 use Rattle.asm_expr.specs.Knowledge.{Knowledge}
 use Rattle.asm_expr.specs.Linear.{linear, unary_form, binary_form}
 use Rattle.asm_expr.specs.Gives.{◌>>=◌, Gives}
-use Rattle.asm_expr.specs.Evaluating.{Answer, Answers, NumGives, NameGives, HereGives, UnaryGives, BinaryGives}
+use Rattle.asm_expr.specs.Evaluating.{Answer, AnswersWanted, NumGives, NameGives, HereGives, UnaryGives, BinaryGives}
 
 -- a step that gives what follows from an answer gives what follows from what was wanted
 pub gives_after : {A B : Type 0} (answer wanted : Result A ExprFault) (next : A → Result B ExprFault) (given : Result B ExprFault)
@@ -38,7 +38,7 @@ gives_after_both (Err fault) wanted_left right wanted_right next given is other 
 module _ {V : Type 0} (knows : V → Knowledge) where
   pub folds_linear : (tree : Tree) (first : V) (answer : Answer) (last : V)
       → Folds (NumGives knows) (NameGives knows) (HereGives knows) (UnaryGives knows) (BinaryGives knows) tree first answer last
-      → Answers knows first answer last (linear (knows first) tree)
+      → AnswersWanted knows first answer last (linear (knows first) tree)
   unfolding linear
   folds_linear (number value) first answer last folds = folds
   folds_linear (name written) first answer last folds = folds

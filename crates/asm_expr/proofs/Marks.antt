@@ -13,7 +13,7 @@ use Rattle.asm_expr.specs.Trees.{Tree}
 use Rattle.asm_expr.specs.Operators.{mark_by, mark_of, opens, closes, prefix_by, prefix_of, operator_byte, operator_by, operator_of, level_of}
 use Rattle.asm_expr.specs.Leaves.{leaf_by, leaf_of}
 use Rattle.asm_expr.specs.Reading.{operator_from}
-use Rattle.asm_expr.specs.Grammar.{goes_on}
+use Rattle.asm_expr.specs.Grammar.{operator_follows}
 use Rattle.asm_expr.specs.Found.{operator_in}
 
 -- how tightly operators bind
@@ -150,7 +150,7 @@ from_one : (told : Option BinaryOp) → is_some told ≡ false → operator_from
 from_one None none = refl
 from_one (Some op) none = cc
 
-pub in_one : (tokens : List SpelledToken) → goes_on tokens ≡ false → operator_in 1 tokens ≡ None
+pub in_one : (tokens : List SpelledToken) → operator_follows tokens ≡ false → operator_in 1 tokens ≡ None
 unfolding operator_in
 in_one [] none = refl
 in_one (token ∷ rest) none = from_one (operator_of token) none
@@ -159,7 +159,7 @@ one_from : (told : Option BinaryOp) → operator_from 1 told ≡ None → is_som
 one_from None none = refl
 one_from (Some op) none = let tight = from_some 1 op (level_some op) in cc
 
-pub one_in : (tokens : List SpelledToken) → operator_in 1 tokens ≡ None → goes_on tokens ≡ false
+pub one_in : (tokens : List SpelledToken) → operator_in 1 tokens ≡ None → operator_follows tokens ≡ false
 unfolding operator_in
 one_in [] none = refl
 one_in (token ∷ rest) none = one_from (operator_of token) none

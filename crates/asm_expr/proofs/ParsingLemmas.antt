@@ -13,7 +13,7 @@ use Rattle.asm_expr.specs.Gives.{◌>>=◌, Fails}
 use Rattle.asm_expr.specs.Operators.{opens, prefix_of}
 use Rattle.asm_expr.specs.Leaves.{leaf_of}
 use Rattle.asm_expr.specs.Reading.{Read, read, whole, closed, deeper, unopened, operand_of, operator_at, follow, reading, reading_more}
-use Rattle.asm_expr.specs.Found.{tokens_from, operand_in, operator_in, Finds, IsNode, Completes}
+use Rattle.asm_expr.specs.Found.{spelled_from, operand_in, operator_in, Finds, IsNode, CompletesNode}
 use Rattle.asm_expr.proofs.TokenLists.{none_left, one_left}
 use Rattle.asm_expr.proofs.Fuel.{right_of, reading_none, reading_step, reading_more_none, reading_more_step}
 
@@ -45,7 +45,7 @@ pub whole_low : (tree : Tree) (rest : List SpelledToken) → height tree ≤ 256
 unfolding whole
 whole_low tree rest low = low_enough (nat_lt 256 (height tree)) tree rest refl low
 
-pub node_fails : (tree : Tree) (next : ℕ) (fault : ExprFault) (rest : List SpelledToken) → Completes tree next (Err fault) → Fails fault (whole tree rest)
+pub node_fails : (tree : Tree) (next : ℕ) (fault : ExprFault) (rest : List SpelledToken) → CompletesNode tree next (Err fault) → Fails fault (whole tree rest)
 node_fails tree next NoMemory rest is = tt
 node_fails tree next ExpressionTooDeep rest is = whole_high tree rest is
 node_fails tree next BadExpression rest is = absurd is
@@ -55,14 +55,14 @@ node_fails tree next ValueNotKnown rest is = absurd is
 node_fails tree next NotASumOfSymbols rest is = absurd is
 
 pub node_done : (tokens : List Token) (tree : Tree) (next : ℕ) (found : Found) → IsNode tree next found
-    → whole tree (tokens_from tokens next) ≡ Ok (read (tree_of found.expr) (tokens_from tokens found.next))
+    → whole tree (spelled_from tokens next) ≡ Ok (read (tree_of found.expr) (spelled_from tokens found.next))
 node_done tokens tree next found is =
     let same = is.tree in
     let behind = is.next in
     let told = is.low.height in
     let low = is.low.low in
     let fits : height tree ≤ 256 = rw (← same) (omega arith) in
-    rw (same, behind) (whole_low tree (tokens_from tokens next) fits)
+    rw (same, behind) (whole_low tree (spelled_from tokens next) fits)
 
 -- an expression begins with an operand
 pub reading_is : (level depth : ℕ) (tokens : List SpelledToken) → reading level depth tokens ≡ (operand_in depth tokens >>= (λ left. reading_more level depth left.tree left.rest))
@@ -78,14 +78,14 @@ stops level depth left (token ∷ rest) none =
     reading_more_step level depth left token rest
     ∙ ap (λ (op : Option BinaryOp). follow op (Ok (read left (token ∷ rest))) (λ op. right_of reading depth left rest op >>= (λ joined. reading_more level depth joined.tree joined.rest))) (sym none)
 
-pub more_end : (tokens : List Token) (at level depth : ℕ) (left : Tree) → None ≡ operator_in level (tokens_from tokens at)
-    → reading_more level depth left (tokens_from tokens at) ≡ Ok (read left (tokens_from tokens at))
-more_end tokens at level depth left none = stops level depth left (tokens_from tokens at) none
+pub more_end : (tokens : List Token) (at level depth : ℕ) (left : Tree) → None ≡ operator_in level (spelled_from tokens at)
+    → reading_more level depth left (spelled_from tokens at) ≡ Ok (read left (spelled_from tokens at))
+more_end tokens at level depth left none = stops level depth left (spelled_from tokens at) none
 
 -- and goes on where one does
-pub more_at : (tokens : List Token) (at level depth : ℕ) (left : Tree) (op : BinaryOp) → at < length tokens → Some op ≡ operator_in level (tokens_from tokens at)
-    → reading_more level depth left (tokens_from tokens at)
-    ≡ (right_of reading depth left (tokens_from tokens (at + 1)) op >>= (λ joined. reading_more level depth joined.tree joined.rest))
+pub more_at : (tokens : List Token) (at level depth : ℕ) (left : Tree) (op : BinaryOp) → at < length tokens → Some op ≡ operator_in level (spelled_from tokens at)
+    → reading_more level depth left (spelled_from tokens at)
+    ≡ (right_of reading depth left (spelled_from tokens (at + 1)) op >>= (λ joined. reading_more level depth joined.tree joined.rest))
 unfolding operator_in
 more_at tokens at level depth left op inside some = by tokens inside some
   where
@@ -95,22 +95,22 @@ more_at tokens at level depth left op inside some = by tokens inside some
         reading_more_step level depth left token rest
         ∙ ap (λ (op : Option BinaryOp). follow op (Ok (read left (token ∷ rest))) (λ op. right_of reading depth left rest op >>= (λ joined. reading_more level depth joined.tree joined.rest))) (sym is)
 
-    by : (tokens : List Token) → at < length tokens → Some op ≡ operator_in level (tokens_from tokens at)
-        → reading_more level depth left (tokens_from tokens at)
-        ≡ (right_of reading depth left (tokens_from tokens (at + 1)) op >>= (λ joined. reading_more level depth joined.tree joined.rest))
+    by : (tokens : List Token) → at < length tokens → Some op ≡ operator_in level (spelled_from tokens at)
+        → reading_more level depth left (spelled_from tokens at)
+        ≡ (right_of reading depth left (spelled_from tokens (at + 1)) op >>= (λ joined. reading_more level depth joined.tree joined.rest))
     by [] within is = absurd (omega arith)
     by (first ∷ others) within is =
         let front = one_left (first ∷ others) at first within in
         let here : Some op ≡ operator_at level (spelled (get_or (first ∷ others) at first)) = is ∙ ap (operator_in level) front in
-        rw front (go_on (spelled (get_or (first ∷ others) at first)) (tokens_from (first ∷ others) (at + 1)) here)
+        rw front (go_on (spelled (get_or (first ∷ others) at first)) (spelled_from (first ∷ others) (at + 1)) here)
 
 -- the operand that begins at an index
-pub operand_end : (tokens : List Token) (at depth : ℕ) → length tokens ≤ at → operand_in depth (tokens_from tokens at) ≡ Err BadExpression
+pub operand_end : (tokens : List Token) (at depth : ℕ) → length tokens ≤ at → operand_in depth (spelled_from tokens at) ≡ Err BadExpression
 unfolding operand_in
 operand_end tokens at depth all = ap (operand_in depth) (none_left tokens at all)
 
 operand_at : (tokens : List Token) (at depth : ℕ) (d : Token) → at < length tokens
-    → operand_in depth (tokens_from tokens at) ≡ operand_of reading depth (spelled (get_or tokens at d)) (tokens_from tokens (at + 1))
+    → operand_in depth (spelled_from tokens at) ≡ operand_of reading depth (spelled (get_or tokens at d)) (spelled_from tokens (at + 1))
 unfolding operand_in
 operand_at tokens at depth d inside = ap (operand_in depth) (one_left tokens at d inside)
 
@@ -123,47 +123,47 @@ over true depth inner is high = absurd (grind (arith, nat_tests))
 over false depth inner is high = refl
 
 pub opened_at : (tokens : List Token) (at depth : ℕ) (d : Token) → at < length tokens → true ≡ opens (spelled (get_or tokens at d)) → depth < 64
-    → operand_in depth (tokens_from tokens at) ≡ (reading 1 (depth + 1) (tokens_from tokens (at + 1)) >>= closed)
+    → operand_in depth (spelled_from tokens at) ≡ (reading 1 (depth + 1) (spelled_from tokens (at + 1)) >>= closed)
 unfolding operand_of
 opened_at tokens at depth d inside is low =
     operand_at tokens at depth d inside
-    ∙ ap (λ (b : Bool). cond b (deeper depth (reading 1 (depth + 1) (tokens_from tokens (at + 1)) >>= closed)) (unopened reading depth (spelled (get_or tokens at d)) (tokens_from tokens (at + 1)) (prefix_of (spelled (get_or tokens at d))))) (sym is)
-    ∙ under (nat_lt depth 64) depth (reading 1 (depth + 1) (tokens_from tokens (at + 1)) >>= closed) refl low
+    ∙ ap (λ (b : Bool). cond b (deeper depth (reading 1 (depth + 1) (spelled_from tokens (at + 1)) >>= closed)) (unopened reading depth (spelled (get_or tokens at d)) (spelled_from tokens (at + 1)) (prefix_of (spelled (get_or tokens at d))))) (sym is)
+    ∙ under (nat_lt depth 64) depth (reading 1 (depth + 1) (spelled_from tokens (at + 1)) >>= closed) refl low
 
 pub opened_deep : (tokens : List Token) (at depth : ℕ) (d : Token) → at < length tokens → true ≡ opens (spelled (get_or tokens at d)) → 64 ≤ depth
-    → operand_in depth (tokens_from tokens at) ≡ Err ExpressionTooDeep
+    → operand_in depth (spelled_from tokens at) ≡ Err ExpressionTooDeep
 unfolding operand_of
 opened_deep tokens at depth d inside is high =
     operand_at tokens at depth d inside
-    ∙ ap (λ (b : Bool). cond b (deeper depth (reading 1 (depth + 1) (tokens_from tokens (at + 1)) >>= closed)) (unopened reading depth (spelled (get_or tokens at d)) (tokens_from tokens (at + 1)) (prefix_of (spelled (get_or tokens at d))))) (sym is)
-    ∙ over (nat_lt depth 64) depth (reading 1 (depth + 1) (tokens_from tokens (at + 1)) >>= closed) refl high
+    ∙ ap (λ (b : Bool). cond b (deeper depth (reading 1 (depth + 1) (spelled_from tokens (at + 1)) >>= closed)) (unopened reading depth (spelled (get_or tokens at d)) (spelled_from tokens (at + 1)) (prefix_of (spelled (get_or tokens at d))))) (sym is)
+    ∙ over (nat_lt depth 64) depth (reading 1 (depth + 1) (spelled_from tokens (at + 1)) >>= closed) refl high
 
 unopened_at : (tokens : List Token) (at depth : ℕ) (d : Token) → at < length tokens → false ≡ opens (spelled (get_or tokens at d))
-    → operand_in depth (tokens_from tokens at) ≡ unopened reading depth (spelled (get_or tokens at d)) (tokens_from tokens (at + 1)) (prefix_of (spelled (get_or tokens at d)))
+    → operand_in depth (spelled_from tokens at) ≡ unopened reading depth (spelled (get_or tokens at d)) (spelled_from tokens (at + 1)) (prefix_of (spelled (get_or tokens at d)))
 unfolding operand_of
 unopened_at tokens at depth d inside is =
     operand_at tokens at depth d inside
-    ∙ ap (λ (b : Bool). cond b (deeper depth (reading 1 (depth + 1) (tokens_from tokens (at + 1)) >>= closed)) (unopened reading depth (spelled (get_or tokens at d)) (tokens_from tokens (at + 1)) (prefix_of (spelled (get_or tokens at d))))) (sym is)
+    ∙ ap (λ (b : Bool). cond b (deeper depth (reading 1 (depth + 1) (spelled_from tokens (at + 1)) >>= closed)) (unopened reading depth (spelled (get_or tokens at d)) (spelled_from tokens (at + 1)) (prefix_of (spelled (get_or tokens at d))))) (sym is)
 
 pub prefix_at : (tokens : List Token) (at depth : ℕ) (d : Token) (op : UnaryOp) → at < length tokens → false ≡ opens (spelled (get_or tokens at d)) → Some op ≡ prefix_of (spelled (get_or tokens at d)) → depth < 64
-    → operand_in depth (tokens_from tokens at) ≡ (reading 7 (depth + 1) (tokens_from tokens (at + 1)) >>= (λ operand. whole (unary op operand.tree) operand.rest))
+    → operand_in depth (spelled_from tokens at) ≡ (reading 7 (depth + 1) (spelled_from tokens (at + 1)) >>= (λ operand. whole (unary op operand.tree) operand.rest))
 prefix_at tokens at depth d op inside is some low =
     unopened_at tokens at depth d inside is
-    ∙ ap (unopened reading depth (spelled (get_or tokens at d)) (tokens_from tokens (at + 1))) (sym some)
-    ∙ under (nat_lt depth 64) depth (reading 7 (depth + 1) (tokens_from tokens (at + 1)) >>= (λ operand. whole (unary op operand.tree) operand.rest)) refl low
+    ∙ ap (unopened reading depth (spelled (get_or tokens at d)) (spelled_from tokens (at + 1))) (sym some)
+    ∙ under (nat_lt depth 64) depth (reading 7 (depth + 1) (spelled_from tokens (at + 1)) >>= (λ operand. whole (unary op operand.tree) operand.rest)) refl low
 
 pub prefix_deep : (tokens : List Token) (at depth : ℕ) (d : Token) (op : UnaryOp) → at < length tokens → false ≡ opens (spelled (get_or tokens at d)) → Some op ≡ prefix_of (spelled (get_or tokens at d)) → 64 ≤ depth
-    → operand_in depth (tokens_from tokens at) ≡ Err ExpressionTooDeep
+    → operand_in depth (spelled_from tokens at) ≡ Err ExpressionTooDeep
 prefix_deep tokens at depth d op inside is some high =
     unopened_at tokens at depth d inside is
-    ∙ ap (unopened reading depth (spelled (get_or tokens at d)) (tokens_from tokens (at + 1))) (sym some)
-    ∙ over (nat_lt depth 64) depth (reading 7 (depth + 1) (tokens_from tokens (at + 1)) >>= (λ operand. whole (unary op operand.tree) operand.rest)) refl high
+    ∙ ap (unopened reading depth (spelled (get_or tokens at d)) (spelled_from tokens (at + 1))) (sym some)
+    ∙ over (nat_lt depth 64) depth (reading 7 (depth + 1) (spelled_from tokens (at + 1)) >>= (λ operand. whole (unary op operand.tree) operand.rest)) refl high
 
 pub leaf_at : (tokens : List Token) (at depth : ℕ) (d : Token) → at < length tokens → false ≡ opens (spelled (get_or tokens at d)) → None ≡ prefix_of (spelled (get_or tokens at d))
-    → operand_in depth (tokens_from tokens at) ≡ (leaf_of (spelled (get_or tokens at d)) >>= (λ tree. Ok (read tree (tokens_from tokens (at + 1)))))
+    → operand_in depth (spelled_from tokens at) ≡ (leaf_of (spelled (get_or tokens at d)) >>= (λ tree. Ok (read tree (spelled_from tokens (at + 1)))))
 leaf_at tokens at depth d inside is none =
     unopened_at tokens at depth d inside is
-    ∙ ap (unopened reading depth (spelled (get_or tokens at d)) (tokens_from tokens (at + 1))) (sym none)
+    ∙ ap (unopened reading depth (spelled (get_or tokens at d)) (spelled_from tokens (at + 1))) (sym none)
 
 -- what was found at a later index was found behind an earlier one
 pub finds_after : (tokens : List Token) (at next : ℕ) (wanted step : Read) (answer : Result Found ExprFault) → wanted ≡ step → at ≤ next → Finds tokens next step answer → Finds tokens at wanted answer
@@ -176,12 +176,12 @@ finds_after tokens at next wanted step (Ok found) is before finds = record {
 finds_after tokens at next wanted step (Err fault) is before finds = rw is finds
 
 -- a node that was completed was found behind its first token
-pub finds_node : (tokens : List Token) (at next : ℕ) (tree : Tree) (wanted : Read) (answer : Result Found ExprFault) → wanted ≡ whole tree (tokens_from tokens next) → at < next → next ≤ length tokens
-    → Completes tree next answer → Finds tokens at wanted answer
+pub finds_node : (tokens : List Token) (at next : ℕ) (tree : Tree) (wanted : Read) (answer : Result Found ExprFault) → wanted ≡ whole tree (spelled_from tokens next) → at < next → next ≤ length tokens
+    → CompletesNode tree next answer → Finds tokens at wanted answer
 finds_node tokens at next tree wanted (Ok found) is before within completes = record {
   value = is ∙ node_done tokens tree next found completes;
   low = completes.low;
   later = let same = completes.next in omega arith;
   within = let same = completes.next in omega arith;
 }
-finds_node tokens at next tree wanted (Err fault) is before within completes = rw is (node_fails tree next fault (tokens_from tokens next) completes)
+finds_node tokens at next tree wanted (Err fault) is before within completes = rw is (node_fails tree next fault (spelled_from tokens next) completes)

@@ -6,8 +6,8 @@ use Rattle.asm_expr.specs.declared.settling.Spot.{Spot}
 use Rattle.asm_expr.specs.Names.{same_name}
 use Rattle.asm_expr.specs.Forms.{Form, wrapped, constant_form}
 use Rattle.asm_expr.specs.Knowledge.{Told, absent, constant, label, form}
-use Rattle.asm_expr.specs.Settled.{spot_by, spot_of, stretch_sum, number_of, put, put_all, settled}
-use Rattle.asm_expr.specs.Coefficients.{counted_as, times, coefficient, replaced, cancels, number_by, numbers_in, IsSettled}
+use Rattle.asm_expr.specs.Settled.{spot_by, spot_of, stretch_sum, cancelled_number, put_one, put_all, settled}
+use Rattle.asm_expr.specs.Coefficients.{counted_as, times, coefficient, is_cancelled, cancels, times_number, numbers_in, IsSettled}
 use Rattle.asm_expr.proofs.Weights.{same_is}
 
 -- what is counted of a term that is put
@@ -17,17 +17,17 @@ kept_by (Some number) n = 0
 
 abbrev kept_times : List (Option Spot) → (Name → Told) → Name → List Term → ℕ
 kept_times spots told own [] = 0
-kept_times spots told own (term ∷ terms) = kept_by (number_of spots (spot_of told term)) (counted_as own term.name term.coefficient) + kept_times spots told own terms
+kept_times spots told own (term ∷ terms) = kept_by (cancelled_number spots (spot_of told term)) (counted_as own term.name term.coefficient) + kept_times spots told own terms
 
 times_push : (own : Name) (terms : List Term) (term : Term) → times own (terms ++ (term ∷ [])) ≡ times own terms + counted_as own term.name term.coefficient
 times_push own [] term = omega arith
 times_push own (first ∷ terms) term = let later = times_push own terms term in omega arith
 
-put_times : (own : Name) (made : Form) (term : Term) (number : Option ℕ) → times own (put made term number).terms ≡ times own made.terms + kept_by number (counted_as own term.name term.coefficient)
+put_times : (own : Name) (made : Form) (term : Term) (number : Option ℕ) → times own (put_one made term number).terms ≡ times own made.terms + kept_by number (counted_as own term.name term.coefficient)
 put_times own made term None = times_push own made.terms term
 put_times own made term (Some number) = omega arith
 
-put_constant : (made : Form) (term : Term) (number : Option ℕ) → wrapped (put made term number).constant ≡ wrapped (made.constant + number_by number term.coefficient)
+put_constant : (made : Form) (term : Term) (number : Option ℕ) → wrapped (put_one made term number).constant ≡ wrapped (made.constant + times_number number term.coefficient)
 put_constant made term None = omega arith
 put_constant made term (Some number) = omega arith
 
@@ -36,8 +36,8 @@ all_times : (spots : List (Option Spot)) (told : Name → Told) (own : Name) (ma
 unfolding put_all
 all_times spots told own made [] = omega arith
 all_times spots told own made (term ∷ terms) =
-    let one = put_times own made term (number_of spots (spot_of told term)) in
-    let all = all_times spots told own (put made term (number_of spots (spot_of told term))) terms in
+    let one = put_times own made term (cancelled_number spots (spot_of told term)) in
+    let all = all_times spots told own (put_one made term (cancelled_number spots (spot_of told term))) terms in
     omega arith
 
 all_constant : (spots : List (Option Spot)) (told : Name → Told) (made : Form) (terms : List Term)
@@ -45,8 +45,8 @@ all_constant : (spots : List (Option Spot)) (told : Name → Told) (made : Form)
 unfolding put_all
 all_constant spots told made [] = omega arith
 all_constant spots told made (term ∷ terms) =
-    let one = put_constant made term (number_of spots (spot_of told term)) in
-    let all = all_constant spots told (put made term (number_of spots (spot_of told term))) terms in
+    let one = put_constant made term (cancelled_number spots (spot_of told term)) in
+    let all = all_constant spots told (put_one made term (cancelled_number spots (spot_of told term))) terms in
     omega arith
 
 -- a label is kept unless its stretch cancels
@@ -54,7 +54,7 @@ kept_label : (b : Bool) (at n : ℕ) → kept_by (cond b (Some at) None) n ≡ c
 kept_label true at n = refl
 kept_label false at n = refl
 
-kept_told : (spots : List (Option Spot)) (told : Told) (coefficient n : ℕ) → kept_by (number_of spots (spot_by told coefficient)) n ≡ cond (replaced spots told) 0 n
+kept_told : (spots : List (Option Spot)) (told : Told) (coefficient n : ℕ) → kept_by (cancelled_number spots (spot_by told coefficient)) n ≡ cond (is_cancelled spots told) 0 n
 kept_told spots absent coefficient n = refl
 kept_told spots (constant number) coefficient n = refl
 kept_told spots (form other) coefficient n = refl
@@ -65,20 +65,20 @@ zero_or_zero true = refl
 zero_or_zero false = refl
 
 kept_one : (spots : List (Option Spot)) (told : Name → Told) (own : Name) (term : Term) (b : Bool) → same_name term.name own ≡ b
-    → cond (replaced spots (told term.name)) 0 (cond b term.coefficient 0) ≡ cond (replaced spots (told own)) 0 (cond b term.coefficient 0)
-kept_one spots told own term true is = ap (λ (name : Name). cond (replaced spots (told name)) 0 term.coefficient) (same_is term.name own is)
-kept_one spots told own term false is = zero_or_zero (replaced spots (told term.name)) ∙ sym (zero_or_zero (replaced spots (told own)))
+    → cond (is_cancelled spots (told term.name)) 0 (cond b term.coefficient 0) ≡ cond (is_cancelled spots (told own)) 0 (cond b term.coefficient 0)
+kept_one spots told own term true is = ap (λ (name : Name). cond (is_cancelled spots (told name)) 0 term.coefficient) (same_is term.name own is)
+kept_one spots told own term false is = zero_or_zero (is_cancelled spots (told term.name)) ∙ sym (zero_or_zero (is_cancelled spots (told own)))
 
 add_each : (b : Bool) (m n : ℕ) → cond b 0 m + cond b 0 n ≡ cond b 0 (m + n)
 add_each true m n = refl
 add_each false m n = refl
 
-kept_all : (spots : List (Option Spot)) (told : Name → Told) (own : Name) (terms : List Term) → kept_times spots told own terms ≡ cond (replaced spots (told own)) 0 (times own terms)
-kept_all spots told own [] = sym (zero_or_zero (replaced spots (told own)))
+kept_all : (spots : List (Option Spot)) (told : Name → Told) (own : Name) (terms : List Term) → kept_times spots told own terms ≡ cond (is_cancelled spots (told own)) 0 (times own terms)
+kept_all spots told own [] = sym (zero_or_zero (is_cancelled spots (told own)))
 kept_all spots told own (term ∷ terms) =
     let first = kept_told spots (told term.name) term.coefficient (counted_as own term.name term.coefficient) ∙ kept_one spots told own term (same_name term.name own) refl in
     let later = kept_all spots told own terms in
-    let both = add_each (replaced spots (told own)) (counted_as own term.name term.coefficient) (times own terms) in
+    let both = add_each (is_cancelled spots (told own)) (counted_as own term.name term.coefficient) (times own terms) in
     omega arith
 
 wrapped_each : (b : Bool) (n : ℕ) → wrapped (cond b 0 n) ≡ cond b 0 (wrapped n)

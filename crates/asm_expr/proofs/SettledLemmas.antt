@@ -8,10 +8,10 @@ use Rattle.asm_expr.specs.declared.forms.Term.{Term}
 use Rattle.asm_expr.specs.declared.settling.Spot.{Spot}
 use Rattle.asm_expr.specs.Forms.{Form, wrapped, is_kept, constant_form}
 use Rattle.asm_expr.specs.Knowledge.{Told, absent, constant, label, form}
-use Rattle.asm_expr.specs.Settled.{spot_by, spot_of, number_of, put, put_all, settled, cannot_cancel, constant_left}
+use Rattle.asm_expr.specs.Settled.{spot_by, spot_of, cancelled_number, put_one, put_all, settled, cannot_cancel, constant_left}
 
 -- one term alone has no number
-alone : (told : Told) (coefficient : ℕ) → not (wrapped coefficient == 0) ≡ true → number_of (spot_by told coefficient ∷ []) (spot_by told coefficient) ≡ None
+alone : (told : Told) (coefficient : ℕ) → not (wrapped coefficient == 0) ≡ true → cancelled_number (spot_by told coefficient ∷ []) (spot_by told coefficient) ≡ None
 alone absent coefficient some = refl
 alone (constant number) coefficient some = refl
 alone (form other) coefficient some = refl
@@ -51,7 +51,7 @@ both false b is = cc
 -- the first of the terms is put
 pub put_step : (told : Name → Told) (spots : List (Option Spot)) (at : ℕ) (terms later : List Term) (first : Term) (made new whole : Form)
     → map (spot_of told) terms ≡ drop at spots → at < length spots → first ≡ get_or terms 0 first → later ≡ drop 1 terms
-    → list_all is_kept terms ≡ true → new ≡ put made first (number_of spots (get_or spots at None)) → put_all spots told made terms ≡ whole
+    → list_all is_kept terms ≡ true → new ≡ put_one made first (cancelled_number spots (get_or spots at None)) → put_all spots told made terms ≡ whole
     → (map (spot_of told) later ≡ drop (at + 1) spots) × (list_all is_kept later ≡ true) × (put_all spots told new later ≡ whole) × (is_kept first ≡ true)
 unfolding put_all
 put_step told spots at [] later first made new whole left inside front rest kept grown before =
@@ -80,7 +80,7 @@ unfolding settled
 all_put told spots start whole is begins = rw (is, begins)
 
 put_more : (told : Name → Told) (spots : List (Option Spot)) (made : Form) (term : Term) (terms : List Term)
-    → put_all spots told made (term ∷ terms) ≡ put_all spots told (put made term (number_of spots (spot_of told term))) terms
+    → put_all spots told made (term ∷ terms) ≡ put_all spots told (put_one made term (cancelled_number spots (spot_of told term))) terms
 unfolding put_all
 put_more told spots made term terms = refl
 
@@ -90,8 +90,8 @@ put_none told spots made = refl
 
 -- the next of the terms is put
 put_at : (told : Name → Told) (spots : List (Option Spot)) (terms : List Term) (at : ℕ) (item : Term) (made whole : Form) (number : Option ℕ) → at < length terms
-    → item ≡ get_or terms at item → number_of spots (spot_of told item) ≡ number → put_all spots told made (drop at terms) ≡ whole
-    → put_all spots told (put made item number) (drop (suc at) terms) ≡ whole
+    → item ≡ get_or terms at item → cancelled_number spots (spot_of told item) ≡ number → put_all spots told made (drop at terms) ≡ whole
+    → put_all spots told (put_one made item number) (drop (suc at) terms) ≡ whole
 put_at told spots terms at item made whole number inside is counts before =
     let front = drop-cons terms at item inside in
     let more = put_more told spots made item (drop (suc at) terms) in
@@ -102,22 +102,22 @@ kept_on : (told : Name → Told) (spots : List (Option Spot)) (first : Term) (te
     → constant_left (put_all spots told (record { terms = first ∷ kept; constant = total }) terms) ≡ None
 kept_on told spots first [] kept total = ap constant_left (put_none told spots (record { terms = first ∷ kept; constant = total }))
 kept_on told spots first (term ∷ terms) kept total =
-    ap constant_left (put_more told spots (record { terms = first ∷ kept; constant = total }) term terms) ∙ by_number (number_of spots (spot_of told term)) (kept_on told spots first terms)
+    ap constant_left (put_more told spots (record { terms = first ∷ kept; constant = total }) term terms) ∙ by_number (cancelled_number spots (spot_of told term)) (kept_on told spots first terms)
   where
     by_number : (number : Option ℕ) → ((kept : List Term) (total : ℕ) → constant_left (put_all spots told (record { terms = first ∷ kept; constant = total }) terms) ≡ None)
-        → constant_left (put_all spots told (put (record { terms = first ∷ kept; constant = total }) term number) terms) ≡ None
+        → constant_left (put_all spots told (put_one (record { terms = first ∷ kept; constant = total }) term number) terms) ≡ None
     by_number None later = later (kept ++ term ∷ []) total
     by_number (Some at) later = later kept (wrapped (total + wrapped (term.coefficient * at)))
 
 -- the next term has no number
 pub left_in : (told : Name → Told) (spots : List (Option Spot)) (terms : List Term) (at total : ℕ) (item : Term) (whole : Form) → at < length terms → item ≡ get_or terms at item
-    → number_of spots (spot_of told item) ≡ None → put_all spots told (constant_form total) (drop at terms) ≡ whole → None ≡ constant_left whole
+    → cancelled_number spots (spot_of told item) ≡ None → put_all spots told (constant_form total) (drop at terms) ≡ whole → None ≡ constant_left whole
 left_in told spots terms at total item whole inside is none before =
     sym (ap constant_left (sym (put_at told spots terms at item (constant_form total) whole None inside is none before)) ∙ kept_on told spots item (drop (suc at) terms) [] total)
 
 -- the next term has a number
 pub number_in : (told : Name → Told) (spots : List (Option Spot)) (terms : List Term) (at total number : ℕ) (item : Term) (whole : Form) → at < length terms → item ≡ get_or terms at item
-    → number_of spots (spot_of told item) ≡ Some number → put_all spots told (constant_form total) (drop at terms) ≡ whole
+    → cancelled_number spots (spot_of told item) ≡ Some number → put_all spots told (constant_form total) (drop at terms) ≡ whole
     → put_all spots told (constant_form (wrapped (total + wrapped (item.coefficient * number)))) (drop (at + 1) terms) ≡ whole
 number_in told spots terms at total number item whole inside is some before =
     let one : suc at ≡ at + 1 = omega arith in

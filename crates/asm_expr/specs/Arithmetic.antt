@@ -30,8 +30,8 @@ abbrev pub remainder : ℕ → ℕ → ℕ
 remainder a b = signed (is_negative a) (magnitude a % magnitude b)
 
 -- signed: two numbers of one sign compare as they stand
-abbrev pub is_below : ℕ → ℕ → Bool
-is_below a b = if one_of (is_negative a) (is_negative b) then is_negative a else nat_lt a b
+abbrev pub is_signed_below : ℕ → ℕ → Bool
+is_signed_below a b = if one_of (is_negative a) (is_negative b) then is_negative a else nat_lt a b
 
 -- -1 for true and 0 for false
 abbrev pub comparison : Bool → ℕ
@@ -41,12 +41,15 @@ comparison holds = if holds then 2 ^ 64 - 1 else 0
 abbrev pub truth : Bool → ℕ
 truth holds = if holds then 1 else 0
 
+-- a number other than 0 counts as true
 abbrev pub is_true : ℕ → Bool
 is_true n = not (n == 0)
 
+-- each bit is the other one
 abbrev pub complement : ℕ → ℕ
 complement n = 2 ^ 64 - 1 - n
 
+-- a division by 0 is a fault
 abbrev pub unless_zero : ℕ → ℕ → Result ℕ ExprFault
 unless_zero divisor n = if divisor == 0 then Err DivisionByZero else Ok n
 
@@ -65,10 +68,10 @@ combined Add a b = Ok (wrapped (a + b))
 combined Sub a b = Ok (wrapped (a + signed true b))
 combined Eq a b = Ok (comparison (a == b))
 combined Ne a b = Ok (comparison (not (a == b)))
-combined Lt a b = Ok (comparison (is_below a b))
-combined Gt a b = Ok (comparison (is_below b a))
-combined Le a b = Ok (comparison (not (is_below b a)))
-combined Ge a b = Ok (comparison (not (is_below a b)))
+combined Lt a b = Ok (comparison (is_signed_below a b))
+combined Gt a b = Ok (comparison (is_signed_below b a))
+combined Le a b = Ok (comparison (not (is_signed_below b a)))
+combined Ge a b = Ok (comparison (not (is_signed_below a b)))
 combined BothTrue a b = Ok (truth (is_true a && is_true b))
 combined OneTrue a b = Ok (truth (is_true a || is_true b))
 

@@ -6,12 +6,13 @@ use Rattle.asm_expr.specs.Names.{same_name}
 use Rattle.asm_expr.specs.declared.settling.Spot.{Spot}
 use Rattle.asm_expr.specs.Forms.{Form, wrapped, sum_of, difference_of}
 use Rattle.asm_expr.specs.Knowledge.{Told, absent, constant, label, form}
-use Rattle.asm_expr.specs.Settled.{spot_of, stretch_sum, number_of, settled}
+use Rattle.asm_expr.specs.Settled.{spot_of, stretch_sum, cancelled_number, settled}
 
 -- how often a name counts in the terms
 abbrev pub counted_as : Name → Name → ℕ → ℕ
 counted_as own name coefficient = if same_name name own then coefficient else 0
 
+-- how often a name counts in all the terms
 abbrev pub times : Name → List Term → ℕ
 times own [] = 0
 times own (term ∷ terms) = counted_as own term.name term.coefficient + times own terms
@@ -28,23 +29,25 @@ pub record AreAdded (one other : Form) : Type 0 where
   pub difference_constant : (difference_of one other).constant ≡ wrapped (one.constant + (2 ^ 64 - wrapped other.constant))
 
 -- the name is a label of a stretch whose coefficients, all of them, sum to 0
-abbrev pub replaced : List (Option Spot) → Told → Bool
-replaced spots (label stretch at) = wrapped (stretch_sum stretch spots) == 0
-replaced spots absent = false
-replaced spots (constant number) = false
-replaced spots (form other) = false
+abbrev pub is_cancelled : List (Option Spot) → Told → Bool
+is_cancelled spots (label stretch at) = wrapped (stretch_sum stretch spots) == 0
+is_cancelled spots absent = false
+is_cancelled spots (constant number) = false
+is_cancelled spots (form other) = false
 
+-- settling the form takes this name out
 abbrev pub cancels : (Name → Told) → Form → Name → Bool
-cancels told made own = replaced (map (spot_of told) made.terms) (told own)
+cancels told made own = is_cancelled (map (spot_of told) made.terms) (told own)
 
 -- the numbers that stand for labels in terms, each as often as its label counts
-abbrev pub number_by : Option ℕ → ℕ → ℕ
-number_by None coefficient = 0
-number_by (Some number) coefficient = coefficient * number
+abbrev pub times_number : Option ℕ → ℕ → ℕ
+times_number None coefficient = 0
+times_number (Some number) coefficient = coefficient * number
 
+-- the numbers that stand for the labels of all the terms, each as often as its label counts
 abbrev pub numbers_in : List (Option Spot) → (Name → Told) → List Term → ℕ
 numbers_in spots told [] = 0
-numbers_in spots told (term ∷ terms) = number_by (number_of spots (spot_of told term)) term.coefficient + numbers_in spots told terms
+numbers_in spots told (term ∷ terms) = times_number (cancelled_number spots (spot_of told term)) term.coefficient + numbers_in spots told terms
 
 -- settling takes out the labels of whole stretches that cancel, and nothing else, and adds the numbers that stand for them
 pub record IsSettled (told : Name → Told) (made : Form) : Type 0 where

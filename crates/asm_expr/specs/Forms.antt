@@ -9,9 +9,11 @@ pub record Form : Type 0 where
   pub terms : List Term
   pub constant : ℕ
 
+-- a number modulo 2^64
 abbrev pub wrapped : ℕ → ℕ
 wrapped n = n % 2 ^ 64
 
+-- a name, and how often it counts
 abbrev pub term_of : Name → ℕ → Term
 term_of name coefficient = record { name = name; coefficient = coefficient }
 
@@ -19,12 +21,15 @@ term_of name coefficient = record { name = name; coefficient = coefficient }
 abbrev pub is_kept : Term → Bool
 is_kept term = not (term.coefficient == 0)
 
+-- the form of a number
 abbrev pub constant_form : ℕ → Form
 constant_form n = record { terms = []; constant = n }
 
+-- the form of a name, once
 abbrev pub name_form : Name → Form
 name_form name = record { terms = term_of name 1 ∷ []; constant = 0 }
 
+-- a term before the others, if it is kept
 abbrev pub before_terms : Term → List Term → List Term
 before_terms term rest = if is_kept term then (term ∷ rest) else rest
 
@@ -35,6 +40,7 @@ with_term (term ∷ rest) more =
     if same_name term.name more.name then before_terms (term_of term.name (wrapped (term.coefficient + more.coefficient))) rest
     else (term ∷ with_term rest more)
 
+-- the terms and these others, one after the other
 unfoldable pub with_terms : List Term → List Term → List Term
 with_terms terms [] = terms
 with_terms terms (more ∷ others) = with_terms (with_term terms more) others
@@ -44,6 +50,7 @@ abbrev pub signed : Bool → ℕ → ℕ
 signed false n = n
 signed true n = wrapped (2 ^ 64 - wrapped n)
 
+-- the term, or minus the term
 abbrev pub signed_term : Bool → Term → Term
 signed_term minus term = term_of term.name (signed minus term.coefficient)
 
@@ -54,9 +61,11 @@ joined minus one other = record {
   constant = wrapped (one.constant + signed minus other.constant);
 }
 
+-- the sum of two forms
 abbrev pub sum_of : Form → Form → Form
 sum_of = joined false
 
+-- the first form less the second
 abbrev pub difference_of : Form → Form → Form
 difference_of = joined true
 

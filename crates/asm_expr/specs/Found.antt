@@ -9,19 +9,19 @@ use Rattle.asm_expr.specs.declared.trees.BinaryOp.{BinaryOp}
 use Rattle.asm_expr.specs.declared.parsing.Found.{Found}
 use Rattle.asm_expr.specs.Trees.{Tree, tree_of, height}
 use Rattle.asm_expr.specs.Gives.{Fails}
-use Rattle.asm_expr.specs.Reading.{Read, Reading, Placed, most_height, operand_of, operator_at, reading}
+use Rattle.asm_expr.specs.Reading.{Read, Reading, ReadTree, most_height, operand_of, operator_at, reading}
 
 -- the tokens from this one on
-abbrev pub tokens_from : List Token → ℕ → List SpelledToken
-tokens_from tokens at = map spelled (drop at tokens)
+abbrev pub spelled_from : List Token → ℕ → List SpelledToken
+spelled_from tokens at = map spelled (drop at tokens)
 
 -- the expression, and the tokens behind it
 abbrev pub front_of : List Token → (Expr × ℕ) → Reading
-front_of tokens found = record { tree = tree_of found.0; rest = tokens_from tokens found.1 }
+front_of tokens found = record { tree = tree_of found.0; rest = spelled_from tokens found.1 }
 
 -- the expression and the index, as values
-abbrev pub placed : (Expr × ℕ) → Placed
-placed found = record { tree = tree_of found.0; next = found.1 }
+abbrev pub read_tree : (Expr × ℕ) → ReadTree
+read_tree found = record { tree = tree_of found.0; next = found.1 }
 
 -- the operand that begins with the first of the tokens
 unfoldable pub operand_in : ℕ → List SpelledToken → Read
@@ -40,11 +40,12 @@ pub record IsLow (found : Found) : Type 0 where
 
 -- what was found behind this index
 pub record IsFound (tokens : List Token) (at : ℕ) (wanted : Read) (found : Found) : Type 0 where
-  pub value : wanted ≡ Ok (record { tree = tree_of found.expr; rest = tokens_from tokens found.next })
+  pub value : wanted ≡ Ok (record { tree = tree_of found.expr; rest = spelled_from tokens found.next })
   pub low : IsLow found
   pub later : at < found.next
   pub within : found.next ≤ length tokens
 
+-- a call finds what is wanted, or has its fault, unless memory ran out
 abbrev pub Finds : List Token → ℕ → Read → Result Found ExprFault → Type 0
 Finds tokens at wanted (Ok found) = IsFound tokens at wanted found
 Finds tokens at wanted (Err fault) = Fails fault wanted
@@ -55,12 +56,13 @@ pub record IsNode (node : Tree) (behind : ℕ) (found : Found) : Type 0 where
   pub next : found.next ≡ behind
   pub low : IsLow found
 
-abbrev pub Completes : Tree → ℕ → Result Found ExprFault → Type 0
-Completes tree next (Ok found) = IsNode tree next found
-Completes tree next (Err NoMemory) = Unit {0}
-Completes tree next (Err ExpressionTooDeep) = most_height < height tree
-Completes tree next (Err BadExpression) = ⊥
-Completes tree next (Err NumberTooWide) = ⊥
-Completes tree next (Err DivisionByZero) = ⊥
-Completes tree next (Err ValueNotKnown) = ⊥
-Completes tree next (Err NotASumOfSymbols) = ⊥
+-- a node is complete, or too high, unless memory ran out
+abbrev pub CompletesNode : Tree → ℕ → Result Found ExprFault → Type 0
+CompletesNode tree next (Ok found) = IsNode tree next found
+CompletesNode tree next (Err NoMemory) = Unit {0}
+CompletesNode tree next (Err ExpressionTooDeep) = most_height < height tree
+CompletesNode tree next (Err BadExpression) = ⊥
+CompletesNode tree next (Err NumberTooWide) = ⊥
+CompletesNode tree next (Err DivisionByZero) = ⊥
+CompletesNode tree next (Err ValueNotKnown) = ⊥
+CompletesNode tree next (Err NotASumOfSymbols) = ⊥

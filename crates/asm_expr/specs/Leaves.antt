@@ -33,20 +33,22 @@ is_symbol_name text = not (length text == 0) && not (list_any (λ byte. byte == 
 abbrev pub last_byte : List ℕ → ℕ
 last_byte bytes = slice_index bytes (length bytes - 1)
 
+-- the bytes but the last
 abbrev pub without_last : List ℕ → List ℕ
 without_last bytes = take (length bytes - 1) bytes
 
 -- decimal digits and a `b` or an `f`: a numeric label, the last one before or the next one behind
-abbrev pub is_label : List ℕ → Bool
-is_label digits = (last_byte digits == 98 || last_byte digits == 102) && list_all (is_digit_of 10) (without_last digits)
+abbrev pub is_numeric_label : List ℕ → Bool
+is_numeric_label digits = (last_byte digits == 98 || last_byte digits == 102) && list_all (is_digit_of 10) (without_last digits)
 
+-- the numeric label of this number in this direction: behind for `b`, ahead for `f`
 abbrev pub label_written : ℕ → ℕ → Written
 label_written direction n = if direction == 98 then Back n else Next n
 
 -- what a token of digits spells: a numeric label, or else a number
 unfoldable pub digits_leaf : List ℕ → Result Tree ExprFault
 digits_leaf digits =
-    if is_label digits then numeral 10 (without_last digits) >>= (λ n. Ok (name (label_written (last_byte digits) n)))
+    if is_numeric_label digits then numeral 10 (without_last digits) >>= (λ n. Ok (name (label_written (last_byte digits) n)))
     else spelled_number digits >>= (λ n. Ok (number n))
 
 -- what a token that is a word spells: the place, or a name

@@ -20,4 +20,3 @@ pub mod Coefficients
 pub mod NamesOf
 pub mod Shown
 pub mod Showing
-pub mod Numbered

@@ -31,16 +31,18 @@ form_by told own (constant n) = constant_form n
 form_by told own (label stretch at) = name_form own
 form_by told own (form made) = settled told made
 
-abbrev pub form_of : (Name → Told) → Name → Form
-form_of told own = form_by told own (told own)
+-- what a name stands for at a place
+abbrev pub form_of_name : (Name → Told) → Name → Form
+form_of_name told own = form_by told own (told own)
 
 -- the constant of a form that has no names
-abbrev pub constant_by : ExprFault → List Term → ℕ → Result ℕ ExprFault
-constant_by fault [] n = Ok n
-constant_by fault (term ∷ terms) n = Err fault
+abbrev pub constant_or : ExprFault → List Term → ℕ → Result ℕ ExprFault
+constant_or fault [] n = Ok n
+constant_or fault (term ∷ terms) n = Err fault
 
+-- the constant of a form, where an operator wants one
 abbrev pub constant_of : Form → Result ℕ ExprFault
-constant_of made = constant_by NotASumOfSymbols made.terms made.constant
+constant_of made = constant_or NotASumOfSymbols made.terms made.constant
 
 -- minus is taken of any form, and the complement of a constant alone
 unfoldable pub unary_form : (Name → Told) → UnaryOp → Form → Result Form ExprFault
@@ -60,14 +62,14 @@ binary_form told op one other = constant_binary op one other
 -- the linear form of an expression, or the first fault: operands come from left to right, then the operator
 unfoldable pub linear : Knowledge → Tree → Result Form ExprFault
 linear known (number value) = Ok (constant_form value)
-linear known (name written) = Ok (form_of known.told (name_of known written))
-linear known here = Ok (form_of known.told known.place)
+linear known (name written) = Ok (form_of_name known.told (name_of known written))
+linear known here = Ok (form_of_name known.told known.place)
 linear known (unary op operand) = linear known operand >>= unary_form known.told op
 linear known (binary op left right) = linear known left >>= (λ one. linear known right >>= (λ other. binary_form known.told op one other))
 
 -- the value of a form, which is known where it has no names
 abbrev pub value_of : Form → Result ℕ ExprFault
-value_of made = constant_by ValueNotKnown made.terms made.constant
+value_of made = constant_or ValueNotKnown made.terms made.constant
 
 -- the value of an expression
 abbrev pub known_now : Knowledge → Tree → Result ℕ ExprFault

@@ -8,6 +8,7 @@ use Rattle.asm_expr.specs.declared.trees.BinaryOp.{BinaryOp}
 use Rattle.asm_expr.specs.Trees.{Tree, number, name, here, unary, binary}
 use Rattle.asm_expr.specs.Gives.{◌>>=◌}
 
+-- the names of an expression, from left to right
 abbrev pub names_of : Tree → List Written
 names_of (number value) = []
 names_of (name written) = written ∷ []
@@ -25,17 +26,22 @@ Gathers before (Ok done) after more = after ≡ before ++ more
 Gathers before (Err fault) after more = fault ≡ NoMemory
 
 module _ {V : Type 0} (has : V → List Written) where
+  -- a number has no names
   abbrev pub NumGathers : V → ℕ → Gathered → V → Type 0
   NumGathers before value answer after = Gathers (has before) answer (has after) []
 
+  -- a name is the one name of its part
   abbrev pub NameGathers : V → Written → Gathered → V → Type 0
   NameGathers before written answer after = Gathers (has before) answer (has after) (written ∷ [])
 
+  -- the place of the statement is no name
   abbrev pub HereGathers : V → Gathered → V → Type 0
   HereGathers before answer after = Gathers (has before) answer (has after) []
 
+  -- a prefix operator has the names of its operand
   abbrev pub UnaryGathers : V → UnaryOp → Gathered → Gathered → V → Type 0
   UnaryGathers before op operand answer after = (has after ≡ has before) × (answer ≡ operand)
 
+  -- an operator has the names of its operands
   abbrev pub BinaryGathers : V → BinaryOp → Gathered → Gathered → Gathered → V → Type 0
   BinaryGathers before op left right answer after = (has after ≡ has before) × (answer ≡ (left >>= (λ _. right)))

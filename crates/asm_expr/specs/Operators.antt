@@ -14,6 +14,7 @@ abbrev pub mark_by : TokenKind → List ℕ → List ℕ
 mark_by Operator bytes = bytes
 mark_by _ bytes = []
 
+-- the bytes of an operator or a mark of punctuation
 abbrev pub mark_of : SpelledToken → List ℕ
 mark_of token = mark_by token.kind token.bytes
 
@@ -29,6 +30,7 @@ closes token = bytes_eq (mark_of token) (codes ")")
 abbrev pub prefix_byte : ℕ → Option UnaryOp
 prefix_byte byte = if byte == 45 then Some Minus else (if byte == 126 then Some Complement else None)
 
+-- the prefix operator that these bytes spell
 unfoldable pub prefix_by : List ℕ → Option UnaryOp
 prefix_by [] = None
 prefix_by (byte ∷ []) = prefix_byte byte
@@ -67,16 +69,18 @@ operator_bytes first second =
     else (if first == 38 then (if second == 38 then Some BothTrue else None)
     else (if first == 124 then (if second == 124 then Some OneTrue else None) else None)))))
 
+-- the operator between two operands that these bytes spell
 unfoldable pub operator_by : List ℕ → Option BinaryOp
 operator_by [] = None
 operator_by (byte ∷ []) = operator_byte byte
 operator_by (first ∷ second ∷ []) = operator_bytes first second
 operator_by (first ∷ second ∷ third ∷ others) = None
 
--- the operator that a token is before an operand, and between two
+-- the operator that a token is before an operand
 abbrev pub prefix_of : SpelledToken → Option UnaryOp
 prefix_of token = prefix_by (mark_of token)
 
+-- the operator that a token is between two operands
 abbrev pub operator_of : SpelledToken → Option BinaryOp
 operator_of token = operator_by (mark_of token)
 

@@ -23,9 +23,11 @@ pub record Reading : Type 0 where
   pub tree : Tree
   pub rest : List SpelledToken
 
+-- what a reading answers
 abbrev pub Read : Type 0
 Read = Result Reading ExprFault
 
+-- a tree that was read, and the tokens behind it
 abbrev pub read : Tree → List SpelledToken → Reading
 read tree rest = record { tree = tree; rest = rest }
 
@@ -38,6 +40,7 @@ abbrev pub closed_by : Tree → List SpelledToken → Read
 closed_by tree [] = Err BadExpression
 closed_by tree (token ∷ rest) = if closes token then Ok (read tree rest) else Err BadExpression
 
+-- what was read in parentheses, which have to close
 abbrev pub closed : Reading → Read
 closed inner = closed_by inner.tree inner.rest
 
@@ -60,6 +63,7 @@ abbrev pub operator_from : ℕ → Option BinaryOp → Option BinaryOp
 operator_from level None = None
 operator_from level (Some op) = if nat_le level (level_of op) then Some op else None
 
+-- the operator that a token is, if it binds at least so tightly
 abbrev pub operator_at : ℕ → SpelledToken → Option BinaryOp
 operator_at level token = operator_from level (operator_of token)
 
@@ -80,20 +84,22 @@ unfoldable mutual
   read_more zero level depth left (token ∷ rest) = Ok (read left (token ∷ rest))
   read_more (suc fuel) level depth left (token ∷ rest) =
       follow (operator_at level token) (Ok (read left (token ∷ rest)))
-      (λ op. read_at fuel (level_of op + 1) depth rest >>= (λ right. whole (binary op left right.tree) right.rest) >>= (λ joined. read_more fuel level depth joined.tree joined.rest))
+      (λ op. read_at fuel (level_of op + 1) depth rest >>= (λ right. whole (binary op left right.tree) right.rest)
+      >>= (λ joined. read_more fuel level depth joined.tree joined.rest))
 
--- the same with as much as the tokens need
+-- an expression at the front of the tokens, of operators that bind at least so tightly, where so many constructs are open
 unfoldable pub reading : ℕ → ℕ → List SpelledToken → Read
 reading level depth tokens = read_at (length tokens) level depth tokens
 
+-- what follows a tree that was read, with as much as the tokens need
 unfoldable pub reading_more : ℕ → ℕ → Tree → List SpelledToken → Read
 reading_more level depth left tokens = read_more (length tokens) level depth left tokens
 
 -- a tree that was read, and the index of the first token behind it
-pub record Placed : Type 0 where
+pub record ReadTree : Type 0 where
   pub tree : Tree
   pub next : ℕ
 
 -- the expression that begins at this token
-unfoldable pub reading_of : List SpelledToken → ℕ → Result Placed ExprFault
+unfoldable pub reading_of : List SpelledToken → ℕ → Result ReadTree ExprFault
 reading_of tokens at = reading 1 0 (drop at tokens) >>= (λ found. Ok (record { tree = found.tree; next = length tokens - length found.rest }))

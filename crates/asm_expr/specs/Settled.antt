@@ -13,6 +13,7 @@ spot_by absent coefficient = None
 spot_by (constant number) coefficient = None
 spot_by (form other) coefficient = None
 
+-- a term as a label, by what its name is known as
 abbrev pub spot_of : (Name → Told) → Term → Option Spot
 spot_of told term = spot_by (told term.name) term.coefficient
 
@@ -21,23 +22,24 @@ abbrev pub counted_in : ℕ → Option Spot → ℕ
 counted_in stretch None = 0
 counted_in stretch (Some spot) = if spot.stretch == stretch then spot.coefficient else 0
 
+-- how often all labels of this stretch count
 abbrev pub stretch_sum : ℕ → List (Option Spot) → ℕ
 stretch_sum stretch spots = sum_by (counted_in stretch) spots
 
 -- the number that stands for a label, where those of its stretch cancel
-abbrev pub number_of : List (Option Spot) → Option Spot → Option ℕ
-number_of spots None = None
-number_of spots (Some spot) = if wrapped (stretch_sum spot.stretch spots) == 0 then Some spot.at else None
+abbrev pub cancelled_number : List (Option Spot) → Option Spot → Option ℕ
+cancelled_number spots None = None
+cancelled_number spots (Some spot) = if wrapped (stretch_sum spot.stretch spots) == 0 then Some spot.at else None
 
 -- the form and one term more, or its number in place of it
-abbrev pub put : Form → Term → Option ℕ → Form
-put made term None = record { terms = made.terms ++ term ∷ []; constant = made.constant }
-put made term (Some number) = record { terms = made.terms; constant = wrapped (made.constant + wrapped (term.coefficient * number)) }
+abbrev pub put_one : Form → Term → Option ℕ → Form
+put_one made term None = record { terms = made.terms ++ term ∷ []; constant = made.constant }
+put_one made term (Some number) = record { terms = made.terms; constant = wrapped (made.constant + wrapped (term.coefficient * number)) }
 
 -- the form and these terms more, or their numbers in place of them
 unfoldable pub put_all : List (Option Spot) → (Name → Told) → Form → List Term → Form
 put_all spots told made [] = made
-put_all spots told made (term ∷ terms) = put_all spots told (put made term (number_of spots (spot_of told term))) terms
+put_all spots told made (term ∷ terms) = put_all spots told (put_one made term (cancelled_number spots (spot_of told term))) terms
 
 -- the form where numbers stand for the labels that cancel
 unfoldable pub settled : (Name → Told) → Form → Form
@@ -54,5 +56,6 @@ abbrev pub constant_by : List Term → ℕ → Option ℕ
 constant_by [] total = Some total
 constant_by (term ∷ terms) total = None
 
+-- the constant of a form, if no name is left in it
 abbrev pub constant_left : Form → Option ℕ
 constant_left made = constant_by made.terms made.constant

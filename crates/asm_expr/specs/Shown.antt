@@ -21,6 +21,7 @@ pub record ShownPiece : Type 0 where
   pub text : List ℕ
   pub level : ℕ
 
+-- a text that holds together so tightly
 abbrev pub piece : List ℕ → ℕ → ShownPiece
 piece text level = record { text = text; level = level }
 
@@ -33,17 +34,21 @@ is_word (first ∷ rest) = is_name_start first && list_all is_name_byte rest && 
 abbrev pub stands_for_itself : ℕ → Bool
 stands_for_itself byte = nat_le 32 byte && nat_le byte 126 && not (byte == 34) && not (byte == 92)
 
+-- what stands for a byte in a string
 abbrev pub escape : ℕ → List ℕ
 escape byte = if stands_for_itself byte then (byte ∷ []) else (92 ∷ (48 + byte / 8 / 8) ∷ (48 + byte / 8 % 8) ∷ (48 + byte % 8) ∷ [])
 
+-- a text between quotes
 abbrev pub quoted : List ℕ → List ℕ
 quoted text = 34 ∷ (flat_map escape text ++ (34 ∷ []))
 
+-- the text of a name
 abbrev pub written_text : Written → List ℕ
 written_text (Plain text) = if is_word text then text else quoted text
 written_text (Back n) = decimal n ++ codes "b"
 written_text (Next n) = decimal n ++ codes "f"
 
+-- the text of a prefix operator
 abbrev pub prefix_text : UnaryOp → List ℕ
 prefix_text Minus = codes "-"
 prefix_text Complement = codes "~"
@@ -74,9 +79,11 @@ operator_text OneTrue = codes " || "
 abbrev pub enclosed_text : ℕ → ShownPiece → List ℕ
 enclosed_text level shown = if nat_le level shown.level then shown.text else (40 ∷ (shown.text ++ (41 ∷ [])))
 
+-- a prefix operator before its operand
 abbrev pub unary_piece : UnaryOp → ShownPiece → ShownPiece
 unary_piece op operand = piece (prefix_text op ++ enclosed_text prefix_level operand) prefix_level
 
+-- an operator between its operands, of which the right one binds more tightly
 abbrev pub binary_piece : BinaryOp → ShownPiece → ShownPiece → ShownPiece
 binary_piece op left right =
     piece (enclosed_text (level_of op) left ++ (operator_text op ++ enclosed_text (level_of op + 1) right)) (level_of op)
@@ -93,16 +100,17 @@ piece_of (binary op left right) = binary_piece op (piece_of left) (piece_of righ
 abbrev pub shown : Tree → List ℕ
 shown tree = (piece_of tree).text
 
--- the number or the name can be written: it fits in 64 bits, or has some bytes, and none of them is 0
+-- the number fits in a byte
 abbrev pub is_byte : ℕ → Bool
 is_byte n = nat_lt n 256
 
+-- the name can be written: its number fits in 64 bits, or it has some bytes, and none of them is 0
 abbrev pub IsWritable : Written → Type 0
 IsWritable (Plain text) = (is_symbol_name text ≡ true) × (list_all is_byte text ≡ true)
 IsWritable (Back n) = n < 2 ^ 64
 IsWritable (Next n) = n < 2 ^ 64
 
--- so can all of the expression
+-- all numbers and names of the expression can be written
 abbrev pub IsShowable : Tree → Type 0
 IsShowable (number n) = n < 2 ^ 64
 IsShowable (name written) = IsWritable written

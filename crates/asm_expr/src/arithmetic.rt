@@ -2,7 +2,7 @@
 
 ghost use Rattle.std.specs.Prelude.{◌≡◌, ◌<◌, ◌≤◌, ◌^◌};
 ghost use Rattle.asm_expr.specs.Forms.{signed};
-ghost use Rattle.asm_expr.specs.Arithmetic.{is_negative, magnitude, quotient, remainder, is_below, comparison, truth, combined};
+ghost use Rattle.asm_expr.specs.Arithmetic.{is_negative, magnitude, quotient, remainder, is_signed_below, comparison, truth, combined};
 
 use crate::faults::ExprFault;
 use crate::trees::BinaryOp;
@@ -24,7 +24,7 @@ fn is_negative(number: u64) -> bool
 /// How far the number is from 0.
 fn magnitude(number: u64) -> u64
     ensures value { result ≡ magnitude number }
-    ensures some { 0 < number → 0 < result }
+    ensures within { 0 < number → 0 < result }
 {
     signed(is_negative(number), number)
 }
@@ -49,8 +49,8 @@ fn remainder(a: u64, b: u64) -> u64
 }
 
 /// Whether the first number is below the second, both signed.
-fn is_below(a: u64, b: u64) -> bool
-    ensures { result ≡ is_below a b }
+fn is_signed_below(a: u64, b: u64) -> bool
+    ensures { result ≡ is_signed_below a b }
 {
     if is_negative(a) != is_negative(b) {
         is_negative(a)
@@ -94,10 +94,10 @@ pub(crate) fn combined(op: BinaryOp, a: u64, b: u64) -> Result<u64, ExprFault>
         BinaryOp::Sub => Ok(a.wrapping_add(signed(true, b))),
         BinaryOp::Eq => Ok(comparison(a == b)),
         BinaryOp::Ne => Ok(comparison(a != b)),
-        BinaryOp::Lt => Ok(comparison(is_below(a, b))),
-        BinaryOp::Gt => Ok(comparison(is_below(b, a))),
-        BinaryOp::Le => Ok(comparison(!is_below(b, a))),
-        BinaryOp::Ge => Ok(comparison(!is_below(a, b))),
+        BinaryOp::Lt => Ok(comparison(is_signed_below(a, b))),
+        BinaryOp::Gt => Ok(comparison(is_signed_below(b, a))),
+        BinaryOp::Le => Ok(comparison(!is_signed_below(b, a))),
+        BinaryOp::Ge => Ok(comparison(!is_signed_below(a, b))),
         BinaryOp::BothTrue => Ok(truth(a != 0 && b != 0)),
         BinaryOp::OneTrue => Ok(truth(a != 0 || b != 0)),
     }

@@ -2,7 +2,7 @@
 
 ghost use Rattle.std.specs.Prelude.{◌≡◌, Ok, IfOk};
 ghost use Rattle.asm_expr.specs.Gives.{Gives};
-ghost use Rattle.asm_expr.specs.Linear.{name_of, form_of, constant_of, unary_form, constant_binary, binary_form, value_of};
+ghost use Rattle.asm_expr.specs.Linear.{name_of, form_of_name, constant_of, unary_form, constant_binary, binary_form, value_of};
 ghost use Rattle.asm_expr.specs.Evaluating.{knowledge_by, unary_answer, binary_answer, value_answer};
 
 use crate::arithmetic::combined;
@@ -17,7 +17,8 @@ use std::alloc::{AllocError, Global};
 
 /// The name that is meant.
 fn name_of<K: Known>(alloc: Global, known: &K, written: &Written) -> Result<Name, AllocError>
-    ensures { IfOk result (λ name. name ≡ name_of (knowledge_by K.told K.counted K.place known.now) written.now) }
+    ensures { IfOk result (λ name.
+        name ≡ name_of (knowledge_by K.told K.counted K.place known.now) written.now) }
 {
     match written {
         Written::Plain(text) => Ok(Name::Plain(copied_text(alloc, text)?)),
@@ -33,8 +34,8 @@ fn name_of<K: Known>(alloc: Global, known: &K, written: &Written) -> Result<Name
 }
 
 /// What a name stands for.
-fn form_of<K: Known>(alloc: Global, known: &K, name: Name) -> Result<Linear, ExprFault>
-    ensures { Gives result (Ok (form_of (K.told known.now) name)) }
+fn form_of_name<K: Known>(alloc: Global, known: &K, name: Name) -> Result<Linear, ExprFault>
+    ensures { Gives result (Ok (form_of_name (K.told known.now) name)) }
 {
     match known.look(&name) {
         Look::Absent => Ok(name_form(alloc, name)?),
@@ -118,17 +119,18 @@ pub(crate) fn named_form<K: Known>(
     known: &K,
     written: &Written,
 ) -> Result<Linear, ExprFault>
-    ensures { Gives result (Ok (form_of (K.told known.now) (name_of (knowledge_by K.told K.counted K.place known.now) written.now))) }
+    ensures { let name = name_of (knowledge_by K.told K.counted K.place known.now) written.now in
+        Gives result (Ok (form_of_name (K.told known.now) name)) }
 {
     let name = name_of(alloc, known, written)?;
-    form_of(alloc, known, name)
+    form_of_name(alloc, known, name)
 }
 
 /// The form of the place.
 pub(crate) fn here_form<K: Known>(alloc: Global, known: &K) -> Result<Linear, ExprFault>
-    ensures { Gives result (Ok (form_of (K.told known.now) (K.place known.now))) }
+    ensures { Gives result (Ok (form_of_name (K.told known.now) (K.place known.now))) }
 {
-    form_of(alloc, known, known.here())
+    form_of_name(alloc, known, known.here())
 }
 
 /// The form of a prefix operator, by the answer for its operand.

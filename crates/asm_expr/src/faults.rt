@@ -15,7 +15,8 @@ pub enum ExprFault {
     /// A number is above 2^64 - 1.
     #[error("number is too wide")]
     NumberTooWide,
-    /// More than 64 parentheses and prefix operators are open at one place, or the tree is higher than 256.
+    /// More than 64 parentheses and prefix operators are open at one place, or the tree is higher
+    /// than 256.
     #[error("expression is too deep")]
     ExpressionTooDeep,
     /// The right side of `/` or `%` is 0.

@@ -8,7 +8,8 @@ use crate::visiting::ExprFold;
 
 /// The visitor's answer for the expression: operands from left to right, then the operator.
 pub fn fold<V: ExprFold>(expr: &Expr, visitor: &mut V) -> V::Out
-    ensures { Folds V.num_gives V.name_gives V.here_gives V.unary_gives V.binary_gives (tree_of expr.now) visitor.old result visitor.new }
+    ensures { Folds V.num_gives V.name_gives V.here_gives V.unary_gives V.binary_gives
+        (tree_of expr.now) visitor.old result visitor.new }
 {
     match expr {
         Expr::Num(value) => visitor.num(*value),

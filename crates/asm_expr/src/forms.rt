@@ -31,7 +31,8 @@ impl Default for Term {
     }
 }
 
-/// A sum of names with coefficients, none of them 0, and a constant. Two terms need no allocation of their own.
+/// A sum of names with coefficients, none of them 0, and a constant. Two terms need no allocation
+/// of their own.
 #[derive(Drop)]
 pub struct Linear {
     pub(crate) terms: SmallVec<Term, 2>,

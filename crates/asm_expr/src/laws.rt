@@ -4,32 +4,36 @@ ghost use Rattle.std.specs.Prelude.{◌≡◌, ℕ, true, false, List, Ok};
 ghost use Rattle.std.specs.List.{list_all};
 ghost use Rattle.asm_base.specs.Tokens.{SpelledToken, tokens_of};
 ghost use Rattle.asm_expr.specs.Trees.{Tree};
-ghost use Rattle.asm_expr.specs.Reading.{Placed, reading_of};
+ghost use Rattle.asm_expr.specs.Reading.{ReadTree, reading_of};
 ghost use Rattle.asm_expr.specs.Forms.{Form};
 ghost use Rattle.asm_expr.specs.Coefficients.{AreAdded, IsSettled};
 ghost use Rattle.asm_expr.specs.Knowledge.{Told};
 ghost use Rattle.asm_expr.specs.declared.naming.Name.{Name};
-ghost use Rattle.asm_expr.specs.Grammar.{IsTextOf, IsFoundIn, IsReadAs, goes_on};
+ghost use Rattle.asm_expr.specs.Grammar.{IsTextOf, IsFoundIn, IsReadAs, operator_follows};
 ghost use Rattle.asm_expr.specs.Shown.{is_byte, IsShowable, IsReadBack};
 
 use asm_base::one_value;
 
-/// A text of a tree is read as that tree, whatever stands before it, and whatever stands behind it that is no operator.
+/// A text of a tree is read as that tree, whatever stands before it, and whatever stands behind it
+/// that is no operator.
 #[tactic(auto, using(crate::proofs::GrammarLaws::text_is_read))]
 pub fn written_is_read()
-    ensures { (tree : Tree) (before text behind : List SpelledToken) → IsTextOf tree text → goes_on behind ≡ false → IsReadAs tree before text behind }
+    ensures { (tree : Tree) (before text behind : List SpelledToken)
+        → IsTextOf tree text → operator_follows behind ≡ false → IsReadAs tree before text behind }
 {}
 
 /// What is read as a tree begins with a text of it, up to where no operator follows.
 #[tactic(auto, using(crate::proofs::GrammarLaws::read_is_text))]
 pub fn read_is_written()
-    ensures { (tokens : List SpelledToken) (at : ℕ) (found : Placed) → reading_of tokens at ≡ Ok found → IsFoundIn tokens at found }
+    ensures { (tokens : List SpelledToken) (at : ℕ) (found : ReadTree)
+        → reading_of tokens at ≡ Ok found → IsFoundIn tokens at found }
 {}
 
 /// A text has one tree.
 #[tactic(auto, using(crate::proofs::GrammarLaws::text_has_one_tree))]
 pub fn one_tree()
-    ensures { (one other : Tree) (text : List SpelledToken) → IsTextOf one text → IsTextOf other text → one ≡ other }
+    ensures { (one other : Tree) (text : List SpelledToken)
+        → IsTextOf one text → IsTextOf other text → one ≡ other }
 {}
 
 /// Forms are maps from names to coefficients, which are added name by name.
@@ -43,10 +47,14 @@ pub fn whole_stretches_cancel()
     ensures { (told : Name → Told) (made : Form) → IsSettled told made }
 {}
 
-/// The shown text of an expression that has any text is read as the expression, whole; so is that of what was read from the bytes of a statement.
+/// The shown text of an expression that has any text is read as the expression, whole; so is that
+/// of what was read from the bytes of a statement.
 pub fn shown_is_read()
-    ensures any { (tree : Tree) (text : List SpelledToken) → IsTextOf tree text → IsShowable tree → IsReadBack tree }
-    ensures read { (statement : List ℕ) (at : ℕ) (found : Placed) → list_all is_byte statement ≡ true → reading_of (tokens_of statement) at ≡ Ok found → IsReadBack found.tree }
+    ensures tree { (tree : Tree) (text : List SpelledToken)
+        → IsTextOf tree text → IsShowable tree → IsReadBack tree }
+    ensures statement { (statement : List ℕ) (at : ℕ) (found : ReadTree)
+        → list_all is_byte statement ≡ true → reading_of (tokens_of statement) at ≡ Ok found
+        → IsReadBack found.tree }
 {
     one_value();
 }

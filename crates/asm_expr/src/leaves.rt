@@ -4,7 +4,7 @@ ghost use Rattle.std.specs.Prelude.{◌≡◌, Ok};
 ghost use Rattle.asm_base.specs.Tokens.{spelled};
 ghost use Rattle.asm_expr.specs.Gives.{GivesBy};
 ghost use Rattle.asm_expr.specs.Trees.{tree_of};
-ghost use Rattle.asm_expr.specs.Leaves.{character_code, between_quotes, is_symbol_name, is_label, label_written, digits_leaf, word_leaf, quoted_leaf, leaf_of};
+ghost use Rattle.asm_expr.specs.Leaves.{character_code, between_quotes, is_symbol_name, is_numeric_label, label_written, digits_leaf, word_leaf, quoted_leaf, leaf_of};
 
 use crate::faults::ExprFault;
 use crate::numbers::{all_digits, numeral, spelled_number};
@@ -42,8 +42,8 @@ pub fn is_symbol_name(name: &[u8]) -> bool
 }
 
 /// Whether the digits are decimal and a `b` or an `f` stands behind them.
-fn is_label(digits: &[u8]) -> bool
-    ensures { result ≡ is_label digits.now }
+fn is_numeric_label(digits: &[u8]) -> bool
+    ensures { result ≡ is_numeric_label digits.now }
 {
     if digits.is_empty() {
         return false;
@@ -68,7 +68,7 @@ fn label_written(direction: u8, number: u64) -> Written
 fn digits_leaf(digits: &[u8]) -> Result<Expr, ExprFault>
     ensures { GivesBy tree_of result (digits_leaf digits.now) }
 {
-    if is_label(digits) {
+    if is_numeric_label(digits) {
         let end = digits.len() - 1;
         let number = numeral(10, &digits[..end])?;
         Ok(Expr::Name(label_written(digits[end], number)))

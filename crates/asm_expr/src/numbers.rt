@@ -17,7 +17,8 @@ pub fn all_digits(radix: u64, digits: &[u8]) -> bool
 
 /// The number with one digit more behind it, or none where it is too wide.
 fn with_digit(radix: u64, number: u64, digit: u8) -> Option<u64>
-    ensures { MatchOption result (2 ^ 64 ≤ number * radix + digit_of digit) (λ n. n ≡ number * radix + digit_of digit) }
+    ensures { let more = number * radix + digit_of digit in
+        MatchOption result (2 ^ 64 ≤ more) (λ n. n ≡ more) }
 {
     number.checked_mul(radix)?.checked_add(digit_of(digit))
 }
@@ -26,7 +27,8 @@ fn with_digit(radix: u64, number: u64, digit: u8) -> Option<u64>
 #[tactic(auto, using(crate::proofs::NumberLemmas::number_step, crate::proofs::NumberLemmas::number_too_wide, crate::proofs::NumberLemmas::number_done))]
 fn number(radix: u64, digits: &[u8]) -> Option<u64>
     requires { 0 < radix }
-    ensures { MatchOption result (2 ^ 64 ≤ number_after radix 0 digits.now) (λ n. n ≡ number_after radix 0 digits.now) }
+    ensures { let all = number_after radix 0 digits.now in
+        MatchOption result (2 ^ 64 ≤ all) (λ n. n ≡ all) }
 {
     let mut number: u64 = 0;
     for digit in digits {
@@ -50,8 +52,8 @@ pub(crate) fn numeral(radix: u64, digits: &[u8]) -> Result<u64, ExprFault>
     number(radix, digits).ok_or(ExprFault::NumberTooWide)
 }
 
-/// The number of decimal digits, leading zeros among them. `BadExpression` comes where there are none or another byte
-/// is among them, and `NumberTooWide` where the number is above 2^64 - 1.
+/// The number of decimal digits, leading zeros among them. `BadExpression` comes where there are
+/// none or another byte is among them, and `NumberTooWide` where the number is above 2^64 - 1.
 pub fn decimal_number(digits: &[u8]) -> Result<u64, ExprFault>
     ensures { result ≡ numeral 10 digits.now }
 {

@@ -136,8 +136,8 @@ pub(crate) fn operator_of(token: &Token) -> Option<BinaryOp>
 #[tactic(auto, unfolding(crate::specs::Operators::level_of))]
 pub(crate) fn level_of(op: BinaryOp) -> u8
     ensures value { result ≡ level_of op }
-    ensures some { 1 ≤ result }
-    ensures few { result ≤ 6 }
+    ensures least { 1 ≤ result }
+    ensures most { result ≤ 6 }
 {
     match op {
         BinaryOp::Mul | BinaryOp::Div | BinaryOp::Rem | BinaryOp::Shl | BinaryOp::Shr => 6,

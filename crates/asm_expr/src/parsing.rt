@@ -6,7 +6,7 @@ ghost use Rattle.asm_expr.specs.Trees.{tree_of, unary, binary};
 ghost use Rattle.asm_expr.specs.Gives.{GivesBy};
 ghost use Rattle.asm_expr.specs.Reading.{closed_by, operator_from, reading, reading_of};
 ghost use Rattle.asm_expr.specs.Grammar.{IsFoundIn};
-ghost use Rattle.asm_expr.specs.Found.{tokens_from, front_of, placed, operand_in, operator_in, IsLow, Finds, Completes};
+ghost use Rattle.asm_expr.specs.Found.{spelled_from, front_of, read_tree, operand_in, operator_in, IsLow, Finds, CompletesNode};
 
 use crate::faults::ExprFault;
 use crate::laws::read_is_written;
@@ -34,7 +34,7 @@ struct Found {
 #[tactic(auto, unfolding(crate::specs::Trees::height))]
 fn unary_node(alloc: Global, op: UnaryOp, operand: Found) -> Result<Found, ExprFault>
     requires { IsLow operand }
-    ensures { Completes (unary op (tree_of operand.expr)) operand.next result }
+    ensures { CompletesNode (unary op (tree_of operand.expr)) operand.next result }
 {
     let height = operand.height + 1;
     if height > MOST_HEIGHT {
@@ -53,7 +53,7 @@ fn unary_node(alloc: Global, op: UnaryOp, operand: Found) -> Result<Found, ExprF
 fn binary_node(alloc: Global, op: BinaryOp, left: Found, right: Found) -> Result<Found, ExprFault>
     requires left_low { IsLow left }
     requires right_low { IsLow right }
-    ensures { Completes (binary op (tree_of left.expr) (tree_of right.expr)) right.next result }
+    ensures { CompletesNode (binary op (tree_of left.expr) (tree_of right.expr)) right.next result }
 {
     let height = left.height.max(right.height) + 1;
     if height > MOST_HEIGHT {
@@ -83,7 +83,7 @@ fn operator_from(level: u8, op: Option<BinaryOp>) -> Option<BinaryOp>
 /// The operator at this token, if it binds at least so tightly.
 #[tactic(auto, using(crate::proofs::TokenLists::operator_none, crate::proofs::TokenLists::operator_one))]
 fn operator_in(tokens: &[Token], at: usize, level: u8) -> Option<BinaryOp>
-    ensures value { result ≡ operator_in level (tokens_from tokens.now at) }
+    ensures value { result ≡ operator_in level (spelled_from tokens.now at) }
     ensures within { IsSome result → at < length tokens.now }
 {
     if at >= tokens.len() {
@@ -96,7 +96,8 @@ fn operator_in(tokens: &[Token], at: usize, level: u8) -> Option<BinaryOp>
 fn closed(tokens: &[Token], inner: Found) -> Result<Found, ExprFault>
     requires low { IsLow inner }
     requires within { inner.next ≤ length tokens.now }
-    ensures { Finds tokens.now inner.next (closed_by (tree_of inner.expr) (tokens_from tokens.now inner.next)) result }
+    ensures { let behind = spelled_from tokens.now inner.next in
+        Finds tokens.now inner.next (closed_by (tree_of inner.expr) behind) result }
 {
     if inner.next >= tokens.len() || !closes(&tokens[inner.next]) {
         return Err(ExprFault::BadExpression);
@@ -112,7 +113,7 @@ fn closed(tokens: &[Token], inner: Found) -> Result<Found, ExprFault>
 #[cycle(parsing)]
 fn read_operand(alloc: Global, tokens: &[Token], at: usize, depth: u8) -> Result<Found, ExprFault>
     requires { depth ≤ 64 }
-    ensures { Finds tokens.now at (operand_in depth (tokens_from tokens.now at)) result }
+    ensures { Finds tokens.now at (operand_in depth (spelled_from tokens.now at)) result }
 {
     if at >= tokens.len() {
         return Err(ExprFault::BadExpression);
@@ -151,7 +152,7 @@ fn read_at(
     depth: u8,
 ) -> Result<Found, ExprFault>
     requires { depth ≤ 64 }
-    ensures { Finds tokens.now at (reading level depth (tokens_from tokens.now at)) result }
+    ensures { Finds tokens.now at (reading level depth (spelled_from tokens.now at)) result }
 {
     let mut left = read_operand(alloc, tokens, at, depth)?;
     while let Some(op) = operator_in(tokens, left.next, level) {
@@ -172,8 +173,8 @@ pub fn parse_front(alloc: Global, tokens: &[Token]) -> Result<(Expr, usize), Exp
 
 /// The expression that begins at this token, and the index of the first token behind it.
 pub fn parse(alloc: Global, tokens: &Tokens, at: usize) -> Result<(Expr, usize), ExprFault>
-    ensures value { GivesBy placed result (reading_of tokens.now at) }
-    ensures grammar { IfOk result (λ found. IsFoundIn tokens.now at (placed found)) }
+    ensures value { GivesBy read_tree result (reading_of tokens.now at) }
+    ensures grammar { IfOk result (λ found. IsFoundIn tokens.now at (read_tree found)) }
 {
     read_is_written();
     let found = read_at(alloc, tokens.as_slice(), at, 1, 0)?;

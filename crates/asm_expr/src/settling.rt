@@ -2,7 +2,7 @@
 
 ghost use Rattle.std.specs.Prelude.{◌≡◌, ◌<◌, length, map, Ok, IfOk, IsTrue};
 ghost use Rattle.asm_expr.specs.Gives.{Gives};
-ghost use Rattle.asm_expr.specs.Settled.{spot_of, counted_in, stretch_sum, number_of, put, cannot_cancel, settled, constant_left};
+ghost use Rattle.asm_expr.specs.Settled.{spot_of, counted_in, stretch_sum, cancelled_number, put_one, cannot_cancel, settled, constant_left};
 ghost use Rattle.asm_expr.specs.Forms.{wrapped, is_kept};
 
 use crate::faults::ExprFault;
@@ -70,8 +70,8 @@ fn stretch_sum(stretch: u64, spots: &[Option<Spot>]) -> u64
 }
 
 /// What stands for the label at this place: its number, where those of its stretch cancel.
-fn number_of(spots: &[Option<Spot>], spot: Option<Spot>) -> Option<u64>
-    ensures { result ≡ number_of spots.now spot }
+fn cancelled_number(spots: &[Option<Spot>], spot: Option<Spot>) -> Option<u64>
+    ensures { result ≡ cancelled_number spots.now spot }
 {
     let spot = spot?;
     if stretch_sum(spot.stretch, spots) == 0 {
@@ -82,9 +82,9 @@ fn number_of(spots: &[Option<Spot>], spot: Option<Spot>) -> Option<u64>
 }
 
 /// The form and one term more, or its number in place of it.
-fn put(made: Linear, term: Term, number: Option<u64>) -> Result<Linear, AllocFailed<Term>>
+fn put_one(made: Linear, term: Term, number: Option<u64>) -> Result<Linear, AllocFailed<Term>>
     requires { IsTrue (is_kept term) }
-    ensures { IfOk result (λ form. form ≡ put made term number) }
+    ensures { IfOk result (λ form. form ≡ put_one made term number) }
 {
     let Linear {
         mut terms,
@@ -123,7 +123,7 @@ pub fn settled<K: Known>(alloc: Global, known: &K, form: Linear) -> Result<Linea
     let mut made = constant_form(alloc, constant);
     for spot in spots.as_slice() {
         let term = terms.remove(0);
-        made = put(made, term, number_of(spots.as_slice(), *spot))?;
+        made = put_one(made, term, cancelled_number(spots.as_slice(), *spot))?;
     }
     Ok(made)
 }
@@ -140,8 +140,9 @@ fn counted_among<K: Known>(known: &K, stretch: u64, terms: &[Term]) -> u64
 }
 
 /// What stands for one of the terms: its number, where the labels of its stretch cancel.
-fn number_among<K: Known>(known: &K, terms: &[Term], term: &Term) -> Option<u64>
-    ensures { result ≡ number_of (map (spot_of (K.told known.now)) terms.now) (spot_of (K.told known.now) term.now) }
+fn cancelled_among<K: Known>(known: &K, terms: &[Term], term: &Term) -> Option<u64>
+    ensures { result ≡ cancelled_number (map (spot_of (K.told known.now)) terms.now)
+        (spot_of (K.told known.now) term.now) }
 {
     let spot = spot_of(known, term)?;
     if counted_among(known, spot.stretch, terms) == 0 {
@@ -158,7 +159,7 @@ pub fn settled_value<K: Known>(known: &K, form: &Linear) -> Option<u64>
     let terms = form.terms();
     let mut constant = form.constant();
     for term in terms {
-        let number = number_among(known, terms, term)?;
+        let number = cancelled_among(known, terms, term)?;
         constant = constant.wrapping_add(term.coefficient.wrapping_mul(number));
     }
     Some(constant)

@@ -21,10 +21,12 @@ pub trait ExprFold {
     /// The visitor before, the answer, and the visitor after.
     ghost here_gives: { Self → Self.Out → Self → Type 0 };
 
-    /// The visitor before, the operator, the answer for the operand, the answer, and the visitor after.
+    /// The visitor before, the operator, the answer for the operand, the answer, and the visitor
+    /// after.
     ghost unary_gives: { Self → UnaryOp → Self.Out → Self.Out → Self → Type 0 };
 
-    /// The visitor before, the operator, the answers for the operands, the answer, and the visitor after.
+    /// The visitor before, the operator, the answers for the operands, the answer, and the visitor
+    /// after.
     ghost binary_gives: { Self → BinaryOp → Self.Out → Self.Out → Self.Out → Self → Type 0 };
 
     /// The answer for a number.

@@ -32,15 +32,20 @@ impl<'a, K> Drop for ToLinear<'a, K> {
 impl<'a, K: Known> ExprFold for ToLinear<'a, K> {
     type Out = Result<Linear, ExprFault>;
 
-    ghost num_gives = { NumGives (λ visitor. knowledge_by K.told K.counted K.place visitor.known.now) };
+    ghost num_gives = { NumGives (λ visitor.
+        knowledge_by K.told K.counted K.place visitor.known.now) };
 
-    ghost name_gives = { NameGives (λ visitor. knowledge_by K.told K.counted K.place visitor.known.now) };
+    ghost name_gives = { NameGives (λ visitor.
+        knowledge_by K.told K.counted K.place visitor.known.now) };
 
-    ghost here_gives = { HereGives (λ visitor. knowledge_by K.told K.counted K.place visitor.known.now) };
+    ghost here_gives = { HereGives (λ visitor.
+        knowledge_by K.told K.counted K.place visitor.known.now) };
 
-    ghost unary_gives = { UnaryGives (λ visitor. knowledge_by K.told K.counted K.place visitor.known.now) };
+    ghost unary_gives = { UnaryGives (λ visitor.
+        knowledge_by K.told K.counted K.place visitor.known.now) };
 
-    ghost binary_gives = { BinaryGives (λ visitor. knowledge_by K.told K.counted K.place visitor.known.now) };
+    ghost binary_gives = { BinaryGives (λ visitor.
+        knowledge_by K.told K.counted K.place visitor.known.now) };
 
     fn num(&mut self, value: u64) -> Result<Linear, ExprFault> {
         Ok(constant_form(self.alloc, value))
@@ -87,15 +92,20 @@ impl<'a, K> Drop for KnownNow<'a, K> {
 impl<'a, K: Known> ExprFold for KnownNow<'a, K> {
     type Out = Result<Linear, ExprFault>;
 
-    ghost num_gives = { NumGives (λ visitor. knowledge_by K.told K.counted K.place visitor.known.now) };
+    ghost num_gives = { NumGives (λ visitor.
+        knowledge_by K.told K.counted K.place visitor.known.now) };
 
-    ghost name_gives = { NameGives (λ visitor. knowledge_by K.told K.counted K.place visitor.known.now) };
+    ghost name_gives = { NameGives (λ visitor.
+        knowledge_by K.told K.counted K.place visitor.known.now) };
 
-    ghost here_gives = { HereGives (λ visitor. knowledge_by K.told K.counted K.place visitor.known.now) };
+    ghost here_gives = { HereGives (λ visitor.
+        knowledge_by K.told K.counted K.place visitor.known.now) };
 
-    ghost unary_gives = { UnaryGives (λ visitor. knowledge_by K.told K.counted K.place visitor.known.now) };
+    ghost unary_gives = { UnaryGives (λ visitor.
+        knowledge_by K.told K.counted K.place visitor.known.now) };
 
-    ghost binary_gives = { BinaryGives (λ visitor. knowledge_by K.told K.counted K.place visitor.known.now) };
+    ghost binary_gives = { BinaryGives (λ visitor.
+        knowledge_by K.told K.counted K.place visitor.known.now) };
 
     fn num(&mut self, value: u64) -> Result<Linear, ExprFault> {
         Ok(constant_form(self.alloc, value))
@@ -138,7 +148,8 @@ impl<'a, K: Known> KnownNow<'a, K> {
 
 /// The linear form of an expression.
 pub fn linear_form<K: Known>(alloc: Global, expr: &Expr, known: &K) -> Result<Linear, ExprFault>
-    ensures { Gives result (linear (knowledge_by K.told K.counted K.place known.now) (tree_of expr.now)) }
+    ensures { let knows = knowledge_by K.told K.counted K.place known.now in
+        Gives result (linear knows (tree_of expr.now)) }
 {
     let mut visitor = ToLinear { alloc, known };
     fold(expr, &mut visitor)
@@ -146,7 +157,8 @@ pub fn linear_form<K: Known>(alloc: Global, expr: &Expr, known: &K) -> Result<Li
 
 /// The value of an expression, where it is known.
 pub fn known_value<K: Known>(alloc: Global, expr: &Expr, known: &K) -> Result<u64, ExprFault>
-    ensures { Gives result (known_now (knowledge_by K.told K.counted K.place known.now) (tree_of expr.now)) }
+    ensures { let knows = knowledge_by K.told K.counted K.place known.now in
+        Gives result (known_now knows (tree_of expr.now)) }
 {
     let mut visitor = KnownNow { alloc, known };
     value_answer(fold(expr, &mut visitor))

@@ -3,8 +3,8 @@ use Rattle.asm_expr.proofs.ShownIsRead.{shown_is_read}
 use Rattle.asm_expr.proofs.GoodTokens.{read_is_shown}
 use Rattle.asm_expr.proofs.laws.shown_is_read.Goals as goal
 
-pub returns-clause-any : goal.returns-clause-any
-returns-clause-any c = shown_is_read c.one_value.ensures.only
+pub returns-clause-tree : goal.returns-clause-tree
+returns-clause-tree c = shown_is_read c.one_value.ensures.only
 
-pub returns-clause-read : goal.returns-clause-read
-returns-clause-read c = read_is_shown c.one_value.ensures.only
+pub returns-clause-statement : goal.returns-clause-statement
+returns-clause-statement c = read_is_shown c.one_value.ensures.only

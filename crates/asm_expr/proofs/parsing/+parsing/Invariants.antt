@@ -2,7 +2,7 @@
 use Rattle.std.proofs.Common.{◌≡◌, ◌+◌, ◌*◌, ◌-◌, ◌<◌, ◌≤◌, length}
 use Rattle.asm_expr.specs.Trees.{tree_of}
 use Rattle.asm_expr.specs.Reading.{reading, reading_more}
-use Rattle.asm_expr.specs.Found.{tokens_from, IsLow}
+use Rattle.asm_expr.specs.Found.{spelled_from, IsLow}
 use Rattle.asm_expr.proofs.parsing.+parsing.Given as goal
 
 abbrev pub decreases-read_at : goal.decreases-read_at
@@ -13,7 +13,7 @@ decreases-read_operand l = 2 * (length l.tokens.now - l.at)
 
 abbrev pub invariant-read_at-loop-op : goal.invariant-read_at-loop-op
 invariant-read_at-loop-op l = record {
-  value : reading l.level l.depth (tokens_from l.tokens l.at) ≡ reading_more l.level l.depth (tree_of l.left.expr) (tokens_from l.tokens l.left.next);
+  value : reading l.level l.depth (spelled_from l.tokens l.at) ≡ reading_more l.level l.depth (tree_of l.left.expr) (spelled_from l.tokens l.left.next);
   low : IsLow l.left;
   later : l.at < l.left.next;
   within : l.left.next ≤ length l.tokens;

@@ -1,7 +1,7 @@
 -- The first of the terms that are left is put.
 use Rattle.std.proofs.Common.{Ok, sym, ◌∙◌, ap}
 use Rattle.asm_expr.specs.Forms.{Form}
-use Rattle.asm_expr.specs.Settled.{put, put_all}
+use Rattle.asm_expr.specs.Settled.{put_one, put_all}
 use Rattle.asm_expr.proofs.SettledLemmas.{stays, put_step, put_done, all_put}
 use Rattle.asm_expr.proofs.settling.settled.Goals as goal
 
@@ -15,8 +15,8 @@ returns-then-cannot_cancel g c =
 pub loop-spot-preserved : goal.loop-spot-preserved
 loop-spot-preserved g c =
     let same = c.as_slice-in-loop-spot.ensures ∙ sym c.as_slice-spot-items.ensures in
-    let number = rw same at c.number_of.ensures in
-    let grown = c.in_ok-made.ensures ∙ ap (put c.loop-spot.made c.remove-term.result) number in
+    let number = rw same at c.cancelled_number.ensures in
+    let grown = c.in_ok-made.ensures ∙ ap (put_one c.loop-spot.made c.remove-term.result) number in
     let step =
     put_step (g.K.Known.told c.args.known.now) c.as_slice-spot-items.result.now c.loop-spot.spot-index c.loop-spot.terms.items c.remove-term.new.self.items c.remove-term.result
     c.loop-spot.made c.in_ok-made.made (put_all c.as_slice-spot-items.result.now (g.K.Known.told c.args.known.now) c.constant_form-made.result c.form.inside.terms.items)

@@ -7,32 +7,32 @@ use Rattle.asm_expr.specs.declared.faults.ExprFault.{ExprFault}
 use Rattle.asm_expr.specs.declared.parsing.Found.{Found}
 use Rattle.asm_expr.specs.Trees.{tree_of}
 use Rattle.asm_expr.specs.Gives.{◌>>=◌, Fails}
-use Rattle.asm_expr.specs.Reading.{Reading, Read, Placed, reading, reading_of}
-use Rattle.asm_expr.specs.Found.{tokens_from, placed, IsFound}
+use Rattle.asm_expr.specs.Reading.{Reading, Read, ReadTree, reading, reading_of}
+use Rattle.asm_expr.specs.Found.{spelled_from, read_tree, IsFound}
 use Rattle.asm_expr.proofs.ParsingLemmas.{fails_after}
 
-placing : List SpelledToken → Reading → Result Placed ExprFault
+placing : List SpelledToken → Reading → Result ReadTree ExprFault
 placing tokens found = Ok (record { tree = found.tree; next = length tokens - length found.rest })
 
-from_is : (list : List Token) (tokens : List SpelledToken) (at : ℕ) → map spelled list ≡ tokens → reading 1 0 (drop at tokens) ≡ reading 1 0 (tokens_from list at)
+from_is : (list : List Token) (tokens : List SpelledToken) (at : ℕ) → map spelled list ≡ tokens → reading 1 0 (drop at tokens) ≡ reading 1 0 (spelled_from list at)
 from_is list tokens at is = rw (← is) (ap (reading 1 0) (drop-map spelled at list))
 
-next_is : (list : List Token) (tokens : List SpelledToken) (next : ℕ) → map spelled list ≡ tokens → next ≤ length list → length tokens - length (tokens_from list next) ≡ next
+next_is : (list : List Token) (tokens : List SpelledToken) (next : ℕ) → map spelled list ≡ tokens → next ≤ length list → length tokens - length (spelled_from list next) ≡ next
 next_is list tokens next is within =
     let all = length-map list spelled in
     let rest = length-map (drop next list) spelled in
     let left = length-drop next list in
     rw (← is, all, rest) (omega arith)
 
-pub placed_found : (list : List Token) (tokens : List SpelledToken) (at : ℕ) (found : Found) → map spelled list ≡ tokens → IsFound list at (reading 1 0 (tokens_from list at)) found
-    → reading_of tokens at ≡ Ok (placed (found.expr, found.next))
+pub read_tree_found : (list : List Token) (tokens : List SpelledToken) (at : ℕ) (found : Found) → map spelled list ≡ tokens → IsFound list at (reading 1 0 (spelled_from list at)) found
+    → reading_of tokens at ≡ Ok (read_tree (found.expr, found.next))
 unfolding reading_of placing
-placed_found list tokens at found is finds =
+read_tree_found list tokens at found is finds =
     ap (λ (r : Read). r >>= placing tokens) (from_is list tokens at is ∙ finds.value)
     ∙ ap (λ n. Ok (record { tree = tree_of found.expr; next = n })) (next_is list tokens found.next is finds.within)
 
-pub placed_fails : (list : List Token) (tokens : List SpelledToken) (at : ℕ) (fault : ExprFault) → map spelled list ≡ tokens → Fails fault (reading 1 0 (tokens_from list at))
+pub read_tree_fails : (list : List Token) (tokens : List SpelledToken) (at : ℕ) (fault : ExprFault) → map spelled list ≡ tokens → Fails fault (reading 1 0 (spelled_from list at))
     → Fails fault (reading_of tokens at)
 unfolding reading_of placing
-placed_fails list tokens at fault is fails =
-    fails_after fault (reading 1 0 (tokens_from list at)) (placing tokens) (reading_of tokens at) (ap (λ (r : Read). r >>= placing tokens) (from_is list tokens at is)) fails
+read_tree_fails list tokens at fault is fails =
+    fails_after fault (reading 1 0 (spelled_from list at)) (placing tokens) (reading_of tokens at) (ap (λ (r : Read). r >>= placing tokens) (from_is list tokens at is)) fails

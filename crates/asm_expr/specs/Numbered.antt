@@ -1,9 +1,0 @@
--- What the tests know: an instance of a numeric label stands in the stretch of its number, an item in that of its section, and of symbols nothing is known.
-use Rattle.asm_expr.specs.declared.naming.Name.{Name}
-use Rattle.asm_expr.specs.declared.naming.Name.TheVariants.{Plain, Numeric, Place}
-use Rattle.asm_expr.specs.Knowledge.{Told, absent, label}
-
-abbrev pub numbered : Name → Told
-numbered (Plain text) = absent
-numbered (Numeric number instance) = label number instance
-numbered (Place section item) = label section item
