@@ -23,4 +23,8 @@ pub mod QuotedTexts
 pub mod ShownLeaves
 pub mod ShownIsRead
 pub mod SettledLaws
+pub mod ByteLists
+pub mod FittingNumbers
+pub mod NamedTokens
+pub mod StringBytes
 pub mod GoodTokens
