@@ -33,7 +33,7 @@ fn refusal_of(meaning: &Meaning, once: bool) -> Option<SymFault>
 }
 
 impl Symbols {
-    ghost use Rattle.std.specs.Prelude.{◌≡◌, ◌<◌, false, length, OnErr, IfOk, IfErr};
+    ghost use Rattle.std.specs.Prelude.{◌≡◌, ◌<◌, false, [], length, OnErr, IfOk, IfErr};
     ghost use Rattle.asm_symbols.specs.SymbolMap.{names, with_symbol, with_meaning};
     ghost use Rattle.asm_symbols.specs.Assigning.{refusal_at, form_at, TellsLeads, Assigns};
     ghost use Rattle.asm_symbols.specs.Answering.{GivesUnlessFull};
@@ -99,26 +99,42 @@ impl Symbols {
         self.alloc
     }
 
-    /// Whether the form leads to the symbol. Each symbol is looked at once.
-    fn leads_back(&self, form: &Linear, id: SymId) -> Result<bool, SymFault>
+    /// Whether the form leads to the symbol, where none is seen at first. Each symbol is looked at
+    /// once.
+    fn search_back(
+        &self,
+        form: &Linear,
+        id: SymId,
+        seen: &mut IndexSet<u32>,
+    ) -> Result<bool, SymFault>
+        requires { seen.old.keys ≡ [] }
         ensures leads { IfOk result (TellsLeads self.now.symbols form.now id) }
         ensures value { IfOk result (λ back. leads_back self.now.symbols form.now id ≡ back) }
         ensures memory { IfErr result (λ fault. fault ≡ NoMemory) }
     {
-        let mut seen = IndexSet::new(self.allocator());
-        if self.see(form.terms(), id, &mut seen)? {
+        if self.see(form.terms(), id, seen)? {
             return Ok(true);
         }
         let mut at = 0;
         'symbols: while at < seen.len() {
             // The index is below the length.
             let middle = SymId::new(*seen.get_index(at).unwrap());
-            if self.see_behind(middle, id, &mut seen)? {
+            if self.see_behind(middle, id, seen)? {
                 return Ok(true);
             }
             at += 1;
         }
         Ok(false)
+    }
+
+    /// Whether the form leads to the symbol.
+    fn leads_back(&self, form: &Linear, id: SymId) -> Result<bool, SymFault>
+        ensures leads { IfOk result (TellsLeads self.now.symbols form.now id) }
+        ensures value { IfOk result (λ back. leads_back self.now.symbols form.now id ≡ back) }
+        ensures memory { IfErr result (λ fault. fault ≡ NoMemory) }
+    {
+        let mut seen = IndexSet::new(self.allocator());
+        self.search_back(form, id, &mut seen)
     }
 
     /// The symbol stands for the form from now on; with `once` only if it is undefined.

@@ -1,7 +1,7 @@
 //! How a name becomes a symbol, and what room there is for names.
 
 ghost use Rattle.std.specs.Prelude.{◌≡◌};
-ghost use Rattle.asm_symbols.specs.Interning.{size_within};
+ghost use Rattle.asm_symbols.specs.Interning.{size_within, undefined};
 
 use crate::copies::copied_name;
 use crate::entries::{Meaning, Symbol};
@@ -33,6 +33,21 @@ fn size_within(name: &Name, room: u64) -> Option<u64>
     }
 }
 
+/// A symbol of which nothing is known.
+fn undefined(name: Name) -> Symbol
+    ensures { result ≡ undefined name }
+{
+    Symbol {
+        name,
+        meaning: Meaning::Undefined,
+        binding: None,
+        kind: None,
+        size: None,
+        sized: 0,
+        visibility: None,
+    }
+}
+
 impl Symbols {
     ghost use Rattle.std.specs.Prelude.{◌≡◌, ◌<◌, ◌≤◌, length, None, OnErr, IfOk};
     ghost use Rattle.asm_symbols.specs.SymbolMap.{names, index_of};
@@ -61,18 +76,10 @@ impl Symbols {
             return Err(SymFault::BadSymbolUse);
         };
         let place = self.symbols.len() as u32;
-        let symbol = Symbol {
-            name: copied_name(self.alloc, name)?,
-            meaning: Meaning::Undefined,
-            binding: None,
-            kind: None,
-            size: None,
-            sized: 0,
-            visibility: None,
-        };
         self.symbols.reserve(1)?;
+        let copy = copied_name(self.alloc, name)?;
         self.index.insert(self.alloc, name, place)?;
-        self.symbols.push_reserved(symbol);
+        self.symbols.push_reserved(undefined(copy));
         self.bytes += size;
         Ok(SymId::new(place))
     }

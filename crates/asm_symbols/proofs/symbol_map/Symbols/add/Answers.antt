@@ -14,4 +14,4 @@ invariant_of-self-2 c =
     let small : c.self.inside.bytes + name_size c.args.name.now ≤ 2 ^ 31 = omega (arith, room.small) in
     let sound = IsSound-name c.self.inside.index c.self.inside.symbols.items c.self.inside.files.items c.self.inside.counts.entries c.self.inside.bytes c.args.name.now c.self.invariant new room.few small in
     let long : c.len-place.result ≡ length c.self.inside.symbols.items = omega arith in
-    rw (c.in_ok-insert.ensures.ok, c.push_reserved.ensures.items, c.reserve.ensures.items, c.in_ok-copied_name.ensures, room.own, long) sound
+    rw (c.in_ok-insert.ensures.ok, c.push_reserved.ensures.items, c.reserve.ensures.items, c.undefined.ensures, c.in_ok-copy.ensures, room.own, long) sound

@@ -2,15 +2,15 @@
 use Rattle.std.proofs.Common.{◌≤◌, ◌<◌, length, sym, ap, ◌∙◌, arith, option_copied}
 use Rattle.asm_symbols.proofs.SearchLemmas.{searching_start, starting_back, searching_step, searching_back, searching_within, searching_few, searching_done}
 use Rattle.asm_symbols.proofs.LeadsBackLemmas.{leads_is_back, leads_not_back}
-use Rattle.asm_symbols.proofs.symbol_map.Symbols.leads_back.Goals as goal
+use Rattle.asm_symbols.proofs.symbol_map.Symbols.search_back.Goals as goal
 
 pub returns-then-branch-clause-leads : goal.returns-then-branch-clause-leads
 returns-then-branch-clause-leads c =
-    starting_back c.args.self.now.symbols c.args.form.now c.args.id (rw (c.terms.ensures.terms, c.new-seen.ensures.empty, c.if-branch.true) at c.in_ok-see.ensures.value)
+    starting_back c.args.self.now.symbols c.args.form.now c.args.id (rw (c.terms.ensures.terms, c.requires, c.if-branch.true) at c.in_ok-see.ensures.value)
 
 pub symbols-init : goal.symbols-init
 symbols-init c =
-    searching_start c.args.self.now.symbols c.args.form.now c.args.id c.see.new.seen.keys (rw (c.terms.ensures.terms, c.new-seen.ensures.empty, c.if-branch.false) at c.in_ok-see.ensures.value)
+    searching_start c.args.self.now.symbols c.args.form.now c.args.id c.see.new.seen.keys (rw (c.terms.ensures.terms, c.requires, c.if-branch.false) at c.in_ok-see.ensures.value)
 
 pub see_behind-requires : goal.see_behind-requires
 see_behind-requires c =
