@@ -50,7 +50,7 @@ pub repeated_none : (unit : List ℕ) → repeated 0 unit ≡ []
 unfolding repeated
 repeated_none unit = refl
 
--- a unit of one byte is that byte so many times
+-- a unit of one byte, repeated, is that byte repeated
 pub repeated_alone : (count : ℕ) (unit : List ℕ) → length unit ≡ 1 → replicate count (get_or unit 0 0) ≡ repeated count unit
 repeated_alone count [] alone = absurd (omega arith)
 repeated_alone count (byte ∷ []) alone = sym (repeated-one count byte)

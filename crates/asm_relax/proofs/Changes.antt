@@ -39,7 +39,7 @@ changed_none change [] n same = refl
 changed_none {X} change (x ∷ xs) zero same = ap (λ (y : X). y ∷ xs) (sym (same x))
 changed_none {X} change (x ∷ xs) (suc n) same = ap (λ (all : List X). x ∷ all) (changed_none change xs n same) ∙ sym (changed_more change x xs n)
 
--- the first so many are changed
+-- the list with its first n elements changed
 abbrev pub front : {X : Type 0} → (X → X) → ℕ → List X → List X
 front change zero xs = xs
 front change (suc n) [] = []

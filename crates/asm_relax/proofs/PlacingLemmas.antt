@@ -9,7 +9,7 @@ use Rattle.asm_frags.specs.Addresses.{item_with_address, section_with_address, c
 use Rattle.asm_relax.specs.Placing.{placed_from, placed_section, behind, size_there}
 use Rattle.asm_relax.proofs.Changes.{changed_more, changed_twice, changed_alike, changed_get, changed_none}
 
--- the first so many items are placed
+-- the items with the first n of them placed
 abbrev pub part : {P : Type 0} → ℕ → ℕ → List (Frag P ℕ) → List (Frag P ℕ)
 part zero at xs = xs
 part (suc n) at [] = []
