@@ -3,8 +3,8 @@ use Rattle.std.proofs.Common.{◌≡◌, ℕ, zero, suc, ◌+◌, ◌&&◌, Bool
 use Rattle.std.proofs.lemmas.List.{drop_at}
 use Rattle.std.specs.Prelude.{slice_get, slice_index_or}
 use Rattle.std.specs.List.{list_all, prefix_len}
-use Rattle.elf_object.specs.FileLaws.{is_no_end, string_at, NamesStand}
-use Rattle.elf_object.specs.StringTable.{string_of, strings, string_table_of, name_offset_after, name_offsets_after, name_offsets}
+use Rattle.elf_object.specs.FileLaws.{NamesStand}
+use Rattle.elf_object.specs.StringTable.{is_no_end, string_at, string_of, strings, string_table_of, name_offset_after, name_offsets_after, name_offsets}
 
 -- what stands before the first zero byte
 cut_here : (name rest : List ℕ) → list_all is_no_end name ≡ true → take (prefix_len is_no_end (name ++ 0 ∷ rest)) (name ++ 0 ∷ rest) ≡ name

@@ -1,17 +1,10 @@
 -- What holds of the bytes of each object: names and sections stand where the tables say.
-use Rattle.std.specs.Prelude.{◌≡◌, ℕ, ◌+◌, ◌*◌, ◌==◌, Bool, true, not, List, Some, take, drop, slice_get, slice_index_or}
-use Rattle.std.specs.List.{list_all, prefix_len}
+use Rattle.std.specs.Prelude.{◌≡◌, ℕ, ◌+◌, ◌*◌, true, List, Some, slice_get, slice_index_or}
+use Rattle.std.specs.List.{list_all}
 use Rattle.elf_object.specs.Image.{elf_header, with_names, file_with}
 use Rattle.elf_object.specs.Places.{PieceAt}
 use Rattle.elf_object.specs.Sections.{SectionEntry, file_bytes, section_header}
-use Rattle.elf_object.specs.StringTable.{string_table_of, name_offsets}
-
-abbrev pub is_no_end : ℕ → Bool
-is_no_end byte = not (byte == 0)
-
--- what stands before the first zero byte from this offset on (gABI, chapter 4, "String Table")
-abbrev pub string_at : ℕ → List ℕ → List ℕ
-string_at offset bytes = take (prefix_len is_no_end (drop offset bytes)) (drop offset bytes)
+use Rattle.elf_object.specs.StringTable.{is_no_end, name_offsets, string_at, string_table_of}
 
 -- a name without a zero byte is read from its table at its offset; so st_name and sh_name name just the symbol's or the section's name
 abbrev pub NamesStand : Type 0

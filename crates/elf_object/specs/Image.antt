@@ -4,7 +4,7 @@ use Rattle.std.specs.Int.{next_multiple_of}
 use Rattle.asm_symbols.specs.SymbolMap.{SymbolMap}
 use Rattle.asm_relax.specs.Settling.{LaidSections}
 use Rattle.elf_object.specs.declared.relocations.Relocation.{Relocation}
-use Rattle.elf_object.specs.Fields.{half, word, xword}
+use Rattle.elf_object.specs.Fields.{half, magic, word, xword}
 use Rattle.elf_object.specs.StringTable.{string_table_of, name_offsets}
 use Rattle.elf_object.specs.Contents.{relocations_of}
 use Rattle.elf_object.specs.Naming.{NamedOf, named_of}
@@ -54,7 +54,7 @@ header_table names sections = null_header ++ headers_from header_end names secti
 
 -- e_ident: the magic bytes, 64 bits, low byte first, version 1, System V
 abbrev pub identification : List ℕ
-identification = 0x7f ∷ 0x45 ∷ 0x4c ∷ 0x46 ∷ 2 ∷ 1 ∷ 1 ∷ replicate 9 0
+identification = magic ++ 2 ∷ 1 ∷ 1 ∷ replicate 9 0
 
 -- the header of a relocatable file for x86-64; its header table has this offset and count, and names in the last section
 unfoldable pub elf_header : ℕ → ℕ → List ℕ

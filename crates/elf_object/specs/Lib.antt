@@ -12,6 +12,7 @@ pub mod Numbers
 pub mod Sections
 pub mod Image
 pub mod Objects
+pub mod Reader
 pub mod Places
 pub mod TableLaws
 pub mod FileLaws

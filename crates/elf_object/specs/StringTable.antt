@@ -1,5 +1,6 @@
 -- String tables (gABI, chapter 4, "String Table").
-use Rattle.std.specs.Prelude.{ℕ, ◌+◌, List, [], ◌∷◌, ◌++◌, length}
+use Rattle.std.specs.Prelude.{ℕ, ◌+◌, ◌==◌, Bool, not, List, [], ◌∷◌, ◌++◌, length, take, drop}
+use Rattle.std.specs.List.{prefix_len}
 
 -- a name with the zero byte that ends it; the empty name takes no bytes
 abbrev pub string_of : List ℕ → List ℕ
@@ -29,3 +30,11 @@ name_offsets_after before (name ∷ names) =
 -- where each of the names stands in their table
 unfoldable pub name_offsets : List (List ℕ) → List ℕ
 name_offsets names = name_offsets_after 1 names
+
+-- the byte does not end a name
+abbrev pub is_no_end : ℕ → Bool
+is_no_end byte = not (byte == 0)
+
+-- what stands before the first zero byte from this offset on
+abbrev pub string_at : ℕ → List ℕ → List ℕ
+string_at offset bytes = take (prefix_len is_no_end (drop offset bytes)) (drop offset bytes)

@@ -5,6 +5,7 @@ ghost use Rattle.elf_object.specs.SymbolTable as spec;
 ghost use Rattle.elf_object.specs.Views.{symbol_view};
 
 use crate::fields::{put_half, put_word, put_xword};
+use crate::offsets::{ST_INFO, ST_NAME, ST_OTHER, ST_SHNDX, ST_SIZE, ST_VALUE};
 use crate::symbol_values::{
     Placement, SymbolSection, SymbolValue, binding_of, is_file_local, is_local, is_thread_local,
     symbol_value_of,
@@ -101,12 +102,12 @@ pub(crate) fn symbol_bytes(headers: &[usize], name: usize, symbol: &TableSymbol)
 {
     let mut entry = [0; 24];
     let section = section_index_of(headers, symbol.section);
-    put_word(&mut entry, name as u64);
-    entry[4] = 16 * binding_number(symbol.binding) + symbol.kind.number();
-    entry[5] = visibility_number(symbol.visibility);
-    put_half(&mut entry[6..], section as u64);
-    put_xword(&mut entry[8..], symbol.value);
-    put_xword(&mut entry[16..], symbol.size);
+    put_word(&mut entry[ST_NAME..], name as u64);
+    entry[ST_INFO] = 16 * binding_number(symbol.binding) + symbol.kind.number();
+    entry[ST_OTHER] = visibility_number(symbol.visibility);
+    put_half(&mut entry[ST_SHNDX..], section as u64);
+    put_xword(&mut entry[ST_VALUE..], symbol.value);
+    put_xword(&mut entry[ST_SIZE..], symbol.size);
     entry
 }
 

@@ -6,12 +6,13 @@ ghost use Rattle.elf_object.specs.StringTable.{string_table_of, name_offsets};
 ghost use Rattle.elf_object.specs.Views.{flat, section_view, ends_at};
 
 use crate::fields::{put_half, put_word, put_xword};
+use crate::offsets::{
+    E_EHSIZE, E_MACHINE, E_SHENTSIZE, E_SHNUM, E_SHOFF, E_SHSTRNDX, E_TYPE, E_VERSION, EHDR_SIZE,
+    SHDR_SIZE,
+};
 use crate::sections::{FileSection, section_header, string_section};
 use crate::string_table::{put_joined, put_name};
 use std::alloc::{AllocError, Global};
-
-/// Where the ELF header ends.
-const HEADER_END: usize = 64;
 
 /// The ELF header, where the header table has this offset and count, and the last section has the names (`Elf64_Ehdr`).
 #[tactic(auto, unfolding(crate::specs::Image::elf_header, crate::specs::Fields::half, crate::specs::Fields::word, crate::specs::Fields::xword))]
@@ -27,14 +28,14 @@ fn elf_header(offset: usize, count: usize) -> [u8; 64]
     header[4] = 2;
     header[5] = 1;
     header[6] = 1;
-    put_half(&mut header[16..], 1); // e_type: ET_REL
-    put_half(&mut header[18..], 62); // e_machine: EM_X86_64
-    put_word(&mut header[20..], 1); // e_version
-    put_xword(&mut header[40..], offset as u64); // e_shoff
-    put_half(&mut header[52..], 64); // e_ehsize
-    put_half(&mut header[58..], 64); // e_shentsize
-    put_half(&mut header[60..], count as u64); // e_shnum
-    put_half(&mut header[62..], (count - 1) as u64); // e_shstrndx
+    put_half(&mut header[E_TYPE..], 1); // ET_REL
+    put_half(&mut header[E_MACHINE..], 62); // EM_X86_64
+    put_word(&mut header[E_VERSION..], 1);
+    put_xword(&mut header[E_SHOFF..], offset as u64);
+    put_half(&mut header[E_EHSIZE..], EHDR_SIZE as u64);
+    put_half(&mut header[E_SHENTSIZE..], SHDR_SIZE as u64);
+    put_half(&mut header[E_SHNUM..], count as u64);
+    put_half(&mut header[E_SHSTRNDX..], (count - 1) as u64);
     header
 }
 
@@ -132,7 +133,7 @@ fn lay_out(alloc: Global, names: &[usize], sections: Vec<FileSection>) -> Result
 {
     let mut laid = Laid {
         pieces: Vec::with_capacity(alloc, 2 * sections.len() + 2)?,
-        end: HEADER_END,
+        end: EHDR_SIZE,
         headers: vec![in alloc; 0; 64]?,
     };
     let mut index = 0;

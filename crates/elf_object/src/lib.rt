@@ -11,6 +11,8 @@ mod listing;
 mod naming;
 mod numbers;
 mod object;
+mod offsets;
+mod reader;
 mod references;
 mod relocations;
 mod searching;
@@ -22,3 +24,7 @@ mod symbol_values;
 pub use faults::ObjectFault;
 pub use laws::{items_stand, locals_first, names_stand, sections_stand, targets_stand};
 pub use object::Object;
+pub use reader::{
+    HeaderTable, RelocationRecord, SectionHeader, SymbolRecord, header_table, relocation_at,
+    section_bytes, section_header, section_name, section_named, symbol_at, text_at,
+};

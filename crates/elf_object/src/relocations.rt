@@ -4,6 +4,7 @@ ghost use Rattle.std.specs.Prelude.{◌≡◌};
 ghost use Rattle.elf_object.specs.Relocations.{kind_number, kind_for, relocation_entry};
 
 use crate::fields::{put_word, put_xword};
+use crate::offsets::{R_ADDEND, R_OFFSET, R_SYM, R_TYPE};
 use asm_frags::FieldSize;
 
 /// How the linker works a field out (`R_X86_64_`): from S + A, or S + A - P where the name begins with `Pc`.
@@ -84,9 +85,9 @@ pub(crate) fn relocation_entry(number: usize, relocation: &Relocation) -> [u8; 2
     ensures { result ≡ relocation_entry number relocation.now }
 {
     let mut entry = [0; 24];
-    put_xword(&mut entry, relocation.offset);
-    put_word(&mut entry[8..], u64::from(relocation.kind.number()));
-    put_word(&mut entry[12..], number as u64);
-    put_xword(&mut entry[16..], relocation.addend);
+    put_xword(&mut entry[R_OFFSET..], relocation.offset);
+    put_word(&mut entry[R_TYPE..], u64::from(relocation.kind.number()));
+    put_word(&mut entry[R_SYM..], number as u64);
+    put_xword(&mut entry[R_ADDEND..], relocation.addend);
     entry
 }

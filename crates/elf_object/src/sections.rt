@@ -8,6 +8,10 @@ ghost use Rattle.elf_object.specs.Views.{content_view, section_view, held_entry,
 use crate::contents::HeldSection;
 use crate::fields::{put_word, put_xword};
 use crate::numbers::Numbers;
+use crate::offsets::{
+    RELA_SIZE, SH_ADDRALIGN, SH_ENTSIZE, SH_FLAGS, SH_INFO, SH_LINK, SH_NAME, SH_OFFSET, SH_SIZE,
+    SH_TYPE, SYM_SIZE,
+};
 use crate::relocations::{Relocation, relocation_entry};
 use bitflags::Flags;
 use std::alloc::{AllocError, Global};
@@ -77,15 +81,15 @@ pub(crate) fn section_header(name: usize, offset: u64, section: &FileSection) ->
     ensures { result ≡ spec.section_header name offset (section_view section.now) }
 {
     let mut header = [0; 64];
-    put_word(&mut header, name as u64);
-    put_word(&mut header[4..], u64::from(section.kind));
-    put_xword(&mut header[8..], section.flags);
-    put_xword(&mut header[24..], offset);
-    put_xword(&mut header[32..], section.body.size());
-    put_word(&mut header[40..], section.link);
-    put_word(&mut header[44..], section.info);
-    put_xword(&mut header[48..], section.alignment);
-    put_xword(&mut header[56..], section.entry_size);
+    put_word(&mut header[SH_NAME..], name as u64);
+    put_word(&mut header[SH_TYPE..], u64::from(section.kind));
+    put_xword(&mut header[SH_FLAGS..], section.flags);
+    put_xword(&mut header[SH_OFFSET..], offset);
+    put_xword(&mut header[SH_SIZE..], section.body.size());
+    put_word(&mut header[SH_LINK..], section.link);
+    put_word(&mut header[SH_INFO..], section.info);
+    put_xword(&mut header[SH_ADDRALIGN..], section.alignment);
+    put_xword(&mut header[SH_ENTSIZE..], section.entry_size);
     header
 }
 
@@ -115,7 +119,7 @@ fn relocation_section(symbols: usize, index: usize, name: &[u8], bytes: Vec<u8>)
         kind: SHT_RELA,
         flags: SHF_INFO_LINK,
         alignment: 8,
-        entry_size: 24,
+        entry_size: RELA_SIZE as u64,
         link: symbols as u64,
         info: index as u64,
         body: Body::Bytes(bytes),
@@ -132,7 +136,7 @@ pub(crate) fn symbol_section<'a>(strings: usize, first: usize, bytes: Vec<u8>) -
         kind: SHT_SYMTAB,
         flags: 0,
         alignment: 8,
-        entry_size: 24,
+        entry_size: SYM_SIZE as u64,
         link: strings as u64,
         info: first as u64,
         body: Body::Bytes(bytes),

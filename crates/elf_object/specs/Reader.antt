@@ -1,0 +1,119 @@
+-- What the bytes of an ELF64 file say, by the offsets of fields (gABI, chapter 4, "Object Files").
+use Rattle.std.specs.Prelude.{ℕ, ◌+◌, ◌*◌, ◌==◌, ◌&&◌, Bool, false, List, [], length, take, drop, nat_eq, nat_le, nat_lt, Option, None, Some, option_map, option_and_then, find, if◌then◌else◌}
+use Rattle.std.specs.List.{prefix_len, range_with_len, starts_with}
+use Rattle.std.specs.Str.{bytes_eq}
+use Rattle.elf_object.specs.declared.reader.HeaderTable.{HeaderTable}
+use Rattle.elf_object.specs.declared.reader.SectionHeader.{SectionHeader}
+use Rattle.elf_object.specs.declared.reader.SymbolRecord.{SymbolRecord}
+use Rattle.elf_object.specs.declared.reader.RelocationRecord.{RelocationRecord}
+use Rattle.elf_object.specs.declared.offsets.TheConstants.{EHDR_SIZE, E_SHNUM, E_SHOFF, E_SHSTRNDX, RELA_SIZE, R_ADDEND, R_OFFSET, R_SYM, R_TYPE, SHDR_SIZE, SH_ADDR, SH_ADDRALIGN, SH_ENTSIZE, SH_FLAGS, SH_INFO, SH_LINK, SH_NAME, SH_OFFSET, SH_SIZE, SH_TYPE, ST_INFO, ST_NAME, ST_OTHER, ST_SHNDX, ST_SIZE, ST_VALUE, SYM_SIZE}
+use Rattle.elf_object.specs.Contents.{no_bits}
+use Rattle.elf_object.specs.Fields.{byte_at, half_at, magic, word_at, xword_at}
+use Rattle.elf_object.specs.StringTable.{is_no_end, string_at}
+
+-- so many bytes at this offset, where that many stand there
+abbrev pub piece_at : List ℕ → ℕ → ℕ → Option (List ℕ)
+piece_at bytes offset size = if nat_le (offset + size) (length bytes) then Some (take size (drop offset bytes)) else None
+
+-- the entry of this index, of a table of entries of this size
+abbrev pub entry_at : List ℕ → ℕ → ℕ → Option (List ℕ)
+entry_at table size index = piece_at table (size * index) size
+
+-- the file is as long as an ELF header, and begins as one
+abbrev pub has_file_header : List ℕ → Bool
+has_file_header file = nat_le EHDR_SIZE (length file) && starts_with nat_eq file magic
+
+-- e_shoff, e_shnum and e_shstrndx of an ELF header (Elf64_Ehdr)
+abbrev pub table_in : List ℕ → HeaderTable
+table_in header = record { offset = xword_at header E_SHOFF; count = half_at header E_SHNUM; names = half_at header E_SHSTRNDX }
+
+-- where the header table of a file stands, if it is an ELF file
+unfoldable pub table_of : List ℕ → Option HeaderTable
+table_of file = if has_file_header file then Some (table_in file) else None
+
+-- the fields of a section header (Elf64_Shdr)
+unfoldable pub header_in : List ℕ → SectionHeader
+header_in entry = record {
+  name = word_at entry SH_NAME;
+  kind = word_at entry SH_TYPE;
+  flags = xword_at entry SH_FLAGS;
+  address = xword_at entry SH_ADDR;
+  offset = xword_at entry SH_OFFSET;
+  size = xword_at entry SH_SIZE;
+  link = word_at entry SH_LINK;
+  info = word_at entry SH_INFO;
+  alignment = xword_at entry SH_ADDRALIGN;
+  entry_size = xword_at entry SH_ENTSIZE;
+}
+
+-- the entry of this index in the header table, if there are more than that
+abbrev pub header_by : List ℕ → ℕ → HeaderTable → Option SectionHeader
+header_by file index table =
+    if nat_lt index table.count then option_map header_in (entry_at (drop table.offset file) SHDR_SIZE index) else None
+
+-- the header of the section of this index
+unfoldable pub header_of : List ℕ → ℕ → Option SectionHeader
+header_of file index = option_and_then (header_by file index) (table_of file)
+
+-- the bytes of a section; one of type SHT_NOBITS has none in the file
+unfoldable pub content_of : List ℕ → SectionHeader → Option (List ℕ)
+content_of file header = if header.kind == no_bits then Some [] else piece_at file header.offset header.size
+
+-- the text at this offset of a string table, if a zero byte ends it (gABI, chapter 4, "String Table")
+unfoldable pub text_of : List ℕ → ℕ → Option (List ℕ)
+text_of strings offset =
+    if nat_lt (prefix_len is_no_end (drop offset strings)) (length (drop offset strings))
+    then Some (string_at offset strings) else None
+
+-- the bytes of the section of this index
+abbrev pub content_at : List ℕ → ℕ → Option (List ℕ)
+content_at file index = option_and_then (content_of file) (header_of file index)
+
+-- the name of the section with this header: sh_name is its offset in the section of e_shstrndx
+abbrev pub name_by : List ℕ → SectionHeader → HeaderTable → Option (List ℕ)
+name_by file header table = option_and_then (λ strings. text_of strings header.name) (content_at file table.names)
+
+-- the name of the section of this index
+unfoldable pub name_of : List ℕ → ℕ → Option (List ℕ)
+name_of file index = option_and_then (λ header. option_and_then (name_by file header) (table_of file)) (header_of file index)
+
+-- the name is there, and is this one
+abbrev pub is_name : List ℕ → Option (List ℕ) → Bool
+is_name name None = false
+is_name name (Some found) = bytes_eq found name
+
+-- the first section of this name, by the header table
+abbrev pub named_by : List ℕ → List ℕ → HeaderTable → Option ℕ
+named_by file name table = find (λ index. is_name name (name_of file index)) (range_with_len 0 table.count)
+
+-- the index of the first section of this name
+unfoldable pub section_of : List ℕ → List ℕ → Option ℕ
+section_of file name = option_and_then (named_by file name) (table_of file)
+
+-- the fields of an entry of the symbol table (Elf64_Sym)
+unfoldable pub symbol_in : List ℕ → SymbolRecord
+symbol_in entry = record {
+  name = word_at entry ST_NAME;
+  info = byte_at entry ST_INFO;
+  other = byte_at entry ST_OTHER;
+  section = half_at entry ST_SHNDX;
+  value = xword_at entry ST_VALUE;
+  size = xword_at entry ST_SIZE;
+}
+
+-- the symbol of this index, in the bytes of a symbol table
+unfoldable pub symbol_of : List ℕ → ℕ → Option SymbolRecord
+symbol_of symbols index = option_map symbol_in (entry_at symbols SYM_SIZE index)
+
+-- the fields of a relocation entry (Elf64_Rela); the low half of r_info is the type, the high one the symbol
+unfoldable pub relocation_in : List ℕ → RelocationRecord
+relocation_in entry = record {
+  offset = xword_at entry R_OFFSET;
+  kind = word_at entry R_TYPE;
+  symbol = word_at entry R_SYM;
+  addend = xword_at entry R_ADDEND;
+}
+
+-- the relocation of this index, in the bytes of a section of relocations
+unfoldable pub relocation_of : List ℕ → ℕ → Option RelocationRecord
+relocation_of entries index = option_map relocation_in (entry_at entries RELA_SIZE index)
