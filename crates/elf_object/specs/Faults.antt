@@ -1,5 +1,5 @@
 -- Why there is no object: symbols that are not defined, then fields and sizes that cannot be said.
-use Rattle.std.specs.Prelude.{◌≡◌, ℕ, ◌+◌, ◌&&◌, Bool, true, false, List, [], ◌∷◌, length, nat_lt, find, is_none, Option, None, Some, option_map, if◌then◌else◌}
+use Rattle.std.specs.Prelude.{◌≡◌, ℕ, ◌+◌, ◌&&◌, Bool, true, false, List, [], ◌∷◌, length, nat_le, nat_lt, find, is_none, Option, None, Some, option_map, if◌then◌else◌}
 use Rattle.std.specs.List.{position_or_len}
 use Rattle.asm_base.specs.declared.positions.Pos.{Pos}
 use Rattle.asm_expr.specs.Forms.{Form}
@@ -12,6 +12,7 @@ use Rattle.asm_relax.specs.Faults.{or_later}
 use Rattle.asm_relax.specs.Final.{field_value}
 use Rattle.asm_relax.specs.Settling.{LaidItem, LaidSections}
 use Rattle.elf_object.specs.declared.faults.ObjectFault.{ObjectFault}
+use Rattle.elf_object.specs.declared.searching.UnknownSize.{UnknownSize}
 use Rattle.elf_object.specs.declared.faults.ObjectFault.TheVariants.{UndefinedLocalSymbol, NoRelocation, SizeNotKnown, NoMemory}
 use Rattle.elf_object.specs.FileLocals.{is_file_local}
 use Rattle.elf_object.specs.Contents.{filed_items, has_lost}
@@ -51,10 +52,29 @@ abbrev pub field_fault_from : SymbolMap → LaidSections → ℕ → List (Secti
 field_fault_from map sections number [] = None
 field_fault_from map sections number (section ∷ more) = or_later (section_fault map sections number section) (field_fault_from map sections (number + 1) more)
 
-abbrev pub size_fault : SymbolMap → LaidSections → Option ObjectFault
-size_fault map sections = symbol_fault (λ symbol. unknown_size map sections symbol.size) SizeNotKnown map.symbols
+-- the symbol at this index, if its size has no value
+abbrev pub unknown_at : SymbolMap → LaidSections → ℕ → Symbol → Option UnknownSize
+unknown_at map sections index symbol =
+    if unknown_size map sections symbol.size then Some (record { symbol = index; statement = symbol.sized }) else None
 
--- the first fault: symbols in the order in which they are first named, then fields in the order of sections and items, then sizes
+-- the one whose `.size` statement comes first
+abbrev pub earlier : Option UnknownSize → Option UnknownSize → Option UnknownSize
+earlier None other = other
+earlier (Some one) None = Some one
+earlier (Some one) (Some other) = if nat_le one.statement other.statement then Some one else Some other
+
+-- of these symbols, which have the indices from this one on, the one of the first `.size` statement without a value
+abbrev pub first_unknown : SymbolMap → LaidSections → ℕ → List Symbol → Option UnknownSize
+first_unknown map sections index [] = None
+first_unknown map sections index (symbol ∷ symbols) =
+    earlier (unknown_at map sections index symbol) (first_unknown map sections (index + 1) symbols)
+
+-- sizes without a value are told in the order of the `.size` statements that count
+abbrev pub size_fault : SymbolMap → LaidSections → Option ObjectFault
+size_fault map sections = option_map (λ found. SizeNotKnown found.symbol) (first_unknown map sections 0 map.symbols)
+
+-- the first fault: symbols in the order in which they are first named, then fields in the order of sections and items, then sizes in
+-- the order of their statements
 unfoldable pub object_fault : SymbolMap → LaidSections → Option ObjectFault
 object_fault map sections = or_later (undefined_fault map) (or_later (field_fault_from map sections 0 sections) (size_fault map sections))
 

@@ -58,27 +58,65 @@ fn unknown_size(alloc: Global, at: Placement, size: &Option<Linear>) -> Result<b
     }
 }
 
-/// Where the first symbol whose size has no value stands among them, or how many there are.
-fn unsized_index(alloc: Global, at: Placement, symbols: &[Symbol]) -> Result<usize, NoMemory>
-    ensures index { IfOk result (λ index. index ≡ position_or_len (λ symbol. spec.unknown_size at.entry.symbols.now at.entry.sections.now symbol.size) symbols.now) }
-    ensures within { IfOk result (λ index. index ≤ length symbols.now) }
-{
-    for (index, symbol) in symbols.iter().enumerate() {
-        if unknown_size(alloc, at, &symbol.size)? {
-            return Ok(index);
-        }
-    }
-    Ok(symbols.len())
+/// A symbol whose size has no value, and the number of the `.size` statement that counts for it.
+#[derive(Clone, Copy, PartialEq, Eq, Debug)]
+pub struct UnknownSize {
+    pub symbol: usize,
+    pub statement: u64,
 }
 
-/// The fault of the first symbol whose size has no value.
+/// The symbol at this index, if its size has no value.
+fn unknown_at(
+    alloc: Global,
+    at: Placement,
+    index: usize,
+    symbol: &Symbol,
+) -> Result<Option<UnknownSize>, NoMemory>
+    ensures { IfOk result (λ found. found
+        ≡ spec.unknown_at at.entry.symbols.now at.entry.sections.now index symbol.now) }
+{
+    if unknown_size(alloc, at, &symbol.size)? {
+        return Ok(Some(UnknownSize {
+            symbol: index,
+            statement: symbol.sized,
+        }));
+    }
+    Ok(None)
+}
+
+/// The one whose `.size` statement comes first.
+fn earlier(one: Option<UnknownSize>, other: Option<UnknownSize>) -> Option<UnknownSize>
+    ensures { result ≡ spec.earlier one other }
+{
+    match (one, other) {
+        (None, found) => found,
+        (Some(first), Some(second)) if first.statement > second.statement => Some(second),
+        (Some(first), _) => Some(first),
+    }
+}
+
+/// Of these symbols, the one of the first `.size` statement without a value.
+fn first_unknown(
+    alloc: Global,
+    at: Placement,
+    symbols: &[Symbol],
+) -> Result<Option<UnknownSize>, NoMemory>
+    ensures { IfOk result (λ found. found
+        ≡ spec.first_unknown at.entry.symbols.now at.entry.sections.now 0 symbols.now) }
+{
+    let mut found = None;
+    for (index, symbol) in symbols.iter().enumerate() {
+        found = earlier(found, unknown_at(alloc, at, index, symbol)?);
+    }
+    Ok(found)
+}
+
+/// The fault of the first `.size` statement without a value.
 pub(crate) fn size_fault(alloc: Global, at: Placement) -> Result<Option<ObjectFault>, NoMemory>
     ensures { IfOk result (λ fault. fault ≡ spec.size_fault at.entry.symbols.now at.entry.sections.now) }
 {
-    let index = unsized_index(alloc, at, at.symbols.as_slice())?;
-    if index < at.symbols.len() {
-        Ok(Some(ObjectFault::SizeNotKnown(index)))
-    } else {
-        Ok(None)
+    match first_unknown(alloc, at, at.symbols.as_slice())? {
+        Some(found) => Ok(Some(ObjectFault::SizeNotKnown(found.symbol))),
+        None => Ok(None),
     }
 }
