@@ -13,11 +13,12 @@ use Rattle.elf_object.specs.StringTable.{is_no_end, string_at}
 
 -- so many bytes at this offset, where that many stand there
 abbrev pub piece_at : List ℕ → ℕ → ℕ → Option (List ℕ)
-piece_at bytes offset size = if nat_le (offset + size) (length bytes) then Some (take size (drop offset bytes)) else None
+piece_at bytes offset size =
+    if nat_le (offset + size) (length bytes) then Some (take size (drop offset bytes)) else None
 
 -- the entry of this index, of a table of entries of this size
-abbrev pub entry_at : List ℕ → ℕ → ℕ → Option (List ℕ)
-entry_at table size index = piece_at table (size * index) size
+abbrev pub table_entry : List ℕ → ℕ → ℕ → Option (List ℕ)
+table_entry table size index = piece_at table (size * index) size
 
 -- the file is as long as an ELF header, and begins as one
 abbrev pub has_file_header : List ℕ → Bool
@@ -25,11 +26,15 @@ has_file_header file = nat_le EHDR_SIZE (length file) && starts_with nat_eq file
 
 -- e_shoff, e_shnum and e_shstrndx of an ELF header (Elf64_Ehdr)
 abbrev pub table_in : List ℕ → HeaderTable
-table_in header = record { offset = xword_at header E_SHOFF; count = half_at header E_SHNUM; names = half_at header E_SHSTRNDX }
+table_in header = record {
+  offset = xword_at header E_SHOFF;
+  count = half_at header E_SHNUM;
+  names = half_at header E_SHSTRNDX;
+}
 
 -- where the header table of a file stands, if it is an ELF file
-unfoldable pub table_of : List ℕ → Option HeaderTable
-table_of file = if has_file_header file then Some (table_in file) else None
+unfoldable pub header_table_of : List ℕ → Option HeaderTable
+header_table_of file = if has_file_header file then Some (table_in file) else None
 
 -- the fields of a section header (Elf64_Shdr)
 unfoldable pub header_in : List ℕ → SectionHeader
@@ -49,46 +54,55 @@ header_in entry = record {
 -- the entry of this index in the header table, if there are more than that
 abbrev pub header_by : List ℕ → ℕ → HeaderTable → Option SectionHeader
 header_by file index table =
-    if nat_lt index table.count then option_map header_in (entry_at (drop table.offset file) SHDR_SIZE index) else None
+    if nat_lt index table.count
+    then option_map header_in (table_entry (drop table.offset file) SHDR_SIZE index) else None
 
 -- the header of the section of this index
-unfoldable pub header_of : List ℕ → ℕ → Option SectionHeader
-header_of file index = option_and_then (header_by file index) (table_of file)
+unfoldable pub section_header_of : List ℕ → ℕ → Option SectionHeader
+section_header_of file index = option_and_then (header_by file index) (header_table_of file)
 
 -- the bytes of a section; one of type SHT_NOBITS has none in the file
-unfoldable pub content_of : List ℕ → SectionHeader → Option (List ℕ)
-content_of file header = if header.kind == no_bits then Some [] else piece_at file header.offset header.size
+unfoldable pub section_content : List ℕ → SectionHeader → Option (List ℕ)
+section_content file header =
+    if header.kind == no_bits then Some [] else piece_at file header.offset header.size
 
 -- the text at this offset of a string table, if a zero byte ends it (gABI, chapter 4, "String Table")
-unfoldable pub text_of : List ℕ → ℕ → Option (List ℕ)
-text_of strings offset =
+unfoldable pub text_from : List ℕ → ℕ → Option (List ℕ)
+text_from strings offset =
     if nat_lt (prefix_len is_no_end (drop offset strings)) (length (drop offset strings))
     then Some (string_at offset strings) else None
 
 -- the bytes of the section of this index
 abbrev pub content_at : List ℕ → ℕ → Option (List ℕ)
-content_at file index = option_and_then (content_of file) (header_of file index)
+content_at file index = option_and_then (section_content file) (section_header_of file index)
 
--- the name of the section with this header: sh_name is its offset in the section of e_shstrndx
+-- the name of a section with this header: sh_name is its offset in the section of e_shstrndx
 abbrev pub name_by : List ℕ → SectionHeader → HeaderTable → Option (List ℕ)
-name_by file header table = option_and_then (λ strings. text_of strings header.name) (content_at file table.names)
+name_by file header table =
+    option_and_then (λ strings. text_from strings header.name) (content_at file table.names)
+
+-- the name of a section with this header
+abbrev pub header_name : List ℕ → SectionHeader → Option (List ℕ)
+header_name file header = option_and_then (name_by file header) (header_table_of file)
 
 -- the name of the section of this index
-unfoldable pub name_of : List ℕ → ℕ → Option (List ℕ)
-name_of file index = option_and_then (λ header. option_and_then (name_by file header) (table_of file)) (header_of file index)
+unfoldable pub section_name_of : List ℕ → ℕ → Option (List ℕ)
+section_name_of file index = option_and_then (header_name file) (section_header_of file index)
 
 -- the name is there, and is this one
 abbrev pub is_name : List ℕ → Option (List ℕ) → Bool
 is_name name None = false
 is_name name (Some found) = bytes_eq found name
 
--- the first section of this name, by the header table
-abbrev pub named_by : List ℕ → List ℕ → HeaderTable → Option ℕ
-named_by file name table = find (λ index. is_name name (name_of file index)) (range_with_len 0 table.count)
+-- the first of so many sections that has this name
+abbrev pub first_named : List ℕ → List ℕ → ℕ → Option ℕ
+first_named file name count =
+    find (λ index. is_name name (section_name_of file index)) (range_with_len 0 count)
 
 -- the index of the first section of this name
-unfoldable pub section_of : List ℕ → List ℕ → Option ℕ
-section_of file name = option_and_then (named_by file name) (table_of file)
+unfoldable pub named_section : List ℕ → List ℕ → Option ℕ
+named_section file name =
+    option_and_then (λ table. first_named file name table.count) (header_table_of file)
 
 -- the fields of an entry of the symbol table (Elf64_Sym)
 unfoldable pub symbol_in : List ℕ → SymbolRecord
@@ -102,10 +116,10 @@ symbol_in entry = record {
 }
 
 -- the symbol of this index, in the bytes of a symbol table
-unfoldable pub symbol_of : List ℕ → ℕ → Option SymbolRecord
-symbol_of symbols index = option_map symbol_in (entry_at symbols SYM_SIZE index)
+unfoldable pub symbol_record : List ℕ → ℕ → Option SymbolRecord
+symbol_record symbols index = option_map symbol_in (table_entry symbols SYM_SIZE index)
 
--- the fields of a relocation entry (Elf64_Rela); the low half of r_info is the type, the high one the symbol
+-- the fields of a relocation (Elf64_Rela); r_info is the type in its low half and the symbol above it
 unfoldable pub relocation_in : List ℕ → RelocationRecord
 relocation_in entry = record {
   offset = xword_at entry R_OFFSET;
@@ -114,6 +128,6 @@ relocation_in entry = record {
   addend = xword_at entry R_ADDEND;
 }
 
--- the relocation of this index, in the bytes of a section of relocations
-unfoldable pub relocation_of : List ℕ → ℕ → Option RelocationRecord
-relocation_of entries index = option_map relocation_in (entry_at entries RELA_SIZE index)
+-- the relocation of this index, in the bytes of a section of type SHT_RELA
+unfoldable pub relocation_record : List ℕ → ℕ → Option RelocationRecord
+relocation_record entries index = option_map relocation_in (table_entry entries RELA_SIZE index)

@@ -1,7 +1,7 @@
 //! What the bytes of an ELF64 file say (gABI, chapter 4, "Object Files").
 
-ghost use Rattle.std.specs.Prelude.{◌≡◌, ◌≤◌, find, length, option_map, IfSome};
-ghost use Rattle.std.specs.List.{prefix_len, range_with_len};
+ghost use Rattle.std.specs.Prelude.{◌≡◌, ◌≤◌, length, option_map, IfSome};
+ghost use Rattle.std.specs.List.{prefix_len};
 ghost use Rattle.elf_object.specs.Reader as spec;
 ghost use Rattle.elf_object.specs.StringTable.{is_no_end};
 
@@ -68,18 +68,19 @@ fn piece_at(bytes: &[u8], offset: usize, size: usize) -> Option<&[u8]>
 }
 
 /// The entry of this index, of a table of entries of this size.
-fn entry_at(table: &[u8], size: usize, index: usize) -> Option<&[u8]>
-    ensures value { option_map (λ entry. entry.now) result ≡ spec.entry_at table.now size index }
+fn table_entry(table: &[u8], size: usize, index: usize) -> Option<&[u8]>
+    ensures value { option_map (λ entry. entry.now) result ≡ spec.table_entry table.now size index }
     ensures within { IfSome result (λ entry. length entry.now ≡ size) }
 {
     let offset = size.checked_mul(index)?;
     piece_at(table, offset, size)
 }
 
-/// Where the header table of an ELF file stands; none where the file is shorter than an ELF header or does not begin as one.
-#[tactic(auto, unfolding(crate::specs::Reader::table_of))]
+/// Where the header table of an ELF file stands. There is none where the file is shorter than an
+/// ELF header or does not begin as one.
+#[tactic(auto, unfolding(crate::specs::Reader::header_table_of))]
 pub fn header_table(file: &[u8]) -> Option<HeaderTable>
-    ensures { result ≡ spec.table_of file.now }
+    ensures { result ≡ spec.header_table_of file.now }
 {
     if file.len() < EHDR_SIZE || !file.starts_with(b"\x7fELF") {
         return None;
@@ -111,23 +112,25 @@ fn header_in(entry: &[u8]) -> SectionHeader
     }
 }
 
-/// The header of the section of this index; none where the table has no more than so many, or ends behind the file.
-#[tactic(auto, unfolding(crate::specs::Reader::header_of))]
+/// The header of the section of this index. There is none where the table has no more than so
+/// many, or where the header ends behind the file.
+#[tactic(auto, unfolding(crate::specs::Reader::section_header_of))]
 pub fn section_header(file: &[u8], index: usize) -> Option<SectionHeader>
-    ensures { result ≡ spec.header_of file.now index }
+    ensures { result ≡ spec.section_header_of file.now index }
 {
     let table = header_table(file)?;
     if index >= usize::from(table.count) {
         return None;
     }
     let headers = file.get(table.offset as usize..)?;
-    Some(header_in(entry_at(headers, SHDR_SIZE, index)?))
+    Some(header_in(table_entry(headers, SHDR_SIZE, index)?))
 }
 
-/// The bytes of a section in the file: empty for `SHT_NOBITS`, and none where they end behind the file.
-#[tactic(auto, unfolding(crate::specs::Reader::content_of))]
+/// The bytes of a section in the file: empty for `SHT_NOBITS`, and none where the section ends
+/// behind the file.
+#[tactic(auto, unfolding(crate::specs::Reader::section_content))]
 pub fn section_bytes<'a>(file: &'a [u8], header: &SectionHeader) -> Option<&'a [u8]>
-    ensures { option_map (λ bytes. bytes.now) result ≡ spec.content_of file.now header.now }
+    ensures { option_map (λ bytes. bytes.now) result ≡ spec.section_content file.now header.now }
 {
     if header.kind == SHT_NOBITS {
         return Some(&[]);
@@ -144,9 +147,9 @@ fn text_length(bytes: &[u8]) -> usize
 }
 
 /// The text at this offset of a string table; none where no zero byte ends it.
-#[tactic(auto, unfolding(crate::specs::Reader::text_of))]
+#[tactic(auto, unfolding(crate::specs::Reader::text_from))]
 pub fn text_at<'a>(strings: &'a [u8], offset: usize) -> Option<&'a [u8]>
-    ensures { option_map (λ text. text.now) result ≡ spec.text_of strings.now offset }
+    ensures { option_map (λ text. text.now) result ≡ spec.text_from strings.now offset }
 {
     let rest = strings.get(offset..)?;
     let end = text_length(rest);
@@ -158,9 +161,9 @@ pub fn text_at<'a>(strings: &'a [u8], offset: usize) -> Option<&'a [u8]>
 }
 
 /// The name of the section of this index.
-#[tactic(auto, unfolding(crate::specs::Reader::name_of))]
+#[tactic(auto, unfolding(crate::specs::Reader::section_name_of))]
 pub fn section_name<'a>(file: &'a [u8], index: usize) -> Option<&'a [u8]>
-    ensures { option_map (λ name. name.now) result ≡ spec.name_of file.now index }
+    ensures { option_map (λ name. name.now) result ≡ spec.section_name_of file.now index }
 {
     let table = header_table(file)?;
     let names = section_header(file, usize::from(table.names))?;
@@ -171,7 +174,7 @@ pub fn section_name<'a>(file: &'a [u8], index: usize) -> Option<&'a [u8]>
 
 /// Whether the section of this index has this name.
 fn has_name(file: &[u8], index: usize, name: &[u8]) -> bool
-    ensures { result ≡ spec.is_name name.now (spec.name_of file.now index) }
+    ensures { result ≡ spec.is_name name.now (spec.section_name_of file.now index) }
 {
     match section_name(file, index) {
         Some(found) => found == name,
@@ -181,15 +184,15 @@ fn has_name(file: &[u8], index: usize, name: &[u8]) -> bool
 
 /// The first of so many sections that has this name.
 fn first_named(file: &[u8], name: &[u8], count: usize) -> Option<usize>
-    ensures { result ≡ find (λ index. spec.is_name name.now (spec.name_of file.now index)) (range_with_len 0 count) }
+    ensures { result ≡ spec.first_named file.now name.now count }
 {
     (0..count).find(|index| has_name(file, *index, name))
 }
 
 /// The index of the first section of this name.
-#[tactic(auto, unfolding(crate::specs::Reader::section_of))]
+#[tactic(auto, unfolding(crate::specs::Reader::named_section))]
 pub fn section_named(file: &[u8], name: &[u8]) -> Option<usize>
-    ensures { result ≡ spec.section_of file.now name.now }
+    ensures { result ≡ spec.named_section file.now name.now }
 {
     let table = header_table(file)?;
     first_named(file, name, usize::from(table.count))
@@ -212,11 +215,11 @@ fn symbol_in(entry: &[u8]) -> SymbolRecord
 }
 
 /// The symbol of this index, in the bytes of a symbol table.
-#[tactic(auto, unfolding(crate::specs::Reader::symbol_of))]
+#[tactic(auto, unfolding(crate::specs::Reader::symbol_record))]
 pub fn symbol_at(symbols: &[u8], index: usize) -> Option<SymbolRecord>
-    ensures { result ≡ spec.symbol_of symbols.now index }
+    ensures { result ≡ spec.symbol_record symbols.now index }
 {
-    Some(symbol_in(entry_at(symbols, SYM_SIZE, index)?))
+    Some(symbol_in(table_entry(symbols, SYM_SIZE, index)?))
 }
 
 /// The fields of a relocation entry.
@@ -234,9 +237,9 @@ fn relocation_in(entry: &[u8]) -> RelocationRecord
 }
 
 /// The relocation of this index, in the bytes of a section of relocations.
-#[tactic(auto, unfolding(crate::specs::Reader::relocation_of))]
+#[tactic(auto, unfolding(crate::specs::Reader::relocation_record))]
 pub fn relocation_at(entries: &[u8], index: usize) -> Option<RelocationRecord>
-    ensures { result ≡ spec.relocation_of entries.now index }
+    ensures { result ≡ spec.relocation_record entries.now index }
 {
-    Some(relocation_in(entry_at(entries, RELA_SIZE, index)?))
+    Some(relocation_in(table_entry(entries, RELA_SIZE, index)?))
 }
