@@ -1,5 +1,7 @@
 -- Lemmas, in reading order.
 mod Writing
+mod AliasLemmas
+mod AliasSamples
 mod LoneNames
 mod FieldLemmas
 mod MarkLemmas

@@ -7,6 +7,7 @@ pub mod Relocations
 pub mod Contents
 pub mod Faults
 pub mod Naming
+pub mod Aliases
 pub mod SymbolTable
 pub mod Numbers
 pub mod Sections

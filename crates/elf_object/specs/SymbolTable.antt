@@ -21,6 +21,7 @@ use Rattle.elf_object.specs.declared.entries.SymbolType.TheVariants as type
 use Rattle.elf_object.specs.Fields.{half, word, xword}
 use Rattle.elf_object.specs.FileLocals.{is_file_local}
 use Rattle.elf_object.specs.Naming.{NamedOf}
+use Rattle.elf_object.specs.Aliases.{kind_of, said_size}
 use Rattle.elf_object.specs.SymbolValues.{symbol_value_of, binding_of, is_local, is_thread_local}
 
 -- a symbol, as the table tells it
@@ -86,11 +87,11 @@ said_type (Some said.Function) = type.Function
 said_type (Some said.Tls) = type.Tls
 said_type (Some said.Common) = type.Common
 
--- what is each thread's own has the type that says so, whatever else is said
+-- symbols in a TLS section have type STT_TLS
 abbrev pub type_of : LaidSections → SymbolSection → Option Kind → SymbolType
 type_of sections section kind = if is_thread_local sections section then type.Tls else said_type kind
 
--- the size of a symbol, and 0 where none is said
+-- the value of a size, and 0 where no size is said
 abbrev pub size_of : SymbolMap → LaidSections → Option Form → ℕ
 size_of map sections None = 0
 size_of map sections (Some made) = unwrap_or (field_value map sections made) 0
@@ -101,16 +102,16 @@ text_of (Plain text) = text
 text_of (Numeric number instance) = []
 text_of (Place section item) = []
 
--- the entry of a symbol that stands there
+-- the entry of a symbol that stands there; an alias has its symbol's type and size where none is said of it
 abbrev pub entry_at : SymbolMap → LaidSections → Symbol → SymbolValue → SymbolEntry
 entry_at map sections symbol there = record {
   name = text_of symbol.name;
   binding = binding_of symbol.meaning symbol.binding;
-  kind = type_of sections there.section symbol.kind;
+  kind = type_of sections there.section (kind_of map symbol);
   visibility = symbol.visibility;
   section = there.section;
   value = there.value;
-  size = size_of map sections symbol.size;
+  size = size_of map sections (said_size map symbol);
 }
 
 abbrev pub is_undefined_section : SymbolSection → Bool

@@ -4,6 +4,7 @@ ghost use Rattle.std.specs.Prelude.{◌≡◌, ◌<◌, IfOk, option_map};
 ghost use Rattle.elf_object.specs.SymbolTable as spec;
 ghost use Rattle.elf_object.specs.Views.{symbol_view};
 
+use crate::aliases::{kind_of, said_size};
 use crate::fields::{put_half, put_word, put_xword};
 use crate::offsets::{ST_INFO, ST_NAME, ST_OTHER, ST_SHNDX, ST_SIZE, ST_VALUE};
 use crate::symbol_values::{
@@ -124,7 +125,7 @@ fn said_type(kind: Option<Kind>) -> SymbolType
     }
 }
 
-/// The type of a symbol that stands there. What is each thread's own has the type that says so, whatever else is said.
+/// The type of a symbol that stands there. Symbols in a TLS section have type `STT_TLS`.
 fn type_of(sections: &Sections<Laid>, section: SymbolSection, kind: Option<Kind>) -> SymbolType
     ensures { result ≡ spec.type_of sections.now section kind }
 {
@@ -135,9 +136,10 @@ fn type_of(sections: &Sections<Laid>, section: SymbolSection, kind: Option<Kind>
     }
 }
 
-/// The size of a symbol, and 0 where none is said.
-fn size_of(alloc: Global, at: Placement, size: &Option<Linear>) -> Result<u64, NoMemory>
-    ensures { IfOk result (λ bytes. bytes ≡ spec.size_of at.entry.symbols.now at.entry.sections.now size.now) }
+/// The value of a size, and 0 where no size is said.
+fn size_of(alloc: Global, at: Placement, size: Option<&Linear>) -> Result<u64, NoMemory>
+    ensures { IfOk result (λ bytes. bytes
+        ≡ spec.size_of at.entry.symbols.now at.entry.sections.now (option_map (λ form. form.now) size.entry)) }
 {
     match size {
         None => Ok(0),
@@ -170,11 +172,11 @@ fn entry_at<'a>(
     Ok(TableSymbol {
         name: text_of(&symbol.name),
         binding: binding_of(&symbol.meaning, symbol.binding),
-        kind: type_of(at.sections, there.section, symbol.kind),
+        kind: type_of(at.sections, there.section, kind_of(at.symbols, symbol)),
         visibility: symbol.visibility,
         section: there.section,
         value: there.value,
-        size: size_of(alloc, at, &symbol.size)?,
+        size: size_of(alloc, at, said_size(at.symbols, symbol))?,
     })
 }
 

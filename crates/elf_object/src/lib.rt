@@ -1,6 +1,7 @@
 //! From the laid out sections and the symbols of a source to its object file (gABI, chapter 4; psABI for AMD64, chapter 4).
 #![tactic(auto)]
 
+mod aliases;
 mod contents;
 mod entries;
 mod faults;

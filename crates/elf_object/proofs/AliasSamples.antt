@@ -1,0 +1,64 @@
+-- Types and sizes of aliases at small symbol maps, by computing.
+use Rattle.std.proofs.Common.{◌≡◌, ℕ, List, [], ◌∷◌, codes, Option, None, Some, refl}
+use Rattle.asm_expr.specs.declared.naming.Name.{Name}
+use Rattle.asm_expr.specs.declared.naming.Name.TheVariants.{Plain}
+use Rattle.asm_expr.specs.Forms.{Form, constant_form, name_form}
+use Rattle.asm_symbols.specs.declared.entries.Kind.{Kind}
+use Rattle.asm_symbols.specs.declared.entries.Kind.TheVariants.{Function, Object}
+use Rattle.asm_symbols.specs.declared.entries.Meaning.{Meaning}
+use Rattle.asm_symbols.specs.declared.entries.Meaning.TheVariants.{Label, Assigned}
+use Rattle.asm_symbols.specs.declared.entries.Symbol.{Symbol}
+use Rattle.asm_symbols.specs.SymbolMap.{SymbolMap}
+use Rattle.elf_object.specs.Aliases.{said_along, kind_of, said_size}
+
+base : Name
+base = Plain (codes "base")
+
+middle : Name
+middle = Plain (codes "middle")
+
+symbol : Name → Meaning → Option Kind → Option Form → Symbol
+symbol name meaning kind size = record {
+  name = name;
+  meaning = meaning;
+  binding = None;
+  kind = kind;
+  size = size;
+  sized = 0;
+  visibility = None;
+}
+
+-- `base` is an object of 4 bytes
+labelled : Symbol
+labelled = symbol base (Label (record { section = 1; item = 0; stretch = 0; at = 0 })) (Some Object) (Some (constant_form 4))
+
+-- `.set middle,base`, `.type middle,@function`
+between : Symbol
+between = symbol middle (Assigned (name_form base)) (Some Function) None
+
+symbols : SymbolMap
+symbols = record { symbols = labelled ∷ between ∷ []; files = []; counts = []; sizes = 1 }
+
+-- an assigned symbol of which nothing else is said
+alias : Form → Symbol
+alias form = symbol (Plain (codes "al")) (Assigned form) None None
+
+-- `.set al,base`
+straight : (kind_of symbols (alias (name_form base)) ≡ Some Object)
+    × (said_size symbols (alias (name_form base)) ≡ Some (constant_form 4))
+unfolding base middle symbol labelled between symbols alias said_along kind_of said_size
+straight = (refl, refl)
+
+-- `.set al,middle`: the type of `middle`, and the size of `base`
+chain : (kind_of symbols (alias (name_form middle)) ≡ Some Function)
+    × (said_size symbols (alias (name_form middle)) ≡ Some (constant_form 4))
+unfolding base middle symbol labelled between symbols alias said_along kind_of said_size
+chain = (refl, refl)
+
+-- `.set al,base+1` is no alias
+moved : Form
+moved = record (name_form base) { constant = 1 }
+
+no_alias : (kind_of symbols (alias moved) ≡ None) × (said_size symbols (alias moved) ≡ None)
+unfolding base middle symbol labelled between symbols alias moved said_along kind_of said_size
+no_alias = (refl, refl)

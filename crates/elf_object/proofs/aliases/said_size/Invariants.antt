@@ -1,0 +1,13 @@
+-- What is said first along the rest of the chain is said of the symbol.
+use Rattle.std.proofs.Common.{◌≡◌, ◌<◌, length, IfSome}
+use Rattle.elf_object.specs.Aliases.{said_along, said_size}
+use Rattle.elf_object.proofs.aliases.said_size.Given as goal
+
+abbrev pub invariant-loop-left : goal.invariant-loop-left
+invariant-loop-left l = record {
+  same : said_along (λ s. s.size) l.symbols l.left l.next ≡ said_size l.symbols l.symbol;
+  within : IfSome l.next (λ id. id < length l.symbols.symbols);
+}
+
+abbrev pub decreases-loop-left : goal.decreases-loop-left
+decreases-loop-left l = l.left
