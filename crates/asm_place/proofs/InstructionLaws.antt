@@ -5,8 +5,8 @@ use Rattle.std.specs.List.{list_all}
 use Rattle.std.specs.Option.{option_map_or}
 use Rattle.std.proofs.lemmas.Bool.{false≢true}
 use Rattle.std.proofs.lemmas.Option.{none-some}
-use Rattle.asm_base.specs.declared.faults.StatementFault.{StatementFault}
-use Rattle.asm_base.specs.declared.faults.StatementFault.TheVariants.{UnknownMnemonic}
+use Rattle.asm_place.specs.declared.place_faults.PlacingFault.{PlacingFault}
+use Rattle.asm_place.specs.declared.place_faults.PlacingFault.TheVariants.{NumberTooWide, UnknownMnemonic}
 use Rattle.asm_base.specs.declared.notes.Noted.{Noted}
 use Rattle.asm_base.specs.declared.positions.Pos.{Pos}
 use Rattle.asm_base.specs.Tokens.{SpelledToken, tokens_of}
@@ -22,11 +22,11 @@ use Rattle.asm_place.specs.declared.instructions.Row.{Row}
 use Rattle.asm_place.specs.Results.{◌>>=◌}
 use Rattle.asm_place.specs.Rows.{the_rows, has_name, bytes_of}
 use Rattle.asm_place.specs.LayerFaults.{of_sections}
-use Rattle.asm_place.specs.Operands.{is_name, names_symbol}
+use Rattle.asm_place.specs.Operands.{is_name, is_dot, names_symbol}
 use Rattle.asm_place.specs.Places.{Item, LooseSection}
-use Rattle.asm_place.specs.State.{Placed, with_table, item_of, push_into}
+use Rattle.asm_place.specs.State.{Placed, with_table, unless_dot, item_of, push_into}
 use Rattle.asm_place.specs.Idents.{plain_item, items_in}
-use Rattle.asm_place.specs.Placing.{place_row, place_instruction, begins_with_dot, place_body, is_label, place_label, place_tokens}
+use Rattle.asm_place.specs.Placing.{place_row, place_instruction, begins_with_dot, place_body, is_label, place_label, place_labelled, has_wide_label, place_tokens}
 use Rattle.asm_place.specs.Sources.{pos_at, located, place, place_all}
 use Rattle.asm_place.specs.Instructions.{behind_labels, row_written, instruction_of, next_item, Grows, IsPut, StandsAt}
 use Rattle.asm_place.proofs.GrowthLemmas.{get_set, get_append}
@@ -99,7 +99,7 @@ name_test true true found row is = absurd (none-some row is)
 name_test true false found row is = (refl, refl, is)
 name_test false dotted found row is = absurd (none-some row is)
 
-body_test : (symbol named dotted : Bool) (assignment directive instruction : Result Placed StatementFault) → named ≡ true → dotted ≡ false
+body_test : (symbol named dotted : Bool) (assignment directive instruction : Result Placed PlacingFault) → named ≡ true → dotted ≡ false
     → cond (symbol && false) assignment (cond (not named) (Err UnknownMnemonic) (cond dotted directive instruction)) ≡ instruction
 body_test symbol false dotted assignment directive instruction named not_dotted = absurd (false≢true named)
 body_test symbol true true assignment directive instruction named not_dotted = absurd (false≢true (sym not_dotted))
@@ -118,18 +118,28 @@ name_puts pos first before placed row written is =
     (ap (λ found. place_row pos found [] before) (sym parts.2)
     ∙ (sym (body_test (names_symbol first) (is_name first) (begins_with_dot first.bytes) _ _ _ parts.0 parts.1) ∙ is))
 
+-- a statement that is placed names no symbol by `.`,
+dot_ok : (dot : Bool) (made placed : Placed) → unless_dot dot made ≡ Ok placed → made ≡ placed
+dot_ok true made placed is = err-ok _ placed is
+dot_ok false made placed is = same_Ok made placed is
+
+-- and the numbers of its labels are not too wide
+wide_ok : (wide : Bool) (answer : Result Placed PlacingFault) (placed : Placed) → cond wide (Err NumberTooWide) answer ≡ Ok placed → answer ≡ Ok placed
+wide_ok true answer placed is = err-ok _ placed is
+wide_ok false answer placed is = is
+
 -- a label changes neither the sections nor which is the current one
 label_keeps : (pos : Pos) (token : SpelledToken) (before placed : Placed) → place_label pos token before ≡ Ok placed → (placed.sections ≡ before.sections) × (placed.current ≡ before.current)
 unfolding place_label
 label_keeps pos token before placed is =
     both_ok _ _ placed is (λ table made is_placed.
-    let same : with_table before table ≡ placed = same_Ok _ placed is_placed in
+    let same : with_table before table ≡ placed = dot_ok (is_dot token) (with_table before table) placed is_placed in
     (ap (λ (p : Placed). p.sections) (sym same), ap (λ (p : Placed). p.current) (sym same)))
 
 label_test : (pos : Pos) (test : Bool) (first second : SpelledToken) (rest : List SpelledToken) (before placed : Placed) (row : Row)
-    → ((labels : Placed) → row_written (behind_labels rest) ≡ Some row → place_tokens pos rest labels ≡ Ok placed → Puts pos row labels placed)
+    → ((labels : Placed) → row_written (behind_labels rest) ≡ Some row → place_labelled pos rest labels ≡ Ok placed → Puts pos row labels placed)
     → row_written (cond test (behind_labels rest) (first ∷ second ∷ rest)) ≡ Some row
-    → cond test (place_label pos first before >>= (λ labels. place_tokens pos rest labels)) (place_body pos first (second ∷ rest) before) ≡ Ok placed
+    → cond test (place_label pos first before >>= (λ labels. place_labelled pos rest labels)) (place_body pos first (second ∷ rest) before) ≡ Ok placed
     → Puts pos row before placed
 unfolding row_written
 label_test pos true first second rest before placed row again written is =
@@ -143,17 +153,23 @@ no_tokens : (row : Row) → row_written [] ≡ Some row → ⊥
 unfolding row_written
 no_tokens row written = none-some row written
 
+labelled_put : (pos : Pos) (tokens : List SpelledToken) (before placed : Placed) (row : Row) → row_written (behind_labels tokens) ≡ Some row
+    → place_labelled pos tokens before ≡ Ok placed → Puts pos row before placed
+unfolding behind_labels place_labelled
+labelled_put pos [] before placed row written is = absurd (no_tokens row written)
+labelled_put pos (first ∷ []) before placed row written is = name_puts pos first before placed row written is
+labelled_put pos (first ∷ second ∷ rest) before placed row written is =
+    label_test pos (is_label first second) first second rest before placed row (λ labels. labelled_put pos rest labels placed row) written is
+
 -- where the tokens are an instruction, its item is the next one of the current section, alone
 pub instruction_put : (pos : Pos) (tokens : List SpelledToken) (before placed : Placed) (row : Row) → row_written (behind_labels tokens) ≡ Some row
     → place_tokens pos tokens before ≡ Ok placed → IsPut before.sections placed.sections before.current (item_of pos (plain_item (bytes_of row)))
-unfolding behind_labels place_tokens
-instruction_put pos [] before placed row written is = absurd (no_tokens row written)
-instruction_put pos (first ∷ []) before placed row written is = name_puts pos first before placed row written is
-instruction_put pos (first ∷ second ∷ rest) before placed row written is =
-    label_test pos (is_label first second) first second rest before placed row (λ labels. instruction_put pos rest labels placed row) written is
+unfolding place_tokens
+instruction_put pos tokens before placed row written is =
+    labelled_put pos tokens before placed row written (wide_ok (has_wide_label tokens) (place_labelled pos tokens before) placed is)
 
 -- what a statement adds, where the others before and behind it are placed too
-located_ok : (pos : Pos) (notes : List Noted) (answer : Result Placed StatementFault) (next : Placed) → located pos notes answer ≡ Ok next → answer ≡ Ok next
+located_ok : (pos : Pos) (notes : List Noted) (answer : Result Placed PlacingFault) (next : Placed) → located pos notes answer ≡ Ok next → answer ≡ Ok next
 located_ok pos notes (Ok more) next is = ap Ok (same_Ok more next is)
 located_ok pos notes (Err fault) next is = err-ok _ next is
 

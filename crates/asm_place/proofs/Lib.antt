@@ -9,7 +9,6 @@ pub mod LabelLemmas
 pub mod StatementLists
 pub mod GrowthLemmas
 pub mod Walks
-pub mod QuietSteps
 pub mod PlacingLaws
 pub mod StatementSplits
 pub mod InstructionLaws

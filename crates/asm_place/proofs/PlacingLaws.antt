@@ -1,11 +1,10 @@
--- Placing only adds items, and none of its faults says that a file is too large.
+-- Placing only adds items, and none of its faults is one of reading a file.
 use Rattle.std.proofs.Common.{◌≡◌, ℕ, Bool, true, false, cond, List, [], ◌∷◌, ◌++◌, length, Option, None, Some, Result, Ok, Err, refl, slice_get}
 use Rattle.std.specs.Prelude.{◌&&◌, ◌^◌, nat_lt, not, drop, codes, unwrap_or}
 use Rattle.std.specs.List.{list_any, count_by}
-use Rattle.std.specs.Result.{MatchResult}
-use Rattle.std.proofs.lemmas.Result.{MatchResult-at_ok, MatchResult-at_err}
-use Rattle.asm_base.specs.declared.faults.StatementFault.{StatementFault}
-use Rattle.asm_base.specs.declared.faults.StatementFault.TheVariants.{UnknownMnemonic, BadSection}
+use Rattle.std.proofs.lemmas.Result.{IfOk-at_ok, IfErr-at_err}
+use Rattle.asm_place.specs.declared.place_faults.PlacingFault.{PlacingFault}
+use Rattle.asm_place.specs.declared.place_faults.PlacingFault.TheVariants.{BadExpression, NumberTooWide, ExpressionTooDeep, DivisionByZero, ValueNotKnown, NotASumOfSymbols, UnknownMnemonic, UnknownDirective, BadOperand, OutOfRange, BadSection, SymbolAlreadyDefined, BadSymbolUse}
 use Rattle.asm_base.specs.declared.notes.Noted.{Noted}
 use Rattle.asm_base.specs.declared.positions.Pos.{Pos}
 use Rattle.asm_base.specs.Tokens.{SpelledToken, tokens_of}
@@ -29,37 +28,37 @@ use Rattle.asm_place.specs.declared.directives.SymbolAttribute.{SymbolAttribute}
 use Rattle.asm_place.specs.declared.instructions.Row.{Row}
 use Rattle.asm_place.specs.declared.section_changes.Header.{Header}
 use Rattle.asm_place.specs.declared.stacks.Entered.{Entered}
-use Rattle.asm_place.specs.Results.{◌>>=◌}
+use Rattle.asm_place.specs.Results.{◌>>=◌, if_some}
 use Rattle.asm_place.specs.LayerFaults.{of_sections}
-use Rattle.asm_place.specs.Operands.{is_name, names_symbol, operands_of}
-use Rattle.asm_place.specs.Expressions.{expression_of, form_in, constant_in, up_to_three_listed}
-use Rattle.asm_place.specs.Places.{Item, LooseSection, uses_dot, spot_at}
-use Rattle.asm_place.specs.State.{Placed, with_table, with_notes, here, known_here, item_of, push_into}
+use Rattle.asm_place.specs.Operands.{is_name, names_symbol, operands_of, is_dot, begins_with_place, symbol_name, each, joined_strings, name_of}
+use Rattle.asm_place.specs.Expressions.{expression_of, form_in, constant_in, up_to_three_listed, up_to_three_trees, up_to_three_values, no_more}
+use Rattle.asm_place.specs.Places.{Item, LooseSection, uses_dot, spot_at, name_parts}
+use Rattle.asm_place.specs.State.{Placed, with_table, with_notes, here, known_here, item_of, push_into, unless_dot}
 use Rattle.asm_place.specs.DataItems.{data_of, is_cut, cut_notes}
-use Rattle.asm_place.specs.SectionWords.{SectionWords}
-use Rattle.asm_place.specs.SectionChanges.{with_current, option_trees, numbered, entered_as, enter_words, place_section, entered_now, place_pushed, back_to, popped}
-use Rattle.asm_place.specs.SymbolWords.{plain_of, kind_said, kind_of, place_said, place_type, sized, place_size, NamedTree}
-use Rattle.asm_place.specs.Operands.{name_of}
+use Rattle.asm_place.specs.SectionWords.{SectionWords, needed, section_words}
+use Rattle.asm_place.specs.SectionChanges.{with_current, option_trees, numbered, entered_as, enter_words, place_section, entered_now, place_pushed, back_to, popped, said_size, header_by}
+use Rattle.asm_place.specs.SymbolWords.{plain_of, kind_said, kind_of, place_said, place_type, sized, place_size, NamedTree, say_all, named_tree, name_rest}
 use Rattle.asm_place.specs.Assignments.{assign_words, place_set, place_assignment}
-use Rattle.asm_place.specs.Commons.{bss, with_space, with_common, is_said_local, place_space, place_comm, place_lcomm}
-use Rattle.asm_place.specs.Idents.{plain_item, items_in, comment_bytes, comment_header, place_ident, place_file}
-use Rattle.asm_place.specs.Placing.{place_data, place_strings, with_item as with_space_item, place_zero, place_skip, place_fill, bare, initial_number, place_by, place_found, place_directive, place_row, place_instruction, is_assignment, begins_with_dot, place_body, is_label, place_label, place_tokens}
+use Rattle.asm_place.specs.Commons.{bss, with_space, with_common, is_said_local, place_space, place_comm, place_lcomm, space_size, space_words, define_space}
+use Rattle.asm_place.specs.Idents.{plain_item, items_in, comment_bytes, comment_header, place_ident, place_file, one_string, file_name}
+use Rattle.asm_place.specs.Placing.{place_data, place_strings, with_item as with_space_item, place_zero, place_skip, place_fill, bare, initial_number, place_by, place_found, place_directive, place_row, place_instruction, is_assignment, begins_with_dot, place_body, is_label, place_label, place_tokens, label_symbol, place_labelled, has_wide_label}
 use Rattle.asm_place.specs.Sources.{FaultAt, pos_at, located, place, place_all}
-use Rattle.asm_place.specs.Faults.{is_file_too_large}
+use Rattle.asm_place.specs.Faults.{is_file_too_large, is_too_large, statement_fault}
 use Rattle.asm_place.specs.Instructions.{Grows}
-use Rattle.asm_place.proofs.GrowthLemmas.{grows_not, grows_on, grows_by_item, grows_by_sections}
-use Rattle.asm_place.proofs.Walks.{Fine, Steps, made, refused, step, after, grown, still, either, on, if_some_quiet}
-use Rattle.asm_place.proofs.QuietSteps.{symbol_name_quiet, name_of_quiet, each_quiet, strings_quiet, expression_quiet, form_quiet, constant_quiet, no_more_quiet, few_trees_quiet, few_values_quiet, changed_quiet, change_named_quiet, file_named_quiet, name_trees_quiet, name_parts_quiet, space_quiet, units_quiet, unit_size_quiet, log_quiet, needed_quiet, section_words_quiet, said_size_quiet, header_quiet, say_all_quiet, plain_quiet, kind_quiet, named_tree_quiet, name_rest_quiet, symbol_of_quiet, define_space_quiet, space_size_quiet, space_words_quiet, one_string_quiet, file_name_quiet, label_quiet}
+use Rattle.asm_place.proofs.GrowthLemmas.{grows_not, grows_by_item, grows_by_sections}
+use Rattle.asm_place.proofs.Walks.{Fine, Steps, made, refused, step, after, grown, still, either, on}
+use Rattle.asm_place.specs.Tables.{symbol_of, changed_by, change_named, file_named, name_trees}
+use Rattle.asm_place.specs.Spaces.{space_of, units_of, unit_size, log_of}
 
 -- an item in a section
 put_grows : (sections : List LooseSection) (number : ℕ) (section : LooseSection) (item : Item) (test : Bool) → slice_get sections number ≡ Some section
     → Fine (Grows sections) (of_sections (replaced sections number (cond test (Err frag.BadSection) (Ok (with_item section item)))))
-put_grows sections number section item true there = refused _ refl
+put_grows sections number section item true there = refused _
 put_grows sections number section item false there = made _ (grows_by_item sections number section item there)
 
 there_grows : (sections : List LooseSection) (number : ℕ) (found : Option LooseSection) (item : Item) → slice_get sections number ≡ found
     → Fine (Grows sections) (of_sections (pushed_into sections number found item))
-there_grows sections number None item there = refused _ refl
+there_grows sections number None item there = refused _
 there_grows sections number (Some section) item there = put_grows sections number section item (refuses section item) there
 
 pub push_steps : (pos : Pos) (number : ℕ) (item : Content) (placed : Placed) → Steps placed (push_into pos number item placed)
@@ -71,16 +70,16 @@ push_steps pos number item placed =
 new_grows : (sections : List LooseSection) (new : LooseSection) (test : Bool)
     → Fine (λ pair. Grows sections pair.0) (numbered (cond test (Ok (length sections, sections ++ new ∷ [])) (Err frag.BadSection)))
 new_grows sections new true = made _ (grows_by_sections sections (new ∷ []))
-new_grows sections new false = refused _ refl
+new_grows sections new false = refused _
 
 alike_grows : (sections : List LooseSection) (number : ℕ) (test : Bool)
     → Fine (λ pair. Grows sections pair.0) (numbered (cond test (Ok (number, sections)) (Err frag.BadSection)))
 alike_grows sections number true = made _ (grows_not sections)
-alike_grows sections number false = refused _ refl
+alike_grows sections number false = refused _
 
 known_grows : (sections : List LooseSection) (number : ℕ) (found : Option LooseSection) (header : Header)
     → Fine (λ pair. Grows sections pair.0) (numbered (entered_there sections number found (flags_of header.flags) header.kind header.entry_size))
-known_grows sections number None header = refused _ refl
+known_grows sections number None header = refused _
 known_grows sections number (Some section) header = alike_grows sections number (is_alike section (flags_of header.flags) header.kind header.entry_size)
 
 by_grows : (sections : List LooseSection) (number : Option ℕ) (name : List ℕ) (header : Header)
@@ -90,20 +89,20 @@ by_grows sections (Some number) name header = known_grows sections number (slice
 
 entered_grows : (sections : List LooseSection) (name : List ℕ) (header : Header) → Fine (λ pair. Grows sections pair.0) (entered_as sections name header)
 unfolding entered_as
-entered_grows sections name header = either (nat_lt (2 ^ 16) (length name)) (refused BadSection refl) (by_grows sections (number_of name sections) name header)
+entered_grows sections name header = either (nat_lt (2 ^ 16) (length name)) (refused BadSection) (by_grows sections (number_of name sections) name header)
 
 enter_steps : (pos : Pos) (words : SectionWords) (placed : Placed) → Steps placed (enter_words pos words placed)
 unfolding enter_words
 enter_steps pos words placed =
-    after (if_some_quiet (form_in (known_here placed)) (form_quiet (known_here placed)) words.entry_size)
-    (λ form. after (if_some_quiet constant_in constant_quiet form) (λ constant. after (said_size_quiet constant)
-    (λ size. after (header_quiet placed.sections words size) (λ header. step (entered_grows placed.sections words.name header)
-    (λ pair grows. after (name_trees_quiet pos (option_trees words.entry_size) placed.table)
+    after (if_some (form_in (known_here placed)) words.entry_size)
+    (λ form. after (if_some constant_in form) (λ constant. after (said_size constant)
+    (λ size. after (header_by placed.sections words size) (λ header. step (entered_grows placed.sections words.name header)
+    (λ pair grows. after (name_trees pos (option_trees words.entry_size) placed.table)
     (λ table. made (with_table (with_current pair.1 (record placed { sections = pair.0 })) table) grows))))))
 
 section_steps : (pos : Pos) (tokens : List SpelledToken) (placed : Placed) → Steps placed (place_section pos tokens placed)
 unfolding place_section
-section_steps pos tokens placed = after (section_words_quiet (operands_of tokens)) (λ words. enter_steps pos words placed)
+section_steps pos tokens placed = after (section_words (operands_of tokens)) (λ words. enter_steps pos words placed)
 
 pushed_steps : (pos : Pos) (tokens : List SpelledToken) (placed : Placed) → Steps placed (place_pushed pos tokens placed)
 unfolding place_pushed
@@ -111,7 +110,7 @@ pushed_steps pos tokens placed =
     grown placed (section_steps pos tokens placed) (λ entered. made (record entered { stack = entered.stack ++ entered_now placed ∷ [] }) (still entered))
 
 back_steps : (entered : Option Entered) (placed : Placed) → Steps placed (back_to entered placed)
-back_steps None placed = refused _ refl
+back_steps None placed = refused _
 back_steps (Some entered) placed = made _ (still placed)
 
 popped_steps : (placed : Placed) → Steps placed (popped placed)
@@ -122,90 +121,94 @@ popped_steps placed = back_steps _ placed
 data_steps : (pos : Pos) (size : FieldSize) (tokens : List SpelledToken) (placed : Placed) → Steps placed (place_data pos size tokens placed)
 unfolding place_data
 data_steps pos size tokens placed =
-    after (each_quiet expression_of expression_quiet (operands_of tokens))
-    (λ trees. after (each_quiet (form_in (known_here placed)) (form_quiet (known_here placed)) trees)
+    after (each expression_of (operands_of tokens))
+    (λ trees. after (each (form_in (known_here placed)) trees)
     (λ forms. grown placed (push_steps pos placed.current (content.Bytes (data_of size forms)) placed)
-    (λ pushed. after (name_parts_quiet pos (here placed) (list_any (uses_dot (here placed)) forms) trees pushed.table)
+    (λ pushed. after (name_parts pos (here placed) (list_any (uses_dot (here placed)) forms) trees pushed.table)
     (λ table. made (with_notes (cut_notes pos (count_by (is_cut size) forms)) (with_table pushed table)) (still pushed)))))
 
 strings_steps : (pos : Pos) (ended : Bool) (tokens : List SpelledToken) (placed : Placed) → Steps placed (place_strings pos ended tokens placed)
 unfolding place_strings
-strings_steps pos ended tokens placed = after (strings_quiet ended (operands_of tokens)) (λ bytes. push_steps pos placed.current (plain_item bytes) placed)
+strings_steps pos ended tokens placed = after (joined_strings ended (operands_of tokens)) (λ bytes. push_steps pos placed.current (plain_item bytes) placed)
 
 item_steps : (pos : Pos) (trees : List Tree) (item : Content) (placed : Placed) → Steps placed (with_space_item pos trees item placed)
 item_steps pos trees item placed =
-    grown placed (push_steps pos placed.current item placed) (λ pushed. after (name_trees_quiet pos trees pushed.table) (λ table. made (with_table pushed table) (still pushed)))
+    grown placed (push_steps pos placed.current item placed) (λ pushed. after (name_trees pos trees pushed.table) (λ table. made (with_table pushed table) (still pushed)))
 
 zero_steps : (pos : Pos) (tokens : List SpelledToken) (placed : Placed) → Steps placed (place_zero pos tokens placed)
 unfolding place_zero
 zero_steps pos tokens placed =
-    after (few_trees_quiet 1 (operands_of tokens)) (λ trees. after (few_values_quiet (known_here placed) trees)
-    (λ values. after (space_quiet values.first 0) (λ item. item_steps pos (up_to_three_listed trees) item placed)))
+    after (up_to_three_trees 1 (operands_of tokens)) (λ trees. after (up_to_three_values (known_here placed) trees)
+    (λ values. after (space_of values.first 0) (λ item. item_steps pos (up_to_three_listed trees) item placed)))
 
 skip_steps : (pos : Pos) (tokens : List SpelledToken) (placed : Placed) → Steps placed (place_skip pos tokens placed)
 unfolding place_skip
 skip_steps pos tokens placed =
-    after (few_trees_quiet 2 (operands_of tokens)) (λ trees. after (few_values_quiet (known_here placed) trees)
-    (λ values. after (space_quiet values.first (unwrap_or values.second 0)) (λ item. item_steps pos (up_to_three_listed trees) item placed)))
+    after (up_to_three_trees 2 (operands_of tokens)) (λ trees. after (up_to_three_values (known_here placed) trees)
+    (λ values. after (space_of values.first (unwrap_or values.second 0)) (λ item. item_steps pos (up_to_three_listed trees) item placed)))
 
 fill_steps : (pos : Pos) (tokens : List SpelledToken) (placed : Placed) → Steps placed (place_fill pos tokens placed)
 unfolding place_fill
 fill_steps pos tokens placed =
-    after (few_trees_quiet 3 (operands_of tokens)) (λ trees. after (few_values_quiet (known_here placed) trees)
-    (λ values. after (unit_size_quiet values.second) (λ size. after (units_quiet values.first size (unwrap_or values.third 0))
+    after (up_to_three_trees 3 (operands_of tokens)) (λ trees. after (up_to_three_values (known_here placed) trees)
+    (λ values. after (unit_size values.second) (λ size. after (units_of values.first size (unwrap_or values.third 0))
     (λ item. item_steps pos (up_to_three_listed trees) item placed))))
 
 -- symbols
+dot_steps : (dot : Bool) (before placed : Placed) → Grows before.sections placed.sections → Steps before (unless_dot dot placed)
+dot_steps true before placed grows = refused _
+dot_steps false before placed grows = made placed grows
+
 said_steps : (pos : Pos) (attribute : SymbolAttribute) (tokens : List SpelledToken) (placed : Placed) → Steps placed (place_said pos attribute tokens placed)
 unfolding place_said
-said_steps pos attribute [] placed = refused _ refl
+said_steps pos attribute [] placed = refused _
 said_steps pos attribute (token ∷ rest) placed =
-    after (each_quiet plain_of plain_quiet (operands_of (token ∷ rest)))
-    (λ names. after (say_all_quiet pos attribute names placed.table) (λ table. made (with_table placed table) (still placed)))
+    after (each plain_of (operands_of (token ∷ rest)))
+    (λ names. after (say_all pos attribute names placed.table) (λ table. dot_steps (list_any is_dot (token ∷ rest)) placed (with_table placed table) (still placed)))
 
 type_steps : (pos : Pos) (tokens : List SpelledToken) (placed : Placed) → Steps placed (place_type pos tokens placed)
 unfolding place_type
 type_steps pos tokens placed =
-    after (needed_quiet name_of name_of_quiet (operands_of tokens)) (λ name. after (needed_quiet kind_of kind_quiet name.1)
-    (λ kind. after (no_more_quiet kind.1 kind.0) (λ said. after (change_named_quiet pos (kind_said said) (naming.Plain name.0) placed.table)
-    (λ table. made (with_table placed table) (still placed)))))
+    after (needed name_of (operands_of tokens)) (λ name. after (needed kind_of name.1)
+    (λ kind. after (no_more kind.1 kind.0) (λ said. after (change_named pos (kind_said said) (naming.Plain name.0) placed.table)
+    (λ table. dot_steps (begins_with_place tokens) placed (with_table placed table) (still placed)))))
 
 size_steps : (pos : Pos) (tokens : List SpelledToken) (placed : Placed) → Steps placed (place_size pos tokens placed)
 unfolding place_size
 size_steps pos tokens placed =
-    after (named_tree_quiet (operands_of tokens)) (λ words. after (form_quiet (known_here placed) words.tree)
-    (λ form. after (symbol_of_quiet pos words.name placed.table) (λ found. after (name_rest_quiet pos (here placed) words form (sized pos form found))
-    (λ table. made (with_table placed table) (still placed)))))
+    after (named_tree (operands_of tokens)) (λ words. after (form_in (known_here placed) words.tree)
+    (λ form. after (symbol_of pos words.name placed.table) (λ found. after (name_rest pos (here placed) words form (sized pos form found))
+    (λ table. dot_steps (begins_with_place tokens) placed (with_table placed table) (still placed)))))
 
 assign_steps : (pos : Pos) (once : Bool) (words : NamedTree) (placed : Placed) → Steps placed (assign_words pos once words placed)
 unfolding assign_words
 assign_steps pos once words placed =
-    after (form_quiet (known_here placed) words.tree)
-    (λ form. after (after (change_named_quiet pos (λ map index. assigned map index form once) words.name placed.table) (name_rest_quiet pos (here placed) words form))
+    after (form_in (known_here placed) words.tree)
+    (λ form. after (change_named pos (λ map index. assigned map index form once) words.name placed.table >>= name_rest pos (here placed) words form)
     (λ table. made (with_table placed table) (still placed)))
 
 set_steps : (pos : Pos) (once : Bool) (tokens : List SpelledToken) (placed : Placed) → Steps placed (place_set pos once tokens placed)
 unfolding place_set
-set_steps pos once tokens placed = after (named_tree_quiet (operands_of tokens)) (λ words. assign_steps pos once words placed)
+set_steps pos once tokens placed = after (named_tree (operands_of tokens)) (λ words. assign_steps pos once words placed)
 
 assignment_steps : (pos : Pos) (token : SpelledToken) (tokens : List SpelledToken) (placed : Placed) → Steps placed (place_assignment pos token tokens placed)
 unfolding place_assignment
 assignment_steps pos token tokens placed =
-    after (symbol_name_quiet token) (λ name. after (expression_quiet tokens) (λ tree. assign_steps pos false (record { name = naming.Plain name; tree = tree }) placed))
+    after (symbol_name token) (λ name. after (expression_of tokens) (λ tree. assign_steps pos false (record { name = naming.Plain name; tree = tree }) placed))
 
 -- space for symbols
 with_space_steps : (pos : Pos) (name : Name) (trees : List Tree) (size log : ℕ) (placed : Placed) → Steps placed (with_space pos name trees size log placed)
 unfolding with_space
 with_space_steps pos name trees size log placed =
-    after (space_quiet size 0) (λ space. grown placed (push_steps pos bss (content.Align (record { log = log })) placed)
+    after (space_of size 0) (λ space. grown placed (push_steps pos bss (content.Align (record { log = log })) placed)
     (λ aligned. grown aligned (push_steps pos bss space aligned)
-    (λ pushed. after (define_space_quiet pos name trees size (Space (spot_at aligned.sections bss)) pushed.table)
+    (λ pushed. after (define_space pos name trees size (Space (spot_at aligned.sections bss)) pushed.table)
     (λ table. made (with_table pushed table) (still pushed)))))
 
 with_common_steps : (pos : Pos) (name : Name) (trees : List Tree) (size log : ℕ) (placed : Placed) → Steps placed (with_common pos name trees size log placed)
 unfolding with_common
 with_common_steps pos name trees size log placed =
-    after (define_space_quiet pos name trees size (Common size (2 ^ log)) placed.table) (λ table. made (with_table placed table) (still placed))
+    after (define_space pos name trees size (Common size (2 ^ log)) placed.table) (λ table. made (with_table placed table) (still placed))
 
 space_steps : (is_local : Bool) (pos : Pos) (name : Name) (trees : List Tree) (size log : ℕ) (placed : Placed) → Steps placed (place_space is_local pos name trees size log placed)
 space_steps true pos name trees size log placed = with_space_steps pos name trees size log placed
@@ -214,37 +217,39 @@ space_steps false pos name trees size log placed = with_common_steps pos name tr
 comm_steps : (pos : Pos) (tokens : List SpelledToken) (placed : Placed) → Steps placed (place_comm pos tokens placed)
 unfolding place_comm
 comm_steps pos tokens placed =
-    after (space_words_quiet 2 tokens) (λ words. after (few_values_quiet (known_here placed) words.trees)
-    (λ values. after (space_size_quiet values.first) (λ size. after (log_quiet values.second size)
-    (λ log. space_steps (is_said_local placed.table.symbols words.name) pos words.name (up_to_three_listed words.trees) size log placed))))
+    after (space_words 2 tokens) (λ words. after (up_to_three_values (known_here placed) words.trees)
+    (λ values. after (space_size values.first) (λ size. after (log_of values.second size)
+    (λ log. grown placed (space_steps (is_said_local placed.table.symbols words.name) pos words.name (up_to_three_listed words.trees) size log placed)
+    (λ spaced. dot_steps (begins_with_place tokens) spaced spaced (still spaced))))))
 
 lcomm_steps : (pos : Pos) (tokens : List SpelledToken) (placed : Placed) → Steps placed (place_lcomm pos tokens placed)
 unfolding place_lcomm
 lcomm_steps pos tokens placed =
-    after (space_words_quiet 1 tokens) (λ words. after (few_values_quiet (known_here placed) words.trees)
-    (λ values. after (space_size_quiet values.first) (λ size. after (log_quiet None size)
-    (λ log. with_space_steps pos words.name (up_to_three_listed words.trees) size log placed))))
+    after (space_words 1 tokens) (λ words. after (up_to_three_values (known_here placed) words.trees)
+    (λ values. after (space_size values.first) (λ size. after (log_of None size)
+    (λ log. grown placed (with_space_steps pos words.name (up_to_three_listed words.trees) size log placed)
+    (λ spaced. dot_steps (begins_with_place tokens) spaced spaced (still spaced))))))
 
 -- texts
 ident_steps : (pos : Pos) (tokens : List SpelledToken) (placed : Placed) → Steps placed (place_ident pos tokens placed)
 unfolding place_ident
 ident_steps pos tokens placed =
-    after (one_string_quiet tokens) (λ text. step (entered_grows placed.sections (codes ".comment") comment_header)
+    after (one_string tokens) (λ text. step (entered_grows placed.sections (codes ".comment") comment_header)
     (λ pair grows. from pair grows (push_steps pos pair.1 (plain_item (comment_bytes (items_in pair.0 pair.1) text)) (record placed { sections = pair.0 }))))
   where
-    from : (pair : List LooseSection × ℕ) {r : Result Placed StatementFault} → Grows placed.sections pair.0 → Steps (record placed { sections = pair.0 }) r → Steps placed r
+    from : (pair : List LooseSection × ℕ) {r : Result Placed PlacingFault} → Grows placed.sections pair.0 → Steps (record placed { sections = pair.0 }) r → Steps placed r
     from pair grows later = on placed (record placed { sections = pair.0 }) _ grows later
 
 file_steps : (tokens : List SpelledToken) (placed : Placed) → Steps placed (place_file tokens placed)
 unfolding place_file
 file_steps tokens placed =
-    after (one_string_quiet tokens) (λ text. after (file_name_quiet text)
-    (λ name. after (file_named_quiet (naming.Plain name) placed.table) (λ table. made (with_table placed table) (still placed))))
+    after (one_string tokens) (λ text. after (file_name text)
+    (λ name. after (file_named (naming.Plain name) placed.table) (λ table. made (with_table placed table) (still placed))))
 
 -- directives
-bare_steps : (tokens : List SpelledToken) (placed : Placed) (answer : Result Placed StatementFault) → Steps placed answer → Steps placed (bare tokens answer)
+bare_steps : (tokens : List SpelledToken) (placed : Placed) (answer : Result Placed PlacingFault) → Steps placed answer → Steps placed (bare tokens answer)
 bare_steps [] placed answer steps = steps
-bare_steps (token ∷ rest) placed answer steps = refused _ refl
+bare_steps (token ∷ rest) placed answer steps = refused _
 
 by_steps : (found : Directive) (pos : Pos) (tokens : List SpelledToken) (placed : Placed) → Steps placed (place_by found pos tokens placed)
 unfolding place_by
@@ -268,7 +273,7 @@ by_steps directive.Ident pos tokens placed = ident_steps pos tokens placed
 by_steps directive.File pos tokens placed = file_steps tokens placed
 
 found_steps : (found : Option Directive) (pos : Pos) (tokens : List SpelledToken) (placed : Placed) → Steps placed (place_found found pos tokens placed)
-found_steps None pos tokens placed = refused _ refl
+found_steps None pos tokens placed = refused _
 found_steps (Some found) pos tokens placed = by_steps found pos tokens placed
 
 directive_steps : (pos : Pos) (name : List ℕ) (tokens : List SpelledToken) (placed : Placed) → Steps placed (place_directive pos name tokens placed)
@@ -277,9 +282,9 @@ directive_steps pos name tokens placed = found_steps _ pos tokens placed
 
 -- instructions
 row_steps : (pos : Pos) (row : Option Row) (operands : List SpelledToken) (placed : Placed) → Steps placed (place_row pos row operands placed)
-row_steps pos None operands placed = refused _ refl
+row_steps pos None operands placed = refused _
 row_steps pos (Some row) [] placed = push_steps pos placed.current _ placed
-row_steps pos (Some row) (token ∷ rest) placed = refused _ refl
+row_steps pos (Some row) (token ∷ rest) placed = refused _
 
 instruction_steps : (pos : Pos) (name : List ℕ) (operands : List SpelledToken) (placed : Placed) → Steps placed (place_instruction pos name operands placed)
 unfolding place_instruction
@@ -290,54 +295,76 @@ body_steps : (pos : Pos) (first : SpelledToken) (rest : List SpelledToken) (plac
 unfolding place_body
 body_steps pos first rest placed =
     either (names_symbol first && is_assignment rest) (assignment_steps pos first (drop 1 rest) placed)
-    (either (not (is_name first)) (refused UnknownMnemonic refl)
+    (either (not (is_name first)) (refused UnknownMnemonic)
     (either (begins_with_dot first.bytes) (directive_steps pos first.bytes rest placed) (instruction_steps pos first.bytes rest placed)))
 
 label_steps : (pos : Pos) (token : SpelledToken) (placed : Placed) → Steps placed (place_label pos token placed)
 unfolding place_label
 label_steps pos token placed =
-    after (after (label_quiet pos token placed.table) (changed_quiet (λ map index. defined map index (Label (here placed)))))
-    (λ table. made (with_table placed table) (still placed))
+    after (label_symbol pos token placed.table >>= changed_by (λ map index. defined map index (Label (here placed))))
+    (λ table. dot_steps (is_dot token) placed (with_table placed table) (still placed))
 
-pub tokens_steps : (pos : Pos) (tokens : List SpelledToken) (placed : Placed) → Steps placed (place_tokens pos tokens placed)
-unfolding place_tokens
-tokens_steps pos [] placed = made _ (still placed)
-tokens_steps pos (first ∷ []) placed = body_steps pos first [] placed
-tokens_steps pos (first ∷ second ∷ rest) placed =
-    either (is_label first second) (grown placed (label_steps pos first placed) (λ labels. tokens_steps pos rest labels))
+labelled_steps : (pos : Pos) (tokens : List SpelledToken) (placed : Placed) → Steps placed (place_labelled pos tokens placed)
+unfolding place_labelled
+labelled_steps pos [] placed = made _ (still placed)
+labelled_steps pos (first ∷ []) placed = body_steps pos first [] placed
+labelled_steps pos (first ∷ second ∷ rest) placed =
+    either (is_label first second) (grown placed (label_steps pos first placed) (λ labels. labelled_steps pos rest labels))
     (body_steps pos first (second ∷ rest) placed)
 
+tokens_steps : (pos : Pos) (tokens : List SpelledToken) (placed : Placed) → Steps placed (place_tokens pos tokens placed)
+unfolding place_tokens
+tokens_steps pos tokens placed = either (has_wide_label tokens) (refused NumberTooWide) (labelled_steps pos tokens placed)
+
 -- the same of statements in their places
-record FineAt (before : Placed) (result : Result Placed FaultAt) : Type 0 where
-  holds : MatchResult result (λ after. Grows before.sections after.sections) (λ fault. is_file_too_large fault.fault ≡ false)
+located_steps : (pos : Pos) (notes : List Noted) (before : Placed) (answer : Result Placed PlacingFault) → Steps before answer → Steps before (located pos notes answer)
+located_steps pos notes before (Ok more) steps = made more steps.holds
+located_steps pos notes before (Err fault) steps = refused _
 
-located_fine : (pos : Pos) (notes : List Noted) (before : Placed) (answer : Result Placed StatementFault) → Steps before answer → FineAt before (located pos notes answer)
-located_fine pos notes before (Ok more) steps = record { holds = steps.holds }
-located_fine pos notes before (Err fault) steps = record { holds = steps.holds }
-
-place_fine : (s : StatementAt) (placed : Placed) → FineAt placed (place s placed)
+place_steps : (s : StatementAt) (placed : Placed) → Steps placed (place s placed)
 unfolding place
-place_fine s placed = located_fine (pos_at s.file s.line) placed.notes placed _ (tokens_steps (pos_at s.file s.line) (tokens_of s.bytes) placed)
+place_steps s placed = located_steps (pos_at s.file s.line) placed.notes placed _ (tokens_steps (pos_at s.file s.line) (tokens_of s.bytes) placed)
 
-on_at : (before between : Placed) (r : Result Placed FaultAt) → Grows before.sections between.sections → FineAt between r → FineAt before r
-on_at before between (Ok x) grown later = record { holds = grows_on before.sections between.sections x.sections grown later.holds }
-on_at before between (Err fault) grown later = record { holds = later.holds }
-
-then_fine : (before : Placed) (r : Result Placed FaultAt) (f : Placed → Result Placed FaultAt) → FineAt before r → ((x : Placed) → FineAt x (f x)) → FineAt before (r >>= f)
-then_fine before (Ok x) f first later = on_at before x (f x) first.holds (later x)
-then_fine before (Err fault) f first later = record { holds = first.holds }
-
-all_fine : (statements : List StatementAt) (placed : Placed) → FineAt placed (place_all statements placed)
+all_steps_grow : (statements : List StatementAt) (placed : Placed) → Steps placed (place_all statements placed)
 unfolding place_all
-all_fine [] placed = record { holds = still placed }
-all_fine (s ∷ later) placed = then_fine placed (place s placed) (place_all later) (place_fine s placed) (all_fine later)
+all_steps_grow [] placed = made _ (still placed)
+all_steps_grow (s ∷ later) placed = grown placed (place_steps s placed) (all_steps_grow later)
 
 -- placing only adds items
 pub all_grow : (statements : List StatementAt) (before placed : Placed) → place_all statements before ≡ Ok placed → Grows before.sections placed.sections
-all_grow statements before placed is =
-    MatchResult-at_ok (λ (made : Placed). Grows before.sections made.sections) (λ (at : FaultAt). is_file_too_large at.fault ≡ false) placed is (all_fine statements before).holds
+all_grow statements before placed is = IfOk-at_ok (λ (made : Placed). Grows before.sections made.sections) is (all_steps_grow statements before).holds
+
+-- no fault of placing is that a file is too large
+not_of_reading : (fault : PlacingFault) → is_too_large (statement_fault fault) ≡ false
+not_of_reading BadExpression = refl
+not_of_reading NumberTooWide = refl
+not_of_reading ExpressionTooDeep = refl
+not_of_reading DivisionByZero = refl
+not_of_reading ValueNotKnown = refl
+not_of_reading NotASumOfSymbols = refl
+not_of_reading UnknownMnemonic = refl
+not_of_reading UnknownDirective = refl
+not_of_reading BadOperand = refl
+not_of_reading OutOfRange = refl
+not_of_reading BadSection = refl
+not_of_reading SymbolAlreadyDefined = refl
+not_of_reading BadSymbolUse = refl
+
+located_fault : (pos : Pos) (notes : List Noted) (answer : Result Placed PlacingFault) (stop : FaultAt) → located pos notes answer ≡ Err stop → is_file_too_large stop.fault ≡ false
+located_fault pos notes (Ok more) stop is = cc
+located_fault pos notes (Err fault) stop is = IfErr-at_err (λ (at : FaultAt). is_file_too_large at.fault ≡ false) is (not_of_reading fault)
+
+first_fault : (r : Result Placed FaultAt) (f : Placed → Result Placed FaultAt) (stop : FaultAt)
+    → (r ≡ Err stop → is_file_too_large stop.fault ≡ false) → ((x : Placed) → f x ≡ Err stop → is_file_too_large stop.fault ≡ false)
+    → (r >>= f) ≡ Err stop → is_file_too_large stop.fault ≡ false
+first_fault (Ok x) f stop first later is = later x is
+first_fault (Err fault) f stop first later is = first is
 
 -- no fault of placing says that a file is too large
 pub no_fault_of_reading : (statements : List StatementAt) (before : Placed) (stop : FaultAt) → place_all statements before ≡ Err stop → is_file_too_large stop.fault ≡ false
-no_fault_of_reading statements before stop is =
-    MatchResult-at_err (λ (made : Placed). Grows before.sections made.sections) (λ (at : FaultAt). is_file_too_large at.fault ≡ false) stop is (all_fine statements before).holds
+unfolding place_all place
+no_fault_of_reading [] before stop is = cc
+no_fault_of_reading (s ∷ later) before stop is =
+    first_fault (place s before) (place_all later) stop
+    (located_fault (pos_at s.file s.line) before.notes (place_tokens (pos_at s.file s.line) (tokens_of s.bytes) before) stop)
+    (λ placed. no_fault_of_reading later placed stop) is

@@ -14,6 +14,7 @@ abbrev pub put_by : List Term → FieldSize → DataOf → Form → DataOf
 put_by [] size held form = with_bytes held (low_bytes size form.constant)
 put_by (term ∷ terms) size held form = with_field held size form
 
+-- a form more: bytes, or a field
 abbrev pub put_form : FieldSize → DataOf → Form → DataOf
 put_form size held form = put_by form.terms size held form
 
@@ -26,9 +27,11 @@ abbrev pub cut_by : List Term → FieldSize → ℕ → Bool
 cut_by [] size constant = not (fits size constant)
 cut_by (term ∷ terms) size constant = false
 
+-- the form is a number that the field does not hold
 abbrev pub is_cut : FieldSize → Form → Bool
 is_cut size form = cut_by form.terms size form.constant
 
+-- the warning that a value is cut, at this place
 abbrev pub cut_note : Pos → Noted
 cut_note pos = record { note = ValueTruncated; pos = pos }
 

@@ -14,6 +14,7 @@ the_directives = DIRECTIVES
 abbrev pub directive_name : DirectiveRow → List ℕ
 directive_name row = take row.length row.name
 
+-- the row is that of this name
 abbrev pub is_directive : List ℕ → DirectiveRow → Bool
 is_directive name row = bytes_eq (directive_name row) name
 

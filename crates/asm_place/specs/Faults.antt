@@ -1,9 +1,27 @@
--- Faults that only the reading of a file has.
+-- The faults of placing as faults of statements, and the fault that only the reading of a file has.
 use Rattle.std.specs.Prelude.{Bool, true, false}
 use Rattle.asm_base.specs.declared.faults.StatementFault.{StatementFault}
 use Rattle.asm_base.specs.declared.faults.StatementFault.TheVariants as statement
 use Rattle.asm_base.specs.declared.faults.Fault.{Fault}
 use Rattle.asm_base.specs.declared.faults.Fault.TheVariants.{Statement, End, Scfi}
+use Rattle.asm_place.specs.declared.place_faults.PlacingFault.{PlacingFault}
+use Rattle.asm_place.specs.declared.place_faults.PlacingFault.TheVariants.{BadExpression, NumberTooWide, ExpressionTooDeep, DivisionByZero, ValueNotKnown, NotASumOfSymbols, UnknownMnemonic, UnknownDirective, BadOperand, OutOfRange, BadSection, SymbolAlreadyDefined, BadSymbolUse}
+
+-- the fault of the statement that placing answers
+abbrev pub statement_fault : PlacingFault → StatementFault
+statement_fault BadExpression = statement.BadExpression
+statement_fault NumberTooWide = statement.NumberTooWide
+statement_fault ExpressionTooDeep = statement.ExpressionTooDeep
+statement_fault DivisionByZero = statement.DivisionByZero
+statement_fault ValueNotKnown = statement.ValueNotKnown
+statement_fault NotASumOfSymbols = statement.NotASumOfSymbols
+statement_fault UnknownMnemonic = statement.UnknownMnemonic
+statement_fault UnknownDirective = statement.UnknownDirective
+statement_fault BadOperand = statement.BadOperand
+statement_fault OutOfRange = statement.OutOfRange
+statement_fault BadSection = statement.BadSection
+statement_fault SymbolAlreadyDefined = statement.SymbolAlreadyDefined
+statement_fault BadSymbolUse = statement.BadSymbolUse
 
 -- a fault of a statement that says that a file is too large
 abbrev pub is_too_large : StatementFault → Bool

@@ -2,8 +2,8 @@
 use Rattle.std.specs.Prelude.{ℕ, ◌==◌, List, [], ◌∷◌, ◌++◌, length, codes, Result, Ok, Err, slice_get, if◌then◌else◌}
 use Rattle.std.specs.List.{list_any}
 use Rattle.std.specs.Option.{option_map_or}
-use Rattle.asm_base.specs.declared.faults.StatementFault.{StatementFault}
-use Rattle.asm_base.specs.declared.faults.StatementFault.TheVariants.{BadOperand}
+use Rattle.asm_place.specs.declared.place_faults.PlacingFault.{PlacingFault}
+use Rattle.asm_place.specs.declared.place_faults.PlacingFault.TheVariants.{BadOperand}
 use Rattle.asm_base.specs.declared.positions.Pos.{Pos}
 use Rattle.asm_base.specs.Tokens.{SpelledToken}
 use Rattle.asm_expr.specs.declared.naming.Name.TheVariants as naming
@@ -24,7 +24,7 @@ abbrev pub plain_item : List ℕ → Content
 plain_item bytes = content.Bytes (record { bytes = bytes; fields = [] })
 
 -- one string
-unfoldable pub one_string : List SpelledToken → Result (List ℕ) StatementFault
+unfoldable pub one_string : List SpelledToken → Result (List ℕ) PlacingFault
 one_string tokens = needed string_of (operands_of tokens) >>= λ string. no_more string.1 string.0
 
 -- how many items the section of this number has
@@ -40,16 +40,16 @@ abbrev pub comment_header : Header
 comment_header = record { flags = 48; kind = 1; entry_size = 1 }
 
 -- `.ident`: the text goes into `.comment`,
-unfoldable pub place_ident : Pos → List SpelledToken → Placed → Result Placed StatementFault
+unfoldable pub place_ident : Pos → List SpelledToken → Placed → Result Placed PlacingFault
 place_ident pos tokens placed =
     one_string tokens >>= λ text. entered_as placed.sections (codes ".comment") comment_header >>= λ pair.
     push_into pos pair.1 (plain_item (comment_bytes (items_in pair.0 pair.1) text)) (record placed { sections = pair.0 })
 
 -- a string table can hold the name of a file, which may be empty
-abbrev pub file_name : List ℕ → Result (List ℕ) StatementFault
+abbrev pub file_name : List ℕ → Result (List ℕ) PlacingFault
 file_name name = if list_any (λ byte. byte == 0) name then Err BadOperand else Ok name
 
 -- `.file`
-unfoldable pub place_file : List SpelledToken → Placed → Result Placed StatementFault
+unfoldable pub place_file : List SpelledToken → Placed → Result Placed PlacingFault
 place_file tokens placed =
     one_string tokens >>= λ text. file_name text >>= λ name. file_named (naming.Plain name) placed.table >>= λ table. Ok (with_table placed table)

@@ -1,6 +1,7 @@
 -- The definitions that the contracts cite, in reading order.
 pub mod Rows
 pub mod Reads
+pub mod Faults
 pub mod Results
 pub mod Answers
 pub mod ExprFaults
@@ -9,6 +10,7 @@ pub mod Operands
 pub mod OperandParts
 pub mod Tables
 pub mod Places
+pub mod KnownIn
 pub mod State
 pub mod Expressions
 pub mod UpToThreeTrees
@@ -28,6 +30,5 @@ pub mod Directives
 pub mod Placing
 pub mod PlacedBy
 pub mod Sources
-pub mod Faults
 pub mod Instructions
 pub mod Stops

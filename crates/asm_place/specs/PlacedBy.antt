@@ -1,7 +1,12 @@
 -- What the assembler has placed, as the definitions have it.
+use Rattle.std.specs.Prelude.{Result}
+use Rattle.asm_place.specs.declared.place_faults.PlaceFault.{PlaceFault}
+use Rattle.asm_place.specs.declared.place_faults.PlacingFault.{PlacingFault}
+use Rattle.asm_place.specs.Answers.{Gives}
 use Rattle.asm_place.specs.State.{Placed}
 use Rattle.asm_place.specs.declared.assemblers.Assembler.{Assembler}
 
+-- the state that the fields of the assembler are
 abbrev pub placed_by : Assembler → Placed
 placed_by assembler = record {
   sections = assembler.sections;
@@ -12,3 +17,7 @@ placed_by assembler = record {
   no_warn = assembler.no_warn;
   notes = assembler.notes;
 }
+
+-- the call made what the step makes of what was placed before, or answered its fault
+abbrev pub PlacesBy : {T : Type 0} → (Placed → Result Placed PlacingFault) → Assembler → Assembler → Result T PlaceFault → Type 0
+PlacesBy step old new result = Gives (placed_by new) result (step (placed_by old))

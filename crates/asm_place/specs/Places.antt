@@ -2,7 +2,7 @@
 use Rattle.std.specs.Prelude.{ℕ, ◌+◌, ◌*◌, ◌^◌, ◌==◌, ◌&&◌, Bool, true, false, List, length, Option, None, Some, Result, Ok, slice_get, if◌then◌else◌}
 use Rattle.std.specs.List.{list_any}
 use Rattle.std.specs.Option.{option_map_or}
-use Rattle.asm_base.specs.declared.faults.StatementFault.{StatementFault}
+use Rattle.asm_place.specs.declared.place_faults.PlacingFault.{PlacingFault}
 use Rattle.asm_base.specs.declared.positions.Pos.{Pos}
 use Rattle.asm_expr.specs.declared.naming.Name.{Name}
 use Rattle.asm_expr.specs.declared.naming.Name.TheVariants.{Plain, Numeric, Place}
@@ -26,6 +26,7 @@ use Rattle.asm_place.specs.Tables.{Table, change_named, name_tree, name_trees}
 abbrev pub Item : Type 0
 Item = Frag Loose (Unit {0})
 
+-- a section before layout
 abbrev pub LooseSection : Type 0
 LooseSection = SectionOf Item
 
@@ -43,6 +44,7 @@ spot_at sections number = option_map_or (spot_in number) (slice_get sections num
 abbrev pub here_name : Spot → Name
 here_name spot = Place spot.section spot.item
 
+-- the name is that of this place
 abbrev pub is_here : Spot → Name → Bool
 is_here spot (Place section item) = (section == spot.section) && (item == spot.item)
 is_here spot (Plain text) = false
@@ -61,18 +63,19 @@ abbrev pub uses_dot : Spot → Form → Bool
 uses_dot spot form = list_any (λ term. is_here spot term.name) form.terms
 
 -- then the place becomes a symbol of its own, unless it is one already
-abbrev pub here_by : Pos → Spot → Option ℕ → Table → Result Table StatementFault
+abbrev pub here_by : Pos → Spot → Option ℕ → Table → Result Table PlacingFault
 here_by pos spot (Some index) table = Ok table
 here_by pos spot None table = change_named pos (λ map index. defined map index (Label spot)) (here_name spot) table
 
-unfoldable pub name_here : Pos → Spot → Bool → Table → Result Table StatementFault
+-- the place becomes a symbol where a form keeps it
+unfoldable pub name_here : Pos → Spot → Bool → Table → Result Table PlacingFault
 name_here pos spot false table = Ok table
 name_here pos spot true table = here_by pos spot (index_of (here_name spot) (names table.symbols.symbols)) table
 
 -- the names of an expression, and the place if its form keeps it
-unfoldable pub name_part : Pos → Spot → Bool → Tree → Table → Result Table StatementFault
+unfoldable pub name_part : Pos → Spot → Bool → Tree → Table → Result Table PlacingFault
 name_part pos spot keeps tree table = name_tree pos tree table >>= name_here pos spot keeps
 
 -- the names of expressions, and the place if a form keeps it
-unfoldable pub name_parts : Pos → Spot → Bool → List Tree → Table → Result Table StatementFault
+unfoldable pub name_parts : Pos → Spot → Bool → List Tree → Table → Result Table PlacingFault
 name_parts pos spot keeps trees table = name_trees pos trees table >>= name_here pos spot keeps

@@ -1,9 +1,10 @@
 -- What each statement adds to the sections, the symbols and the notes, or its fault.
 use Rattle.std.specs.Prelude.{ℕ, ◌&&◌, ◌||◌, ◌==◌, Bool, false, not, List, [], ◌∷◌, drop, find, Option, None, Some, unwrap_or, Result, Ok, Err, if◌then◌else◌}
+use Rattle.std.specs.Result.{is_err}
 use Rattle.std.specs.List.{list_all, list_any}
 use Rattle.std.specs.List.{count_by}
-use Rattle.asm_base.specs.declared.faults.StatementFault.{StatementFault}
-use Rattle.asm_base.specs.declared.faults.StatementFault.TheVariants.{UnknownMnemonic, UnknownDirective, BadOperand}
+use Rattle.asm_place.specs.declared.place_faults.PlacingFault.{PlacingFault}
+use Rattle.asm_place.specs.declared.place_faults.PlacingFault.TheVariants.{NumberTooWide, UnknownMnemonic, UnknownDirective, BadOperand}
 use Rattle.asm_base.specs.declared.positions.Pos.{Pos}
 use Rattle.asm_base.specs.declared.tokens.TokenKind.{TokenKind}
 use Rattle.asm_base.specs.declared.tokens.TokenKind.TheVariants.{Digits}
@@ -27,8 +28,8 @@ use Rattle.asm_place.specs.Rows.{the_rows, has_name, bytes_of}
 use Rattle.asm_place.specs.ExprFaults.{in_statement}
 use Rattle.asm_place.specs.Tables.{Table, symbol_of, next_symbol, changed_by, name_trees}
 use Rattle.asm_place.specs.Places.{uses_dot, name_parts}
-use Rattle.asm_place.specs.State.{Placed, with_table, with_notes, here, known_here, push_item}
-use Rattle.asm_place.specs.Operands.{is_name, is_mark, names_symbol, symbol_name, operands_of, each, joined_strings}
+use Rattle.asm_place.specs.State.{Placed, with_table, unless_dot, with_notes, here, known_here, push_item}
+use Rattle.asm_place.specs.Operands.{is_name, is_dot, is_mark, names_symbol, symbol_name, operands_of, each, joined_strings}
 use Rattle.asm_place.specs.Expressions.{up_to_three_listed, expression_of, form_in, up_to_three_trees, up_to_three_values}
 use Rattle.asm_place.specs.DataItems.{data_of, is_cut, cut_notes}
 use Rattle.asm_place.specs.Spaces.{space_of, units_of, unit_size}
@@ -40,7 +41,7 @@ use Rattle.asm_place.specs.Idents.{plain_item, place_ident, place_file}
 use Rattle.asm_place.specs.Directives.{directive_of}
 
 -- `.byte` and the others: an item of all values, of which those that are not known are fields, and a note for each that does not fit
-unfoldable pub place_data : Pos → FieldSize → List SpelledToken → Placed → Result Placed StatementFault
+unfoldable pub place_data : Pos → FieldSize → List SpelledToken → Placed → Result Placed PlacingFault
 place_data pos size tokens placed =
     each expression_of (operands_of tokens) >>= λ trees. each (form_in (known_here placed)) trees >>= λ forms.
     push_item pos (content.Bytes (data_of size forms)) placed >>= λ pushed.
@@ -48,33 +49,33 @@ place_data pos size tokens placed =
     Ok (with_notes (cut_notes pos (count_by (is_cut size) forms)) (with_table pushed table))
 
 -- `.ascii` and the others: the bytes of all strings, each with a zero byte behind it where that is asked for
-unfoldable pub place_strings : Pos → Bool → List SpelledToken → Placed → Result Placed StatementFault
+unfoldable pub place_strings : Pos → Bool → List SpelledToken → Placed → Result Placed PlacingFault
 place_strings pos ended tokens placed = joined_strings ended (operands_of tokens) >>= λ bytes. push_item pos (plain_item bytes) placed
 
 -- space, and the names of its operands
-abbrev pub with_item : Pos → List Tree → Content → Placed → Result Placed StatementFault
+abbrev pub with_item : Pos → List Tree → Content → Placed → Result Placed PlacingFault
 with_item pos trees item placed = push_item pos item placed >>= λ pushed. name_trees pos trees pushed.table >>= λ table. Ok (with_table pushed table)
 
 -- `.zero`
-unfoldable pub place_zero : Pos → List SpelledToken → Placed → Result Placed StatementFault
+unfoldable pub place_zero : Pos → List SpelledToken → Placed → Result Placed PlacingFault
 place_zero pos tokens placed =
     up_to_three_trees 1 (operands_of tokens) >>= λ trees. up_to_three_values (known_here placed) trees >>= λ values.
     space_of values.first 0 >>= λ item. with_item pos (up_to_three_listed trees) item placed
 
 -- `.skip`, `.space`
-unfoldable pub place_skip : Pos → List SpelledToken → Placed → Result Placed StatementFault
+unfoldable pub place_skip : Pos → List SpelledToken → Placed → Result Placed PlacingFault
 place_skip pos tokens placed =
     up_to_three_trees 2 (operands_of tokens) >>= λ trees. up_to_three_values (known_here placed) trees >>= λ values.
     space_of values.first (unwrap_or values.second 0) >>= λ item. with_item pos (up_to_three_listed trees) item placed
 
 -- `.fill`
-unfoldable pub place_fill : Pos → List SpelledToken → Placed → Result Placed StatementFault
+unfoldable pub place_fill : Pos → List SpelledToken → Placed → Result Placed PlacingFault
 place_fill pos tokens placed =
     up_to_three_trees 3 (operands_of tokens) >>= λ trees. up_to_three_values (known_here placed) trees >>= λ values. unit_size values.second >>= λ size.
     units_of values.first size (unwrap_or values.third 0) >>= λ item. with_item pos (up_to_three_listed trees) item placed
 
 -- a directive that stands alone
-abbrev pub bare : List SpelledToken → Result Placed StatementFault → Result Placed StatementFault
+abbrev pub bare : List SpelledToken → Result Placed PlacingFault → Result Placed PlacingFault
 bare [] answer = answer
 bare (token ∷ rest) answer = Err BadOperand
 
@@ -85,7 +86,7 @@ initial_number Data = 1
 initial_number Bss = 2
 
 -- a directive, by what it is
-unfoldable pub place_by : Directive → Pos → List SpelledToken → Placed → Result Placed StatementFault
+unfoldable pub place_by : Directive → Pos → List SpelledToken → Placed → Result Placed PlacingFault
 place_by (directive.Data size) pos tokens placed = place_data pos size tokens placed
 place_by (directive.Strings ended) pos tokens placed = place_strings pos ended tokens placed
 place_by directive.Zero pos tokens placed = place_zero pos tokens placed
@@ -105,22 +106,23 @@ place_by directive.Lcomm pos tokens placed = place_lcomm pos tokens placed
 place_by directive.Ident pos tokens placed = place_ident pos tokens placed
 place_by directive.File pos tokens placed = place_file tokens placed
 
-abbrev pub place_found : Option Directive → Pos → List SpelledToken → Placed → Result Placed StatementFault
+-- the directive that was found, or the fault that there is none of the name
+abbrev pub place_found : Option Directive → Pos → List SpelledToken → Placed → Result Placed PlacingFault
 place_found None pos tokens placed = Err UnknownDirective
 place_found (Some found) pos tokens placed = place_by found pos tokens placed
 
 -- a directive by its name
-unfoldable pub place_directive : Pos → List ℕ → List SpelledToken → Placed → Result Placed StatementFault
+unfoldable pub place_directive : Pos → List ℕ → List SpelledToken → Placed → Result Placed PlacingFault
 place_directive pos name tokens placed = place_found (directive_of name) pos tokens placed
 
 -- an instruction of this row, which takes no operands
-abbrev pub place_row : Pos → Option Row → List SpelledToken → Placed → Result Placed StatementFault
+abbrev pub place_row : Pos → Option Row → List SpelledToken → Placed → Result Placed PlacingFault
 place_row pos None operands placed = Err UnknownMnemonic
 place_row pos (Some row) [] placed = push_item pos (plain_item (bytes_of row)) placed
 place_row pos (Some row) (token ∷ rest) placed = Err BadOperand
 
 -- an instruction by its name
-unfoldable pub place_instruction : Pos → List ℕ → List SpelledToken → Placed → Result Placed StatementFault
+unfoldable pub place_instruction : Pos → List ℕ → List SpelledToken → Placed → Result Placed PlacingFault
 place_instruction pos name operands placed = place_row pos (find (λ row. has_name row name) the_rows) operands placed
 
 -- an equals sign behind a name makes an assignment
@@ -128,12 +130,13 @@ abbrev pub is_assignment : List SpelledToken → Bool
 is_assignment [] = false
 is_assignment (token ∷ rest) = is_mark 61 token
 
+-- the name begins as those of directives do
 abbrev pub begins_with_dot : List ℕ → Bool
 begins_with_dot [] = false
 begins_with_dot (byte ∷ bytes) = byte == 46
 
 -- what stands behind the labels: an assignment, a directive or an instruction
-unfoldable pub place_body : Pos → SpelledToken → List SpelledToken → Placed → Result Placed StatementFault
+unfoldable pub place_body : Pos → SpelledToken → List SpelledToken → Placed → Result Placed PlacingFault
 place_body pos first rest placed =
     if names_symbol first && is_assignment rest then place_assignment pos first (drop 1 rest) placed
     else (if not (is_name first) then Err UnknownMnemonic
@@ -145,6 +148,7 @@ abbrev pub number_by : TokenKind → List ℕ → Bool
 number_by Digits bytes = list_all (is_digit_of 10) bytes
 number_by _ bytes = false
 
+-- the token is the number of a numeric label
 abbrev pub is_number : SpelledToken → Bool
 is_number token = number_by token.kind token.bytes
 
@@ -153,20 +157,22 @@ abbrev pub is_label : SpelledToken → SpelledToken → Bool
 is_label first second = (names_symbol first || is_number first) && is_mark 58 second
 
 -- the symbol of a label, by its token: that of the next instance of a number
-abbrev pub label_by : TokenKind → Pos → SpelledToken → Table → Result (Table × ℕ) StatementFault
+abbrev pub label_by : TokenKind → Pos → SpelledToken → Table → Result (Table × ℕ) PlacingFault
 label_by Digits pos token table = in_statement (numeral 10 token.bytes) >>= λ number. next_symbol pos number table
 label_by _ pos token table = symbol_name token >>= λ name. symbol_of pos (naming.Plain name) table
 
-unfoldable pub label_symbol : Pos → SpelledToken → Table → Result (Table × ℕ) StatementFault
+-- the symbol that a label is of
+unfoldable pub label_symbol : Pos → SpelledToken → Table → Result (Table × ℕ) PlacingFault
 label_symbol pos token table = label_by token.kind pos token table
 
 -- a label, by its token
-unfoldable pub place_label : Pos → SpelledToken → Placed → Result Placed StatementFault
+unfoldable pub place_label : Pos → SpelledToken → Placed → Result Placed PlacingFault
 place_label pos token placed =
-    label_symbol pos token placed.table >>= changed_by (λ map index. defined map index (Label (here placed))) >>= λ table. Ok (with_table placed table)
+    label_symbol pos token placed.table >>= changed_by (λ map index. defined map index (Label (here placed))) >>= λ table.
+    unless_dot (is_dot token) (with_table placed table)
 
 -- behind the labels, where anything is
-unfoldable pub place_unlabelled : Pos → List SpelledToken → Placed → Result Placed StatementFault
+unfoldable pub place_unlabelled : Pos → List SpelledToken → Placed → Result Placed PlacingFault
 place_unlabelled pos [] placed = Ok placed
 place_unlabelled pos (first ∷ rest) placed = place_body pos first rest placed
 
@@ -177,9 +183,23 @@ begins_with_label (first ∷ []) = false
 begins_with_label (first ∷ second ∷ rest) = is_label first second
 
 -- the labels one after the other, and what stands behind them
-unfoldable pub place_tokens : Pos → List SpelledToken → Placed → Result Placed StatementFault
-place_tokens pos [] placed = Ok placed
-place_tokens pos (first ∷ []) placed = place_body pos first [] placed
-place_tokens pos (first ∷ second ∷ rest) placed =
-    if is_label first second then place_label pos first placed >>= (λ labels. place_tokens pos rest labels)
+unfoldable pub place_labelled : Pos → List SpelledToken → Placed → Result Placed PlacingFault
+place_labelled pos [] placed = Ok placed
+place_labelled pos (first ∷ []) placed = place_body pos first [] placed
+place_labelled pos (first ∷ second ∷ rest) placed =
+    if is_label first second then place_label pos first placed >>= (λ labels. place_labelled pos rest labels)
     else place_body pos first (second ∷ rest) placed
+
+-- a number that is above 2 ^ 64 - 1
+abbrev pub is_too_wide : SpelledToken → Bool
+is_too_wide token = is_number token && is_err (numeral 10 token.bytes)
+
+-- the number of one of the labels in front is too wide
+unfoldable pub has_wide_label : List SpelledToken → Bool
+has_wide_label [] = false
+has_wide_label (first ∷ []) = false
+has_wide_label (first ∷ second ∷ rest) = is_label first second && (is_too_wide first || has_wide_label rest)
+
+-- a statement: the numbers of all its labels are read before one is placed
+unfoldable pub place_tokens : Pos → List SpelledToken → Placed → Result Placed PlacingFault
+place_tokens pos tokens placed = if has_wide_label tokens then Err NumberTooWide else place_labelled pos tokens placed

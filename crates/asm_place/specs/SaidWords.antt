@@ -4,6 +4,7 @@ use Rattle.asm_expr.specs.Trees.{tree_of}
 use Rattle.asm_place.specs.declared.section_words.SectionWords.{SectionWords as ReadWords}
 use Rattle.asm_place.specs.SectionWords.{SectionWords}
 
+-- the operands of `.section` that were read
 abbrev pub words_in : ReadWords → SectionWords
 words_in words = record {
   name = words.name.items;

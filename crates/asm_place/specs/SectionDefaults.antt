@@ -8,6 +8,7 @@ use Rattle.asm_place.specs.declared.section_defaults.DefaultHeader.{DefaultHeade
 abbrev pub header : ℕ → ℕ → DefaultHeader
 header flags kind = record { flags = flags; kind = kind }
 
+-- nothing, or a dot and more
 abbrev pub is_dotted : List ℕ → Bool
 is_dotted [] = true
 is_dotted (byte ∷ rest) = byte == 46
@@ -24,6 +25,7 @@ is_code name = is_under (codes ".text") name || is_under (codes ".init") name ||
 abbrev pub is_constant : List ℕ → Bool
 is_constant name = is_under (codes ".rodata") name || is_under (codes ".eh_frame") name
 
+-- the header of a section of this name
 unfoldable pub default_header : List ℕ → DefaultHeader
 default_header name =
     if is_code name then header 6 1

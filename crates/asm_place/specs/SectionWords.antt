@@ -2,63 +2,72 @@
 use Rattle.std.specs.Prelude.{ℕ, ◌+◌, ◌==◌, ◌&&◌, ◌||◌, Bool, true, false, List, [], ◌∷◌, flat_map, length, codes, Option, None, Some, Result, Ok, Err, if◌then◌else◌}
 use Rattle.std.specs.List.{list_all, list_any}
 use Rattle.std.specs.Str.{bytes_eq}
-use Rattle.asm_base.specs.declared.faults.StatementFault.{StatementFault}
-use Rattle.asm_base.specs.declared.faults.StatementFault.TheVariants.{BadOperand, BadSection}
+use Rattle.asm_place.specs.declared.place_faults.PlacingFault.{PlacingFault}
+use Rattle.asm_place.specs.declared.place_faults.PlacingFault.TheVariants.{BadOperand, BadSection}
+use Rattle.asm_base.specs.declared.tokens.TokenKind.{TokenKind}
+use Rattle.asm_base.specs.declared.tokens.TokenKind.TheVariants.{Name, Digits}
 use Rattle.asm_base.specs.Tokens.{SpelledToken}
 use Rattle.asm_expr.specs.Trees.{Tree}
 use Rattle.asm_place.specs.Results.{◌>>=◌}
-use Rattle.asm_place.specs.Operands.{is_name, is_mark, symbol_name, string_of}
-use Rattle.asm_place.specs.Expressions.{next_tree_if, no_more}
+use Rattle.asm_place.specs.Operands.{is_name, is_mark, checked_name, string_of}
+use Rattle.asm_place.specs.Expressions.{expression_of, no_more}
 
 -- the second token stands right behind the first
 abbrev pub follows : SpelledToken → SpelledToken → Bool
 follows first second = second.start == first.start + length first.bytes
 
--- `-` and a name stand behind a name, without blanks between
-abbrev pub is_part : SpelledToken → SpelledToken → SpelledToken → Bool
-is_part last dash name = is_mark 45 dash && follows last dash && is_name name && follows dash name
+-- the tokens stand side by side, without blanks between
+unfoldable pub are_adjacent : List SpelledToken → Bool
+are_adjacent [] = true
+are_adjacent (token ∷ []) = true
+are_adjacent (first ∷ second ∷ rest) = follows first second && are_adjacent (second ∷ rest)
 
--- what may stand behind a name: such parts, so often as one likes
-unfoldable pub goes_on : SpelledToken → List SpelledToken → Bool
-goes_on last [] = true
-goes_on last (dash ∷ []) = false
-goes_on last (dash ∷ name ∷ rest) = is_part last dash name && goes_on name rest
+-- name bytes begin with no digit in a name, and with one in a number
+abbrev pub is_word_kind : TokenKind → Bool
+is_word_kind Name = true
+is_word_kind Digits = true
+is_word_kind _ = false
 
--- names with `-` between
+-- a part of a section's name without quotes: name bytes, or `-`
+abbrev pub is_name_part : SpelledToken → Bool
+is_name_part token = is_word_kind token.kind || is_mark 45 token
+
+-- a section's name without quotes: parts without blanks between, one at least
 abbrev pub is_joined : List SpelledToken → Bool
 is_joined [] = false
-is_joined (token ∷ rest) = is_name token && goes_on token rest
+is_joined (token ∷ rest) = list_all is_name_part (token ∷ rest) && are_adjacent (token ∷ rest)
 
+-- the bytes of tokens, one after the other
 abbrev pub joined_bytes : List SpelledToken → List ℕ
 joined_bytes tokens = flat_map (λ part. part.bytes) tokens
 
-abbrev pub joined_name : List SpelledToken → Result (List ℕ) StatementFault
-joined_name tokens = if is_joined tokens then Ok (joined_bytes tokens) else Err BadOperand
-
 -- the name of a section, quoted or not
-unfoldable pub section_name : List SpelledToken → Result (List ℕ) StatementFault
-section_name [] = Err BadOperand
-section_name (token ∷ []) = symbol_name token
-section_name (token ∷ second ∷ rest) = joined_name (token ∷ second ∷ rest)
+unfoldable pub section_name : List SpelledToken → Result (List ℕ) PlacingFault
+section_name operand = if is_joined operand then Ok (joined_bytes operand) else (string_of operand >>= checked_name)
 
 -- a name behind `@` or `%`
 abbrev pub begins_type : SpelledToken → Bool
 begins_type token = is_mark 64 token || is_mark 37 token
 
-unfoldable pub type_name : List SpelledToken → Result (List ℕ) StatementFault
+-- the name of a section's type
+unfoldable pub type_name : List SpelledToken → Result (List ℕ) PlacingFault
 type_name (mark ∷ name ∷ []) = if begins_type mark && is_name name then Ok name.bytes else Err BadOperand
 type_name _ = Err BadOperand
 
 -- an operand by what it has to be, where it has to be there
-abbrev pub needed : {A : Type 0} → (List SpelledToken → Result A StatementFault) → List (List SpelledToken) → Result (A × List (List SpelledToken)) StatementFault
+abbrev pub needed : {A : Type 0} → (List SpelledToken → Result A PlacingFault) → List (List SpelledToken) → Result (A × List (List SpelledToken)) PlacingFault
 needed give [] = Err BadOperand
 needed give (operand ∷ operands) = give operand >>= λ made. Ok (made, operands)
 
--- the same, where it may be missing or empty
-abbrev pub missing_or : {A : Type 0} → (List SpelledToken → Result A StatementFault) → List (List SpelledToken) → Result (Option A × List (List SpelledToken)) StatementFault
+-- the same, where it may be missing: behind a comma it is due
+abbrev pub missing_or : {A : Type 0} → (List SpelledToken → Result A PlacingFault) → List (List SpelledToken) → Result (Option A × List (List SpelledToken)) PlacingFault
 missing_or give [] = Ok (None, [])
-missing_or give ([] ∷ operands) = Ok (None, operands)
-missing_or give ((token ∷ rest) ∷ operands) = give (token ∷ rest) >>= λ made. Ok (Some made, operands)
+missing_or give (operand ∷ operands) = give operand >>= λ made. Ok (Some made, operands)
+
+-- an expression that may be missing, where one may stand
+abbrev pub expression_if : Bool → List (List SpelledToken) → Result (Option Tree × List (List SpelledToken)) PlacingFault
+expression_if true operands = missing_or expression_of operands
+expression_if false operands = Ok (None, operands)
 
 -- what `.section` says
 pub record SectionWords : Type 0 where
@@ -67,6 +76,7 @@ pub record SectionWords : Type 0 where
   pub kind : Option (List ℕ)
   pub entry_size : Option Tree
 
+-- the letters of the flags have this one
 abbrev pub has_letter : ℕ → List ℕ → Bool
 has_letter letter letters = list_any (λ byte. byte == letter) letters
 
@@ -75,10 +85,11 @@ abbrev pub says_merge : Option (List ℕ) → Bool
 says_merge None = false
 says_merge (Some letters) = has_letter 77 letters
 
-unfoldable pub section_words : List (List SpelledToken) → Result SectionWords StatementFault
+-- the operands of `.section`, from left to right
+unfoldable pub section_words : List (List SpelledToken) → Result SectionWords PlacingFault
 section_words operands =
     needed section_name operands >>= λ name. missing_or string_of name.1 >>= λ flags. missing_or type_name flags.1 >>= λ kind.
-    next_tree_if (says_merge flags.0) kind.1 >>= λ size.
+    expression_if (says_merge flags.0) kind.1 >>= λ size.
     no_more size.1 (record { name = name.0; flags = flags.0; kind = kind.0; entry_size = size.0 })
 
 -- `sh_flags` that a letter asks for (gABI, chapter 4, "sh_flags")
@@ -89,16 +100,17 @@ flag_if letter flag letters = if has_letter letter letters then flag else 0
 abbrev pub is_flag_letter : ℕ → Bool
 is_flag_letter byte = (byte == 97) || (byte == 119) || (byte == 120) || (byte == 77) || (byte == 83) || (byte == 84)
 
+-- `sh_flags` of the letters
 unfoldable pub letter_flags : List ℕ → ℕ
 letter_flags letters =
     flag_if 119 1 letters + flag_if 97 2 letters + flag_if 120 4 letters + flag_if 77 16 letters + flag_if 83 32 letters + flag_if 84 1024 letters
 
 -- the flags that the letters ask for; another letter is no flag
-unfoldable pub said_flags : List ℕ → Result ℕ StatementFault
+unfoldable pub said_flags : List ℕ → Result ℕ PlacingFault
 said_flags letters = if list_all is_flag_letter letters then Ok (letter_flags letters) else Err BadSection
 
 -- `sh_type` by its name (gABI, chapter 4, "sh_type")
-unfoldable pub said_kind : List ℕ → Result ℕ StatementFault
+unfoldable pub said_kind : List ℕ → Result ℕ PlacingFault
 said_kind name =
     if bytes_eq name (codes "progbits") then Ok 1
     else (if bytes_eq name (codes "note") then Ok 7

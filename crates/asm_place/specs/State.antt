@@ -1,6 +1,7 @@
 -- What the statements so far have placed.
-use Rattle.std.specs.Prelude.{ℕ, Bool, List, [], ◌++◌, Result, Ok, if◌then◌else◌}
-use Rattle.asm_base.specs.declared.faults.StatementFault.{StatementFault}
+use Rattle.std.specs.Prelude.{ℕ, Bool, true, false, List, [], ◌++◌, Result, Ok, Err, if◌then◌else◌}
+use Rattle.asm_place.specs.declared.place_faults.PlacingFault.{PlacingFault}
+use Rattle.asm_place.specs.declared.place_faults.PlacingFault.TheVariants.{BadSymbolUse}
 use Rattle.asm_base.specs.declared.notes.Noted.{Noted}
 use Rattle.asm_base.specs.declared.positions.Pos.{Pos}
 use Rattle.asm_expr.specs.Knowledge.{Knowledge}
@@ -36,8 +37,14 @@ nothing_placed no_warn = record {
   notes = [];
 }
 
+-- the same with these symbols
 abbrev pub with_table : Placed → Table → Placed
 with_table placed table = record placed { table = table }
+
+-- what is placed, unless the statement names a symbol by `.`
+abbrev pub unless_dot : Bool → Placed → Result Placed PlacingFault
+unless_dot true placed = Err BadSymbolUse
+unless_dot false placed = Ok placed
 
 -- these notes more, unless no warning is to be made
 abbrev pub with_notes : List Noted → Placed → Placed
@@ -56,9 +63,9 @@ abbrev pub item_of : Pos → Content → Item
 item_of pos content = record { pos = pos; content = content; address = tt }
 
 -- the item last in the section of this number
-unfoldable pub push_into : Pos → ℕ → Content → Placed → Result Placed StatementFault
+unfoldable pub push_into : Pos → ℕ → Content → Placed → Result Placed PlacingFault
 push_into pos number content placed = of_sections (pushed placed.sections number (item_of pos content)) >>= λ sections. Ok (record placed { sections = sections })
 
 -- the item last in the current section
-abbrev pub push_item : Pos → Content → Placed → Result Placed StatementFault
+abbrev pub push_item : Pos → Content → Placed → Result Placed PlacingFault
 push_item pos content placed = push_into pos placed.current content placed

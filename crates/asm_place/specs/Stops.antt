@@ -7,6 +7,7 @@ use Rattle.asm_place.specs.declared.place_faults.PlaceFault.{PlaceFault}
 use Rattle.asm_place.specs.declared.place_faults.PlaceFault.TheVariants as step
 use Rattle.asm_place.specs.declared.place_faults.LocatedFault.{LocatedFault}
 use Rattle.asm_place.specs.declared.place_faults.LocatedFault.TheVariants.{Source, NoMemory}
+use Rattle.asm_place.specs.Faults.{statement_fault}
 use Rattle.asm_place.specs.State.{Placed}
 use Rattle.asm_place.specs.Sources.{FaultAt, fault_at}
 
@@ -22,5 +23,5 @@ Places placed (Err stop) answer = Stops stop placed.notes answer
 
 -- a fault of the statement at this place
 abbrev pub stop_at : PlaceFault → Pos → LocatedFault
-stop_at (step.Source fault) pos = Source (Statement fault) pos
+stop_at (step.Source fault) pos = Source (Statement (statement_fault fault)) pos
 stop_at step.NoMemory pos = NoMemory

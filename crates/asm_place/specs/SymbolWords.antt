@@ -1,9 +1,10 @@
 -- What directives say of symbols (GNU as manual, ".globl", ".weak", ".local", ".hidden", ".protected", ".internal", ".type", ".size").
 use Rattle.std.specs.Prelude.{ℕ, nat_eq, ◌&&◌, List, [], ◌∷◌, codes, Result, Ok, Err, if◌then◌else◌}
 use Rattle.indexmap.specs.IndexMap.{insert_entry}
+use Rattle.std.specs.List.{list_any}
 use Rattle.std.specs.Str.{bytes_eq}
-use Rattle.asm_base.specs.declared.faults.StatementFault.{StatementFault}
-use Rattle.asm_base.specs.declared.faults.StatementFault.TheVariants.{BadExpression, BadOperand}
+use Rattle.asm_place.specs.declared.place_faults.PlacingFault.{PlacingFault}
+use Rattle.asm_place.specs.declared.place_faults.PlacingFault.TheVariants.{BadExpression, BadOperand}
 use Rattle.asm_base.specs.declared.positions.Pos.{Pos}
 use Rattle.asm_base.specs.Tokens.{SpelledToken}
 use Rattle.asm_expr.specs.declared.naming.Name.{Name}
@@ -21,8 +22,8 @@ use Rattle.asm_place.specs.declared.directives.SymbolAttribute.TheVariants.{Bind
 use Rattle.asm_place.specs.Results.{◌>>=◌, all_steps}
 use Rattle.asm_place.specs.Tables.{Table, symbol_of, change_named, with_map}
 use Rattle.asm_place.specs.Places.{uses_dot, name_part}
-use Rattle.asm_place.specs.State.{Placed, with_table, here, known_here}
-use Rattle.asm_place.specs.Operands.{is_name, name_of, operands_of, each}
+use Rattle.asm_place.specs.State.{Placed, with_table, unless_dot, here, known_here}
+use Rattle.asm_place.specs.Operands.{is_name, is_dot, begins_with_place, name_of, operands_of, each}
 use Rattle.asm_place.specs.Expressions.{expression_of, form_in, no_more}
 use Rattle.asm_place.specs.SectionWords.{needed, begins_type}
 
@@ -31,25 +32,27 @@ abbrev pub said : SymbolAttribute → SymbolMap → ℕ → Result SymbolMap Sym
 said (Bind binding) map index = bound map index binding
 said (See visibility) map index = Ok (with_symbol (with_visibility visibility) map index)
 
-abbrev pub say_one : Pos → SymbolAttribute → Name → Table → Result Table StatementFault
+-- it is said of one name
+abbrev pub say_one : Pos → SymbolAttribute → Name → Table → Result Table PlacingFault
 say_one pos attribute name table = change_named pos (said attribute) name table
 
 -- it is said of each name
-unfoldable pub say_all : Pos → SymbolAttribute → List Name → Table → Result Table StatementFault
+unfoldable pub say_all : Pos → SymbolAttribute → List Name → Table → Result Table PlacingFault
 say_all pos attribute names table = all_steps (say_one pos attribute) names table
 
 -- the name that an operand gives a symbol
-unfoldable pub plain_of : List SpelledToken → Result Name StatementFault
+unfoldable pub plain_of : List SpelledToken → Result Name PlacingFault
 plain_of operand = name_of operand >>= λ name. Ok (naming.Plain name)
 
 -- `.globl` and the others, with a name at least
-unfoldable pub place_said : Pos → SymbolAttribute → List SpelledToken → Placed → Result Placed StatementFault
+unfoldable pub place_said : Pos → SymbolAttribute → List SpelledToken → Placed → Result Placed PlacingFault
 place_said pos attribute [] placed = Err BadOperand
 place_said pos attribute (token ∷ rest) placed =
-    each plain_of (operands_of (token ∷ rest)) >>= λ names. say_all pos attribute names placed.table >>= λ table. Ok (with_table placed table)
+    each plain_of (operands_of (token ∷ rest)) >>= λ names. say_all pos attribute names placed.table >>= λ table.
+    unless_dot (list_any is_dot (token ∷ rest)) (with_table placed table)
 
 -- the kind of a symbol by its word (gABI, chapter 4, "Symbol Table")
-unfoldable pub kind_named : List ℕ → Result Kind StatementFault
+unfoldable pub kind_named : List ℕ → Result Kind PlacingFault
 kind_named word =
     if bytes_eq word (codes "function") then Ok Function
     else (if bytes_eq word (codes "object") then Ok Object
@@ -59,18 +62,20 @@ kind_named word =
     else Err BadOperand))))
 
 -- a kind behind `@` or `%`
-unfoldable pub kind_of : List SpelledToken → Result Kind StatementFault
+unfoldable pub kind_of : List SpelledToken → Result Kind PlacingFault
 kind_of (mark ∷ word ∷ []) = if begins_type mark && is_name word then kind_named word.bytes else Err BadOperand
 kind_of _ = Err BadOperand
 
+-- the symbol is of this kind from now on
 abbrev pub kind_said : Kind → SymbolMap → ℕ → Result SymbolMap SymFault
 kind_said kind map index = Ok (with_symbol (with_kind kind) map index)
 
 -- `.type`
-unfoldable pub place_type : Pos → List SpelledToken → Placed → Result Placed StatementFault
+unfoldable pub place_type : Pos → List SpelledToken → Placed → Result Placed PlacingFault
 place_type pos tokens placed =
     needed name_of (operands_of tokens) >>= λ name. needed kind_of name.1 >>= λ kind. no_more kind.1 kind.0 >>= λ made.
-    change_named pos (kind_said made) (naming.Plain name.0) placed.table >>= λ table. Ok (with_table placed table)
+    change_named pos (kind_said made) (naming.Plain name.0) placed.table >>= λ table.
+    unless_dot (begins_with_place tokens) (with_table placed table)
 
 -- a name and an expression
 pub record NamedTree : Type 0 where
@@ -78,15 +83,16 @@ pub record NamedTree : Type 0 where
   pub tree : Tree
 
 -- an expression has to follow, and nothing else
-abbrev pub last_tree : List (List SpelledToken) → Result Tree StatementFault
+abbrev pub last_tree : List (List SpelledToken) → Result Tree PlacingFault
 last_tree [] = Err BadExpression
 last_tree (operand ∷ operands) = expression_of operand >>= λ tree. no_more operands tree
 
-unfoldable pub named_tree : List (List SpelledToken) → Result NamedTree StatementFault
+-- the operands of `.size` and `.set`: a name and an expression
+unfoldable pub named_tree : List (List SpelledToken) → Result NamedTree PlacingFault
 named_tree operands = needed name_of operands >>= λ name. last_tree name.1 >>= λ tree. Ok (record { name = naming.Plain name.0; tree = tree })
 
 -- the names of the expression, behind the symbol that the statement is of
-abbrev pub name_rest : Pos → Spot → NamedTree → Form → Table → Result Table StatementFault
+abbrev pub name_rest : Pos → Spot → NamedTree → Form → Table → Result Table PlacingFault
 name_rest pos spot words form table = name_part pos spot (uses_dot spot form) words.tree table
 
 -- the size is said of the symbol at this place
@@ -94,7 +100,8 @@ abbrev pub sized : Pos → Form → Table × ℕ → Table
 sized pos form found = record (with_map found.0 (with_next_size form found.0.symbols found.1)) { sized = insert_entry nat_eq found.0.sized found.1 pos }
 
 -- `.size`
-unfoldable pub place_size : Pos → List SpelledToken → Placed → Result Placed StatementFault
+unfoldable pub place_size : Pos → List SpelledToken → Placed → Result Placed PlacingFault
 place_size pos tokens placed =
     named_tree (operands_of tokens) >>= λ words. form_in (known_here placed) words.tree >>= λ form.
-    symbol_of pos words.name placed.table >>= λ found. name_rest pos (here placed) words form (sized pos form found) >>= λ table. Ok (with_table placed table)
+    symbol_of pos words.name placed.table >>= λ found. name_rest pos (here placed) words form (sized pos form found) >>= λ table.
+    unless_dot (begins_with_place tokens) (with_table placed table)

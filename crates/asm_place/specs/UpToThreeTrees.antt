@@ -5,8 +5,10 @@ use Rattle.asm_expr.specs.Trees.{Tree, tree_of}
 use Rattle.asm_place.specs.declared.up_to_three.UpToThree.{UpToThree}
 use Rattle.asm_place.specs.Expressions.{up_to_three_listed}
 
+-- the trees of the expressions, each where it is given
 abbrev pub trees_in : UpToThree Expr → UpToThree Tree
 trees_in few = record { first = tree_of few.first; second = option_map tree_of few.second; third = option_map tree_of few.third }
 
+-- the trees of the expressions that are given, as a list
 abbrev pub trees_listed : UpToThree Expr → List Tree
 trees_listed few = up_to_three_listed (trees_in few)

@@ -5,7 +5,7 @@ ghost use Rattle.asm_frags.specs.Answers.{Changes};
 ghost use Rattle.asm_place.specs.DataItems.{cut_notes};
 ghost use Rattle.asm_frags.specs.Sections.{pushed};
 
-use crate::place_faults::PlaceFault;
+use crate::place_faults::{PlaceFault, PlacingFault};
 use crate::places::{View, spot_at};
 use crate::stacks::Entered;
 use crate::tables::SymbolUses;
@@ -69,8 +69,8 @@ impl Assembler {
     ghost use Rattle.asm_frags.specs.declared.faults.FragFault.TheVariants.{NoMemory};
     ghost use Rattle.asm_place.specs.Answers.{Gives};
     ghost use Rattle.asm_place.specs.DataItems.{cut_notes};
-    ghost use Rattle.asm_place.specs.State.{nothing_placed, with_notes, here, push_into};
-    ghost use Rattle.asm_place.specs.PlacedBy.{placed_by};
+    ghost use Rattle.asm_place.specs.State.{nothing_placed, unless_dot, with_notes, here, push_into, push_item};
+    ghost use Rattle.asm_place.specs.PlacedBy.{placed_by, PlacesBy};
 
     /// Nothing is placed yet.
     pub fn new(alloc: Global, no_warn: bool) -> Result<Assembler, FragFault>
@@ -126,6 +126,17 @@ impl Assembler {
         }
     }
 
+    /// Refuses a statement that names a symbol by `.`.
+    pub(crate) fn unless_dot(&self, dot: bool) -> Result<(), PlaceFault>
+        ensures { PlacesBy (unless_dot dot) self.now self.now result }
+    {
+        if dot {
+            Err(PlaceFault::Source(PlacingFault::BadSymbolUse))
+        } else {
+            Ok(())
+        }
+    }
+
     /// Puts an item last in the section of this number.
     #[tactic(auto, unfolding(crate::specs::State::push_into))]
     pub(crate) fn push_into(
@@ -134,7 +145,7 @@ impl Assembler {
         number: u32,
         content: Content,
     ) -> Result<(), PlaceFault>
-        ensures placed { Gives (placed_by self.new) result (push_into pos number content (placed_by self.old)) }
+        ensures placed { PlacesBy (push_into pos number content) self.old self.new result }
         ensures notes { self.new.notes ≡ self.old.notes }
     {
         push(&mut self.sections, number, Frag::new(pos, content))?;
@@ -143,7 +154,7 @@ impl Assembler {
 
     /// Puts an item last in the current section.
     pub(crate) fn push_item(&mut self, pos: Pos, content: Content) -> Result<(), PlaceFault>
-        ensures placed { Gives (placed_by self.new) result (push_into pos self.old.current content (placed_by self.old)) }
+        ensures placed { PlacesBy (push_item pos content) self.old self.new result }
         ensures notes { self.new.notes ≡ self.old.notes }
     {
         self.push_into(pos, self.current, content)
@@ -151,7 +162,8 @@ impl Assembler {
 
     /// Notes that a value is cut, so many times, unless no warning is to be made.
     pub(crate) fn warn(&mut self, pos: Pos, times: usize) -> Result<(), AllocError>
-        ensures { OnOk result (placed_by self.new ≡ with_notes (cut_notes pos times) (placed_by self.old)) }
+        ensures { OnOk result
+            (placed_by self.new ≡ with_notes (cut_notes pos times) (placed_by self.old)) }
     {
         if self.no_warn {
             return Ok(());

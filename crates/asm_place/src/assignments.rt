@@ -15,12 +15,13 @@ impl Assembler {
     ghost use Rattle.asm_place.specs.Answers.{Gives};
     ghost use Rattle.asm_place.specs.Assignments.{assign_words, place_set, place_assignment};
     ghost use Rattle.asm_place.specs.NamedTrees.{named_tree_in};
-    ghost use Rattle.asm_place.specs.PlacedBy.{placed_by};
+    ghost use Rattle.asm_place.specs.PlacedBy.{placed_by, PlacesBy};
 
     /// The symbol of the name stands for the expression from now on.
     #[tactic(auto, unfolding(crate::specs::Assignments::assign_words))]
     fn assign_words(&mut self, pos: Pos, once: bool, words: &NamedExpr) -> Result<(), PlaceFault>
-        ensures placed { Gives (placed_by self.new) result (assign_words pos once (named_tree_in words.now) (placed_by self.old)) }
+        ensures placed { PlacesBy (assign_words pos once (named_tree_in words.now))
+            self.old self.new result }
         ensures notes { self.new.notes ≡ self.old.notes }
     {
         let form = form_in(self.alloc, self.view(), &words.expr)?;
@@ -40,7 +41,8 @@ impl Assembler {
         once: bool,
         tokens: &[Token],
     ) -> Result<(), PlaceFault>
-        ensures placed { Gives (placed_by self.new) result (place_set pos once (map spelled tokens.now) (placed_by self.old)) }
+        ensures placed { PlacesBy (place_set pos once (map spelled tokens.now))
+            self.old self.new result }
         ensures notes { self.new.notes ≡ self.old.notes }
     {
         let words = named_tree(self.alloc, &mut Operands::new(tokens))?;
@@ -55,7 +57,9 @@ impl Assembler {
         token: &Token,
         tokens: &[Token],
     ) -> Result<(), PlaceFault>
-        ensures placed { Gives (placed_by self.new) result (place_assignment pos (spelled token.now) (map spelled tokens.now) (placed_by self.old)) }
+        ensures placed { PlacesBy
+            (place_assignment pos (spelled token.now) (map spelled tokens.now))
+            self.old self.new result }
         ensures notes { self.new.notes ≡ self.old.notes }
     {
         let name = Name::Plain(Text::new(symbol_name(self.alloc, token)?));

@@ -7,14 +7,14 @@ ghost use Rattle.asm_place.specs.Commons as spec;
 ghost use Rattle.asm_place.specs.SpaceWordsIn.{space_words_in};
 
 use crate::assemblers::Assembler;
-use crate::operands::Operands;
-use crate::place_faults::PlaceFault;
+use crate::operands::{Operands, begins_with_place};
+use crate::place_faults::{PlaceFault, PlacingFault};
 use crate::places::spot_at;
 use crate::section_words::needed_name;
 use crate::spaces::{is_negative, log_of, space_of};
 use crate::tables::SymbolUses;
 use crate::up_to_three::{UpToThree, listed, up_to_three_trees, up_to_three_values};
-use asm_base::{Pos, StatementFault, Text, Token};
+use asm_base::{Pos, Text, Token};
 use asm_expr::{Expr, Name};
 use asm_frags::{Align, Content};
 use asm_symbols::{Binding, Definition, Symbols};
@@ -39,7 +39,7 @@ fn space_size(size: u64) -> Result<u64, PlaceFault>
     ensures { GivesBy (λ size. size) result (spec.space_size size) }
 {
     if is_negative(size) {
-        Err(PlaceFault::Source(StatementFault::OutOfRange))
+        Err(PlaceFault::Source(PlacingFault::OutOfRange))
     } else {
         Ok(size)
     }
@@ -83,7 +83,8 @@ impl SymbolUses {
         size: u64,
         what: Definition,
     ) -> Result<(), PlaceFault>
-        ensures { Gives self.new result (define_space pos name.now (map tree_of exprs.now) size what self.old) }
+        ensures { Gives self.new result
+            (define_space pos name.now (map tree_of exprs.now) size what self.old) }
     {
         let id = self.symbol_of(pos, name)?;
         self.define(id, what)?;
@@ -98,7 +99,7 @@ impl Assembler {
     ghost use Rattle.asm_expr.specs.Trees.{tree_of};
     ghost use Rattle.asm_place.specs.Answers.{Gives};
     ghost use Rattle.asm_place.specs.Commons.{with_space, with_common, place_space, place_comm, place_lcomm};
-    ghost use Rattle.asm_place.specs.PlacedBy.{placed_by};
+    ghost use Rattle.asm_place.specs.PlacedBy.{placed_by, PlacesBy};
 
     /// Aligned zeros in `.bss`, which are the symbol's.
     #[tactic(auto, unfolding(crate::specs::Commons::with_space))]
@@ -111,7 +112,8 @@ impl Assembler {
         log: u8,
     ) -> Result<(), PlaceFault>
         requires { log ≤ 30 }
-        ensures placed { Gives (placed_by self.new) result (with_space pos name.now (map tree_of exprs.now) size log (placed_by self.old)) }
+        ensures placed { PlacesBy (with_space pos name.now (map tree_of exprs.now) size log)
+            self.old self.new result }
         ensures notes { self.new.notes ≡ self.old.notes }
     {
         let space = space_of(size, 0)?;
@@ -132,7 +134,8 @@ impl Assembler {
         log: u8,
     ) -> Result<(), PlaceFault>
         requires { log ≤ 30 }
-        ensures placed { Gives (placed_by self.new) result (with_common pos name.now (map tree_of exprs.now) size log (placed_by self.old)) }
+        ensures placed { PlacesBy (with_common pos name.now (map tree_of exprs.now) size log)
+            self.old self.new result }
         ensures notes { self.new.notes ≡ self.old.notes }
     {
         let what = Definition::Common {
@@ -154,7 +157,8 @@ impl Assembler {
         log: u8,
     ) -> Result<(), PlaceFault>
         requires { log ≤ 30 }
-        ensures placed { Gives (placed_by self.new) result (place_space own pos name.now (map tree_of exprs.now) size log (placed_by self.old)) }
+        ensures placed { PlacesBy (place_space own pos name.now (map tree_of exprs.now) size log)
+            self.old self.new result }
         ensures notes { self.new.notes ≡ self.old.notes }
     {
         if own {
@@ -167,7 +171,8 @@ impl Assembler {
     /// `.comm`: of a symbol that is local the space is this object's.
     #[tactic(auto, unfolding(crate::specs::Commons::place_comm))]
     pub(crate) fn place_comm(&mut self, pos: Pos, tokens: &[Token]) -> Result<(), PlaceFault>
-        ensures placed { Gives (placed_by self.new) result (place_comm pos (map spelled tokens.now) (placed_by self.old)) }
+        ensures placed { PlacesBy (place_comm pos (map spelled tokens.now))
+            self.old self.new result }
         ensures notes { self.new.notes ≡ self.old.notes }
     {
         let words = space_words(self.alloc, 2, tokens)?;
@@ -176,13 +181,15 @@ impl Assembler {
         let log = log_of(values.second, size)?;
         let own = is_said_local(self.table.symbols(), &words.name);
         let exprs = listed(self.alloc, words.exprs)?;
-        self.place_space(pos, own, &words.name, &exprs, size, log)
+        self.place_space(pos, own, &words.name, &exprs, size, log)?;
+        self.unless_dot(begins_with_place(tokens))
     }
 
     /// `.lcomm`
     #[tactic(auto, unfolding(crate::specs::Commons::place_lcomm))]
     pub(crate) fn place_lcomm(&mut self, pos: Pos, tokens: &[Token]) -> Result<(), PlaceFault>
-        ensures placed { Gives (placed_by self.new) result (place_lcomm pos (map spelled tokens.now) (placed_by self.old)) }
+        ensures placed { PlacesBy (place_lcomm pos (map spelled tokens.now))
+            self.old self.new result }
         ensures notes { self.new.notes ≡ self.old.notes }
     {
         let words = space_words(self.alloc, 1, tokens)?;
@@ -190,6 +197,7 @@ impl Assembler {
         let size = space_size(values.first)?;
         let log = log_of(None, size)?;
         let exprs = listed(self.alloc, words.exprs)?;
-        self.with_space(pos, &words.name, &exprs, size, log)
+        self.with_space(pos, &words.name, &exprs, size, log)?;
+        self.unless_dot(begins_with_place(tokens))
     }
 }

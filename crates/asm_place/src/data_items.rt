@@ -58,7 +58,7 @@ impl Assembler {
     ghost use Rattle.asm_base.specs.Tokens.{spelled};
     ghost use Rattle.asm_place.specs.Answers.{Gives, KeepsNotes};
     ghost use Rattle.asm_place.specs.Placing.{place_data};
-    ghost use Rattle.asm_place.specs.PlacedBy.{placed_by};
+    ghost use Rattle.asm_place.specs.PlacedBy.{placed_by, PlacesBy};
 
     /// `.byte` and the others: an item of all values.
     #[tactic(auto, unfolding(crate::specs::Placing::place_data))]
@@ -68,7 +68,8 @@ impl Assembler {
         size: FieldSize,
         tokens: &[Token],
     ) -> Result<(), PlaceFault>
-        ensures placed { Gives (placed_by self.new) result (place_data pos size (map spelled tokens.now) (placed_by self.old)) }
+        ensures placed { PlacesBy (place_data pos size (map spelled tokens.now))
+            self.old self.new result }
         ensures notes { KeepsNotes result self.old.notes self.new.notes }
     {
         let exprs = expressions(self.alloc, Operands::new(tokens))?;

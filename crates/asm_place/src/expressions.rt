@@ -7,13 +7,13 @@ ghost use Rattle.asm_place.specs.Answers.{GivesBy};
 ghost use Rattle.asm_place.specs.Results.{if_some};
 ghost use Rattle.asm_place.specs.Operands.{each};
 ghost use Rattle.asm_place.specs.OperandParts.{operands_left};
-ghost use Rattle.asm_place.specs.Places.{known_at};
+ghost use Rattle.asm_place.specs.KnownIn.{known_in};
 ghost use Rattle.asm_place.specs.Expressions.{alone, expression_of, form_in, constant_in};
 
 use crate::operands::Operands;
-use crate::place_faults::PlaceFault;
+use crate::place_faults::{PlaceFault, PlacingFault};
 use crate::places::View;
-use asm_base::{StatementFault, Token};
+use asm_base::Token;
 use asm_expr::{Expr, Linear, linear_form, parse_front, value_of};
 use std::alloc::Global;
 
@@ -24,7 +24,7 @@ fn alone(expr: Expr, rest: &[Token]) -> Result<Expr, PlaceFault>
     if rest.is_empty() {
         Ok(expr)
     } else {
-        Err(PlaceFault::Source(StatementFault::BadOperand))
+        Err(PlaceFault::Source(PlacingFault::BadOperand))
     }
 }
 
@@ -40,7 +40,8 @@ pub(crate) fn expression_of(alloc: Global, operand: &[Token]) -> Result<Expr, Pl
 /// The expressions that operands are.
 #[tactic(auto, unfolding(crate::specs::Operands::each, crate::specs::Operands::behind))]
 pub(crate) fn expressions(alloc: Global, operands: Operands) -> Result<Vec<Expr>, PlaceFault>
-    ensures { GivesBy (λ exprs. map tree_of exprs.items) result (each expression_of (operands_left operands.entry)) }
+    ensures { GivesBy (λ exprs. map tree_of exprs.items) result
+        (each expression_of (operands_left operands.entry)) }
 {
     let mut exprs = Vec::new(alloc);
     for operand in operands {
@@ -52,7 +53,7 @@ pub(crate) fn expressions(alloc: Global, operands: Operands) -> Result<Vec<Expr>
 /// The form of an expression.
 #[tactic(auto, unfolding(crate::specs::Expressions::form_in))]
 pub(crate) fn form_in(alloc: Global, view: View, expr: &Expr) -> Result<Linear, PlaceFault>
-    ensures { GivesBy (λ form. form) result (form_in (known_at view.entry.symbols.now view.entry.spot) (tree_of expr.now)) }
+    ensures { GivesBy (λ form. form) result (form_in (known_in view.entry) (tree_of expr.now)) }
 {
     Ok(linear_form(alloc, expr, &view)?)
 }
@@ -60,7 +61,8 @@ pub(crate) fn form_in(alloc: Global, view: View, expr: &Expr) -> Result<Linear, 
 /// The forms of expressions.
 #[tactic(auto, unfolding(crate::specs::Operands::each, crate::specs::Operands::behind))]
 pub(crate) fn forms(alloc: Global, view: View, exprs: &[Expr]) -> Result<Vec<Linear>, PlaceFault>
-    ensures { GivesBy (λ forms. forms.items) result (each (form_in (known_at view.entry.symbols.now view.entry.spot)) (map tree_of exprs.now)) }
+    ensures { GivesBy (λ forms. forms.items) result
+        (each (form_in (known_in view.entry)) (map tree_of exprs.now)) }
 {
     let mut forms = Vec::new(alloc);
     for expr in exprs {

@@ -8,12 +8,12 @@ ghost use Rattle.asm_place.specs.Idents as spec;
 
 use crate::assemblers::Assembler;
 use crate::operands::Operands;
-use crate::place_faults::PlaceFault;
+use crate::place_faults::{PlaceFault, PlacingFault};
 use crate::section_changes::{Header, enter};
 use crate::section_words::needed_string;
 use crate::texts::plain_item;
 use crate::up_to_three::no_more;
-use asm_base::{Pos, StatementFault, Text, Token};
+use asm_base::{Pos, Text, Token};
 use asm_expr::Name;
 use asm_frags::{SHT_PROGBITS, Sections};
 use std::alloc::{AllocError, Global};
@@ -67,7 +67,7 @@ fn file_name(name: Vec<u8>) -> Result<Vec<u8>, PlaceFault>
     ensures { GivesBy (λ name. name.items) result (spec.file_name name.items) }
 {
     if has_zero(&name) {
-        Err(PlaceFault::Source(StatementFault::BadOperand))
+        Err(PlaceFault::Source(PlacingFault::BadOperand))
     } else {
         Ok(name)
     }
@@ -78,12 +78,13 @@ impl Assembler {
     ghost use Rattle.asm_base.specs.Tokens.{spelled};
     ghost use Rattle.asm_place.specs.Answers.{Gives};
     ghost use Rattle.asm_place.specs.Idents.{place_ident, place_file};
-    ghost use Rattle.asm_place.specs.PlacedBy.{placed_by};
+    ghost use Rattle.asm_place.specs.PlacedBy.{placed_by, PlacesBy};
 
     /// `.ident`: the text goes into `.comment`.
     #[tactic(auto, unfolding(crate::specs::Idents::place_ident))]
     pub(crate) fn place_ident(&mut self, pos: Pos, tokens: &[Token]) -> Result<(), PlaceFault>
-        ensures placed { Gives (placed_by self.new) result (place_ident pos (map spelled tokens.now) (placed_by self.old)) }
+        ensures placed { PlacesBy (place_ident pos (map spelled tokens.now))
+            self.old self.new result }
         ensures notes { self.new.notes ≡ self.old.notes }
     {
         let text = one_string(self.alloc, tokens)?;
@@ -101,7 +102,7 @@ impl Assembler {
     /// `.file`: the source file that the linker is told of.
     #[tactic(auto, unfolding(crate::specs::Idents::place_file))]
     pub(crate) fn place_file(&mut self, tokens: &[Token]) -> Result<(), PlaceFault>
-        ensures placed { Gives (placed_by self.new) result (place_file (map spelled tokens.now) (placed_by self.old)) }
+        ensures placed { PlacesBy (place_file (map spelled tokens.now)) self.old self.new result }
         ensures notes { self.new.notes ≡ self.old.notes }
     {
         let name = file_name(one_string(self.alloc, tokens)?)?;

@@ -16,26 +16,33 @@ ghost use Rattle.asm_place.specs.Instructions.{behind_labels, row_written, instr
 /// Placing only adds items.
 #[tactic(auto, using(crate::proofs::PlacingLaws::all_grow))]
 pub fn placing_grows()
-    ensures { (statements : List StatementAt) (before placed : Placed) → place_all statements before ≡ Ok placed → Grows before.sections placed.sections }
+    ensures { (statements : List StatementAt) (before placed : Placed)
+        → place_all statements before ≡ Ok placed → Grows before.sections placed.sections }
 {}
 
 /// Only the reading of a file calls it too large: no step of placing does.
 #[tactic(auto, using(crate::proofs::PlacingLaws::no_fault_of_reading))]
 pub fn placing_is_not_reading()
-    ensures { (statements : List StatementAt) (before : Placed) (stop : FaultAt) → place_all statements before ≡ Err stop → is_file_too_large stop.fault ≡ false }
+    ensures { (statements : List StatementAt) (before : Placed) (stop : FaultAt)
+        → place_all statements before ≡ Err stop → is_file_too_large stop.fault ≡ false }
 {}
 
 /// Where a statement is an instruction, its item is the next one of the current section, alone.
 #[tactic(auto, using(crate::proofs::InstructionLaws::instruction_put))]
 pub fn instruction_stands()
-    ensures { (pos : Pos) (tokens : List SpelledToken) (before placed : Placed) (row : Row) → row_written (behind_labels tokens) ≡ Some row
-        → place_tokens pos tokens before ≡ Ok placed → IsPut before.sections placed.sections before.current (item_of pos (plain_item (bytes_of row))) }
+    ensures { (pos : Pos) (tokens : List SpelledToken) (before placed : Placed) (row : Row)
+        → row_written (behind_labels tokens) ≡ Some row
+        → place_tokens pos tokens before ≡ Ok placed
+        → IsPut before.sections placed.sections before.current
+        (item_of pos (plain_item (bytes_of row))) }
 {}
 
 /// The item of an instruction stands in what all statements place, as the next one where those before it end.
 #[tactic(auto, using(crate::proofs::InstructionLaws::instruction_there))]
 pub fn instruction_items()
-    ensures { (front : List StatementAt) (s : StatementAt) (later : List StatementAt) (before placed whole : Placed) (row : Row)
-        → place_all front before ≡ Ok placed → place_all (front ++ s ∷ later) before ≡ Ok whole → instruction_of s ≡ Some row
+    ensures { (front : List StatementAt) (s : StatementAt) (later : List StatementAt)
+        (before placed whole : Placed) (row : Row)
+        → place_all front before ≡ Ok placed → place_all (front ++ s ∷ later) before ≡ Ok whole
+        → instruction_of s ≡ Some row
         → StandsAt whole.sections placed.current (next_item placed) (bytes_of row) }
 {}

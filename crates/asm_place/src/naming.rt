@@ -97,7 +97,8 @@ impl SymbolUses {
         keeps: bool,
         exprs: &[Expr],
     ) -> Result<(), PlaceFault>
-        ensures { Gives self.new result (name_parts pos spot keeps (map tree_of exprs.now) self.old) }
+        ensures { Gives self.new result
+            (name_parts pos spot keeps (map tree_of exprs.now) self.old) }
     {
         self.name_trees(alloc, pos, exprs)?;
         self.name_here(pos, spot, keeps)

@@ -3,12 +3,12 @@
 ghost use Rattle.std.specs.Prelude.{◌≡◌, ◌≤◌, length, map, IsTrue};
 ghost use Rattle.asm_base.specs.Tokens.{spelled};
 ghost use Rattle.asm_place.specs.Answers.{GivesBy};
-ghost use Rattle.std.specs.List.{position_or_len};
-ghost use Rattle.asm_place.specs.Operands.{is_name, names_symbol, is_mark, is_comma, checked_name, symbol_name, name_of, string_of};
+ghost use Rattle.std.specs.List.{list_any, position_or_len};
+ghost use Rattle.asm_place.specs.Operands.{is_name, is_dot, begins_with_place, names_symbol, is_mark, is_comma, checked_name, symbol_name, name_of, string_of};
 ghost use Rattle.asm_place.specs.Placing.{is_assignment, begins_with_dot, is_number, begins_with_label};
 
-use crate::place_faults::PlaceFault;
-use asm_base::{StatementFault, Token, TokenKind, string_value};
+use crate::place_faults::{PlaceFault, PlacingFault};
+use asm_base::{Token, TokenKind, string_value};
 use asm_expr::{all_digits, between_quotes, is_symbol_name};
 use std::alloc::Global;
 
@@ -87,6 +87,35 @@ pub(crate) fn names_symbol(token: &Token) -> bool
     matches!(token.kind, TokenKind::Name | TokenKind::String)
 }
 
+/// Whether the token is `.` without quotes, which names no symbol.
+pub(crate) fn is_dot(token: &Token) -> bool
+    ensures { result ≡ is_dot (spelled token.now) }
+{
+    is_name(token) && token.bytes == b".".as_slice()
+}
+
+/// Whether the first token is `.` without quotes.
+pub(crate) fn begins_with_place(tokens: &[Token]) -> bool
+    ensures { result ≡ begins_with_place (map spelled tokens.now) }
+{
+    match tokens.first() {
+        Some(token) => is_dot(token),
+        None => false,
+    }
+}
+
+/// Whether one of the tokens is `.` without quotes.
+pub(crate) fn has_dot(tokens: &[Token]) -> bool
+    ensures { result ≡ list_any is_dot (map spelled tokens.now) }
+{
+    for token in tokens {
+        if is_dot(token) {
+            return true;
+        }
+    }
+    false
+}
+
 /// Whether the token is this one mark of punctuation.
 pub(crate) fn is_mark(token: &Token, mark: u8) -> bool
     ensures { result ≡ is_mark mark (spelled token.now) }
@@ -96,13 +125,13 @@ pub(crate) fn is_mark(token: &Token, mark: u8) -> bool
 
 /// The name, if a string table can hold it.
 #[tactic(auto, unfolding(crate::specs::Operands::checked_name))]
-fn checked_name(name: Vec<u8>) -> Result<Vec<u8>, PlaceFault>
+pub(crate) fn checked_name(name: Vec<u8>) -> Result<Vec<u8>, PlaceFault>
     ensures { GivesBy (λ checked. checked.items) result (checked_name name.items) }
 {
     if is_symbol_name(&name) {
         Ok(name)
     } else {
-        Err(PlaceFault::Source(StatementFault::BadOperand))
+        Err(PlaceFault::Source(PlacingFault::BadOperand))
     }
 }
 
@@ -114,7 +143,7 @@ pub(crate) fn symbol_name(alloc: Global, token: &Token) -> Result<Vec<u8>, Place
     match token.kind {
         TokenKind::Name => Ok(Vec::from_slice(alloc, token.bytes)?),
         TokenKind::String => checked_name(string_value(alloc, between_quotes(token.bytes))?),
-        _ => Err(PlaceFault::Source(StatementFault::BadOperand)),
+        _ => Err(PlaceFault::Source(PlacingFault::BadOperand)),
     }
 }
 
@@ -139,7 +168,7 @@ pub(crate) fn begins_with_dot(name: &[u8]) -> bool
 }
 
 /// Whether the token is decimal digits, which name a numeric label.
-fn is_number(token: &Token) -> bool
+pub(crate) fn is_number(token: &Token) -> bool
     ensures { result ≡ is_number (spelled token.now) }
 {
     token.kind == TokenKind::Digits && all_digits(10, token.bytes)
@@ -163,7 +192,7 @@ pub(crate) fn name_of(alloc: Global, operand: &[Token]) -> Result<Vec<u8>, Place
 {
     match operand {
         [token] => symbol_name(alloc, token),
-        _ => Err(PlaceFault::Source(StatementFault::BadOperand)),
+        _ => Err(PlaceFault::Source(PlacingFault::BadOperand)),
     }
 }
 
@@ -176,6 +205,6 @@ pub(crate) fn string_of(alloc: Global, operand: &[Token]) -> Result<Vec<u8>, Pla
         [token] if token.kind == TokenKind::String => {
             Ok(string_value(alloc, between_quotes(token.bytes))?)
         }
-        _ => Err(PlaceFault::Source(StatementFault::BadOperand)),
+        _ => Err(PlaceFault::Source(PlacingFault::BadOperand)),
     }
 }

@@ -1,28 +1,51 @@
 //! Why a step of the placing ends without its result.
 
 ghost use Rattle.std.specs.Prelude.{◌≡◌};
-ghost use Rattle.asm_place.specs.declared.place_faults.PlaceFault.TheVariants.{Source, NoMemory};
+ghost use Rattle.asm_place.specs.declared.place_faults.PlaceFault.TheVariants.{NoMemory};
 ghost use Rattle.asm_place.specs.declared.place_faults.LocatedFault.TheVariants as stop;
 
-use asm_base::{Fault, Pos, StatementFault};
+use asm_base::{Fault, Pos};
 use asm_expr::ExprFault;
 use asm_frags::FragFault;
 use asm_symbols::SymFault;
 use std::alloc::{AllocError, AllocFailed};
 
-/// A fault of the source, or want of memory.
-#[derive(Drop)]
-pub(crate) enum PlaceFault {
-    Source(StatementFault),
-    NoMemory,
+/// A fault of a statement that placing answers.
+#[derive(Clone, Copy, Drop)]
+pub enum PlacingFault {
+    /// An operand or a closing parenthesis is missing.
+    BadExpression,
+    /// A number is above 2^64 - 1.
+    NumberTooWide,
+    /// More than 64 parentheses and prefix operators are open, or the tree is higher than 256.
+    ExpressionTooDeep,
+    /// The right side of `/` or `%` is 0.
+    DivisionByZero,
+    /// A value is needed where it is not known.
+    ValueNotKnown,
+    /// An operator other than `+` and `-` has an operand that is no constant.
+    NotASumOfSymbols,
+    /// No instruction has this name.
+    UnknownMnemonic,
+    /// No directive has this name.
+    UnknownDirective,
+    /// An operand has not its form, is missing, or is one too many.
+    BadOperand,
+    /// A number is outside its range.
+    OutOfRange,
+    /// A section is used against its flags or its type.
+    BadSection,
+    /// A symbol is defined that is defined already.
+    SymbolAlreadyDefined,
+    /// A symbol is used in a way that its other uses rule out.
+    BadSymbolUse,
 }
 
-impl From<StatementFault> for PlaceFault {
-    ghost from_gives = { λ f e. e ≡ Source f };
-
-    fn from(fault: StatementFault) -> PlaceFault {
-        PlaceFault::Source(fault)
-    }
+/// Why a step refuses a statement: a fault of the source, or want of memory.
+#[derive(Drop)]
+pub(crate) enum PlaceFault {
+    Source(PlacingFault),
+    NoMemory,
 }
 
 impl From<ExprFault> for PlaceFault {
@@ -32,12 +55,12 @@ impl From<ExprFault> for PlaceFault {
 
     fn from(fault: ExprFault) -> PlaceFault {
         match fault {
-            ExprFault::BadExpression => PlaceFault::Source(StatementFault::BadExpression),
-            ExprFault::NumberTooWide => PlaceFault::Source(StatementFault::NumberTooWide),
-            ExprFault::ExpressionTooDeep => PlaceFault::Source(StatementFault::ExpressionTooDeep),
-            ExprFault::DivisionByZero => PlaceFault::Source(StatementFault::DivisionByZero),
-            ExprFault::ValueNotKnown => PlaceFault::Source(StatementFault::ValueNotKnown),
-            ExprFault::NotASumOfSymbols => PlaceFault::Source(StatementFault::NotASumOfSymbols),
+            ExprFault::BadExpression => PlaceFault::Source(PlacingFault::BadExpression),
+            ExprFault::NumberTooWide => PlaceFault::Source(PlacingFault::NumberTooWide),
+            ExprFault::ExpressionTooDeep => PlaceFault::Source(PlacingFault::ExpressionTooDeep),
+            ExprFault::DivisionByZero => PlaceFault::Source(PlacingFault::DivisionByZero),
+            ExprFault::ValueNotKnown => PlaceFault::Source(PlacingFault::ValueNotKnown),
+            ExprFault::NotASumOfSymbols => PlaceFault::Source(PlacingFault::NotASumOfSymbols),
             ExprFault::NoMemory => PlaceFault::NoMemory,
         }
     }
@@ -51,9 +74,9 @@ impl From<SymFault> for PlaceFault {
     fn from(fault: SymFault) -> PlaceFault {
         match fault {
             SymFault::SymbolAlreadyDefined => {
-                PlaceFault::Source(StatementFault::SymbolAlreadyDefined)
+                PlaceFault::Source(PlacingFault::SymbolAlreadyDefined)
             }
-            SymFault::BadSymbolUse => PlaceFault::Source(StatementFault::BadSymbolUse),
+            SymFault::BadSymbolUse => PlaceFault::Source(PlacingFault::BadSymbolUse),
             SymFault::NoMemory => PlaceFault::NoMemory,
         }
     }
@@ -66,7 +89,7 @@ impl From<FragFault> for PlaceFault {
 
     fn from(fault: FragFault) -> PlaceFault {
         match fault {
-            FragFault::BadSection => PlaceFault::Source(StatementFault::BadSection),
+            FragFault::BadSection => PlaceFault::Source(PlacingFault::BadSection),
             FragFault::NoMemory => PlaceFault::NoMemory,
         }
     }

@@ -1,18 +1,20 @@
 //! Placing one statement: its labels, and the assignment, directive or instruction behind them.
 
-ghost use Rattle.std.specs.Prelude.{◌≡◌};
-ghost use Rattle.asm_place.specs.Placing.{initial_number};
+ghost use Rattle.std.specs.Prelude.{◌≡◌, map};
+ghost use Rattle.asm_base.specs.Tokens.{spelled};
+ghost use Rattle.asm_place.specs.Placing.{initial_number, is_too_wide, has_wide_label};
 
 use crate::assemblers::Assembler;
 use crate::directives::{Directive, InitialSection, directive_of};
 use crate::instructions::{Row, find_row, put_instruction};
 use crate::operands::{
-    begins_assignment, begins_with_dot, begins_with_label, is_name, names_symbol, symbol_name,
+    begins_assignment, begins_with_dot, begins_with_label, is_dot, is_name, is_number,
+    names_symbol, symbol_name,
 };
-use crate::place_faults::PlaceFault;
+use crate::place_faults::{PlaceFault, PlacingFault};
 use crate::tables::SymbolUses;
 use crate::texts::plain_item;
-use asm_base::{Pos, StatementFault, Text, Token, TokenKind};
+use asm_base::{Pos, Text, Token, TokenKind};
 use asm_expr::{Name, decimal_number};
 use asm_symbols::{Definition, SymId};
 use std::alloc::Global;
@@ -28,6 +30,27 @@ fn initial_number(initial: InitialSection) -> u32
     }
 }
 
+/// Whether the token is a number above 2^64 - 1.
+fn is_too_wide(token: &Token) -> bool
+    ensures { result ≡ is_too_wide (spelled token.now) }
+{
+    is_number(token) && decimal_number(token.bytes).is_err()
+}
+
+/// Whether the number of one of the labels in front is too wide.
+fn has_wide_label(tokens: &[Token]) -> bool
+    ensures { result ≡ has_wide_label (map spelled tokens.now) }
+{
+    let mut at = 0;
+    'labels: while begins_with_label(&tokens[at..]) {
+        if is_too_wide(&tokens[at]) {
+            return true;
+        }
+        at += 2;
+    }
+    false
+}
+
 impl SymbolUses {
     ghost use Rattle.std.specs.Prelude.{◌≡◌, ◌<◌, length, IfOk};
     ghost use Rattle.asm_base.specs.Tokens.{spelled};
@@ -37,7 +60,8 @@ impl SymbolUses {
     /// The symbol of a label, by its token: that of the next instance of a number.
     #[tactic(auto, unfolding(crate::specs::Placing::label_symbol))]
     fn label_symbol(&mut self, alloc: Global, pos: Pos, token: &Token) -> Result<SymId, PlaceFault>
-        ensures gives { GivesNumber self.new result (label_symbol pos (spelled token.now) self.old) }
+        ensures gives { GivesNumber self.new result
+            (label_symbol pos (spelled token.now) self.old) }
         ensures there { IfOk result (λ id. id < length self.new.symbols.symbols) }
     {
         if token.kind == TokenKind::Digits {
@@ -58,16 +82,18 @@ impl Assembler {
     ghost use Rattle.asm_place.specs.State.{push_item};
     ghost use Rattle.asm_place.specs.Idents.{plain_item};
     ghost use Rattle.asm_place.specs.Rows.{bytes_of};
-    ghost use Rattle.asm_place.specs.Placing.{bare, place_by, place_directive, place_instruction, place_body, place_label, place_unlabelled, place_tokens};
-    ghost use Rattle.asm_place.specs.PlacedBy.{placed_by};
+    ghost use Rattle.asm_place.specs.Placing.{bare, place_by, place_directive, place_instruction, place_body, place_label, place_unlabelled, place_labelled, place_tokens};
+    ghost use Rattle.asm_place.specs.PlacedBy.{placed_by, PlacesBy};
 
     /// A directive that stands alone, and lets items go into the section of this number.
     fn place_change(&mut self, number: u32, tokens: &[Token]) -> Result<(), PlaceFault>
-        ensures placed { Gives (placed_by self.new) result (bare (map spelled tokens.now) (Ok (with_current number (placed_by self.old)))) }
+        ensures placed { PlacesBy
+            (λ placed. bare (map spelled tokens.now) (Ok (with_current number placed)))
+            self.old self.new result }
         ensures notes { self.new.notes ≡ self.old.notes }
     {
         if !tokens.is_empty() {
-            return Err(PlaceFault::Source(StatementFault::BadOperand));
+            return Err(PlaceFault::Source(PlacingFault::BadOperand));
         }
         self.set_current(number);
         Ok(())
@@ -75,11 +101,12 @@ impl Assembler {
 
     /// `.popsection`
     fn place_popped(&mut self, tokens: &[Token]) -> Result<(), PlaceFault>
-        ensures placed { Gives (placed_by self.new) result (bare (map spelled tokens.now) (popped (placed_by self.old))) }
+        ensures placed { PlacesBy (λ placed. bare (map spelled tokens.now) (popped placed))
+            self.old self.new result }
         ensures notes { self.new.notes ≡ self.old.notes }
     {
         if !tokens.is_empty() {
-            return Err(PlaceFault::Source(StatementFault::BadOperand));
+            return Err(PlaceFault::Source(PlacingFault::BadOperand));
         }
         self.pop_section()
     }
@@ -92,7 +119,8 @@ impl Assembler {
         pos: Pos,
         tokens: &[Token],
     ) -> Result<(), PlaceFault>
-        ensures placed { Gives (placed_by self.new) result (place_by directive pos (map spelled tokens.now) (placed_by self.old)) }
+        ensures placed { PlacesBy (place_by directive pos (map spelled tokens.now))
+            self.old self.new result }
         ensures notes { KeepsNotes result self.old.notes self.new.notes }
     {
         match directive {
@@ -120,18 +148,20 @@ impl Assembler {
     /// A directive by its name.
     #[tactic(auto, unfolding(crate::specs::Placing::place_directive))]
     fn place_directive(&mut self, pos: Pos, name: &[u8], tokens: &[Token]) -> Result<(), PlaceFault>
-        ensures placed { Gives (placed_by self.new) result (place_directive pos name.now (map spelled tokens.now) (placed_by self.old)) }
+        ensures placed { PlacesBy (place_directive pos name.now (map spelled tokens.now))
+            self.old self.new result }
         ensures notes { KeepsNotes result self.old.notes self.new.notes }
     {
         match directive_of(name) {
             Some(directive) => self.place_by(directive, pos, tokens),
-            None => Err(PlaceFault::Source(StatementFault::UnknownDirective)),
+            None => Err(PlaceFault::Source(PlacingFault::UnknownDirective)),
         }
     }
 
     /// An instruction of this row.
     fn put_row(&mut self, pos: Pos, row: &Row) -> Result<(), PlaceFault>
-        ensures placed { Gives (placed_by self.new) result (push_item pos (plain_item (bytes_of row.now)) (placed_by self.old)) }
+        ensures placed { PlacesBy (push_item pos (plain_item (bytes_of row.now)))
+            self.old self.new result }
         ensures notes { self.new.notes ≡ self.old.notes }
     {
         let mut bytes = Vec::new(self.alloc);
@@ -148,14 +178,15 @@ impl Assembler {
         name: &[u8],
         operands: &[Token],
     ) -> Result<(), PlaceFault>
-        ensures placed { Gives (placed_by self.new) result (place_instruction pos name.now (map spelled operands.now) (placed_by self.old)) }
+        ensures placed { PlacesBy (place_instruction pos name.now (map spelled operands.now))
+            self.old self.new result }
         ensures notes { self.new.notes ≡ self.old.notes }
     {
         match find_row(name) {
-            None => Err(PlaceFault::Source(StatementFault::UnknownMnemonic)),
+            None => Err(PlaceFault::Source(PlacingFault::UnknownMnemonic)),
             Some(row) => {
                 if !operands.is_empty() {
-                    return Err(PlaceFault::Source(StatementFault::BadOperand));
+                    return Err(PlaceFault::Source(PlacingFault::BadOperand));
                 }
                 self.put_row(pos, row)
             }
@@ -165,13 +196,14 @@ impl Assembler {
     /// What stands behind the labels: an assignment, a directive or an instruction.
     #[tactic(auto, unfolding(crate::specs::Placing::place_body))]
     fn place_body(&mut self, pos: Pos, first: &Token, rest: &[Token]) -> Result<(), PlaceFault>
-        ensures placed { Gives (placed_by self.new) result (place_body pos (spelled first.now) (map spelled rest.now) (placed_by self.old)) }
+        ensures placed { PlacesBy (place_body pos (spelled first.now) (map spelled rest.now))
+            self.old self.new result }
         ensures notes { KeepsNotes result self.old.notes self.new.notes }
     {
         if names_symbol(first) && begins_assignment(rest) {
             self.place_assignment(pos, first, &rest[1..])
         } else if !is_name(first) {
-            Err(PlaceFault::Source(StatementFault::UnknownMnemonic))
+            Err(PlaceFault::Source(PlacingFault::UnknownMnemonic))
         } else if begins_with_dot(first.bytes) {
             self.place_directive(pos, first.bytes, rest)
         } else {
@@ -182,18 +214,20 @@ impl Assembler {
     /// A label, by its token: it stands where the next item goes.
     #[tactic(auto, unfolding(crate::specs::Placing::place_label))]
     fn place_label(&mut self, pos: Pos, token: &Token) -> Result<(), PlaceFault>
-        ensures placed { Gives (placed_by self.new) result (place_label pos (spelled token.now) (placed_by self.old)) }
+        ensures placed { PlacesBy (place_label pos (spelled token.now)) self.old self.new result }
         ensures notes { self.new.notes ≡ self.old.notes }
     {
         let spot = self.here();
         let id = self.table.label_symbol(self.alloc, pos, token)?;
-        self.table.define(id, Definition::Label(spot))
+        self.table.define(id, Definition::Label(spot))?;
+        self.unless_dot(is_dot(token))
     }
 
     /// What stands behind the labels, where anything does.
     #[tactic(auto, unfolding(crate::specs::Placing::place_unlabelled))]
     fn place_unlabelled(&mut self, pos: Pos, tokens: &[Token]) -> Result<(), PlaceFault>
-        ensures placed { Gives (placed_by self.new) result (place_unlabelled pos (map spelled tokens.now) (placed_by self.old)) }
+        ensures placed { PlacesBy (place_unlabelled pos (map spelled tokens.now))
+            self.old self.new result }
         ensures notes { KeepsNotes result self.old.notes self.new.notes }
     {
         match tokens.split_first() {
@@ -203,8 +237,9 @@ impl Assembler {
     }
 
     /// The labels one after the other, and what stands behind them.
-    pub(crate) fn place_tokens(&mut self, pos: Pos, tokens: &[Token]) -> Result<(), PlaceFault>
-        ensures placed { Gives (placed_by self.new) result (place_tokens pos (map spelled tokens.now) (placed_by self.old)) }
+    fn place_labelled(&mut self, pos: Pos, tokens: &[Token]) -> Result<(), PlaceFault>
+        ensures placed { PlacesBy (place_labelled pos (map spelled tokens.now))
+            self.old self.new result }
         ensures notes { KeepsNotes result self.old.notes self.new.notes }
     {
         let mut at = 0;
@@ -213,5 +248,18 @@ impl Assembler {
             at += 2;
         }
         self.place_unlabelled(pos, &tokens[at..])
+    }
+
+    /// A statement: the numbers of all its labels are read before one is placed.
+    #[tactic(auto, unfolding(crate::specs::Placing::place_tokens))]
+    pub(crate) fn place_tokens(&mut self, pos: Pos, tokens: &[Token]) -> Result<(), PlaceFault>
+        ensures placed { PlacesBy (place_tokens pos (map spelled tokens.now))
+            self.old self.new result }
+        ensures notes { KeepsNotes result self.old.notes self.new.notes }
+    {
+        if has_wide_label(tokens) {
+            return Err(PlaceFault::Source(PlacingFault::NumberTooWide));
+        }
+        self.place_labelled(pos, tokens)
     }
 }

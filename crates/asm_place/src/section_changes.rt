@@ -11,13 +11,13 @@ ghost use Rattle.asm_place.specs.Answers.{GivesNumber};
 
 use crate::assemblers::Assembler;
 use crate::operands::Operands;
-use crate::place_faults::PlaceFault;
+use crate::place_faults::{PlaceFault, PlacingFault};
 use crate::section_defaults::default_header;
 use crate::section_words::{SectionWords, said_flags, said_kind, says_merge, section_words};
 use crate::spaces::is_negative;
 use crate::stacks::Entered;
 use crate::up_to_three::{constant_if, form_if};
-use asm_base::{Pos, StatementFault, Text, Token};
+use asm_base::{Pos, Text, Token};
 use asm_expr::Expr;
 use asm_frags::{FragFault, Loose, Section, SectionFlags, Sections};
 use bitflags::Flags;
@@ -28,7 +28,8 @@ const MOST_NAME: usize = 0x1_0000;
 
 /// The section of this name, where there is one.
 fn section_named<'a>(sections: &'a Sections, name: &[u8]) -> Option<&'a Section<Loose>>
-    ensures { option_map (λ section. section.now) result ≡ spec.section_named sections.now name.now }
+    ensures { option_map (λ section. section.now) result
+        ≡ spec.section_named sections.now name.now }
 {
     match sections.find(name) {
         Some(number) => Some(sections.section(number)),
@@ -38,7 +39,8 @@ fn section_named<'a>(sections: &'a Sections, name: &[u8]) -> Option<&'a Section<
 
 /// Flags that are not said are those of the section that is there, or else those of its name.
 fn flags_by(flags: Option<u64>, there: Option<&Section<Loose>>, name: &[u8]) -> u64
-    ensures { result ≡ spec.flags_by flags (option_map (λ section. section.now) there.entry) name.now }
+    ensures { result
+        ≡ spec.flags_by flags (option_map (λ section. section.now) there.entry) name.now }
 {
     match (flags, there) {
         (Some(flags), _) => flags,
@@ -49,7 +51,8 @@ fn flags_by(flags: Option<u64>, there: Option<&Section<Loose>>, name: &[u8]) -> 
 
 /// A type that is not said is that of the section that is there, or else that of its name.
 fn kind_by(kind: Option<u32>, there: Option<&Section<Loose>>, name: &[u8]) -> u32
-    ensures { result ≡ spec.kind_by kind (option_map (λ section. section.now) there.entry) name.now }
+    ensures { result
+        ≡ spec.kind_by kind (option_map (λ section. section.now) there.entry) name.now }
 {
     match (kind, there) {
         (Some(kind), _) => kind,
@@ -65,7 +68,7 @@ fn merge_size(merge: bool, size: Option<u64>) -> Result<u64, PlaceFault>
     match (merge, size) {
         (false, _) => Ok(0),
         (true, Some(size)) if size != 0 => Ok(size),
-        (true, _) => Err(PlaceFault::Source(StatementFault::BadSection)),
+        (true, _) => Err(PlaceFault::Source(PlacingFault::BadSection)),
     }
 }
 
@@ -75,7 +78,9 @@ fn entry_size_by(
     size: Option<u64>,
     there: Option<&Section<Loose>>,
 ) -> Result<u64, PlaceFault>
-    ensures { GivesBy (λ size. size) result (spec.entry_size_by (option_map (λ letters. letters.items) letters.now) size (option_map (λ section. section.now) there.entry)) }
+    ensures { GivesBy (λ size. size) result
+        (spec.entry_size_by (option_map (λ letters. letters.items) letters.now) size
+        (option_map (λ section. section.now) there.entry)) }
 {
     match (letters, there) {
         (Some(_), _) => merge_size(says_merge(letters), size),
@@ -89,16 +94,15 @@ fn said_size(size: Option<u64>) -> Result<Option<u64>, PlaceFault>
     ensures { GivesBy (λ size. size) result (spec.said_size size) }
 {
     match size {
-        Some(number) if is_negative(number) => {
-            Err(PlaceFault::Source(StatementFault::OutOfRange))
-        }
+        Some(number) if is_negative(number) => { Err(PlaceFault::Source(PlacingFault::OutOfRange)) }
         _ => Ok(size),
     }
 }
 
 /// The flags that are said, if any are.
 fn flags_if(letters: &Option<Vec<u8>>) -> Result<Option<u64>, PlaceFault>
-    ensures { GivesBy (λ flags. flags) result (if_some words.said_flags (option_map (λ letters. letters.items) letters.now)) }
+    ensures { GivesBy (λ flags. flags) result
+        (if_some words.said_flags (option_map (λ letters. letters.items) letters.now)) }
 {
     match letters {
         Some(letters) => Ok(Some(said_flags(letters)?)),
@@ -108,7 +112,8 @@ fn flags_if(letters: &Option<Vec<u8>>) -> Result<Option<u64>, PlaceFault>
 
 /// The type that is said, if one is.
 fn kind_if(name: &Option<Vec<u8>>) -> Result<Option<u32>, PlaceFault>
-    ensures { GivesBy (λ kind. kind) result (if_some words.said_kind (option_map (λ name. name.items) name.now)) }
+    ensures { GivesBy (λ kind. kind) result
+        (if_some words.said_kind (option_map (λ name. name.items) name.now)) }
 {
     match name {
         Some(name) => Ok(Some(said_kind(name)?)),
@@ -131,7 +136,8 @@ fn header_of(
     words: &SectionWords,
     size: Option<u64>,
 ) -> Result<Header, PlaceFault>
-    ensures { GivesBy (λ header. header) result (spec.header_by sections.now (words_in words.now) size) }
+    ensures { GivesBy (λ header. header) result
+        (spec.header_by sections.now (words_in words.now) size) }
 {
     let there = section_named(sections, &words.name);
     let flags = flags_if(&words.flags)?;
@@ -152,7 +158,7 @@ fn enter_short(sections: &mut Sections, name: Text, header: Header) -> Result<u3
     let flags = SectionFlags::from_bits_retain(header.flags);
     match sections.enter(name, flags, header.kind, header.entry_size) {
         Ok(number) => Ok(number),
-        Err(FragFault::BadSection) => Err(PlaceFault::Source(StatementFault::BadSection)),
+        Err(FragFault::BadSection) => Err(PlaceFault::Source(PlacingFault::BadSection)),
         Err(FragFault::NoMemory) => Err(PlaceFault::NoMemory),
     }
 }
@@ -168,7 +174,7 @@ pub(crate) fn enter(
     ensures { GivesNumber sections.new result (spec.entered_as sections.old name.now header) }
 {
     if name.len() > MOST_NAME {
-        return Err(PlaceFault::Source(StatementFault::BadSection));
+        return Err(PlaceFault::Source(PlacingFault::BadSection));
     }
     let text = Text::new(Vec::from_slice(alloc, name)?);
     enter_short(sections, text, header)
@@ -176,7 +182,8 @@ pub(crate) fn enter(
 
 /// The expressions of an operand that may be missing.
 fn option_exprs(alloc: Global, expr: Option<Expr>) -> Result<Vec<Expr>, PlaceFault>
-    ensures { GivesBy (λ list. map tree_of list.items) result (Ok (spec.option_trees (option_map tree_of expr))) }
+    ensures { GivesBy (λ list. map tree_of list.items) result
+        (Ok (spec.option_trees (option_map tree_of expr))) }
 {
     let mut list = Vec::new(alloc);
     if let Some(expr) = expr {
@@ -191,7 +198,7 @@ impl Assembler {
     ghost use Rattle.asm_place.specs.Answers.{Gives};
     ghost use Rattle.asm_place.specs.SaidWords.{words_in};
     ghost use Rattle.asm_place.specs.SectionChanges.{with_current, enter_words, place_section, place_pushed, popped};
-    ghost use Rattle.asm_place.specs.PlacedBy.{placed_by};
+    ghost use Rattle.asm_place.specs.PlacedBy.{placed_by, PlacesBy};
 
     /// Items go into the section of this number from now on.
     pub(crate) fn set_current(&mut self, number: u32)
@@ -205,7 +212,7 @@ impl Assembler {
     /// Items go into the section of these words.
     #[tactic(auto, unfolding(crate::specs::SectionChanges::enter_words))]
     fn enter_words(&mut self, pos: Pos, words: SectionWords) -> Result<(), PlaceFault>
-        ensures placed { Gives (placed_by self.new) result (enter_words pos (words_in words) (placed_by self.old)) }
+        ensures placed { PlacesBy (enter_words pos (words_in words)) self.old self.new result }
         ensures notes { self.new.notes ≡ self.old.notes }
     {
         let form = form_if(self.alloc, self.view(), &words.entry_size)?;
@@ -221,7 +228,8 @@ impl Assembler {
     /// `.section`
     #[tactic(auto, unfolding(crate::specs::SectionChanges::place_section))]
     pub(crate) fn place_section(&mut self, pos: Pos, tokens: &[Token]) -> Result<(), PlaceFault>
-        ensures placed { Gives (placed_by self.new) result (place_section pos (map spelled tokens.now) (placed_by self.old)) }
+        ensures placed { PlacesBy (place_section pos (map spelled tokens.now))
+            self.old self.new result }
         ensures notes { self.new.notes ≡ self.old.notes }
     {
         let words = section_words(self.alloc, &mut Operands::new(tokens))?;
@@ -231,7 +239,8 @@ impl Assembler {
     /// `.pushsection`: `.popsection` comes back to where this stands.
     #[tactic(auto, unfolding(crate::specs::SectionChanges::place_pushed))]
     pub(crate) fn place_pushed(&mut self, pos: Pos, tokens: &[Token]) -> Result<(), PlaceFault>
-        ensures placed { Gives (placed_by self.new) result (place_pushed pos (map spelled tokens.now) (placed_by self.old)) }
+        ensures placed { PlacesBy (place_pushed pos (map spelled tokens.now))
+            self.old self.new result }
         ensures notes { self.new.notes ≡ self.old.notes }
     {
         let entered = Entered {
@@ -246,7 +255,7 @@ impl Assembler {
     /// `.popsection`
     #[tactic(auto, unfolding(crate::specs::SectionChanges::popped))]
     pub(crate) fn pop_section(&mut self) -> Result<(), PlaceFault>
-        ensures placed { Gives (placed_by self.new) result (popped (placed_by self.old)) }
+        ensures placed { PlacesBy popped self.old self.new result }
         ensures notes { self.new.notes ≡ self.old.notes }
     {
         match self.stack.pop() {
@@ -255,7 +264,7 @@ impl Assembler {
                 self.previous = entered.previous;
                 Ok(())
             }
-            None => Err(PlaceFault::Source(StatementFault::BadSection)),
+            None => Err(PlaceFault::Source(PlacingFault::BadSection)),
         }
     }
 }

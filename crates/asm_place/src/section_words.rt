@@ -3,16 +3,18 @@
 ghost use Rattle.std.specs.Prelude.{◌≡◌, ◌≤◌, map, option_map, Ok};
 ghost use Rattle.std.specs.List.{list_all};
 ghost use Rattle.asm_base.specs.Tokens.{spelled};
+ghost use Rattle.asm_expr.specs.Trees.{tree_of};
 ghost use Rattle.asm_place.specs.Answers.{GivesBy, GivesAnd};
-ghost use Rattle.asm_place.specs.OperandParts.{operands_left};
+ghost use Rattle.asm_place.specs.OperandParts.{operands_left, Takes};
 ghost use Rattle.asm_place.specs.Operands.{name_of, string_of};
 ghost use Rattle.asm_place.specs.SectionWords as spec;
 ghost use Rattle.asm_place.specs.SaidWords.{words_in};
 
-use crate::operands::{Operands, is_mark, is_name, name_of, string_of, symbol_name};
-use crate::place_faults::PlaceFault;
-use crate::up_to_three::{next_tree_if, no_more};
-use asm_base::{StatementFault, Token};
+use crate::expressions::expression_of;
+use crate::operands::{Operands, checked_name, is_mark, is_name, name_of, string_of};
+use crate::place_faults::{PlaceFault, PlacingFault};
+use crate::up_to_three::no_more;
+use asm_base::{Token, TokenKind};
 use asm_expr::Expr;
 use asm_frags::{
     SHT_FINI_ARRAY, SHT_INIT_ARRAY, SHT_NOBITS, SHT_NOTE, SHT_PREINIT_ARRAY, SHT_PROGBITS,
@@ -37,38 +39,48 @@ fn follows(first: &Token, second: &Token) -> bool
     second.start >= first.start && second.start - first.start == first.bytes.len()
 }
 
-/// Whether `-` and a name stand behind a name, without blanks between.
-fn is_part(last: &Token, dash: &Token, name: &Token) -> bool
-    ensures { result ≡ spec.is_part (spelled last.now) (spelled dash.now) (spelled name.now) }
+/// Whether the tokens stand side by side, without blanks between.
+fn are_adjacent(tokens: &[Token]) -> bool
+    ensures { result ≡ spec.are_adjacent (map spelled tokens.now) }
 {
-    is_mark(dash, b'-') && follows(last, dash) && is_name(name) && follows(dash, name)
-}
-
-/// Whether such parts stand behind a name, and nothing else.
-#[tactic(auto, unfolding(crate::specs::SectionWords::goes_on))]
-fn goes_on(last: &Token, tokens: &[Token]) -> bool
-    ensures { result ≡ spec.goes_on (spelled last.now) (map spelled tokens.now) }
-{
-    match tokens {
-        [] => true,
-        [_] => false,
-        [dash, name, rest @ ..] => is_part(last, dash, name) && goes_on(name, rest),
+    for at in 1..tokens.len() {
+        if !follows(&tokens[at - 1], &tokens[at]) {
+            return false;
+        }
     }
+    true
 }
 
-/// Whether these are names with `-` between.
+/// Whether the token is name bytes, digits among them, or `-`.
+fn is_name_part(token: &Token) -> bool
+    ensures { result ≡ spec.is_name_part (spelled token.now) }
+{
+    matches!(token.kind, TokenKind::Name | TokenKind::Digits) || is_mark(token, b'-')
+}
+
+/// Whether all tokens are parts of a section's name without quotes.
+fn are_name_parts(tokens: &[Token]) -> bool
+    ensures { result ≡ list_all spec.is_name_part (map spelled tokens.now) }
+{
+    for token in tokens {
+        if !is_name_part(token) {
+            return false;
+        }
+    }
+    true
+}
+
+/// Whether these are a section's name without quotes: one part at least, and no blanks between.
 fn is_joined(tokens: &[Token]) -> bool
     ensures { result ≡ spec.is_joined (map spelled tokens.now) }
 {
-    match tokens.split_first() {
-        Some((first, rest)) => is_name(first) && goes_on(first, rest),
-        None => false,
-    }
+    !tokens.is_empty() && are_name_parts(tokens) && are_adjacent(tokens)
 }
 
 /// The bytes of these tokens, one after the other.
 fn joined_bytes(alloc: Global, tokens: &[Token]) -> Result<Vec<u8>, PlaceFault>
-    ensures { GivesBy (λ bytes. bytes.items) result (Ok (spec.joined_bytes (map spelled tokens.now))) }
+    ensures { GivesBy (λ bytes. bytes.items) result
+        (Ok (spec.joined_bytes (map spelled tokens.now))) }
 {
     let mut bytes = Vec::new(alloc);
     for token in tokens {
@@ -77,26 +89,15 @@ fn joined_bytes(alloc: Global, tokens: &[Token]) -> Result<Vec<u8>, PlaceFault>
     Ok(bytes)
 }
 
-/// The name that these parts are.
-fn joined_name(alloc: Global, tokens: &[Token]) -> Result<Vec<u8>, PlaceFault>
-    ensures { GivesBy (λ name. name.items) result (spec.joined_name (map spelled tokens.now)) }
-{
-    if is_joined(tokens) {
-        joined_bytes(alloc, tokens)
-    } else {
-        Err(PlaceFault::Source(StatementFault::BadOperand))
-    }
-}
-
 /// The name of a section, quoted or not.
 #[tactic(auto, unfolding(crate::specs::SectionWords::section_name))]
 fn section_name(alloc: Global, operand: &[Token]) -> Result<Vec<u8>, PlaceFault>
     ensures { GivesBy (λ name. name.items) result (spec.section_name (map spelled operand.now)) }
 {
-    match operand {
-        [] => Err(PlaceFault::Source(StatementFault::BadOperand)),
-        [token] => symbol_name(alloc, token),
-        _ => joined_name(alloc, operand),
+    if is_joined(operand) {
+        joined_bytes(alloc, operand)
+    } else {
+        checked_name(string_of(alloc, operand)?)
     }
 }
 
@@ -116,57 +117,78 @@ fn type_name(alloc: Global, operand: &[Token]) -> Result<Vec<u8>, PlaceFault>
         [mark, name] if begins_type(mark) && is_name(name) => {
             Ok(Vec::from_slice(alloc, name.bytes)?)
         }
-        _ => Err(PlaceFault::Source(StatementFault::BadOperand)),
+        _ => Err(PlaceFault::Source(PlacingFault::BadOperand)),
     }
 }
 
 /// The next operand, which has to be the name of a section.
 fn needed_section(alloc: Global, operands: &mut Operands) -> Result<Vec<u8>, PlaceFault>
-    ensures { GivesAnd (λ name. name.items) (operands_left operands.new) result (spec.needed spec.section_name (operands_left operands.old)) }
+    ensures { Takes (λ name. name.items) (spec.needed spec.section_name)
+        operands.old operands.new result }
 {
     match operands.next() {
         Some(operand) => section_name(alloc, operand),
-        None => Err(PlaceFault::Source(StatementFault::BadOperand)),
+        None => Err(PlaceFault::Source(PlacingFault::BadOperand)),
     }
 }
 
 /// The next operand, which has to be the name of a symbol.
 pub(crate) fn needed_name(alloc: Global, operands: &mut Operands) -> Result<Vec<u8>, PlaceFault>
-    ensures { GivesAnd (λ name. name.items) (operands_left operands.new) result (spec.needed name_of (operands_left operands.old)) }
+    ensures { Takes (λ name. name.items) (spec.needed name_of) operands.old operands.new result }
 {
     match operands.next() {
         Some(operand) => name_of(alloc, operand),
-        None => Err(PlaceFault::Source(StatementFault::BadOperand)),
+        None => Err(PlaceFault::Source(PlacingFault::BadOperand)),
     }
 }
 
 /// The next operand, which has to be a string.
 pub(crate) fn needed_string(alloc: Global, operands: &mut Operands) -> Result<Vec<u8>, PlaceFault>
-    ensures { GivesAnd (λ string. string.items) (operands_left operands.new) result (spec.needed string_of (operands_left operands.old)) }
+    ensures { Takes (λ string. string.items) (spec.needed string_of)
+        operands.old operands.new result }
 {
     match operands.next() {
         Some(operand) => string_of(alloc, operand),
-        None => Err(PlaceFault::Source(StatementFault::BadOperand)),
+        None => Err(PlaceFault::Source(PlacingFault::BadOperand)),
     }
 }
 
-/// The next operand, which is a string unless it is missing or empty.
+/// The next operand, which is a string unless it is missing.
 fn string_if(alloc: Global, operands: &mut Operands) -> Result<Option<Vec<u8>>, PlaceFault>
-    ensures { GivesAnd (option_map (λ string. string.items)) (operands_left operands.new) result (spec.missing_or string_of (operands_left operands.old)) }
+    ensures { Takes (option_map (λ string. string.items)) (spec.missing_or string_of)
+        operands.old operands.new result }
 {
     match operands.next() {
-        None | Some([]) => Ok(None),
+        None => Ok(None),
         Some(operand) => Ok(Some(string_of(alloc, operand)?)),
     }
 }
 
-/// The next operand, which is a type unless it is missing or empty.
+/// The next operand, which is a type unless it is missing.
 fn type_if(alloc: Global, operands: &mut Operands) -> Result<Option<Vec<u8>>, PlaceFault>
-    ensures { GivesAnd (option_map (λ name. name.items)) (operands_left operands.new) result (spec.missing_or spec.type_name (operands_left operands.old)) }
+    ensures { Takes (option_map (λ name. name.items)) (spec.missing_or spec.type_name)
+        operands.old operands.new result }
 {
     match operands.next() {
-        None | Some([]) => Ok(None),
+        None => Ok(None),
         Some(operand) => Ok(Some(type_name(alloc, operand)?)),
+    }
+}
+
+/// The next operand, which is an expression unless it is missing, where one may stand.
+fn expression_if(
+    alloc: Global,
+    may: bool,
+    operands: &mut Operands,
+) -> Result<Option<Expr>, PlaceFault>
+    ensures { Takes (option_map tree_of) (spec.expression_if may) operands.old operands.new result }
+{
+    if !may {
+        return Ok(None);
+    }
+    match operands.next() {
+        None => Ok(None),
+        Some(operand) => Ok(Some(expression_of(alloc, operand)?)),
     }
 }
 
@@ -198,7 +220,7 @@ pub(crate) fn section_words(
     let name = needed_section(alloc, operands)?;
     let flags = string_if(alloc, operands)?;
     let kind = type_if(alloc, operands)?;
-    let entry_size = next_tree_if(alloc, says_merge(&flags), operands)?;
+    let entry_size = expression_if(alloc, says_merge(&flags), operands)?;
     no_more(
         operands,
         SectionWords {
@@ -253,7 +275,7 @@ pub(crate) fn said_flags(letters: &[u8]) -> Result<u64, PlaceFault>
     if are_flag_letters(letters) {
         Ok(letter_flags(letters))
     } else {
-        Err(PlaceFault::Source(StatementFault::BadSection))
+        Err(PlaceFault::Source(PlacingFault::BadSection))
     }
 }
 
@@ -275,6 +297,6 @@ pub(crate) fn said_kind(name: &[u8]) -> Result<u32, PlaceFault>
     } else if name == b"preinit_array".as_slice() {
         Ok(SHT_PREINIT_ARRAY)
     } else {
-        Err(PlaceFault::Source(StatementFault::BadSection))
+        Err(PlaceFault::Source(PlacingFault::BadSection))
     }
 }

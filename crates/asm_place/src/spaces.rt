@@ -6,9 +6,9 @@ ghost use Rattle.asm_place.specs.Spaces.{is_negative, space_of, units_of, unit_s
 
 use crate::assemblers::Assembler;
 use crate::operands::Operands;
-use crate::place_faults::PlaceFault;
+use crate::place_faults::{PlaceFault, PlacingFault};
 use crate::up_to_three::{listed, up_to_three_trees, up_to_three_values};
-use asm_base::{Pos, StatementFault, Token};
+use asm_base::{Pos, Token};
 use asm_expr::Expr;
 use asm_frags::{Content, Fill};
 
@@ -28,7 +28,7 @@ pub(crate) fn space_of(count: u64, value: u64) -> Result<Content, PlaceFault>
     ensures { GivesBy (λ item. item) result (space_of count value) }
 {
     if count > MOST_SPACE {
-        return Err(PlaceFault::Source(StatementFault::OutOfRange));
+        return Err(PlaceFault::Source(PlacingFault::OutOfRange));
     }
     Ok(Content::Fill(Fill::new(count, 1, value)))
 }
@@ -40,13 +40,13 @@ fn units_of(count: u64, size: u64, value: u64) -> Result<Content, PlaceFault>
     ensures { GivesBy (λ item. item) result (units_of count size value) }
 {
     if is_negative(count) {
-        return Err(PlaceFault::Source(StatementFault::OutOfRange));
+        return Err(PlaceFault::Source(PlacingFault::OutOfRange));
     }
     if size == 0 {
         return Ok(Content::Fill(Fill::new(0, 0, value)));
     }
     if count > MOST_SPACE || count * size > MOST_SPACE {
-        return Err(PlaceFault::Source(StatementFault::OutOfRange));
+        return Err(PlaceFault::Source(PlacingFault::OutOfRange));
     }
     Ok(Content::Fill(Fill::new(count, size, value)))
 }
@@ -61,7 +61,7 @@ fn unit_size(size: Option<u64>) -> Result<u64, PlaceFault>
         None => Ok(1),
         Some(size) => {
             if is_negative(size) {
-                Err(PlaceFault::Source(StatementFault::OutOfRange))
+                Err(PlaceFault::Source(PlacingFault::OutOfRange))
             } else {
                 Ok(size.min(8))
             }
@@ -97,7 +97,7 @@ fn said_log(alignment: u64) -> Result<u8, PlaceFault>
     if alignment.is_power_of_two() && log <= 30 {
         Ok(log as u8)
     } else {
-        Err(PlaceFault::Source(StatementFault::OutOfRange))
+        Err(PlaceFault::Source(PlacingFault::OutOfRange))
     }
 }
 
@@ -118,11 +118,12 @@ impl Assembler {
     ghost use Rattle.asm_expr.specs.Trees.{tree_of};
     ghost use Rattle.asm_place.specs.Answers.{Gives};
     ghost use Rattle.asm_place.specs.Placing.{with_item, place_zero, place_skip, place_fill};
-    ghost use Rattle.asm_place.specs.PlacedBy.{placed_by};
+    ghost use Rattle.asm_place.specs.PlacedBy.{placed_by, PlacesBy};
 
     /// Space, and the names of its operands.
     fn put_space(&mut self, pos: Pos, exprs: &[Expr], item: Content) -> Result<(), PlaceFault>
-        ensures placed { Gives (placed_by self.new) result (with_item pos (map tree_of exprs.now) item (placed_by self.old)) }
+        ensures placed { PlacesBy (with_item pos (map tree_of exprs.now) item)
+            self.old self.new result }
         ensures notes { self.new.notes ≡ self.old.notes }
     {
         self.push_item(pos, item)?;
@@ -132,7 +133,8 @@ impl Assembler {
     /// `.zero`: so many zeros.
     #[tactic(auto, unfolding(crate::specs::Placing::place_zero))]
     pub(crate) fn place_zero(&mut self, pos: Pos, tokens: &[Token]) -> Result<(), PlaceFault>
-        ensures placed { Gives (placed_by self.new) result (place_zero pos (map spelled tokens.now) (placed_by self.old)) }
+        ensures placed { PlacesBy (place_zero pos (map spelled tokens.now))
+            self.old self.new result }
         ensures notes { self.new.notes ≡ self.old.notes }
     {
         let exprs = up_to_three_trees(self.alloc, 1, &mut Operands::new(tokens))?;
@@ -145,7 +147,8 @@ impl Assembler {
     /// `.skip`, `.space`: so many bytes of a value.
     #[tactic(auto, unfolding(crate::specs::Placing::place_skip))]
     pub(crate) fn place_skip(&mut self, pos: Pos, tokens: &[Token]) -> Result<(), PlaceFault>
-        ensures placed { Gives (placed_by self.new) result (place_skip pos (map spelled tokens.now) (placed_by self.old)) }
+        ensures placed { PlacesBy (place_skip pos (map spelled tokens.now))
+            self.old self.new result }
         ensures notes { self.new.notes ≡ self.old.notes }
     {
         let exprs = up_to_three_trees(self.alloc, 2, &mut Operands::new(tokens))?;
@@ -158,7 +161,8 @@ impl Assembler {
     /// `.fill`: so many units of a value.
     #[tactic(auto, unfolding(crate::specs::Placing::place_fill))]
     pub(crate) fn place_fill(&mut self, pos: Pos, tokens: &[Token]) -> Result<(), PlaceFault>
-        ensures placed { Gives (placed_by self.new) result (place_fill pos (map spelled tokens.now) (placed_by self.old)) }
+        ensures placed { PlacesBy (place_fill pos (map spelled tokens.now))
+            self.old self.new result }
         ensures notes { self.new.notes ≡ self.old.notes }
     {
         let exprs = up_to_three_trees(self.alloc, 3, &mut Operands::new(tokens))?;

@@ -4,7 +4,7 @@ ghost use Rattle.std.specs.Prelude.{◌≡◌, map, Ok};
 ghost use Rattle.asm_base.specs.Tokens.{spelled};
 ghost use Rattle.asm_expr.specs.Trees.{tree_of};
 ghost use Rattle.asm_place.specs.Answers.{GivesBy, GivesAnd};
-ghost use Rattle.asm_place.specs.OperandParts.{operands_left};
+ghost use Rattle.asm_place.specs.OperandParts.{operands_left, Takes};
 ghost use Rattle.asm_place.specs.Operands.{name_of, each};
 ghost use Rattle.asm_place.specs.SectionWords.{needed};
 ghost use Rattle.asm_place.specs.SymbolWords as spec;
@@ -13,13 +13,13 @@ ghost use Rattle.asm_place.specs.NamedTrees.{named_tree_in};
 use crate::assemblers::Assembler;
 use crate::directives::SymbolAttribute;
 use crate::expressions::{expression_of, form_in};
-use crate::operands::{Operands, is_name, name_of};
-use crate::place_faults::PlaceFault;
+use crate::operands::{Operands, begins_with_place, has_dot, is_name, name_of};
+use crate::place_faults::{PlaceFault, PlacingFault};
 use crate::places::uses_dot;
 use crate::section_words::{begins_type, needed_name};
 use crate::tables::SymbolUses;
 use crate::up_to_three::no_more;
-use asm_base::{Pos, StatementFault, Text, Token};
+use asm_base::{Pos, Text, Token};
 use asm_expr::{Expr, Name};
 use asm_symbols::Kind;
 use std::alloc::Global;
@@ -35,7 +35,8 @@ fn plain_of(alloc: Global, operand: &[Token]) -> Result<Name, PlaceFault>
 /// The names that operands give symbols.
 #[tactic(auto, unfolding(crate::specs::Operands::each, crate::specs::Operands::behind))]
 fn names(alloc: Global, operands: Operands) -> Result<Vec<Name>, PlaceFault>
-    ensures { GivesBy (λ names. names.items) result (each spec.plain_of (operands_left operands.entry)) }
+    ensures { GivesBy (λ names. names.items) result
+        (each spec.plain_of (operands_left operands.entry)) }
 {
     let mut names = Vec::new(alloc);
     for operand in operands {
@@ -60,7 +61,7 @@ fn kind_named(word: &[u8]) -> Result<Kind, PlaceFault>
     } else if word == b"common".as_slice() {
         Ok(Kind::Common)
     } else {
-        Err(PlaceFault::Source(StatementFault::BadOperand))
+        Err(PlaceFault::Source(PlacingFault::BadOperand))
     }
 }
 
@@ -71,17 +72,17 @@ fn kind_of(operand: &[Token]) -> Result<Kind, PlaceFault>
 {
     match operand {
         [mark, word] if begins_type(mark) && is_name(word) => kind_named(word.bytes),
-        _ => Err(PlaceFault::Source(StatementFault::BadOperand)),
+        _ => Err(PlaceFault::Source(PlacingFault::BadOperand)),
     }
 }
 
 /// The next operand, which has to be a kind.
 fn needed_kind(operands: &mut Operands) -> Result<Kind, PlaceFault>
-    ensures { GivesAnd (λ kind. kind) (operands_left operands.new) result (needed spec.kind_of (operands_left operands.old)) }
+    ensures { Takes (λ kind. kind) (needed spec.kind_of) operands.old operands.new result }
 {
     match operands.next() {
         Some(operand) => kind_of(operand),
-        None => Err(PlaceFault::Source(StatementFault::BadOperand)),
+        None => Err(PlaceFault::Source(PlacingFault::BadOperand)),
     }
 }
 
@@ -101,7 +102,7 @@ fn last_tree(alloc: Global, operands: &mut Operands) -> Result<Expr, PlaceFault>
             let expr = expression_of(alloc, operand)?;
             no_more(operands, expr)
         }
-        None => Err(PlaceFault::Source(StatementFault::BadExpression)),
+        None => Err(PlaceFault::Source(PlacingFault::BadExpression)),
     }
 }
 
@@ -159,7 +160,7 @@ impl Assembler {
     ghost use Rattle.asm_base.specs.Tokens.{spelled};
     ghost use Rattle.asm_place.specs.Answers.{Gives};
     ghost use Rattle.asm_place.specs.SymbolWords.{place_said, place_type, place_size};
-    ghost use Rattle.asm_place.specs.PlacedBy.{placed_by};
+    ghost use Rattle.asm_place.specs.PlacedBy.{placed_by, PlacesBy};
 
     /// `.globl` and the others, with a name at least.
     #[tactic(auto, unfolding(crate::specs::SymbolWords::place_said))]
@@ -169,20 +170,23 @@ impl Assembler {
         attribute: SymbolAttribute,
         tokens: &[Token],
     ) -> Result<(), PlaceFault>
-        ensures placed { Gives (placed_by self.new) result (place_said pos attribute (map spelled tokens.now) (placed_by self.old)) }
+        ensures placed { PlacesBy (place_said pos attribute (map spelled tokens.now))
+            self.old self.new result }
         ensures notes { self.new.notes ≡ self.old.notes }
     {
         if tokens.is_empty() {
-            return Err(PlaceFault::Source(StatementFault::BadOperand));
+            return Err(PlaceFault::Source(PlacingFault::BadOperand));
         }
         let names = names(self.alloc, Operands::new(tokens))?;
-        self.table.say_all(pos, attribute, &names)
+        self.table.say_all(pos, attribute, &names)?;
+        self.unless_dot(has_dot(tokens))
     }
 
     /// `.type`
     #[tactic(auto, unfolding(crate::specs::SymbolWords::place_type, crate::specs::Tables::symbol_of))]
     pub(crate) fn place_type(&mut self, pos: Pos, tokens: &[Token]) -> Result<(), PlaceFault>
-        ensures placed { Gives (placed_by self.new) result (place_type pos (map spelled tokens.now) (placed_by self.old)) }
+        ensures placed { PlacesBy (place_type pos (map spelled tokens.now))
+            self.old self.new result }
         ensures notes { self.new.notes ≡ self.old.notes }
     {
         let mut operands = Operands::new(tokens);
@@ -190,13 +194,15 @@ impl Assembler {
         let kind = needed_kind(&mut operands)?;
         let kind = no_more(&mut operands, kind)?;
         let id = self.table.symbol_of(pos, &Name::Plain(Text::new(name)))?;
-        self.table.set_kind(id, kind)
+        self.table.set_kind(id, kind)?;
+        self.unless_dot(begins_with_place(tokens))
     }
 
     /// `.size`
     #[tactic(auto, unfolding(crate::specs::SymbolWords::place_size))]
     pub(crate) fn place_size(&mut self, pos: Pos, tokens: &[Token]) -> Result<(), PlaceFault>
-        ensures placed { Gives (placed_by self.new) result (place_size pos (map spelled tokens.now) (placed_by self.old)) }
+        ensures placed { PlacesBy (place_size pos (map spelled tokens.now))
+            self.old self.new result }
         ensures notes { self.new.notes ≡ self.old.notes }
     {
         let words = named_tree(self.alloc, &mut Operands::new(tokens))?;
@@ -206,6 +212,7 @@ impl Assembler {
         let id = self.table.symbol_of(pos, &words.name)?;
         self.table.set_size(pos, id, form)?;
         self.table
-            .name_part(self.alloc, pos, spot, keeps, &words.expr)
+            .name_part(self.alloc, pos, spot, keeps, &words.expr)?;
+        self.unless_dot(begins_with_place(tokens))
     }
 }

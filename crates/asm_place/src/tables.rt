@@ -3,8 +3,8 @@
 ghost use Rattle.std.specs.Prelude.{◌≡◌};
 
 use crate::directives::SymbolAttribute;
-use crate::place_faults::PlaceFault;
-use asm_base::{Pos, StatementFault, Text};
+use crate::place_faults::{PlaceFault, PlacingFault};
+use asm_base::{Pos, Text};
 use asm_expr::{Linear, Name, Written, constant_form};
 use asm_symbols::{Definition, Kind, SymId, Symbols};
 use indexmap::IndexMap;
@@ -104,7 +104,8 @@ impl SymbolUses {
     /// The symbol is defined so.
     pub(crate) fn define(&mut self, id: SymId, what: Definition) -> Result<(), PlaceFault>
         requires { id < length self.old.symbols.symbols }
-        ensures gives { Gives self.new result (changed_by (λ map index. defined map index what) (self.old, id)) }
+        ensures gives { Gives self.new result
+            (changed_by (λ map index. defined map index what) (self.old, id)) }
         ensures length { length self.new.symbols.symbols ≡ length self.old.symbols.symbols }
     {
         self.symbols.define(id, what)?;
@@ -141,7 +142,8 @@ impl SymbolUses {
         size: u64,
     ) -> Result<(), PlaceFault>
         requires { id < length self.old.symbols.symbols }
-        ensures { Gives self.new result (Ok (with_map self.old (as_space size self.old.symbols id))) }
+        ensures { Gives self.new result
+            (Ok (with_map self.old (as_space size self.old.symbols id))) }
     {
         let kind = self.symbols.symbol(id).kind.unwrap_or(Kind::Object);
         self.symbols.size(id, constant_form(alloc, size))?;
@@ -162,7 +164,8 @@ impl SymbolUses {
     /// The symbol stands for the form; with `once` only if it was nothing before.
     pub(crate) fn assign(&mut self, id: SymId, form: Linear, once: bool) -> Result<(), PlaceFault>
         requires { id < length self.old.symbols.symbols }
-        ensures { Gives self.new result (changed_by (λ map index. assigned map index form once) (self.old, id)) }
+        ensures { Gives self.new result
+            (changed_by (λ map index. assigned map index form once) (self.old, id)) }
     {
         self.symbols.assign(id, form, once)?;
         Ok(())
@@ -189,7 +192,7 @@ impl SymbolUses {
             }
             Written::Back(number) => match self.symbols.numeric_back(*number) {
                 Some(_) => Ok(()),
-                None => Err(PlaceFault::Source(StatementFault::BadSymbolUse)),
+                None => Err(PlaceFault::Source(PlacingFault::BadSymbolUse)),
             },
             Written::Next(number) => {
                 self.next_symbol(pos, *number)?;

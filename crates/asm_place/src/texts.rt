@@ -23,7 +23,8 @@ fn end_byte(ended: bool) -> &'static [u8]
 /// The bytes that the strings of operands stand for, one after the other.
 #[tactic(auto, unfolding(crate::specs::Operands::joined_strings, crate::specs::Operands::behind))]
 fn joined_strings(alloc: Global, ended: bool, operands: Operands) -> Result<Vec<u8>, PlaceFault>
-    ensures { GivesBy (λ bytes. bytes.items) result (joined_strings ended (operands_left operands.entry)) }
+    ensures { GivesBy (λ bytes. bytes.items) result
+        (joined_strings ended (operands_left operands.entry)) }
 {
     let mut bytes = Vec::new(alloc);
     for operand in operands {
@@ -48,7 +49,7 @@ impl Assembler {
     ghost use Rattle.asm_base.specs.Tokens.{spelled};
     ghost use Rattle.asm_place.specs.Answers.{Gives};
     ghost use Rattle.asm_place.specs.Placing.{place_strings};
-    ghost use Rattle.asm_place.specs.PlacedBy.{placed_by};
+    ghost use Rattle.asm_place.specs.PlacedBy.{placed_by, PlacesBy};
 
     /// `.ascii` and the others: the bytes of all strings.
     #[tactic(auto, unfolding(crate::specs::Placing::place_strings))]
@@ -58,7 +59,8 @@ impl Assembler {
         ended: bool,
         tokens: &[Token],
     ) -> Result<(), PlaceFault>
-        ensures placed { Gives (placed_by self.new) result (place_strings pos ended (map spelled tokens.now) (placed_by self.old)) }
+        ensures placed { PlacesBy (place_strings pos ended (map spelled tokens.now))
+            self.old self.new result }
         ensures notes { self.new.notes ≡ self.old.notes }
     {
         let bytes = joined_strings(self.alloc, ended, Operands::new(tokens))?;

@@ -5,16 +5,15 @@ ghost use Rattle.asm_base.specs.Tokens.{spelled};
 ghost use Rattle.asm_expr.specs.Trees.{tree_of};
 ghost use Rattle.asm_place.specs.Answers.{GivesBy, GivesAnd};
 ghost use Rattle.asm_place.specs.Results.{if_some};
-ghost use Rattle.asm_place.specs.OperandParts.{operands_left};
-ghost use Rattle.asm_place.specs.Places.{known_at};
+ghost use Rattle.asm_place.specs.OperandParts.{operands_left, Takes};
+ghost use Rattle.asm_place.specs.KnownIn.{known_in};
 ghost use Rattle.asm_place.specs.Expressions.{form_in, constant_in, each_up_to_three, first_tree, next_tree, next_tree_if, no_more, up_to_three_trees, up_to_three_values};
 ghost use Rattle.asm_place.specs.UpToThreeTrees.{trees_in, trees_listed};
 
 use crate::expressions::{constant_in, expression_of, form_in};
 use crate::operands::Operands;
-use crate::place_faults::PlaceFault;
+use crate::place_faults::{PlaceFault, PlacingFault};
 use crate::places::View;
-use asm_base::StatementFault;
 use asm_expr::{Expr, Linear};
 use std::alloc::Global;
 
@@ -28,19 +27,19 @@ pub(crate) struct UpToThree<T> {
 
 /// The next operand, which has to be there.
 #[tactic(auto, unfolding(crate::specs::Expressions::first_tree))]
-pub(crate) fn first_tree(alloc: Global, operands: &mut Operands) -> Result<Expr, PlaceFault>
-    ensures { GivesAnd tree_of (operands_left operands.new) result (first_tree (operands_left operands.old)) }
+fn first_tree(alloc: Global, operands: &mut Operands) -> Result<Expr, PlaceFault>
+    ensures { Takes tree_of first_tree operands.old operands.new result }
 {
     match operands.next() {
         Some(operand) => expression_of(alloc, operand),
-        None => Err(PlaceFault::Source(StatementFault::BadExpression)),
+        None => Err(PlaceFault::Source(PlacingFault::BadExpression)),
     }
 }
 
 /// The next operand, which may be missing, or empty.
 #[tactic(auto, unfolding(crate::specs::Expressions::next_tree))]
-pub(crate) fn next_tree(alloc: Global, operands: &mut Operands) -> Result<Option<Expr>, PlaceFault>
-    ensures { GivesAnd (option_map tree_of) (operands_left operands.new) result (next_tree (operands_left operands.old)) }
+fn next_tree(alloc: Global, operands: &mut Operands) -> Result<Option<Expr>, PlaceFault>
+    ensures { Takes (option_map tree_of) next_tree operands.old operands.new result }
 {
     match operands.next() {
         None | Some([]) => Ok(None),
@@ -49,12 +48,12 @@ pub(crate) fn next_tree(alloc: Global, operands: &mut Operands) -> Result<Option
 }
 
 /// The same, where one may be there.
-pub(crate) fn next_tree_if(
+fn next_tree_if(
     alloc: Global,
     may: bool,
     operands: &mut Operands,
 ) -> Result<Option<Expr>, PlaceFault>
-    ensures { GivesAnd (option_map tree_of) (operands_left operands.new) result (next_tree_if may (operands_left operands.old)) }
+    ensures { Takes (option_map tree_of) (next_tree_if may) operands.old operands.new result }
 {
     if may {
         next_tree(alloc, operands)
@@ -69,7 +68,7 @@ pub(crate) fn no_more<T: Drop>(operands: &mut Operands, made: T) -> Result<T, Pl
 {
     match operands.next() {
         None => Ok(made),
-        Some(_) => Err(PlaceFault::Source(StatementFault::BadOperand)),
+        Some(_) => Err(PlaceFault::Source(PlacingFault::BadOperand)),
     }
 }
 
@@ -101,7 +100,8 @@ pub(crate) fn form_if(
     view: View,
     expr: &Option<Expr>,
 ) -> Result<Option<Linear>, PlaceFault>
-    ensures { GivesBy (λ form. form) result (if_some (form_in (known_at view.entry.symbols.now view.entry.spot)) (option_map tree_of expr.now)) }
+    ensures { GivesBy (λ form. form) result
+        (if_some (form_in (known_in view.entry)) (option_map tree_of expr.now)) }
 {
     match expr {
         Some(expr) => Ok(Some(form_in(alloc, view, expr)?)),
@@ -126,7 +126,8 @@ pub(crate) fn up_to_three_values(
     view: View,
     exprs: &UpToThree<Expr>,
 ) -> Result<UpToThree<u64>, PlaceFault>
-    ensures { GivesBy (λ values. values) result (up_to_three_values (known_at view.entry.symbols.now view.entry.spot) (trees_in exprs.now)) }
+    ensures { GivesBy (λ values. values) result
+        (up_to_three_values (known_in view.entry) (trees_in exprs.now)) }
 {
     let first = form_in(alloc, view, &exprs.first)?;
     let second = form_if(alloc, view, &exprs.second)?;

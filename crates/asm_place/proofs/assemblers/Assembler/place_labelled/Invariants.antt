@@ -1,15 +1,15 @@
 -- The labels so far are placed, and what is left will be.
 use Rattle.std.proofs.Common.{◌≡◌, ◌-◌, ◌≤◌, map, length, drop}
 use Rattle.asm_base.specs.Tokens.{spelled}
-use Rattle.asm_place.specs.Placing.{place_tokens}
+use Rattle.asm_place.specs.Placing.{place_labelled}
 use Rattle.asm_place.specs.PlacedBy.{placed_by}
-use Rattle.asm_place.proofs.assemblers.Assembler.place_tokens.Given as goal
+use Rattle.asm_place.proofs.assemblers.Assembler.place_labelled.Given as goal
 
 abbrev pub invariant-labels : goal.invariant-labels
 invariant-labels l = record {
   inside : l.at ≤ length l.tokens;
   notes : l.self.notes ≡ l.fn.self.notes;
-  left : place_tokens l.fn.pos (map spelled (drop l.at l.tokens)) (placed_by l.self) ≡ place_tokens l.fn.pos (map spelled l.tokens) (placed_by l.fn.self);
+  left : place_labelled l.fn.pos (map spelled (drop l.at l.tokens)) (placed_by l.self) ≡ place_labelled l.fn.pos (map spelled l.tokens) (placed_by l.fn.self);
 }
 
 abbrev pub decreases-labels : goal.decreases-labels

@@ -5,9 +5,9 @@ use Rattle.std.proofs.lemmas.List.{take_rest}
 use Rattle.asm_base.specs.Tokens.{spelled}
 use Rattle.asm_place.specs.Answers.{Gives}
 use Rattle.asm_place.specs.PlacedBy.{placed_by}
-use Rattle.asm_place.specs.Placing.{begins_with_label, place_unlabelled, place_tokens}
+use Rattle.asm_place.specs.Placing.{begins_with_label, place_unlabelled, place_labelled}
 use Rattle.asm_place.proofs.LabelLemmas.{unlabelled, label_step, label_fails, room}
-use Rattle.asm_place.proofs.assemblers.Assembler.place_tokens.Goals as goal
+use Rattle.asm_place.proofs.assemblers.Assembler.place_labelled.Goals as goal
 
 pub labels-preserved : goal.labels-preserved
 labels-preserved c =
@@ -32,6 +32,6 @@ pub returns-clause-placed : goal.returns-clause-placed
 returns-clause-placed c =
     let here = take_rest c.args.tokens.now c.labels.at in
     let plain : begins_with_label (map spelled (drop c.labels.at c.args.tokens.now)) ≡ false = sym (c.labels-test.ensures.label ∙ ap (λ ts. begins_with_label (map spelled ts)) here) in
-    let all : place_unlabelled c.args.pos (map spelled (take (length c.args.tokens.now - c.labels.at) (drop c.labels.at c.args.tokens.now))) (placed_by c.labels.self) ≡ place_tokens c.args.pos (map spelled c.args.tokens.now) (placed_by c.args.self.now) =
+    let all : place_unlabelled c.args.pos (map spelled (take (length c.args.tokens.now - c.labels.at) (drop c.labels.at c.args.tokens.now))) (placed_by c.labels.self) ≡ place_labelled c.args.pos (map spelled c.args.tokens.now) (placed_by c.args.self.now) =
     ap (λ ts. place_unlabelled c.args.pos (map spelled ts) (placed_by c.labels.self)) here ∙ sym (unlabelled c.args.pos (map spelled (drop c.labels.at c.args.tokens.now)) (placed_by c.labels.self) plain) ∙ c.labels.invariant.left in
     subst (λ answer. Gives (placed_by c.place_unlabelled.new.self) c.place_unlabelled.result answer) all c.place_unlabelled.ensures.placed
