@@ -72,7 +72,8 @@ fn assemble_statements(
     statements: &[Statement],
     assembler: Assembler,
 ) -> Made
-    ensures { MakesNoted result.notes result.object (placed_end fatal (place_all (map seen statements.now) (placed_by assembler))) }
+    ensures { MakesNoted result.notes result.object
+        (placed_end fatal (place_all (map seen statements.now) (placed_by assembler))) }
 {
     let mut assembler = assembler;
     match place_all(&mut assembler, statements) {
@@ -88,7 +89,8 @@ fn assemble_statements(
 #[tactic(auto, unfolding(crate::specs::Assembly::assembly_of_lines))]
 fn made_of_text(alloc: Global, options: &Options, assembler: Assembler, text: &Text) -> Made
     requires { placed_by assembler ≡ nothing_placed options.now.no_warn }
-    ensures { MakesNoted result.notes result.object (assembly_of_lines (flags_of options.now) main_file text.now) }
+    ensures { MakesNoted result.notes result.object
+        (assembly_of_lines (flags_of options.now) main_file text.now) }
 {
     match read_statements(alloc, text, MAIN_FILE) {
         Ok(statements) => assemble_statements(
@@ -106,7 +108,8 @@ fn made_of_text(alloc: Global, options: &Options, assembler: Assembler, text: &T
 
 /// The notes of a text that is not too large, with its object or first fault.
 fn assemble_text(alloc: Global, options: &Options, text: &Text) -> Result<Made, NoMemory>
-    ensures { IfOk result (λ made. MakesNoted made.notes made.object (assembly_of_lines (flags_of options.now) main_file text.now)) }
+    ensures { IfOk result (λ made. MakesNoted made.notes made.object
+        (assembly_of_lines (flags_of options.now) main_file text.now)) }
 {
     match Assembler::new(alloc, options.no_warn) {
         Ok(assembler) => Ok(made_of_text(alloc, options, assembler, text)),
@@ -178,11 +181,14 @@ pub fn assemble<I: Inputs>(
     options: &Options,
     ins: &mut I,
 ) -> Result<Assembled, AsmFault>
-    ensures outcome { Assembles (flags_of options.now) (I.contents ins.old) (string_bytes options.now.file) result }
-    ensures reads_back { ReadsBackFrom (flags_of options.now) (I.contents ins.old) (string_bytes options.now.file) result }
+    ensures outcome { Assembles (flags_of options.now) (I.contents ins.old)
+        (string_bytes options.now.file) result }
+    ensures reads_back { ReadsBackFrom (flags_of options.now) (I.contents ins.old)
+        (string_bytes options.now.file) result }
     ensures names { NamesFiles (string_bytes options.now.file) result }
     ensures cause { HasAssemblyCause result (I.faults ins.old) (I.faults ins.new) }
-    ensures missing { CountsMissing (I.contents ins.old) (string_bytes options.now.file) (I.missing ins.old) (I.missing ins.new) }
+    ensures missing { CountsMissing (I.contents ins.old) (string_bytes options.now.file)
+        (I.missing ins.old) (I.missing ins.new) }
     ensures found { KeepsCount result (I.missing ins.old) (I.missing ins.new) }
     ensures taken { TakesSource result (I.taken ins.old) (I.taken ins.new) }
     ensures at_most { I.taken ins.new ≤ I.taken ins.old + (most_bytes + 1) }

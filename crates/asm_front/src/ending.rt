@@ -142,7 +142,8 @@ fn finished_object(
 
 /// The notes of what was placed, with its object or the first fault of layout and object.
 pub(crate) fn finished(alloc: Global, fatal: bool, parts: Placed) -> Made
-    ensures made { MakesNoted result.notes result.object (spec.finished fatal parts.sections parts.table parts.notes) }
+    ensures made { MakesNoted result.notes result.object
+        (spec.finished fatal parts.sections parts.table parts.notes) }
     ensures notes { result.notes ≡ parts.notes }
 {
     let Placed {

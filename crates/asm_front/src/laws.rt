@@ -14,13 +14,16 @@ ghost use Rattle.asm_front.specs.ReadsBack.{ReadsBack};
 /// Only the reading of a file answers that it is too large: no later step does.
 #[tactic(auto, using(crate::proofs::FaultLaws::not_too_large))]
 pub fn never_too_large()
-    ensures { (flags : Flags) (file : ℕ) (source : List ℕ) (fault : Fault) (pos : Pos) (notes : List Noted)
-        → assembly_of_lines flags file source ≡ Err (fault_at fault pos notes) → is_file_too_large fault ≡ false }
+    ensures { (flags : Flags) (file : ℕ) (source : List ℕ) (fault : Fault) (pos : Pos)
+        (notes : List Noted)
+        → assembly_of_lines flags file source ≡ Err (fault_at fault pos notes)
+        → is_file_too_large fault ≡ false }
 {}
 
 /// Each instruction of a source stands in the object, where the statements before it end, as bytes that read as it and as
 /// no other instruction.
 #[tactic(auto, using(crate::proofs::ObjectReads::reads_back))]
 pub fn written_reads_back()
-    ensures { (flags : Flags) (source : List ℕ) (made : NotedObject) → assembly_of flags main_file source ≡ Ok made → ReadsBack flags source made.object }
+    ensures { (flags : Flags) (source : List ℕ) (made : NotedObject)
+        → assembly_of flags main_file source ≡ Ok made → ReadsBack flags source made.object }
 {}
