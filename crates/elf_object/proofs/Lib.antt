@@ -1,5 +1,6 @@
 -- Lemmas, in reading order.
 mod Writing
+mod LoopSteps
 mod AliasLemmas
 mod AliasSamples
 mod LoneNames

@@ -1,7 +1,6 @@
 -- Aliases: assigned symbols that stand for one other symbol (GNU as, ".set" and ".type").
-use Rattle.std.specs.Prelude.{ℕ, zero, suc, ◌==◌, ◌&&◌, List, [], ◌∷◌, length, Option, None, Some, slice_get, option_and_then, if◌then◌else◌}
+use Rattle.std.specs.Prelude.{ℕ, zero, suc, ◌==◌, length, Option, None, Some, slice_get, option_and_then, if◌then◌else◌}
 use Rattle.std.specs.Option.{option_or}
-use Rattle.asm_expr.specs.declared.forms.Term.{Term}
 use Rattle.asm_expr.specs.declared.naming.Name.{Name}
 use Rattle.asm_expr.specs.Forms.{Form}
 use Rattle.asm_symbols.specs.declared.entries.Kind.{Kind}
@@ -9,16 +8,11 @@ use Rattle.asm_symbols.specs.declared.entries.Meaning.{Meaning}
 use Rattle.asm_symbols.specs.declared.entries.Symbol.{Symbol}
 use Rattle.asm_symbols.specs.Assigning.{form_of}
 use Rattle.asm_symbols.specs.SymbolMap.{SymbolMap, names, index_of}
+use Rattle.elf_object.specs.Relocations.{lone_name}
 
--- the name that a form of one symbol and no number has
-abbrev pub sole_name : List Term → ℕ → Option Name
-sole_name [] number = None
-sole_name (term ∷ []) number = if term.coefficient == 1 && number == 0 then Some term.name else None
-sole_name (first ∷ second ∷ more) number = None
-
--- the form is one symbol and no number
+-- the name of a form that is one symbol and no number
 abbrev pub name_in : Form → Option Name
-name_in form = sole_name form.terms form.constant
+name_in form = if form.constant == 0 then lone_name form.terms else None
 
 -- where the symbol stands that one of this meaning is an alias of
 abbrev pub alias_of : SymbolMap → Meaning → Option ℕ

@@ -55,9 +55,11 @@ filed_items section = if section.kind == no_bits then [] else section.items
 unfoldable pub items_bytes : SymbolMap → LaidSections → List LaidItem → List ℕ
 items_bytes map sections items = flat_map (item_bytes map sections) items
 
+-- the relocations of items, by their places
 unfoldable pub items_relocations : SymbolMap → LaidSections → ℕ → List LaidItem → List Relocation
 items_relocations map sections number items = flat_map (item_relocations map sections number) items
 
+-- the relocations of the section of this number
 abbrev pub section_relocations : SymbolMap → LaidSections → ℕ → SectionOf LaidItem → List Relocation
 section_relocations map sections number section = items_relocations map sections number (filed_items section)
 

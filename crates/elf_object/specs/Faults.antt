@@ -17,6 +17,7 @@ use Rattle.elf_object.specs.declared.faults.ObjectFault.TheVariants.{UndefinedLo
 use Rattle.elf_object.specs.FileLocals.{is_file_local}
 use Rattle.elf_object.specs.Contents.{filed_items, has_lost}
 
+-- a symbol that is named and not defined
 abbrev pub is_undefined : Meaning → Bool
 is_undefined meaning.Undefined = true
 is_undefined (meaning.Label spot) = false
@@ -37,6 +38,7 @@ unknown_size map sections (Some form) = is_none (field_value map sections form)
 abbrev pub symbol_fault : (Symbol → Bool) → (ℕ → ObjectFault) → List Symbol → Option ObjectFault
 symbol_fault is_so fault symbols = if nat_lt (position_or_len is_so symbols) (length symbols) then Some (fault (position_or_len is_so symbols)) else None
 
+-- the fault of the first symbol that must be defined in this file and is not
 abbrev pub undefined_fault : SymbolMap → Option ObjectFault
 undefined_fault map = symbol_fault is_undefined_local UndefinedLocalSymbol map.symbols
 
@@ -44,6 +46,7 @@ undefined_fault map = symbol_fault is_undefined_local UndefinedLocalSymbol map.s
 unfoldable pub items_fault : SymbolMap → LaidSections → ℕ → List LaidItem → Option ObjectFault
 items_fault map sections number items = option_map (λ item. NoRelocation item.pos) (find (has_lost map sections number) items)
 
+-- the fault of the first item of the section with a field that has neither a value nor a relocation
 abbrev pub section_fault : SymbolMap → LaidSections → ℕ → SectionOf LaidItem → Option ObjectFault
 section_fault map sections number section = items_fault map sections number (filed_items section)
 

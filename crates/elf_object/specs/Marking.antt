@@ -4,6 +4,7 @@ use Rattle.elf_object.specs.declared.relocations.Relocation.{Relocation}
 use Rattle.elf_object.specs.declared.relocations.Target.TheVariants.{OfSection, OfSymbol}
 use Rattle.elf_object.specs.Naming.{is_named_by, NamedOf}
 
+-- the mark of this number, and false behind the last
 abbrev pub mark_at : List Bool → ℕ → Bool
 mark_at marks index = slice_index_or marks index false
 

@@ -5,6 +5,7 @@ use Rattle.elf_object.specs.declared.relocations.Relocation.{Relocation}
 use Rattle.elf_object.specs.declared.relocations.Target.{Target}
 use Rattle.elf_object.specs.declared.relocations.Target.TheVariants.{OfSection, OfSymbol}
 
+-- both name the same section or the same symbol
 abbrev pub same_target : Target → Target → Bool
 same_target (OfSection a) (OfSection b) = nat_eq a b
 same_target (OfSymbol a) (OfSymbol b) = nat_eq a b

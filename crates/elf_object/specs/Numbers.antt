@@ -24,6 +24,7 @@ symbol_numbers local other (Some entry ∷ more) =
 abbrev pub first_section_symbol : SymbolMap → ℕ
 first_section_symbol symbols = 1 + length symbols.files
 
+-- the number of the first local symbol behind those of files and sections
 abbrev pub first_local : SymbolMap → NamedOf → ℕ
 first_local symbols named = first_section_symbol symbols + length (section_entries 0 named.sections)
 
@@ -36,6 +37,7 @@ pub record NumbersOf : Type 0 where
   pub sections : List ℕ
   pub symbols : List ℕ
 
+-- the numbers of sections and symbols in the symbol table
 abbrev pub numbers_of : SymbolMap → LaidSections → NamedOf → NumbersOf
 numbers_of symbols sections named = record {
   sections = section_numbers (first_section_symbol symbols) named.sections;

@@ -61,6 +61,7 @@ label_reference sections index local spot =
     option_map (λ section. if local && not (has_flag merge section) then symbol_reference (OfSection spot.section) (address_of sections spot.section spot.item)
     else symbol_reference (OfSymbol index) 0) (slice_get sections spot.section)
 
+-- what a relocation names for a symbol of this meaning
 abbrev pub meaning_reference : LaidSections → ℕ → Bool → Meaning → Option SymbolReference
 meaning_reference sections index local meaning.Undefined = Some (symbol_reference (OfSymbol index) 0)
 meaning_reference sections index local (meaning.Label spot) = label_reference sections index local spot
@@ -72,6 +73,7 @@ meaning_reference sections index local (meaning.Assigned made) = None
 abbrev pub reference_at : LaidSections → ℕ → Symbol → Option SymbolReference
 reference_at sections index symbol = meaning_reference sections index (is_local (binding_of symbol.meaning symbol.binding)) symbol.meaning
 
+-- what a relocation names for the symbol at this index, if there is one
 abbrev pub reference_found : SymbolMap → LaidSections → Option ℕ → Option SymbolReference
 reference_found map sections None = None
 reference_found map sections (Some index) = option_and_then (reference_at sections index) (slice_get map.symbols index)
@@ -91,6 +93,7 @@ own_address number (form made) = None
 abbrev pub less : ℕ → ℕ → ℕ
 less n taken = wrapped (n + (2 ^ 64 - taken))
 
+-- a reference to a symbol, whose place is taken from the sum or not
 abbrev pub reference : Bool → ℕ → SymbolReference → Reference
 reference relative number at = record { target = at.target; relative = relative; addend = wrapped (number + at.addend) }
 
@@ -104,13 +107,15 @@ relative map sections number place name from total =
     option_and_then (λ address. option_map (reference true (less (total + place) address)) (name_reference map sections name))
     (own_address number (final_told map sections from))
 
+-- the coefficient of a name that is taken away
 abbrev pub minus_one : ℕ
 minus_one = 2 ^ 64 - 1
 
--- the term stands for its name, or is taken away
+-- the name stands once in the sum
 abbrev pub is_plus : Term → Bool
 is_plus term = term.coefficient == 1
 
+-- the name is taken away
 abbrev pub is_minus : Term → Bool
 is_minus term = term.coefficient == minus_one
 
@@ -120,6 +125,7 @@ pair map sections number place one other total =
     if is_plus one && is_minus other then relative map sections number place one.name other.name total
     else if is_minus one && is_plus other then relative map sections number place other.name one.name total else None
 
+-- the reference of a form: one symbol and a number, or a symbol less a place of this section
 abbrev pub reference_by : SymbolMap → LaidSections → ℕ → ℕ → List Term → ℕ → Option Reference
 reference_by map sections number place [] total = None
 reference_by map sections number place (term ∷ []) total = if is_plus term then direct map sections term.name total else None
@@ -140,6 +146,7 @@ lone_name [] = None
 lone_name (term ∷ []) = if is_plus term then Some term.name else None
 lone_name (one ∷ other ∷ more) = None
 
+-- the relocation of a field of this size at this offset
 abbrev pub relocation : ℕ → FieldSize → Reference → Relocation
 relocation place size found = record { offset = place; kind = kind_for found.relative size; target = found.target; addend = found.addend }
 

@@ -76,9 +76,11 @@ all_symbol_bytes headers [] symbols = []
 all_symbol_bytes headers (name ∷ names) [] = []
 all_symbol_bytes headers (name ∷ names) (s ∷ symbols) = symbol_bytes headers name s ++ all_symbol_bytes headers names symbols
 
+-- the symbol has binding STB_LOCAL
 abbrev pub is_local_entry : SymbolEntry → Bool
 is_local_entry s = is_local s.binding
 
+-- the type that `.type` says, and STT_NOTYPE where it says none
 abbrev pub said_type : Option Kind → SymbolType
 said_type None = type.NoType
 said_type (Some said.NoType) = type.NoType
@@ -114,6 +116,7 @@ entry_at map sections symbol there = record {
   size = size_of map sections (said_size map symbol);
 }
 
+-- the symbol has section SHN_UNDEF
 abbrev pub is_undefined_section : SymbolSection → Bool
 is_undefined_section Undefined = true
 is_undefined_section Absolute = false
@@ -124,6 +127,7 @@ is_undefined_section (InSection number) = false
 abbrev pub needs_naming : Symbol → SymbolValue → Bool
 needs_naming symbol there = is_undefined_section there.section || (is_file_local symbol.name && is_local (binding_of symbol.meaning symbol.binding))
 
+-- the entry of a symbol that has a value, unless it needs naming and nothing names it
 abbrev pub listed_if : SymbolMap → LaidSections → Bool → Symbol → Option SymbolValue → Option SymbolEntry
 listed_if map sections named symbol None = None
 listed_if map sections named symbol (Some there) = if needs_naming symbol there && not named then None else Some (entry_at map sections symbol there)
@@ -179,6 +183,7 @@ part local [] = []
 part local (None ∷ more) = part local more
 part local (Some entry ∷ more) = if is_bound local entry then entry ∷ part local more else part local more
 
+-- the entry of each symbol, if it stands in the table
 abbrev pub listed_all : SymbolMap → LaidSections → NamedOf → List (Option SymbolEntry)
 listed_all symbols sections named = listed_by symbols sections named.symbols symbols.symbols
 

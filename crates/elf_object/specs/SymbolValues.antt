@@ -17,6 +17,7 @@ use Rattle.elf_object.specs.declared.symbol_values.SymbolSection.{SymbolSection}
 use Rattle.elf_object.specs.declared.symbol_values.SymbolSection.TheVariants.{Undefined, Absolute, Common, InSection}
 use Rattle.elf_object.specs.declared.symbol_values.SymbolValue.{SymbolValue}
 
+-- a value that counts from the beginning of a section
 abbrev pub symbol_value : SymbolSection → ℕ → SymbolValue
 symbol_value section value = record { section = section; value = value }
 
@@ -33,6 +34,7 @@ form_value map sections [] number = Some (symbol_value Absolute number)
 form_value map sections (term ∷ []) number = if term.coefficient == 1 then label_value (final_told map sections term.name) number else None
 form_value map sections (first ∷ second ∷ more) number = None
 
+-- what a form stands for at the end
 abbrev pub final_value : SymbolMap → LaidSections → Form → Option SymbolValue
 final_value map sections made = form_value map sections made.terms made.constant
 
@@ -63,6 +65,7 @@ binding_of (meaning.Label spot) said = unwrap_or said Local
 binding_of (meaning.Space spot) said = unwrap_or said Local
 binding_of (meaning.Assigned made) said = unwrap_or said Local
 
+-- the binding is STB_LOCAL
 abbrev pub is_local : Binding → Bool
 is_local Local = true
 is_local Global = false

@@ -15,6 +15,7 @@ use Rattle.elf_object.specs.SymbolTable.{SymbolEntry, is_local_entry, section_en
 abbrev pub named_in : SymbolMap → LaidSections → NamedOf
 named_in symbols sections = named_of (relocations_of symbols sections) (length symbols.symbols)
 
+-- the entries of the symbol table behind the null symbol
 abbrev pub table_in : SymbolMap → LaidSections → List SymbolEntry
 table_in symbols sections = table_of symbols sections (named_in symbols sections)
 

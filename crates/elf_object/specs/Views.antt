@@ -16,6 +16,7 @@ use Rattle.elf_object.specs.Numbers.{NumbersOf}
 use Rattle.elf_object.specs.Sections.{Content, stored, nobits, SectionEntry}
 use Rattle.elf_object.specs.SymbolTable.{SymbolEntry}
 
+-- what a section of the file holds
 abbrev pub content_view : Body → Content
 content_view (Bytes bytes) = stored bytes.items
 content_view (NoBits size) = nobits size
@@ -46,6 +47,7 @@ held_entry held = record {
   content = content_view held.body;
 }
 
+-- the relocations of a section of the source
 abbrev pub relocations_in : HeldSection → List Relocation
 relocations_in held = held.relocations.items
 
@@ -61,9 +63,11 @@ symbol_view s = record {
   size = s.size;
 }
 
+-- the numbers by which relocations name sections and symbols
 abbrev pub numbers_view : Numbers → NumbersOf
 numbers_view numbers = record { sections = numbers.sections.items; symbols = numbers.symbols.items }
 
+-- the marks of what relocations name
 abbrev pub named_view : Named → NamedOf
 named_view named = record { sections = named.sections.items; symbols = named.symbols.items }
 

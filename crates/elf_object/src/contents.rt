@@ -46,7 +46,6 @@ fn put_low(out: &mut Vec<u8>, size: FieldSize, value: u64) -> Result<(), AllocEr
 }
 
 /// Appends the value of a field, or zeros and its relocation.
-#[tactic(auto, using(crate::proofs::FieldLemmas::valued))]
 fn put_field(
     alloc: Global,
     at: Placement,
@@ -54,11 +53,17 @@ fn put_field(
     field: &Field,
     out: &mut Filed,
 ) -> Result<(), ObjectFault>
-    ensures bytes { OnOk result (out.new.bytes.items ≡ out.old.bytes.items ++ spec.field_bytes at.entry.symbols.now at.entry.sections.now field.now) }
+    ensures bytes { OnOk result (out.new.bytes.items
+        ≡ out.old.bytes.items
+        ++ spec.field_bytes at.entry.symbols.now at.entry.sections.now field.now) }
     ensures relocations { OnOk result (out.new.relocations.items ≡ out.old.relocations.items
-        ++ option_to_list (field_relocation at.entry.symbols.now at.entry.sections.now here.section here.address field.now)) }
-    ensures whole { OnOk result (spec.is_lost at.entry.symbols.now at.entry.sections.now here.section here.address field.now ≡ false) }
-    ensures fault { IfErr result (λ fault. IsLostAt here.pos (spec.is_lost at.entry.symbols.now at.entry.sections.now here.section here.address field.now) fault) }
+        ++ option_to_list (field_relocation at.entry.symbols.now at.entry.sections.now
+        here.section here.address field.now)) }
+    ensures whole { OnOk result (spec.is_lost at.entry.symbols.now at.entry.sections.now
+        here.section here.address field.now ≡ false) }
+    ensures fault { IfErr result
+        (λ fault. IsLostAt here.pos (spec.is_lost at.entry.symbols.now at.entry.sections.now
+        here.section here.address field.now) fault) }
 {
     if let Some(value) = laid_value(at.symbols, at.sections, &field.form) {
         return Ok(put_low(&mut out.bytes, field.size, value)?);
@@ -82,12 +87,17 @@ fn put_between(
     out: &mut Filed,
 ) -> Result<(), ObjectFault>
     requires { FieldsStand bytes.now 0 fields.now }
-    ensures bytes { OnOk result (out.new.bytes.items ≡ out.old.bytes.items ++ spec.filled at.entry.symbols.now at.entry.sections.now bytes.now 0 fields.now) }
+    ensures bytes { OnOk result (out.new.bytes.items
+        ≡ out.old.bytes.items
+        ++ spec.filled at.entry.symbols.now at.entry.sections.now bytes.now 0 fields.now) }
     ensures relocations { OnOk result (out.new.relocations.items ≡ out.old.relocations.items
-        ++ filter_map (field_relocation at.entry.symbols.now at.entry.sections.now here.section here.address) fields.now) }
-    ensures whole { OnOk result (list_any (spec.is_lost at.entry.symbols.now at.entry.sections.now here.section here.address) fields.now ≡ false) }
+        ++ filter_map (field_relocation at.entry.symbols.now at.entry.sections.now here.section
+        here.address) fields.now) }
+    ensures whole { OnOk result (list_any (spec.is_lost at.entry.symbols.now at.entry.sections.now
+        here.section here.address) fields.now ≡ false) }
     ensures fault { IfErr result (λ fault.
-        IsLostAt here.pos (list_any (spec.is_lost at.entry.symbols.now at.entry.sections.now here.section here.address) fields.now) fault) }
+        IsLostAt here.pos (list_any (spec.is_lost at.entry.symbols.now at.entry.sections.now
+        here.section here.address) fields.now) fault) }
 {
     let mut from = 0;
     for field in fields {
@@ -107,12 +117,18 @@ fn put_data(
     data: &Data,
     out: &mut Filed,
 ) -> Result<(), ObjectFault>
-    ensures bytes { OnOk result (out.new.bytes.items ≡ out.old.bytes.items ++ spec.filled at.entry.symbols.now at.entry.sections.now data.now.bytes 0 data.now.fields) }
+    ensures bytes { OnOk result (out.new.bytes.items
+        ≡ out.old.bytes.items
+        ++ spec.filled at.entry.symbols.now at.entry.sections.now data.now.bytes 0
+        data.now.fields) }
     ensures relocations { OnOk result (out.new.relocations.items ≡ out.old.relocations.items
-        ++ filter_map (field_relocation at.entry.symbols.now at.entry.sections.now here.section here.address) data.now.fields) }
-    ensures whole { OnOk result (list_any (spec.is_lost at.entry.symbols.now at.entry.sections.now here.section here.address) data.now.fields ≡ false) }
+        ++ filter_map (field_relocation at.entry.symbols.now at.entry.sections.now here.section
+        here.address) data.now.fields) }
+    ensures whole { OnOk result (list_any (spec.is_lost at.entry.symbols.now at.entry.sections.now
+        here.section here.address) data.now.fields ≡ false) }
     ensures fault { IfErr result (λ fault.
-        IsLostAt here.pos (list_any (spec.is_lost at.entry.symbols.now at.entry.sections.now here.section here.address) data.now.fields) fault) }
+        IsLostAt here.pos (list_any (spec.is_lost at.entry.symbols.now at.entry.sections.now
+        here.section here.address) data.now.fields) fault) }
 {
     put_between(alloc, at, here, data.bytes(), data.fields(), out)
 }
@@ -126,11 +142,16 @@ fn put_item(
     item: &Frag<Laid>,
     out: &mut Filed,
 ) -> Result<(), ObjectFault>
-    ensures bytes { OnOk result (out.new.bytes.items ≡ out.old.bytes.items ++ spec.item_bytes at.entry.symbols.now at.entry.sections.now item.now) }
+    ensures bytes { OnOk result (out.new.bytes.items
+        ≡ out.old.bytes.items
+        ++ spec.item_bytes at.entry.symbols.now at.entry.sections.now item.now) }
     ensures relocations { OnOk result (out.new.relocations.items ≡ out.old.relocations.items
         ++ spec.item_relocations at.entry.symbols.now at.entry.sections.now section item.now) }
-    ensures whole { OnOk result (spec.has_lost at.entry.symbols.now at.entry.sections.now section item.now ≡ false) }
-    ensures fault { IfErr result (λ fault. IsLostAt item.now.pos (spec.has_lost at.entry.symbols.now at.entry.sections.now section item.now) fault) }
+    ensures whole { OnOk result (spec.has_lost at.entry.symbols.now at.entry.sections.now section
+        item.now ≡ false) }
+    ensures fault { IfErr result
+        (λ fault. IsLostAt item.now.pos (spec.has_lost at.entry.symbols.now at.entry.sections.now
+        section item.now) fault) }
 {
     let here = ItemPlace {
         section,
@@ -154,10 +175,15 @@ fn file_items(
     items: &[Frag<Laid>],
     room: usize,
 ) -> Result<Filed, ObjectFault>
-    ensures bytes { IfOk result (λ filed. filed.bytes.items ≡ spec.items_bytes at.entry.symbols.now at.entry.sections.now items.now) }
-    ensures relocations { IfOk result (λ filed. filed.relocations.items ≡ spec.items_relocations at.entry.symbols.now at.entry.sections.now section items.now) }
-    ensures whole { OnOk result (items_fault at.entry.symbols.now at.entry.sections.now section items.now ≡ None) }
-    ensures fault { IfErr result (λ fault. IsDue fault (items_fault at.entry.symbols.now at.entry.sections.now section items.now)) }
+    ensures bytes { IfOk result (λ filed. filed.bytes.items
+        ≡ spec.items_bytes at.entry.symbols.now at.entry.sections.now items.now) }
+    ensures relocations { IfOk result (λ filed. filed.relocations.items
+        ≡ spec.items_relocations at.entry.symbols.now at.entry.sections.now section items.now) }
+    ensures whole { OnOk result (items_fault at.entry.symbols.now at.entry.sections.now section
+        items.now ≡ None) }
+    ensures fault { IfErr result
+        (λ fault. IsDue fault (items_fault at.entry.symbols.now at.entry.sections.now section
+        items.now)) }
 {
     let mut out = Filed {
         bytes: Vec::with_capacity(alloc, room)?,
@@ -185,10 +211,15 @@ fn held_section<'a>(
     number: usize,
     section: &'a Section<Laid>,
 ) -> Result<HeldSection<'a>, ObjectFault>
-    ensures entry { IfOk result (λ held. held_entry held ≡ source_section at.entry.symbols.now at.entry.sections.now section.now) }
-    ensures relocations { IfOk result (λ held. relocations_in held ≡ spec.section_relocations at.entry.symbols.now at.entry.sections.now number section.now) }
-    ensures whole { OnOk result (section_fault at.entry.symbols.now at.entry.sections.now number section.now ≡ None) }
-    ensures fault { IfErr result (λ fault. IsDue fault (section_fault at.entry.symbols.now at.entry.sections.now number section.now)) }
+    ensures entry { IfOk result (λ held. held_entry held
+        ≡ source_section at.entry.symbols.now at.entry.sections.now section.now) }
+    ensures relocations { IfOk result (λ held. relocations_in held
+        ≡ spec.section_relocations at.entry.symbols.now at.entry.sections.now number section.now) }
+    ensures whole { OnOk result (section_fault at.entry.symbols.now at.entry.sections.now number
+        section.now ≡ None) }
+    ensures fault { IfErr result
+        (λ fault. IsDue fault (section_fault at.entry.symbols.now at.entry.sections.now number
+        section.now)) }
 {
     let size = section_size(section);
     if section.kind() == SHT_NOBITS {
@@ -217,10 +248,15 @@ pub(crate) fn held_sections<'a>(
     alloc: Global,
     at: Placement<'a>,
 ) -> Result<Vec<HeldSection<'a>>, ObjectFault>
-    ensures entries { IfOk result (λ held. map held_entry held.items ≡ map (source_section at.entry.symbols.now at.entry.sections.now) at.entry.sections.now) }
-    ensures relocations { IfOk result (λ held. map relocations_in held.items ≡ spec.relocations_of at.entry.symbols.now at.entry.sections.now) }
-    ensures whole { OnOk result (field_fault_from at.entry.symbols.now at.entry.sections.now 0 at.entry.sections.now ≡ None) }
-    ensures fault { IfErr result (λ fault. IsDue fault (field_fault_from at.entry.symbols.now at.entry.sections.now 0 at.entry.sections.now)) }
+    ensures entries { IfOk result (λ held. map held_entry held.items
+        ≡ map (source_section at.entry.symbols.now at.entry.sections.now) at.entry.sections.now) }
+    ensures relocations { IfOk result (λ held. map relocations_in held.items
+        ≡ spec.relocations_of at.entry.symbols.now at.entry.sections.now) }
+    ensures whole { OnOk result (field_fault_from at.entry.symbols.now at.entry.sections.now 0
+        at.entry.sections.now ≡ None) }
+    ensures fault { IfErr result
+        (λ fault. IsDue fault (field_fault_from at.entry.symbols.now at.entry.sections.now 0
+        at.entry.sections.now)) }
 {
     let sections = at.sections.as_slice();
     let mut held = Vec::with_capacity(alloc, sections.len())?;

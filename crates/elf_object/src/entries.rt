@@ -139,7 +139,8 @@ fn type_of(sections: &Sections<Laid>, section: SymbolSection, kind: Option<Kind>
 /// The value of a size, and 0 where no size is said.
 fn size_of(alloc: Global, at: Placement, size: Option<&Linear>) -> Result<u64, NoMemory>
     ensures { IfOk result (λ bytes. bytes
-        ≡ spec.size_of at.entry.symbols.now at.entry.sections.now (option_map (λ form. form.now) size.entry)) }
+        ≡ spec.size_of at.entry.symbols.now at.entry.sections.now (option_map
+        (λ form. form.now) size.entry)) }
 {
     match size {
         None => Ok(0),
@@ -167,7 +168,8 @@ fn entry_at<'a>(
     symbol: &'a Symbol,
     there: SymbolValue,
 ) -> Result<TableSymbol<'a>, NoMemory>
-    ensures { IfOk result (λ entry. symbol_view entry ≡ spec.entry_at at.entry.symbols.now at.entry.sections.now symbol.now there) }
+    ensures { IfOk result (λ entry. symbol_view entry
+        ≡ spec.entry_at at.entry.symbols.now at.entry.sections.now symbol.now there) }
 {
     Ok(TableSymbol {
         name: text_of(&symbol.name),
@@ -196,7 +198,8 @@ pub(crate) fn listed<'a>(
     named: bool,
     symbol: &'a Symbol,
 ) -> Result<Option<TableSymbol<'a>>, NoMemory>
-    ensures { IfOk result (λ entry. option_map symbol_view entry ≡ spec.listed at.entry.symbols.now at.entry.sections.now named symbol.now) }
+    ensures { IfOk result (λ entry. option_map symbol_view entry
+        ≡ spec.listed at.entry.symbols.now at.entry.sections.now named symbol.now) }
 {
     match symbol_value_of(alloc, at, &symbol.meaning)? {
         Some(there) => {

@@ -83,7 +83,8 @@ impl Laid {
     /// Appends zeros up to a multiple of the alignment.
     fn put_gap(&mut self, alloc: Global, alignment: u64) -> Result<(), AllocError>
         requires { ends_at self.old.end self.old.pieces.items }
-        ensures pieces { OnOk result (flat self.new.pieces.items ≡ flat self.old.pieces.items ++ spec.gap alignment self.old.end) }
+        ensures pieces { OnOk result (flat self.new.pieces.items
+            ≡ flat self.old.pieces.items ++ spec.gap alignment self.old.end) }
         ensures end { OnOk result (self.new.end ≡ spec.next_multiple alignment self.old.end) }
         ensures ends { OnOk result (ends_at self.new.end self.new.pieces.items) }
         ensures headers { self.new.headers.items ≡ self.old.headers.items }
@@ -99,7 +100,8 @@ impl Laid {
     /// Appends bytes.
     fn put_bytes(&mut self, bytes: Vec<u8>) -> Result<(), AllocError>
         requires { ends_at self.old.end self.old.pieces.items }
-        ensures pieces { OnOk result (flat self.new.pieces.items ≡ flat self.old.pieces.items ++ bytes.items) }
+        ensures pieces { OnOk result (flat self.new.pieces.items
+            ≡ flat self.old.pieces.items ++ bytes.items) }
         ensures ends { OnOk result (ends_at self.new.end self.new.pieces.items) }
         ensures headers { self.new.headers.items ≡ self.old.headers.items }
     {
@@ -112,8 +114,12 @@ impl Laid {
     /// Appends the body and the header of a section, whose name stands at this offset.
     fn put(&mut self, alloc: Global, name: usize, section: FileSection) -> Result<(), AllocError>
         requires { ends_at self.old.end self.old.pieces.items }
-        ensures pieces { OnOk result (flat self.new.pieces.items ≡ flat self.old.pieces.items ++ spec.body_from self.old.end (section_view section.entry)) }
-        ensures headers { OnOk result (self.new.headers.items ≡ self.old.headers.items ++ spec.header_from self.old.end name (section_view section.entry)) }
+        ensures pieces { OnOk result (flat self.new.pieces.items
+            ≡ flat self.old.pieces.items
+            ++ spec.body_from self.old.end (section_view section.entry)) }
+        ensures headers { OnOk result (self.new.headers.items
+            ≡ self.old.headers.items
+            ++ spec.header_from self.old.end name (section_view section.entry)) }
         ensures ends { OnOk result (ends_at self.new.end self.new.pieces.items) }
     {
         self.put_gap(alloc, section.alignment)?;
@@ -127,8 +133,10 @@ impl Laid {
 #[tactic(auto, unfolding(crate::specs::Image::header_table, crate::specs::Image::null_header))]
 fn lay_out(alloc: Global, names: &[usize], sections: Vec<FileSection>) -> Result<Laid, AllocError>
     requires { length names.now ≡ vec_len sections }
-    ensures pieces { IfOk result (λ l. flat l.pieces.items ≡ spec.bodies_from spec.header_end (map section_view sections.entry.items)) }
-    ensures headers { IfOk result (λ l. l.headers.items ≡ spec.header_table names.now (map section_view sections.entry.items)) }
+    ensures pieces { IfOk result (λ l. flat l.pieces.items
+        ≡ spec.bodies_from spec.header_end (map section_view sections.entry.items)) }
+    ensures headers { IfOk result (λ l. l.headers.items
+        ≡ spec.header_table names.now (map section_view sections.entry.items)) }
     ensures ends { IfOk result (λ l. ends_at l.end l.pieces.items) }
 {
     let mut laid = Laid {
@@ -155,8 +163,10 @@ struct NameTable {
 /// The names of the sections, and last that of their table.
 #[tactic(auto, unfolding(crate::specs::Image::all_names, crate::specs::Sections::section_names, crate::specs::StringTable::string_table_of, crate::specs::StringTable::name_offsets))]
 fn name_table(alloc: Global, sections: &[FileSection]) -> Result<NameTable, AllocError>
-    ensures bytes { IfOk result (λ t. t.bytes.items ≡ string_table_of (spec.all_names (map section_view sections.now))) }
-    ensures offsets { IfOk result (λ t. t.offsets.items ≡ name_offsets (spec.all_names (map section_view sections.now))) }
+    ensures bytes { IfOk result (λ t. t.bytes.items
+        ≡ string_table_of (spec.all_names (map section_view sections.now))) }
+    ensures offsets { IfOk result (λ t. t.offsets.items
+        ≡ name_offsets (spec.all_names (map section_view sections.now))) }
     ensures len { IfOk result (λ t. vec_len t.offsets ≡ length sections.now + 1) }
 {
     let mut bytes = vec![in alloc; 0; 1]?;
@@ -180,7 +190,8 @@ pub(crate) struct File {
 /// The file of these sections, and last the table of their names.
 #[tactic(auto, unfolding(crate::specs::Image::file_of, crate::specs::Image::with_names))]
 pub(crate) fn laid_file(alloc: Global, sections: Vec<FileSection>) -> Result<File, AllocError>
-    ensures { IfOk result (λ f. f.header ++ flat f.pieces.items ≡ spec.file_with (map section_view sections.entry.items)) }
+    ensures { IfOk result (λ f. f.header ++ flat f.pieces.items
+        ≡ spec.file_with (map section_view sections.entry.items)) }
 {
     let mut sections = sections;
     let names = name_table(alloc, &sections)?;

@@ -34,7 +34,8 @@ pub(crate) fn listed_symbols<'a>(
 
 /// Appends the entries of files' names.
 fn put_files<'a>(out: &mut Vec<TableSymbol<'a>>, files: &'a [Name]) -> Result<(), AllocError>
-    ensures { OnOk result (map symbol_view out.new.items ≡ map symbol_view out.old.items ++ map spec.file_entry files.now) }
+    ensures { OnOk result (map symbol_view out.new.items
+        ≡ map symbol_view out.old.items ++ map spec.file_entry files.now) }
 {
     for name in files {
         out.push(file_entry(name))?;
@@ -44,7 +45,8 @@ fn put_files<'a>(out: &mut Vec<TableSymbol<'a>>, files: &'a [Name]) -> Result<()
 
 /// Appends the entries of the sections that are marked.
 fn put_sections(out: &mut Vec<TableSymbol>, marks: &[bool]) -> Result<(), AllocError>
-    ensures { OnOk result (map symbol_view out.new.items ≡ map symbol_view out.old.items ++ spec.section_entries 0 marks.now) }
+    ensures { OnOk result (map symbol_view out.new.items
+        ≡ map symbol_view out.old.items ++ spec.section_entries 0 marks.now) }
 {
     for (number, mark) in marks.iter().enumerate() {
         if *mark {
@@ -72,7 +74,8 @@ fn put_one<'a>(
     one: &Option<TableSymbol<'a>>,
     local: bool,
 ) -> Result<(), AllocError>
-    ensures { OnOk result (map symbol_view out.new.items ≡ map symbol_view out.old.items ++ spec.part local (option_map symbol_view one.now ∷ [])) }
+    ensures { OnOk result (map symbol_view out.new.items
+        ≡ map symbol_view out.old.items ++ spec.part local (option_map symbol_view one.now ∷ [])) }
 {
     if let Some(entry) = one {
         if is_bound(local, entry) {
@@ -88,7 +91,8 @@ fn put_part<'a>(
     all: &[Option<TableSymbol<'a>>],
     local: bool,
 ) -> Result<(), AllocError>
-    ensures { OnOk result (map symbol_view out.new.items ≡ map symbol_view out.old.items ++ spec.part local (map (option_map symbol_view) all.now)) }
+    ensures { OnOk result (map symbol_view out.new.items
+        ≡ map symbol_view out.old.items ++ spec.part local (map (option_map symbol_view) all.now)) }
 {
     for one in all {
         put_one(out, one, local)?;
@@ -112,9 +116,12 @@ pub(crate) fn list_symbols<'a>(
     named: &Named,
 ) -> Result<Listing<'a>, NoMemory>
     requires { length named.now.symbols.items ≡ length at.symbols.now.symbols }
-    ensures symbols { IfOk result (λ l. map symbol_view l.symbols.items ≡ spec.table_of at.entry.symbols.now at.entry.sections.now (named_view named.now)) }
-    ensures first_other { IfOk result (λ l. l.first_other ≡ first_other at.entry.symbols.now at.entry.sections.now (named_view named.now)) }
-    ensures numbers { IfOk result (λ l. numbers_view l.numbers ≡ numbers_of at.entry.symbols.now at.entry.sections.now (named_view named.now)) }
+    ensures symbols { IfOk result (λ l. map symbol_view l.symbols.items
+        ≡ spec.table_of at.entry.symbols.now at.entry.sections.now (named_view named.now)) }
+    ensures first_other { IfOk result (λ l. l.first_other
+        ≡ first_other at.entry.symbols.now at.entry.sections.now (named_view named.now)) }
+    ensures numbers { IfOk result (λ l. numbers_view l.numbers
+        ≡ numbers_of at.entry.symbols.now at.entry.sections.now (named_view named.now)) }
 {
     let all = listed_symbols(alloc, at, &named.symbols, at.symbols.as_slice())?;
     let mut symbols = Vec::new(alloc);

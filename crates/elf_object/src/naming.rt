@@ -44,7 +44,8 @@ pub(crate) fn named_by(
     held: &[HeldSection],
     symbols: usize,
 ) -> Result<Named, AllocError>
-    ensures { IfOk result (λ named. named_view named ≡ named_of (map relocations_in held.now) symbols) }
+    ensures { IfOk result (λ named. named_view named
+        ≡ named_of (map relocations_in held.now) symbols) }
 {
     let mut named = Named {
         sections: vec![in alloc; false; held.len()]?,

@@ -56,7 +56,8 @@ pub(crate) fn symbol_numbers(
 ) -> Result<Vec<usize>, AllocError>
     requires locals { local + length all.now < 2 ^ 64 }
     requires others { other + length all.now < 2 ^ 64 }
-    ensures { IfOk result (λ numbers. numbers.items ≡ spec.symbol_numbers local other (map (option_map symbol_view) all.now)) }
+    ensures { IfOk result (λ numbers. numbers.items
+        ≡ spec.symbol_numbers local other (map (option_map symbol_view) all.now)) }
 {
     let mut numbers = Vec::with_capacity(alloc, all.len())?;
     let mut next_local = local;

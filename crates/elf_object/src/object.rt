@@ -42,8 +42,11 @@ impl Model for Object {
 /// The file of the sections with what they hold, and the symbols.
 #[tactic(auto, unfolding(crate::specs::Image::before_names, crate::specs::Image::image_with))]
 fn image<'a>(alloc: Global, at: Placement<'a>, held: Vec<HeldSection<'a>>) -> Result<File, NoMemory>
-    requires entries { map held_entry held.items ≡ map (source_section at.symbols.now at.sections.now) at.sections.now }
-    ensures { IfOk result (λ f. f.header ++ flat f.pieces.items ≡ image_with at.entry.symbols.now at.entry.sections.now (map relocations_in held.entry.items)) }
+    requires entries { map held_entry held.items
+        ≡ map (source_section at.symbols.now at.sections.now) at.sections.now }
+    ensures { IfOk result (λ f. f.header ++ flat f.pieces.items
+        ≡ image_with at.entry.symbols.now at.entry.sections.now (map relocations_in
+        held.entry.items)) }
 {
     let named = named_by(alloc, &held, at.symbols.len())?;
     let headers = headers_of(alloc, &held)?;
@@ -57,8 +60,10 @@ fn image<'a>(alloc: Global, at: Placement<'a>, held: Vec<HeldSection<'a>>) -> Re
 
 /// Writes a piece: all of it, or a front of it where the output fails.
 fn write_piece<O: Output>(obj: &mut O, piece: &[u8]) -> Result<(), Failed>
-    ensures ok { OnOk result (O.made obj.new ≡ option_map (after_write piece.now) (O.made obj.old)) }
-    ensures prefix { (n : ℕ) × (n ≤ length piece.now) × (O.made obj.new ≡ option_map (after_write (take n piece.now)) (O.made obj.old)) }
+    ensures ok { OnOk result (O.made obj.new
+        ≡ option_map (after_write piece.now) (O.made obj.old)) }
+    ensures prefix { (n : ℕ) × (n ≤ length piece.now) × (O.made obj.new
+        ≡ option_map (after_write (take n piece.now)) (O.made obj.old)) }
     ensures cause { HasCause (O.faults obj.old) (O.faults obj.new) result }
 {
     let mut at = 0;
@@ -70,8 +75,10 @@ fn write_piece<O: Output>(obj: &mut O, piece: &[u8]) -> Result<(), Failed>
 
 /// Writes a header and the pieces behind it: all of them, or a front of them where the output fails.
 fn write_pieces<O: Output>(obj: &mut O, header: &[u8], pieces: &[Vec<u8>]) -> Result<(), Failed>
-    ensures ok { OnOk result (O.made obj.new ≡ option_map (after_write (header.now ++ flat pieces.now)) (O.made obj.old)) }
-    ensures prefix { (n : ℕ) × (n ≤ length (header.now ++ flat pieces.now)) × (O.made obj.new ≡ option_map (after_write (take n (header.now ++ flat pieces.now))) (O.made obj.old)) }
+    ensures ok { OnOk result (O.made obj.new
+        ≡ option_map (after_write (header.now ++ flat pieces.now)) (O.made obj.old)) }
+    ensures prefix { (n : ℕ) × (n ≤ length (header.now ++ flat pieces.now)) × (O.made obj.new
+        ≡ option_map (after_write (take n (header.now ++ flat pieces.now))) (O.made obj.old)) }
     ensures cause { HasCause (O.faults obj.old) (O.faults obj.new) result }
 {
     write_piece(obj, header)?;
@@ -121,8 +128,10 @@ impl Object {
     /// Writes the bytes to the file that the output makes: all of them, or a front of them where the output fails.
     /// It takes no memory.
     pub fn write_to<O: Output>(&self, obj: &mut O) -> Result<(), Failed>
-        ensures ok { OnOk result (O.made obj.new ≡ option_map (after_write self.now) (O.made obj.old)) }
-        ensures prefix { (n : ℕ) × (n ≤ length self.now) × (O.made obj.new ≡ option_map (after_write (take n self.now)) (O.made obj.old)) }
+        ensures ok { OnOk result (O.made obj.new
+            ≡ option_map (after_write self.now) (O.made obj.old)) }
+        ensures prefix { (n : ℕ) × (n ≤ length self.now) × (O.made obj.new
+            ≡ option_map (after_write (take n self.now)) (O.made obj.old)) }
         ensures cause { HasCause (O.faults obj.old) (O.faults obj.new) result }
     {
         write_pieces(obj, &self.header, &self.pieces)

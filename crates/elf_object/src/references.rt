@@ -118,7 +118,8 @@ fn relative(
     from: &Name,
     constant: u64,
 ) -> Option<Reference>
-    ensures { result ≡ spec.relative at.entry.symbols.now at.entry.sections.now section place name.now from.now constant }
+    ensures { result ≡ spec.relative at.entry.symbols.now at.entry.sections.now section place
+        name.now from.now constant }
 {
     let view = FinalView {
         symbols: at.symbols,
@@ -155,7 +156,8 @@ fn pair(
     other: &Term,
     constant: u64,
 ) -> Option<Reference>
-    ensures { result ≡ spec.pair at.entry.symbols.now at.entry.sections.now section place one.now other.now constant }
+    ensures { result ≡ spec.pair at.entry.symbols.now at.entry.sections.now section place one.now
+        other.now constant }
 {
     if is_plus(one) && is_minus(other) {
         relative(at, section, place, &one.name, &other.name, constant)
@@ -168,7 +170,8 @@ fn pair(
 
 /// What is left of the form of a field, at this place of the section of this number, where a relocation can say it.
 fn reference_by(at: Placement, section: usize, place: u64, form: &Linear) -> Option<Reference>
-    ensures { result ≡ spec.reference_of at.entry.symbols.now at.entry.sections.now section place form.now }
+    ensures { result ≡ spec.reference_of at.entry.symbols.now at.entry.sections.now section place
+        form.now }
 {
     match form.terms() {
         [term] if is_plus(term) => direct(at, &term.name, form.constant()),
@@ -195,7 +198,8 @@ fn reference_of(
     place: u64,
     form: &Linear,
 ) -> Result<Option<Reference>, NoMemory>
-    ensures { IfOk result (λ found. found ≡ spec.final_reference at.entry.symbols.now at.entry.sections.now section place form.now) }
+    ensures { IfOk result (λ found. found
+        ≡ spec.final_reference at.entry.symbols.now at.entry.sections.now section place form.now) }
 {
     // A name alone is the common case, and takes no memory.
     if let Some(name) = lone_name(form.terms()) {
@@ -220,7 +224,9 @@ pub(crate) fn field_relocation(
     address: u64,
     field: &Field,
 ) -> Result<Option<Relocation>, NoMemory>
-    ensures { IfOk result (λ found. found ≡ spec.field_relocation at.entry.symbols.now at.entry.sections.now section address field.now) }
+    ensures { IfOk result (λ found. found
+        ≡ spec.field_relocation at.entry.symbols.now at.entry.sections.now section address
+        field.now) }
 {
     let place = address.wrapping_add(field.offset as u64);
     match reference_of(alloc, at, section, place, &field.form)? {

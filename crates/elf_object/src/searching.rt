@@ -47,7 +47,8 @@ pub(crate) fn undefined_fault(at: Placement) -> Option<ObjectFault>
 
 /// Whether the size is said and has no value.
 fn unknown_size(alloc: Global, at: Placement, size: &Option<Linear>) -> Result<bool, NoMemory>
-    ensures { IfOk result (λ unknown. unknown ≡ spec.unknown_size at.entry.symbols.now at.entry.sections.now size.now) }
+    ensures { IfOk result (λ unknown. unknown
+        ≡ spec.unknown_size at.entry.symbols.now at.entry.sections.now size.now) }
 {
     match size {
         None => Ok(false),
@@ -113,7 +114,8 @@ fn first_unknown(
 
 /// The fault of the first `.size` statement without a value.
 pub(crate) fn size_fault(alloc: Global, at: Placement) -> Result<Option<ObjectFault>, NoMemory>
-    ensures { IfOk result (λ fault. fault ≡ spec.size_fault at.entry.symbols.now at.entry.sections.now) }
+    ensures { IfOk result (λ fault. fault
+        ≡ spec.size_fault at.entry.symbols.now at.entry.sections.now) }
 {
     match first_unknown(alloc, at, at.symbols.as_slice())? {
         Some(found) => Ok(Some(ObjectFault::SizeNotKnown(found.symbol))),

@@ -99,7 +99,8 @@ fn relocation_bytes(
     numbers: &Numbers,
     relocations: &[Relocation],
 ) -> Result<Vec<u8>, AllocError>
-    ensures { IfOk result (λ bytes. bytes.items ≡ spec.relocation_bytes (numbers_view numbers.now) relocations.now) }
+    ensures { IfOk result (λ bytes. bytes.items
+        ≡ spec.relocation_bytes (numbers_view numbers.now) relocations.now) }
 {
     let mut out = Vec::new(alloc);
     for relocation in relocations {
@@ -188,7 +189,8 @@ fn put_section<'a>(
     held: HeldSection<'a>,
 ) -> Result<(), AllocError>
     ensures { OnOk result (map section_view out.new.items ≡ map section_view out.old.items
-        ++ spec.with_relocations (numbers_view numbers.now) symbols index (held_entry held.entry) (relocations_in held.entry)) }
+        ++ spec.with_relocations (numbers_view numbers.now) symbols index (held_entry held.entry)
+        (relocations_in held.entry)) }
 {
     let name = held.source.name();
     if held.relocations.is_empty() {
@@ -215,7 +217,8 @@ pub(crate) struct Headers {
 
 /// The indices of the headers of these sections; the header at index 0 is that of no section.
 pub(crate) fn headers_of(alloc: Global, held: &[HeldSection]) -> Result<Headers, AllocError>
-    ensures indices { IfOk result (λ h. h.indices.items ≡ spec.header_indices (map relocations_in held.now)) }
+    ensures indices { IfOk result (λ h. h.indices.items
+        ≡ spec.header_indices (map relocations_in held.now)) }
     ensures next { IfOk result (λ h. h.next ≡ spec.next_header 1 (map relocations_in held.now)) }
     ensures below { IfOk result (λ h. h.next ≤ 1 + 2 * length held.now) }
 {
@@ -236,7 +239,8 @@ pub(crate) fn file_sections<'a>(
     held: Vec<HeldSection<'a>>,
 ) -> Result<Vec<FileSection<'a>>, AllocError>
     ensures { IfOk result (λ out. map section_view out.items
-        ≡ spec.entries_from (numbers_view numbers.now) symbols 1 (map held_entry held.entry.items) (map relocations_in held.entry.items)) }
+        ≡ spec.entries_from (numbers_view numbers.now) symbols 1 (map held_entry held.entry.items)
+        (map relocations_in held.entry.items)) }
 {
     let mut out = Vec::new(alloc);
     let mut index = 1;

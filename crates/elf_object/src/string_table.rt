@@ -25,8 +25,10 @@ pub(crate) fn put_joined(
     prefix: &[u8],
     name: &[u8],
 ) -> Result<usize, AllocError>
-    ensures bytes { OnOk result (bytes.new.items ≡ bytes.old.items ++ string_of (prefix.now ++ name.now)) }
-    ensures offset { IfOk result (λ n. n ≡ name_offset_after (length bytes.old.items) (prefix.now ++ name.now)) }
+    ensures bytes { OnOk result (bytes.new.items
+        ≡ bytes.old.items ++ string_of (prefix.now ++ name.now)) }
+    ensures offset { IfOk result (λ n. n
+        ≡ name_offset_after (length bytes.old.items) (prefix.now ++ name.now)) }
 {
     if prefix.is_empty() {
         return put_name(bytes, name);

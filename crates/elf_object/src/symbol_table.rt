@@ -21,8 +21,10 @@ impl SymbolTable {
     /// Appends a symbol.
     fn put(&mut self, headers: &[usize], symbol: &TableSymbol) -> Result<(), AllocError>
         ensures entries { OnOk result (self.new.entries.items ≡ self.old.entries.items
-            ++ symbol_bytes headers.now (name_offset_after (length self.old.strings.items) symbol.now.name.now) (symbol_view symbol.now)) }
-        ensures strings { OnOk result (self.new.strings.items ≡ self.old.strings.items ++ string_of symbol.now.name.now) }
+            ++ symbol_bytes headers.now (name_offset_after (length self.old.strings.items)
+            symbol.now.name.now) (symbol_view symbol.now)) }
+        ensures strings { OnOk result (self.new.strings.items
+            ≡ self.old.strings.items ++ string_of symbol.now.name.now) }
     {
         let name = put_name(&mut self.strings, symbol.name)?;
         self.entries
@@ -37,8 +39,10 @@ pub(crate) fn symbol_table(
     headers: &[usize],
     symbols: &[TableSymbol],
 ) -> Result<SymbolTable, AllocError>
-    ensures entries { IfOk result (λ t. t.entries.items ≡ symbol_table_of headers.now (map symbol_view symbols.now)) }
-    ensures strings { IfOk result (λ t. t.strings.items ≡ string_table_of (symbol_names (map symbol_view symbols.now))) }
+    ensures entries { IfOk result (λ t. t.entries.items
+        ≡ symbol_table_of headers.now (map symbol_view symbols.now)) }
+    ensures strings { IfOk result (λ t. t.strings.items
+        ≡ string_table_of (symbol_names (map symbol_view symbols.now))) }
 {
     let mut table = SymbolTable {
         entries: vec![in alloc; 0; 24]?,

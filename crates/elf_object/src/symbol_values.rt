@@ -89,7 +89,8 @@ pub(crate) fn symbol_value_of(
     at: Placement,
     meaning: &Meaning,
 ) -> Result<Option<SymbolValue>, NoMemory>
-    ensures { IfOk result (λ there. there ≡ spec.symbol_value_of at.entry.symbols.now at.entry.sections.now meaning.now) }
+    ensures { IfOk result (λ there. there
+        ≡ spec.symbol_value_of at.entry.symbols.now at.entry.sections.now meaning.now) }
 {
     match meaning {
         Meaning::Undefined => Ok(Some(SymbolValue {
