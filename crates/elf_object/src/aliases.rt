@@ -3,8 +3,19 @@
 ghost use Rattle.std.specs.Prelude.{◌≡◌, ◌<◌, length, option_map, IfSome};
 ghost use Rattle.elf_object.specs.Aliases as spec;
 
-use asm_expr::Linear;
+use crate::references::lone_name;
+use asm_expr::{Linear, Name};
 use asm_symbols::{Kind, Meaning, SymId, Symbol, Symbols};
+
+/// The name of a form that is one symbol and no number.
+fn name_in(form: &Linear) -> Option<&Name>
+    ensures { option_map (λ name. name.now) result ≡ spec.name_in form.now }
+{
+    if form.constant() != 0 {
+        return None;
+    }
+    lone_name(form.terms())
+}
 
 /// Where the symbol stands that one of this meaning is an alias of.
 fn alias_of(symbols: &Symbols, meaning: &Meaning) -> Option<SymId>
@@ -14,9 +25,9 @@ fn alias_of(symbols: &Symbols, meaning: &Meaning) -> Option<SymId>
     let Meaning::Assigned(form) = meaning else {
         return None;
     };
-    match form.terms() {
-        [term] if term.coefficient == 1 && form.constant() == 0 => symbols.find(&term.name),
-        _ => None,
+    match name_in(form) {
+        Some(name) => symbols.find(name),
+        None => None,
     }
 }
 

@@ -181,7 +181,7 @@ fn reference_by(at: Placement, section: usize, place: u64, form: &Linear) -> Opt
 }
 
 /// The name that a form has alone.
-fn lone_name(terms: &[Term]) -> Option<&Name>
+pub(crate) fn lone_name(terms: &[Term]) -> Option<&Name>
     ensures { option_map (λ name. name.now) result ≡ spec.lone_name terms.now }
 {
     match terms {
