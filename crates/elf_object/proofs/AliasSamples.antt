@@ -1,5 +1,5 @@
 -- Types and sizes of aliases at small symbol maps, by computing.
-use Rattle.std.proofs.Common.{◌≡◌, ℕ, List, [], ◌∷◌, codes, Option, None, Some, refl}
+use Rattle.std.proofs.Common.{◌≡◌, [], ◌∷◌, codes, Option, None, Some, refl}
 use Rattle.asm_expr.specs.declared.naming.Name.{Name}
 use Rattle.asm_expr.specs.declared.naming.Name.TheVariants.{Plain}
 use Rattle.asm_expr.specs.Forms.{Form, constant_form, name_form}

@@ -1,11 +1,11 @@
 -- Loops over lists that put what they make of each element behind what they have.
-use Rattle.std.proofs.Common.{◌≡◌, ℕ, suc, ◌+◌, ◌<◌, Bool, false, cond, List, [], ◌∷◌, ◌++◌, length, get_or, drop, map, Option, sym, ap, ◌∙◌, append_assoc}
+use Rattle.std.proofs.Common.{◌≡◌, ℕ, ◌+◌, ◌<◌, ◌≤◌, Bool, false, List, [], ◌∷◌, ◌++◌, length, get_or, drop, map, Option, sym, ap, ◌∙◌, append-nil, append_assoc}
 use Rattle.std.specs.Prelude.{find, flat_map}
-use Rattle.std.proofs.lemmas.List.{at_drop_more, map-append}
+use Rattle.std.proofs.lemmas.List.{at_drop_all, at_drop_more, map-append}
 use Rattle.asm_symbols.specs.declared.entries.Symbol.{Symbol}
 use Rattle.asm_symbols.specs.SymbolMap.{SymbolMap}
 use Rattle.asm_relax.specs.Settling.{LaidSections}
-use Rattle.elf_object.specs.SymbolTable.{SymbolEntry, listed, listed_by}
+use Rattle.elf_object.specs.SymbolTable.{listed, listed_by}
 
 -- what is left begins with the element
 pub next_is : {X Y : Type 0} (f : List X → Y) (xs : List X) (i : ℕ) (x : X) → i < length xs → x ≡ get_or xs i x → f (drop i xs) ≡ f (x ∷ drop (i + 1) xs)
@@ -41,3 +41,14 @@ listed_next symbols sections marks all i mark symbol long inside first second =
     let there : i < length marks = rw long inside in
     next_is (λ ms. listed_by symbols sections ms (drop i all)) marks i mark there first
     ∙ next_is (λ ss. listed_by symbols sections (mark ∷ drop (i + 1) marks) ss) all i symbol inside second
+
+-- no entry is left
+pub listed_none : (symbols : SymbolMap) (sections : LaidSections) (marks : List Bool) (all : List Symbol) (i : ℕ) → length marks ≡ length all → length all ≤ i
+    → listed_by symbols sections (drop i marks) (drop i all) ≡ []
+listed_none symbols sections marks all i long end =
+    let past : length marks ≤ i = rw long end in
+    at_drop_all (λ ms. listed_by symbols sections ms (drop i all)) marks i past
+
+-- all is pushed
+pub all_pushed : {Y : Type 0} (out rest whole : List Y) → rest ≡ [] → out ++ rest ≡ whole → out ≡ whole
+all_pushed out rest whole none before = sym (append-nil out) ∙ ap (λ ys. out ++ ys) (sym none) ∙ before
