@@ -31,7 +31,7 @@ use Rattle.asm_place.specs.declared.stacks.Entered.{Entered}
 use Rattle.asm_place.specs.Results.{◌>>=◌, if_some}
 use Rattle.asm_place.specs.LayerFaults.{of_sections}
 use Rattle.asm_place.specs.Operands.{is_name, names_symbol, operands_of, is_dot, begins_with_place, symbol_name, each, joined_strings, name_of}
-use Rattle.asm_place.specs.Expressions.{expression_of, form_in, constant_in, up_to_three_listed, up_to_three_trees, up_to_three_values, no_more}
+use Rattle.asm_place.specs.Expressions.{expression_of, form_in, constant_in, known_operands, no_more}
 use Rattle.asm_place.specs.Places.{Item, LooseSection, uses_dot, spot_at, name_parts}
 use Rattle.asm_place.specs.State.{Placed, with_table, with_notes, here, known_here, item_of, push_into, unless_dot}
 use Rattle.asm_place.specs.DataItems.{data_of, is_cut, cut_notes}
@@ -138,21 +138,18 @@ item_steps pos trees item placed =
 zero_steps : (pos : Pos) (tokens : List SpelledToken) (placed : Placed) → Steps placed (place_zero pos tokens placed)
 unfolding place_zero
 zero_steps pos tokens placed =
-    after (up_to_three_trees 1 (operands_of tokens)) (λ trees. after (up_to_three_values (known_here placed) trees)
-    (λ values. after (space_of values.first 0) (λ item. item_steps pos (up_to_three_listed trees) item placed)))
+    after (known_operands (known_here placed) 1 (operands_of tokens)) (λ given. after (space_of given.values.first 0) (λ item. item_steps pos given.trees item placed))
 
 skip_steps : (pos : Pos) (tokens : List SpelledToken) (placed : Placed) → Steps placed (place_skip pos tokens placed)
 unfolding place_skip
 skip_steps pos tokens placed =
-    after (up_to_three_trees 2 (operands_of tokens)) (λ trees. after (up_to_three_values (known_here placed) trees)
-    (λ values. after (space_of values.first (unwrap_or values.second 0)) (λ item. item_steps pos (up_to_three_listed trees) item placed)))
+    after (known_operands (known_here placed) 2 (operands_of tokens)) (λ given. after (space_of given.values.first (unwrap_or given.values.second 0)) (λ item. item_steps pos given.trees item placed))
 
 fill_steps : (pos : Pos) (tokens : List SpelledToken) (placed : Placed) → Steps placed (place_fill pos tokens placed)
 unfolding place_fill
 fill_steps pos tokens placed =
-    after (up_to_three_trees 3 (operands_of tokens)) (λ trees. after (up_to_three_values (known_here placed) trees)
-    (λ values. after (unit_size values.second) (λ size. after (units_of values.first size (unwrap_or values.third 0))
-    (λ item. item_steps pos (up_to_three_listed trees) item placed))))
+    after (known_operands (known_here placed) 3 (operands_of tokens)) (λ given. after (unit_size given.values.second) (λ size. after (units_of given.values.first size (unwrap_or given.values.third 0))
+    (λ item. item_steps pos given.trees item placed)))
 
 -- symbols
 dot_steps : (dot : Bool) (before placed : Placed) → Grows before.sections placed.sections → Steps before (unless_dot dot placed)
@@ -217,18 +214,16 @@ space_steps false pos name trees size log placed = with_common_steps pos name tr
 comm_steps : (pos : Pos) (tokens : List SpelledToken) (placed : Placed) → Steps placed (place_comm pos tokens placed)
 unfolding place_comm
 comm_steps pos tokens placed =
-    after (space_words 2 tokens) (λ words. after (up_to_three_values (known_here placed) words.trees)
-    (λ values. after (space_size values.first) (λ size. after (log_of values.second size)
-    (λ log. grown placed (space_steps (is_said_local placed.table.symbols words.name) pos words.name (up_to_three_listed words.trees) size log placed)
-    (λ spaced. dot_steps (begins_with_place tokens) spaced spaced (still spaced))))))
+    after (space_words (known_here placed) 2 tokens) (λ words. after (space_size words.values.first) (λ size. after (log_of words.values.second size)
+    (λ log. grown placed (space_steps (is_said_local placed.table.symbols words.name) pos words.name words.trees size log placed)
+    (λ spaced. dot_steps (begins_with_place tokens) spaced spaced (still spaced)))))
 
 lcomm_steps : (pos : Pos) (tokens : List SpelledToken) (placed : Placed) → Steps placed (place_lcomm pos tokens placed)
 unfolding place_lcomm
 lcomm_steps pos tokens placed =
-    after (space_words 1 tokens) (λ words. after (up_to_three_values (known_here placed) words.trees)
-    (λ values. after (space_size values.first) (λ size. after (log_of None size)
-    (λ log. grown placed (with_space_steps pos words.name (up_to_three_listed words.trees) size log placed)
-    (λ spaced. dot_steps (begins_with_place tokens) spaced spaced (still spaced))))))
+    after (space_words (known_here placed) 1 tokens) (λ words. after (space_size words.values.first) (λ size. after (log_of None size)
+    (λ log. grown placed (with_space_steps pos words.name words.trees size log placed)
+    (λ spaced. dot_steps (begins_with_place tokens) spaced spaced (still spaced)))))
 
 -- texts
 ident_steps : (pos : Pos) (tokens : List SpelledToken) (placed : Placed) → Steps placed (place_ident pos tokens placed)

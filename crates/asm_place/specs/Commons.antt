@@ -8,6 +8,7 @@ use Rattle.asm_base.specs.Tokens.{SpelledToken}
 use Rattle.asm_expr.specs.declared.naming.Name.{Name}
 use Rattle.asm_expr.specs.declared.naming.Name.TheVariants as naming
 use Rattle.asm_expr.specs.Forms.{constant_form}
+use Rattle.asm_expr.specs.Knowledge.{Knowledge}
 use Rattle.asm_expr.specs.Trees.{Tree}
 use Rattle.asm_frags.specs.declared.contents.Content.TheVariants as content
 use Rattle.asm_symbols.specs.declared.entries.Binding.{Binding}
@@ -25,7 +26,7 @@ use Rattle.asm_place.specs.Places.{spot_at}
 use Rattle.asm_place.specs.State.{Placed, with_table, unless_dot, push_into, known_here}
 use Rattle.asm_place.specs.Operands.{begins_with_place, name_of, operands_of}
 use Rattle.asm_place.specs.declared.up_to_three.UpToThree.{UpToThree}
-use Rattle.asm_place.specs.Expressions.{up_to_three_listed, up_to_three_trees, up_to_three_values}
+use Rattle.asm_place.specs.Expressions.{known_operands}
 use Rattle.asm_place.specs.Spaces.{is_negative, space_of, log_of}
 use Rattle.asm_place.specs.SectionWords.{needed}
 
@@ -82,14 +83,17 @@ with_common pos name trees size log placed =
 abbrev pub space_size : ℕ → Result ℕ PlacingFault
 space_size size = if is_negative size then Err OutOfRange else Ok size
 
--- the name, and the size and the alignment that are said
+-- the name, the expressions behind it, and their values: the size and the alignment that are said
 pub record SpaceWords : Type 0 where
   pub name : Name
-  pub trees : UpToThree Tree
+  pub trees : List Tree
+  pub values : UpToThree ℕ
 
 -- the operands of `.comm` and `.lcomm`: a name, and at most so many expressions
-unfoldable pub space_words : ℕ → List SpelledToken → Result SpaceWords PlacingFault
-space_words most tokens = needed name_of (operands_of tokens) >>= λ name. up_to_three_trees most name.1 >>= λ trees. Ok (record { name = naming.Plain name.0; trees = trees })
+unfoldable pub space_words : Knowledge → ℕ → List SpelledToken → Result SpaceWords PlacingFault
+space_words known most tokens =
+    needed name_of (operands_of tokens) >>= λ name. known_operands known most name.1 >>= λ given.
+    Ok (record { name = naming.Plain name.0; trees = given.trees; values = given.values })
 
 -- space of this object where the symbol is local, or else space that the linker finds
 abbrev pub place_space : Bool → Pos → Name → List Tree → ℕ → ℕ → Placed → Result Placed PlacingFault
@@ -99,14 +103,13 @@ place_space false = with_common
 -- `.comm`: of a symbol that is local the space is this object's
 unfoldable pub place_comm : Pos → List SpelledToken → Placed → Result Placed PlacingFault
 place_comm pos tokens placed =
-    space_words 2 tokens >>= λ words. up_to_three_values (known_here placed) words.trees >>= λ values. space_size values.first >>= λ size.
-    log_of values.second size >>= λ log.
-    place_space (is_said_local placed.table.symbols words.name) pos words.name (up_to_three_listed words.trees) size log placed
+    space_words (known_here placed) 2 tokens >>= λ words. space_size words.values.first >>= λ size. log_of words.values.second size >>= λ log.
+    place_space (is_said_local placed.table.symbols words.name) pos words.name words.trees size log placed
     >>= unless_dot (begins_with_place tokens)
 
 -- `.lcomm`
 unfoldable pub place_lcomm : Pos → List SpelledToken → Placed → Result Placed PlacingFault
 place_lcomm pos tokens placed =
-    space_words 1 tokens >>= λ words. up_to_three_values (known_here placed) words.trees >>= λ values. space_size values.first >>= λ size.
-    log_of None size >>= λ log. with_space pos words.name (up_to_three_listed words.trees) size log placed
+    space_words (known_here placed) 1 tokens >>= λ words. space_size words.values.first >>= λ size. log_of None size >>= λ log.
+    with_space pos words.name words.trees size log placed
     >>= unless_dot (begins_with_place tokens)

@@ -70,3 +70,14 @@ up_to_three_trees most operands =
 -- their values: first the forms of all are made, and then each value has to be known
 unfoldable pub up_to_three_values : Knowledge → UpToThree Tree → Result (UpToThree ℕ) PlacingFault
 up_to_three_values known trees = each_up_to_three (form_in known) trees >>= each_up_to_three constant_in
+
+-- the expressions of a directive, and their values
+pub record KnownOperands : Type 0 where
+  pub trees : List Tree
+  pub values : UpToThree ℕ
+
+-- operands whose values have to be known: all are read before a value is asked for
+unfoldable pub known_operands : Knowledge → ℕ → List (List SpelledToken) → Result KnownOperands PlacingFault
+known_operands known most operands =
+    up_to_three_trees most operands >>= λ trees. up_to_three_values known trees >>= λ values.
+    Ok (record { trees = up_to_three_listed trees; values = values })

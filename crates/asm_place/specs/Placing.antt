@@ -30,7 +30,7 @@ use Rattle.asm_place.specs.Tables.{Table, symbol_of, next_symbol, changed_by, na
 use Rattle.asm_place.specs.Places.{uses_dot, name_parts}
 use Rattle.asm_place.specs.State.{Placed, with_table, unless_dot, with_notes, here, known_here, push_item}
 use Rattle.asm_place.specs.Operands.{is_name, is_dot, is_mark, names_symbol, symbol_name, operands_of, each, joined_strings}
-use Rattle.asm_place.specs.Expressions.{up_to_three_listed, expression_of, form_in, up_to_three_trees, up_to_three_values}
+use Rattle.asm_place.specs.Expressions.{expression_of, form_in, known_operands}
 use Rattle.asm_place.specs.DataItems.{data_of, is_cut, cut_notes}
 use Rattle.asm_place.specs.Spaces.{space_of, units_of, unit_size}
 use Rattle.asm_place.specs.SectionChanges.{with_current, place_section, place_pushed, popped}
@@ -59,20 +59,20 @@ with_item pos trees item placed = push_item pos item placed >>= λ pushed. name_
 -- `.zero`
 unfoldable pub place_zero : Pos → List SpelledToken → Placed → Result Placed PlacingFault
 place_zero pos tokens placed =
-    up_to_three_trees 1 (operands_of tokens) >>= λ trees. up_to_three_values (known_here placed) trees >>= λ values.
-    space_of values.first 0 >>= λ item. with_item pos (up_to_three_listed trees) item placed
+    known_operands (known_here placed) 1 (operands_of tokens) >>= λ given.
+    space_of given.values.first 0 >>= λ item. with_item pos given.trees item placed
 
 -- `.skip`, `.space`
 unfoldable pub place_skip : Pos → List SpelledToken → Placed → Result Placed PlacingFault
 place_skip pos tokens placed =
-    up_to_three_trees 2 (operands_of tokens) >>= λ trees. up_to_three_values (known_here placed) trees >>= λ values.
-    space_of values.first (unwrap_or values.second 0) >>= λ item. with_item pos (up_to_three_listed trees) item placed
+    known_operands (known_here placed) 2 (operands_of tokens) >>= λ given.
+    space_of given.values.first (unwrap_or given.values.second 0) >>= λ item. with_item pos given.trees item placed
 
 -- `.fill`
 unfoldable pub place_fill : Pos → List SpelledToken → Placed → Result Placed PlacingFault
 place_fill pos tokens placed =
-    up_to_three_trees 3 (operands_of tokens) >>= λ trees. up_to_three_values (known_here placed) trees >>= λ values. unit_size values.second >>= λ size.
-    units_of values.first size (unwrap_or values.third 0) >>= λ item. with_item pos (up_to_three_listed trees) item placed
+    known_operands (known_here placed) 3 (operands_of tokens) >>= λ given. unit_size given.values.second >>= λ size.
+    units_of given.values.first size (unwrap_or given.values.third 0) >>= λ item. with_item pos given.trees item placed
 
 -- a directive that stands alone
 abbrev pub bare : List SpelledToken → Result Placed PlacingFault → Result Placed PlacingFault

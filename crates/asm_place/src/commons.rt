@@ -4,16 +4,17 @@ ghost use Rattle.std.specs.Prelude.{◌≡◌, ◌≤◌, map};
 ghost use Rattle.asm_place.specs.Answers.{GivesBy};
 ghost use Rattle.asm_base.specs.Tokens.{spelled};
 ghost use Rattle.asm_place.specs.Commons as spec;
+ghost use Rattle.asm_place.specs.KnownIn.{known_in};
 ghost use Rattle.asm_place.specs.SpaceWordsIn.{space_words_in};
 
 use crate::assemblers::Assembler;
 use crate::operands::{Operands, begins_with_place};
 use crate::place_faults::{PlaceFault, PlacingFault};
-use crate::places::spot_at;
+use crate::places::{View, spot_at};
 use crate::section_words::needed_name;
 use crate::spaces::{is_negative, log_of, space_of};
 use crate::tables::SymbolUses;
-use crate::up_to_three::{UpToThree, listed, up_to_three_trees, up_to_three_values};
+use crate::up_to_three::{KnownOperands, known_operands};
 use asm_base::{Pos, Text, Token};
 use asm_expr::{Expr, Name};
 use asm_frags::{Align, Content};
@@ -49,20 +50,26 @@ fn space_size(size: u64) -> Result<u64, PlaceFault>
 #[derive(Drop)]
 struct SpaceWords {
     name: Name,
-    exprs: UpToThree<Expr>,
+    given: KnownOperands,
 }
 
 /// A name, and as many expressions as there may be.
 #[tactic(auto, unfolding(crate::specs::Commons::space_words))]
-fn space_words(alloc: Global, most: usize, tokens: &[Token]) -> Result<SpaceWords, PlaceFault>
-    ensures { GivesBy space_words_in result (spec.space_words most (map spelled tokens.now)) }
+fn space_words(
+    alloc: Global,
+    view: View,
+    most: usize,
+    tokens: &[Token],
+) -> Result<SpaceWords, PlaceFault>
+    ensures { GivesBy space_words_in result
+        (spec.space_words (known_in view.entry) most (map spelled tokens.now)) }
 {
     let mut operands = Operands::new(tokens);
     let name = needed_name(alloc, &mut operands)?;
-    let exprs = up_to_three_trees(alloc, most, &mut operands)?;
+    let given = known_operands(alloc, view, most, &mut operands)?;
     Ok(SpaceWords {
         name: Name::Plain(Text::new(name)),
-        exprs,
+        given,
     })
 }
 
@@ -175,13 +182,11 @@ impl Assembler {
             self.old self.new result }
         ensures notes { self.new.notes ≡ self.old.notes }
     {
-        let words = space_words(self.alloc, 2, tokens)?;
-        let values = up_to_three_values(self.alloc, self.view(), &words.exprs)?;
-        let size = space_size(values.first)?;
-        let log = log_of(values.second, size)?;
+        let words = space_words(self.alloc, self.view(), 2, tokens)?;
+        let size = space_size(words.given.values.first)?;
+        let log = log_of(words.given.values.second, size)?;
         let own = is_said_local(self.table.symbols(), &words.name);
-        let exprs = listed(self.alloc, words.exprs)?;
-        self.place_space(pos, own, &words.name, &exprs, size, log)?;
+        self.place_space(pos, own, &words.name, &words.given.exprs, size, log)?;
         self.unless_dot(begins_with_place(tokens))
     }
 
@@ -192,12 +197,10 @@ impl Assembler {
             self.old self.new result }
         ensures notes { self.new.notes ≡ self.old.notes }
     {
-        let words = space_words(self.alloc, 1, tokens)?;
-        let values = up_to_three_values(self.alloc, self.view(), &words.exprs)?;
-        let size = space_size(values.first)?;
+        let words = space_words(self.alloc, self.view(), 1, tokens)?;
+        let size = space_size(words.given.values.first)?;
         let log = log_of(None, size)?;
-        let exprs = listed(self.alloc, words.exprs)?;
-        self.with_space(pos, &words.name, &exprs, size, log)?;
+        self.with_space(pos, &words.name, &words.given.exprs, size, log)?;
         self.unless_dot(begins_with_place(tokens))
     }
 }

@@ -8,7 +8,7 @@ use asm_frags::FieldSize;
 use asm_symbols::{Binding, Visibility};
 
 /// A section that is there from the beginning.
-#[derive(Clone, Copy, PartialEq, Eq, Debug)]
+#[derive(Clone, Copy)]
 pub enum InitialSection {
     Text,
     Data,
@@ -16,14 +16,14 @@ pub enum InitialSection {
 }
 
 /// What is said of symbols.
-#[derive(Clone, Copy, PartialEq, Eq, Debug)]
+#[derive(Clone, Copy)]
 pub enum SymbolAttribute {
     Bind(Binding),
     See(Visibility),
 }
 
 /// What a directive does; several names may have one.
-#[derive(Clone, Copy, PartialEq, Eq, Debug)]
+#[derive(Clone, Copy)]
 pub enum Directive {
     /// Data of this size.
     Data(FieldSize),
@@ -50,7 +50,7 @@ pub enum Directive {
 }
 
 /// A name of a directive.
-#[derive(Clone, Copy, PartialEq, Eq, Debug)]
+#[derive(Clone, Copy)]
 pub struct DirectiveRow {
     /// The name as the GNU as manual spells it, filled up with spaces.
     pub name: [u8; 12],

@@ -9,7 +9,7 @@ ghost use Rattle.asm_place.specs.Reads.{Reads, all_apart};
 use std::alloc::AllocError;
 
 /// What an instruction does; several names or encodings may have one mnemonic.
-#[derive(Clone, Copy, PartialEq, Eq, Debug)]
+#[derive(Clone, Copy)]
 pub enum Mnemonic {
     Nop,
     Pause,
@@ -43,7 +43,7 @@ pub enum Mnemonic {
 }
 
 /// One form of an instruction, as plain data (Intel SDM, volume 2, chapter 2).
-#[derive(Clone, Copy, PartialEq, Eq, Debug)]
+#[derive(Clone, Copy)]
 pub struct Row {
     pub mnemonic: Mnemonic,
     /// The name in small letters, as the GNU as manual spells it, filled up with spaces.

@@ -8,7 +8,7 @@ use asm_frags::{
 };
 
 /// `sh_flags` and `sh_type`.
-#[derive(Clone, Copy, PartialEq, Eq, Debug)]
+#[derive(Clone, Copy)]
 pub(crate) struct DefaultHeader {
     pub(crate) flags: u64,
     pub(crate) kind: u32,

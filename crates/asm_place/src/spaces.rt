@@ -7,7 +7,7 @@ ghost use Rattle.asm_place.specs.Spaces.{is_negative, space_of, units_of, unit_s
 use crate::assemblers::Assembler;
 use crate::operands::Operands;
 use crate::place_faults::{PlaceFault, PlacingFault};
-use crate::up_to_three::{listed, up_to_three_trees, up_to_three_values};
+use crate::up_to_three::known_operands;
 use asm_base::{Pos, Token};
 use asm_expr::Expr;
 use asm_frags::{Content, Fill};
@@ -137,11 +137,9 @@ impl Assembler {
             self.old self.new result }
         ensures notes { self.new.notes ≡ self.old.notes }
     {
-        let exprs = up_to_three_trees(self.alloc, 1, &mut Operands::new(tokens))?;
-        let values = up_to_three_values(self.alloc, self.view(), &exprs)?;
-        let item = space_of(values.first, 0)?;
-        let exprs = listed(self.alloc, exprs)?;
-        self.put_space(pos, &exprs, item)
+        let given = known_operands(self.alloc, self.view(), 1, &mut Operands::new(tokens))?;
+        let item = space_of(given.values.first, 0)?;
+        self.put_space(pos, &given.exprs, item)
     }
 
     /// `.skip`, `.space`: so many bytes of a value.
@@ -151,11 +149,9 @@ impl Assembler {
             self.old self.new result }
         ensures notes { self.new.notes ≡ self.old.notes }
     {
-        let exprs = up_to_three_trees(self.alloc, 2, &mut Operands::new(tokens))?;
-        let values = up_to_three_values(self.alloc, self.view(), &exprs)?;
-        let item = space_of(values.first, values.second.unwrap_or(0))?;
-        let exprs = listed(self.alloc, exprs)?;
-        self.put_space(pos, &exprs, item)
+        let given = known_operands(self.alloc, self.view(), 2, &mut Operands::new(tokens))?;
+        let item = space_of(given.values.first, given.values.second.unwrap_or(0))?;
+        self.put_space(pos, &given.exprs, item)
     }
 
     /// `.fill`: so many units of a value.
@@ -165,11 +161,9 @@ impl Assembler {
             self.old self.new result }
         ensures notes { self.new.notes ≡ self.old.notes }
     {
-        let exprs = up_to_three_trees(self.alloc, 3, &mut Operands::new(tokens))?;
-        let values = up_to_three_values(self.alloc, self.view(), &exprs)?;
-        let size = unit_size(values.second)?;
-        let item = units_of(values.first, size, values.third.unwrap_or(0))?;
-        let exprs = listed(self.alloc, exprs)?;
-        self.put_space(pos, &exprs, item)
+        let given = known_operands(self.alloc, self.view(), 3, &mut Operands::new(tokens))?;
+        let size = unit_size(given.values.second)?;
+        let item = units_of(given.values.first, size, given.values.third.unwrap_or(0))?;
+        self.put_space(pos, &given.exprs, item)
     }
 }

@@ -7,8 +7,8 @@ ghost use Rattle.asm_place.specs.Answers.{GivesBy, GivesAnd};
 ghost use Rattle.asm_place.specs.Results.{if_some};
 ghost use Rattle.asm_place.specs.OperandParts.{operands_left, Takes};
 ghost use Rattle.asm_place.specs.KnownIn.{known_in};
-ghost use Rattle.asm_place.specs.Expressions.{form_in, constant_in, each_up_to_three, first_tree, next_tree, next_tree_if, no_more, up_to_three_trees, up_to_three_values};
-ghost use Rattle.asm_place.specs.UpToThreeTrees.{trees_in, trees_listed};
+ghost use Rattle.asm_place.specs.Expressions.{form_in, constant_in, each_up_to_three, first_tree, next_tree, next_tree_if, no_more, up_to_three_trees, up_to_three_values, known_operands};
+ghost use Rattle.asm_place.specs.UpToThreeTrees.{trees_in, trees_listed, known_operands_in};
 
 use crate::expressions::{constant_in, expression_of, form_in};
 use crate::operands::Operands;
@@ -23,6 +23,13 @@ pub(crate) struct UpToThree<T> {
     pub(crate) first: T,
     pub(crate) second: Option<T>,
     pub(crate) third: Option<T>,
+}
+
+/// The expressions of a directive, and their values.
+#[derive(Drop)]
+pub(crate) struct KnownOperands {
+    pub(crate) exprs: Vec<Expr>,
+    pub(crate) values: UpToThree<u64>,
 }
 
 /// The next operand, which has to be there.
@@ -74,7 +81,7 @@ pub(crate) fn no_more<T: Drop>(operands: &mut Operands, made: T) -> Result<T, Pl
 
 /// One expression, or as many more as there may be in all.
 #[tactic(auto, unfolding(crate::specs::Expressions::up_to_three_trees))]
-pub(crate) fn up_to_three_trees(
+fn up_to_three_trees(
     alloc: Global,
     most: usize,
     operands: &mut Operands,
@@ -121,7 +128,7 @@ pub(crate) fn constant_if(form: &Option<Linear>) -> Result<Option<u64>, PlaceFau
 
 /// The values of expressions: first the forms of all are made, and then each value has to be known.
 #[tactic(auto, unfolding(crate::specs::Expressions::up_to_three_values))]
-pub(crate) fn up_to_three_values(
+fn up_to_three_values(
     alloc: Global,
     view: View,
     exprs: &UpToThree<Expr>,
@@ -140,7 +147,7 @@ pub(crate) fn up_to_three_values(
 }
 
 /// The expressions in a list.
-pub(crate) fn listed(alloc: Global, exprs: UpToThree<Expr>) -> Result<Vec<Expr>, PlaceFault>
+fn listed(alloc: Global, exprs: UpToThree<Expr>) -> Result<Vec<Expr>, PlaceFault>
     ensures { GivesBy (λ list. map tree_of list.items) result (Ok (trees_listed exprs)) }
 {
     let mut list = Vec::new(alloc);
@@ -157,4 +164,23 @@ pub(crate) fn listed(alloc: Global, exprs: UpToThree<Expr>) -> Result<Vec<Expr>,
         list.push(third)?;
     }
     Ok(list)
+}
+
+/// Operands whose values have to be known: all are read before a value is asked for.
+#[tactic(auto, unfolding(crate::specs::Expressions::known_operands))]
+pub(crate) fn known_operands(
+    alloc: Global,
+    view: View,
+    most: usize,
+    operands: &mut Operands,
+) -> Result<KnownOperands, PlaceFault>
+    ensures { GivesBy known_operands_in result
+        (known_operands (known_in view.entry) most (operands_left operands.old)) }
+{
+    let exprs = up_to_three_trees(alloc, most, operands)?;
+    let values = up_to_three_values(alloc, view, &exprs)?;
+    Ok(KnownOperands {
+        exprs: listed(alloc, exprs)?,
+        values,
+    })
 }
