@@ -28,20 +28,20 @@ use Rattle.asm_place.specs.declared.directives.SymbolAttribute.{SymbolAttribute}
 use Rattle.asm_place.specs.declared.instructions.Row.{Row}
 use Rattle.asm_place.specs.declared.section_changes.Header.{Header}
 use Rattle.asm_place.specs.declared.stacks.Entered.{Entered}
-use Rattle.asm_place.specs.Results.{◌>>=◌, if_some}
+use Rattle.asm_place.specs.Results.{◌>>=◌}
 use Rattle.asm_place.specs.LayerFaults.{of_sections}
 use Rattle.asm_place.specs.Operands.{is_name, names_symbol, operands_of, is_dot, begins_with_place, symbol_name, each, joined_strings, name_of}
-use Rattle.asm_place.specs.Expressions.{expression_of, form_in, constant_in, known_operands, no_more}
+use Rattle.asm_place.specs.Expressions.{expression_of, form_in, known_operands, no_more}
 use Rattle.asm_place.specs.Places.{Item, LooseSection, uses_dot, spot_at, name_parts}
 use Rattle.asm_place.specs.State.{Placed, with_table, with_notes, here, known_here, item_of, push_into, unless_dot}
 use Rattle.asm_place.specs.DataItems.{data_of, is_cut, cut_notes}
 use Rattle.asm_place.specs.SectionWords.{SectionWords, needed, section_words}
-use Rattle.asm_place.specs.SectionChanges.{with_current, option_trees, numbered, entered_as, enter_words, place_section, entered_now, place_pushed, back_to, popped, said_size, header_by}
+use Rattle.asm_place.specs.SectionChanges.{with_current, option_trees, numbered, entered_as, enter_words, place_section, entered_now, place_pushed, back_to, popped, entry_size_in, header_by}
 use Rattle.asm_place.specs.SymbolWords.{plain_of, kind_said, kind_of, place_said, place_type, sized, place_size, NamedTree, say_all, named_tree, name_rest}
 use Rattle.asm_place.specs.Assignments.{assign_words, place_set, place_assignment}
 use Rattle.asm_place.specs.Commons.{bss, with_space, with_common, is_said_local, place_space, place_comm, place_lcomm, space_size, space_words, define_space}
 use Rattle.asm_place.specs.Idents.{plain_item, items_in, comment_bytes, comment_header, place_ident, place_file, one_string, file_name}
-use Rattle.asm_place.specs.Placing.{place_data, place_strings, with_item as with_space_item, place_zero, place_skip, place_fill, bare, initial_number, place_by, place_found, place_directive, place_row, place_instruction, is_assignment, begins_with_dot, place_body, is_label, place_label, place_tokens, label_symbol, place_labelled, has_wide_label}
+use Rattle.asm_place.specs.Placing.{DataWords, data_words, put_data, place_data, place_strings, with_item as with_space_item, place_zero, place_skip, place_fill, bare, initial_number, place_by, place_found, place_directive, place_row, place_instruction, is_assignment, begins_with_dot, place_body, is_label, place_label, place_tokens, label_symbol, place_labelled, has_wide_label}
 use Rattle.asm_place.specs.Sources.{FaultAt, pos_at, located, place, place_all}
 use Rattle.asm_place.specs.Faults.{is_file_too_large, is_too_large, statement_fault}
 use Rattle.asm_place.specs.Instructions.{Grows}
@@ -94,11 +94,10 @@ entered_grows sections name header = either (nat_lt (2 ^ 16) (length name)) (ref
 enter_steps : (pos : Pos) (words : SectionWords) (placed : Placed) → Steps placed (enter_words pos words placed)
 unfolding enter_words
 enter_steps pos words placed =
-    after (if_some (form_in (known_here placed)) words.entry_size)
-    (λ form. after (if_some constant_in form) (λ constant. after (said_size constant)
+    after (entry_size_in (known_here placed) words.entry_size)
     (λ size. after (header_by placed.sections words size) (λ header. step (entered_grows placed.sections words.name header)
     (λ pair grows. after (name_trees pos (option_trees words.entry_size) placed.table)
-    (λ table. made (with_table (with_current pair.1 (record placed { sections = pair.0 })) table) grows))))))
+    (λ table. made (with_table (with_current pair.1 (record placed { sections = pair.0 })) table) grows))))
 
 section_steps : (pos : Pos) (tokens : List SpelledToken) (placed : Placed) → Steps placed (place_section pos tokens placed)
 unfolding place_section
@@ -118,14 +117,16 @@ unfolding popped
 popped_steps placed = back_steps _ placed
 
 -- data and space
+values_steps : (pos : Pos) (size : FieldSize) (words : DataWords) (placed : Placed) → Steps placed (put_data pos size words placed)
+unfolding put_data
+values_steps pos size words placed =
+    grown placed (push_steps pos placed.current (content.Bytes (data_of size words.forms)) placed)
+    (λ pushed. after (name_parts pos (here placed) (list_any (uses_dot (here placed)) words.forms) words.trees pushed.table)
+    (λ table. made (with_notes (cut_notes pos (count_by (is_cut size) words.forms)) (with_table pushed table)) (still pushed)))
+
 data_steps : (pos : Pos) (size : FieldSize) (tokens : List SpelledToken) (placed : Placed) → Steps placed (place_data pos size tokens placed)
 unfolding place_data
-data_steps pos size tokens placed =
-    after (each expression_of (operands_of tokens))
-    (λ trees. after (each (form_in (known_here placed)) trees)
-    (λ forms. grown placed (push_steps pos placed.current (content.Bytes (data_of size forms)) placed)
-    (λ pushed. after (name_parts pos (here placed) (list_any (uses_dot (here placed)) forms) trees pushed.table)
-    (λ table. made (with_notes (cut_notes pos (count_by (is_cut size) forms)) (with_table pushed table)) (still pushed)))))
+data_steps pos size tokens placed = after (data_words (known_here placed) tokens) (λ words. values_steps pos size words placed)
 
 strings_steps : (pos : Pos) (ended : Bool) (tokens : List SpelledToken) (placed : Placed) → Steps placed (place_strings pos ended tokens placed)
 unfolding place_strings

@@ -28,6 +28,7 @@ pub mod SpaceWordsIn
 pub mod Idents
 pub mod Directives
 pub mod Placing
+pub mod DataWordsIn
 pub mod PlacedBy
 pub mod Sources
 pub mod Instructions

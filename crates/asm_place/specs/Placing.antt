@@ -12,6 +12,8 @@ use Rattle.asm_base.specs.Digits.{is_digit_of}
 use Rattle.asm_base.specs.Tokens.{SpelledToken}
 use Rattle.asm_expr.specs.declared.naming.Name.TheVariants as naming
 use Rattle.asm_expr.specs.Numbers.{numeral}
+use Rattle.asm_expr.specs.Forms.{Form}
+use Rattle.asm_expr.specs.Knowledge.{Knowledge}
 use Rattle.asm_expr.specs.Trees.{Tree}
 use Rattle.asm_frags.specs.declared.contents.Content.{Content}
 use Rattle.asm_frags.specs.declared.contents.Content.TheVariants as content
@@ -40,13 +42,26 @@ use Rattle.asm_place.specs.Commons.{place_comm, place_lcomm}
 use Rattle.asm_place.specs.Idents.{plain_item, place_ident, place_file}
 use Rattle.asm_place.specs.Directives.{directive_of}
 
--- `.byte` and the others: an item of all values, of which those that are not known are fields, and a note for each that does not fit
+-- the operands of `.byte` and the others, and their forms
+pub record DataWords : Type 0 where
+  pub trees : List Tree
+  pub forms : List Form
+
+-- all operands are read before a form is made
+unfoldable pub data_words : Knowledge → List SpelledToken → Result DataWords PlacingFault
+data_words known tokens =
+    each expression_of (operands_of tokens) >>= λ trees. each (form_in known) trees >>= λ forms. Ok (record { trees = trees; forms = forms })
+
+-- an item of all values, of which those that are not known are fields, and a note for each that does not fit
+unfoldable pub put_data : Pos → FieldSize → DataWords → Placed → Result Placed PlacingFault
+put_data pos size words placed =
+    push_item pos (content.Bytes (data_of size words.forms)) placed >>= λ pushed.
+    name_parts pos (here placed) (list_any (uses_dot (here placed)) words.forms) words.trees pushed.table >>= λ table.
+    Ok (with_notes (cut_notes pos (count_by (is_cut size) words.forms)) (with_table pushed table))
+
+-- `.byte` and the others
 unfoldable pub place_data : Pos → FieldSize → List SpelledToken → Placed → Result Placed PlacingFault
-place_data pos size tokens placed =
-    each expression_of (operands_of tokens) >>= λ trees. each (form_in (known_here placed)) trees >>= λ forms.
-    push_item pos (content.Bytes (data_of size forms)) placed >>= λ pushed.
-    name_parts pos (here placed) (list_any (uses_dot (here placed)) forms) trees pushed.table >>= λ table.
-    Ok (with_notes (cut_notes pos (count_by (is_cut size) forms)) (with_table pushed table))
+place_data pos size tokens placed = data_words (known_here placed) tokens >>= λ words. put_data pos size words placed
 
 -- `.ascii` and the others: the bytes of all strings, each with a zero byte behind it where that is asked for
 unfoldable pub place_strings : Pos → Bool → List SpelledToken → Placed → Result Placed PlacingFault

@@ -4,6 +4,7 @@ use Rattle.asm_place.specs.declared.place_faults.PlacingFault.{PlacingFault}
 use Rattle.asm_place.specs.declared.place_faults.PlacingFault.TheVariants.{BadSection, OutOfRange}
 use Rattle.asm_base.specs.declared.positions.Pos.{Pos}
 use Rattle.asm_base.specs.Tokens.{SpelledToken}
+use Rattle.asm_expr.specs.Knowledge.{Knowledge}
 use Rattle.asm_expr.specs.Trees.{Tree}
 use Rattle.asm_frags.specs.declared.faults.FragFault.{FragFault}
 use Rattle.asm_frags.specs.SectionOf.{number_of}
@@ -58,6 +59,10 @@ abbrev pub said_size : Option ℕ → Result (Option ℕ) PlacingFault
 said_size None = Ok None
 said_size (Some size) = if is_negative size then Err OutOfRange else Ok (Some size)
 
+-- the value of the expression of the size of entries, where there is one
+unfoldable pub entry_size_in : Knowledge → Option Tree → Result (Option ℕ) PlacingFault
+entry_size_in known tree = if_some (form_in known) tree >>= λ form. if_some constant_in form >>= said_size
+
 -- what the header of the section of these words says; its entries have this size where it is said
 unfoldable pub header_by : List LooseSection → SectionWords → Option ℕ → Result Header PlacingFault
 header_by sections words size =
@@ -89,7 +94,7 @@ option_trees (Some tree) = tree ∷ []
 -- items go into the section of these words, which is made if it is not there
 unfoldable pub enter_words : Pos → SectionWords → Placed → Result Placed PlacingFault
 enter_words pos words placed =
-    if_some (form_in (known_here placed)) words.entry_size >>= λ form. if_some constant_in form >>= λ constant. said_size constant >>= λ size.
+    entry_size_in (known_here placed) words.entry_size >>= λ size.
     header_by placed.sections words size >>= λ header. entered_as placed.sections words.name header >>= λ pair.
     name_trees pos (option_trees words.entry_size) placed.table >>= λ table.
     Ok (with_table (with_current pair.1 (record placed { sections = pair.0 })) table)

@@ -1,6 +1,11 @@
 //! Items of data: the bytes of known values, and fields for the others (GNU as manual, ".byte", ".short", ".long", ".quad").
 
-ghost use Rattle.std.specs.Prelude.{◌≡◌, IfOk, OnOk};
+ghost use Rattle.std.specs.Prelude.{◌≡◌, map, IfOk, OnOk};
+ghost use Rattle.asm_base.specs.Tokens.{spelled};
+ghost use Rattle.asm_place.specs.Answers.{GivesBy};
+ghost use Rattle.asm_place.specs.KnownIn.{known_in};
+ghost use Rattle.asm_place.specs.Placing.{data_words};
+ghost use Rattle.asm_place.specs.DataWordsIn.{data_words_in};
 ghost use Rattle.std.specs.List.{count_by};
 ghost use Rattle.asm_place.specs.DataItems.{put_form, data_of, is_cut};
 
@@ -8,9 +13,9 @@ use crate::assemblers::Assembler;
 use crate::expressions::{expressions, forms};
 use crate::operands::Operands;
 use crate::place_faults::PlaceFault;
-use crate::places::one_keeps_here;
+use crate::places::{View, one_keeps_here};
 use asm_base::{Pos, Token};
-use asm_expr::Linear;
+use asm_expr::{Expr, Linear};
 use asm_frags::{Content, Data, FieldSize};
 use std::alloc::{AllocError, Global};
 
@@ -53,14 +58,51 @@ fn data_of(alloc: Global, size: FieldSize, forms: Vec<Linear>) -> Result<Data, A
     Ok(data)
 }
 
+/// The operands of `.byte` and the others, and their forms.
+#[derive(Drop)]
+struct DataWords {
+    exprs: Vec<Expr>,
+    forms: Vec<Linear>,
+}
+
+/// All operands are read before a form is made.
+#[tactic(auto, unfolding(crate::specs::Placing::data_words))]
+fn data_words(alloc: Global, view: View, tokens: &[Token]) -> Result<DataWords, PlaceFault>
+    ensures { GivesBy data_words_in result
+        (data_words (known_in view.entry) (map spelled tokens.now)) }
+{
+    let exprs = expressions(alloc, Operands::new(tokens))?;
+    let forms = forms(alloc, view, &exprs)?;
+    Ok(DataWords { exprs, forms })
+}
+
 impl Assembler {
     ghost use Rattle.std.specs.Prelude.{◌≡◌, map};
     ghost use Rattle.asm_base.specs.Tokens.{spelled};
     ghost use Rattle.asm_place.specs.Answers.{Gives, KeepsNotes};
-    ghost use Rattle.asm_place.specs.Placing.{place_data};
+    ghost use Rattle.asm_place.specs.Placing.{put_data, place_data};
+    ghost use Rattle.asm_place.specs.DataWordsIn.{data_words_in};
     ghost use Rattle.asm_place.specs.PlacedBy.{placed_by, PlacesBy};
 
-    /// `.byte` and the others: an item of all values.
+    /// An item of all values, of which those that are not known are fields.
+    #[tactic(auto, unfolding(crate::specs::Placing::put_data))]
+    fn put_data(&mut self, pos: Pos, size: FieldSize, words: DataWords) -> Result<(), PlaceFault>
+        ensures placed { PlacesBy (put_data pos size (data_words_in words))
+            self.old self.new result }
+        ensures notes { KeepsNotes result self.old.notes self.new.notes }
+    {
+        let DataWords { exprs, forms } = words;
+        let spot = self.here();
+        let keeps = one_keeps_here(spot, &forms);
+        let cut = count_cut(size, &forms);
+        let data = data_of(self.alloc, size, forms)?;
+        self.push_item(pos, Content::Bytes(data))?;
+        self.table.name_parts(self.alloc, pos, spot, keeps, &exprs)?;
+        self.warn(pos, cut)?;
+        Ok(())
+    }
+
+    /// `.byte` and the others.
     #[tactic(auto, unfolding(crate::specs::Placing::place_data))]
     pub(crate) fn place_data(
         &mut self,
@@ -72,15 +114,7 @@ impl Assembler {
             self.old self.new result }
         ensures notes { KeepsNotes result self.old.notes self.new.notes }
     {
-        let exprs = expressions(self.alloc, Operands::new(tokens))?;
-        let forms = forms(self.alloc, self.view(), &exprs)?;
-        let spot = self.here();
-        let keeps = one_keeps_here(spot, &forms);
-        let cut = count_cut(size, &forms);
-        let data = data_of(self.alloc, size, forms)?;
-        self.push_item(pos, Content::Bytes(data))?;
-        self.table.name_parts(self.alloc, pos, spot, keeps, &exprs)?;
-        self.warn(pos, cut)?;
-        Ok(())
+        let words = data_words(self.alloc, self.view(), tokens)?;
+        self.put_data(pos, size, words)
     }
 }

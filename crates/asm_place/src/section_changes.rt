@@ -3,6 +3,7 @@
 ghost use Rattle.std.specs.Prelude.{◌≡◌, ◌≤◌, ◌^◌, length, map, option_map, option_copied, IfOk, IfSome, Ok};
 ghost use Rattle.asm_expr.specs.Trees.{tree_of};
 ghost use Rattle.asm_place.specs.Answers.{GivesBy};
+ghost use Rattle.asm_place.specs.KnownIn.{known_in};
 ghost use Rattle.asm_place.specs.Results.{if_some};
 ghost use Rattle.asm_place.specs.SectionWords as words;
 ghost use Rattle.asm_place.specs.SectionChanges as spec;
@@ -12,6 +13,7 @@ ghost use Rattle.asm_place.specs.Answers.{GivesNumber};
 use crate::assemblers::Assembler;
 use crate::operands::Operands;
 use crate::place_faults::{PlaceFault, PlacingFault};
+use crate::places::View;
 use crate::section_defaults::default_header;
 use crate::section_words::{SectionWords, said_flags, said_kind, says_merge, section_words};
 use crate::spaces::is_negative;
@@ -97,6 +99,16 @@ fn said_size(size: Option<u64>) -> Result<Option<u64>, PlaceFault>
         Some(number) if is_negative(number) => { Err(PlaceFault::Source(PlacingFault::OutOfRange)) }
         _ => Ok(size),
     }
+}
+
+/// The value of the expression of the size of entries, where there is one.
+#[tactic(auto, unfolding(crate::specs::SectionChanges::entry_size_in))]
+fn entry_size_in(alloc: Global, view: View, expr: &Option<Expr>) -> Result<Option<u64>, PlaceFault>
+    ensures { GivesBy (λ size. size) result
+        (spec.entry_size_in (known_in view.entry) (option_map tree_of expr.now)) }
+{
+    let form = form_if(alloc, view, expr)?;
+    said_size(constant_if(&form)?)
 }
 
 /// The flags that are said, if any are.
@@ -215,8 +227,7 @@ impl Assembler {
         ensures placed { PlacesBy (enter_words pos (words_in words)) self.old self.new result }
         ensures notes { self.new.notes ≡ self.old.notes }
     {
-        let form = form_if(self.alloc, self.view(), &words.entry_size)?;
-        let size = said_size(constant_if(&form)?)?;
+        let size = entry_size_in(self.alloc, self.view(), &words.entry_size)?;
         let header = header_of(&self.sections, &words, size)?;
         let number = enter(self.alloc, &mut self.sections, &words.name, header)?;
         let exprs = option_exprs(self.alloc, words.entry_size)?;
