@@ -1,12 +1,8 @@
 //! The assembler as a program: its words, the real files and streams, and its exit status.
 #![tactic(auto)]
 
-mod running;
-mod saying;
-mod words;
-
 use asm_base::{FileInputs, FileOutput, Status, StreamConsole};
-use running::run;
+use asm_run::run;
 use std::alloc::AllocError;
 use std::env;
 use std::io::ErrorKind;

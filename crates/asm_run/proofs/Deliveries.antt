@@ -1,0 +1,87 @@
+-- What is said and made of an answer of the assembly, whole or in part, by what the contents tell.
+use Rattle.std.proofs.Common.{◌≡◌, ℕ, List, Option, None, Some, Result, Ok, Err, [], length, sym, ap, ◌∙◌, inl, inr, subst, arith}
+use Rattle.std.specs.Option.{option_map}
+use Rattle.std.proofs.Math.Seq.{take-length}
+use Rattle.asm_base.specs.Console.{Said, after_say}
+use Rattle.asm_base.specs.Output.{Made}
+use Rattle.asm_base.specs.Inputs.{Contents}
+use Rattle.asm_base.specs.Messages.{refusal, remarks}
+use Rattle.asm_base.specs.declared.outside.Channel.TheVariants as channel
+use Rattle.asm_base.specs.declared.faults.Fault.{Fault}
+use Rattle.asm_base.specs.declared.notes.Noted.{Noted}
+use Rattle.asm_base.specs.declared.positions.Pos.{Pos}
+use Rattle.asm_front.specs.declared.answers.Assembled.{Assembled}
+use Rattle.asm_front.specs.declared.answers.AsmFault.{AsmFault}
+use Rattle.asm_front.specs.declared.answers.AsmFault.TheVariants.{Source}
+use Rattle.asm_front.specs.Ending.{Flags}
+use Rattle.asm_front.specs.Outcome.{Assembles, AssemblesFile}
+use Rattle.asm_run.specs.Words.{Invocation}
+use Rattle.asm_run.specs.Outcome.{refused, object, flags_by, source_outcome, file_outcome, invocation_outcome}
+use Rattle.asm_run.specs.Answers.{Effects, Refuses, RefusesInPart, MakesFileInPart, MakesInPart, MakesObject, IsDone, IsSourceFault, IsWriteFault}
+
+-- all messages were said, and then the file was made in part
+pub delivered_in_part : (output bytes messages : List ℕ) (before said : Option Said) (made after : Option Made) →
+    said ≡ option_map (after_say channel.Err messages) before → MakesFileInPart output bytes made after →
+    MakesInPart output bytes messages (record { said = before; said_after = said; made = made; made_after = after })
+delivered_in_part output bytes messages before said made after says in_part = elim in_part [
+  | inl same ↦ inl ((length messages, omega arith, says ∙ ap (λ front. option_map (after_say channel.Err front) before) (sym (take-length messages))), same)
+  | inr begun ↦ inr (says, begun)
+]
+
+-- what the source stands for whose assembly gave this object
+object_of_source : (invocation : Invocation) (file : Option (List ℕ)) (made : Assembled) (messages : List ℕ)
+    → AssemblesFile (flags_by invocation) invocation.file file (Ok made) → messages ≡ remarks made.files made.notes
+    → file_outcome invocation file ≡ object invocation.object made.object messages
+object_of_source invocation None made messages assembles same = absurd assembles
+object_of_source invocation (Some source) made messages assembles same =
+    ap (source_outcome invocation) assembles.0 ∙ ap (λ files. object invocation.object made.object (remarks files made.notes)) (sym assembles.1) ∙ ap (object invocation.object made.object) (sym same)
+
+-- and whose assembly gave this fault
+fault_of_source : (invocation : Invocation) (file : Option (List ℕ)) (fault : Fault) (pos : Pos) (notes : List Noted) (files : List (List ℕ)) (text : List ℕ)
+    → AssemblesFile (flags_by invocation) invocation.file file (Err (Source fault pos notes files)) → text ≡ refusal files notes fault pos
+    → file_outcome invocation file ≡ refused text
+fault_of_source invocation None fault pos notes files text assembles same = absurd assembles
+fault_of_source invocation (Some source) fault pos notes files text assembles same =
+    ap (source_outcome invocation) assembles.0 ∙ ap (λ names. refused (refusal names notes fault pos)) (sym assembles.1) ∙ ap refused (sym same)
+
+-- the messages were said and the object was made
+pub delivered : (contents : Option Contents) (invocation : Invocation) (flags : Flags) (name : List ℕ) (made : Assembled) (messages : List ℕ) (e : Effects)
+    → flags ≡ flags_by invocation → name ≡ invocation.file → Assembles flags contents name (Ok made) → messages ≡ remarks made.files made.notes
+    → MakesObject invocation.object made.object messages e → IsDone invocation.object (invocation_outcome invocation contents) e
+delivered None invocation flags name made messages e asked named assembles same makes = (made.object, messages, makes)
+delivered (Some contents) invocation flags name made messages e asked named assembles same makes =
+    let here : AssemblesFile (flags_by invocation) invocation.file (contents invocation.file) (Ok made) =
+    subst (λ f. AssemblesFile f invocation.file (contents invocation.file) (Ok made)) asked (subst (λ n. AssemblesFile flags n (contents n) (Ok made)) named assembles) in
+    subst (λ o. IsDone invocation.object (Some o) e) (sym (object_of_source invocation (contents invocation.file) made messages here same)) makes
+
+-- or only in part
+pub made_in_part : (contents : Option Contents) (invocation : Invocation) (flags : Flags) (name : List ℕ) (made : Assembled) (messages : List ℕ) (e : Effects)
+    → flags ≡ flags_by invocation → name ≡ invocation.file → Assembles flags contents name (Ok made) → messages ≡ remarks made.files made.notes
+    → MakesInPart invocation.object made.object messages e → IsWriteFault invocation.object (invocation_outcome invocation contents) e
+made_in_part None invocation flags name made messages e asked named assembles same makes = (made.object, messages, makes)
+made_in_part (Some contents) invocation flags name made messages e asked named assembles same makes =
+    let here : AssemblesFile (flags_by invocation) invocation.file (contents invocation.file) (Ok made) =
+    subst (λ f. AssemblesFile f invocation.file (contents invocation.file) (Ok made)) asked (subst (λ n. AssemblesFile flags n (contents n) (Ok made)) named assembles) in
+    subst (λ o. IsWriteFault invocation.object (Some o) e) (sym (object_of_source invocation (contents invocation.file) made messages here same)) makes
+
+-- the messages of a fault were said
+pub told : (contents : Option Contents) (invocation : Invocation) (flags : Flags) (name : List ℕ) (fault : Fault) (pos : Pos) (notes : List Noted) (files : List (List ℕ)) (text : List ℕ) (e : Effects)
+    → flags ≡ flags_by invocation → name ≡ invocation.file → Assembles flags contents name (Err (Source fault pos notes files)) → text ≡ refusal files notes fault pos
+    → Refuses text e → IsSourceFault (invocation_outcome invocation contents) e
+told None invocation flags name fault pos notes files text e asked named assembles same refuses = (text, refuses)
+told (Some contents) invocation flags name fault pos notes files text e asked named assembles same refuses =
+    let answer : Result Assembled AsmFault = Err (Source fault pos notes files) in
+    let here : AssemblesFile (flags_by invocation) invocation.file (contents invocation.file) answer =
+    subst (λ f. AssemblesFile f invocation.file (contents invocation.file) answer) asked (subst (λ n. AssemblesFile flags n (contents n) answer) named assembles) in
+    subst (λ o. IsSourceFault (Some o) e) (sym (fault_of_source invocation (contents invocation.file) fault pos notes files text here same)) refuses
+
+-- or only in part
+pub told_in_part : (contents : Option Contents) (invocation : Invocation) (flags : Flags) (name : List ℕ) (fault : Fault) (pos : Pos) (notes : List Noted) (files : List (List ℕ)) (text : List ℕ) (e : Effects)
+    → flags ≡ flags_by invocation → name ≡ invocation.file → Assembles flags contents name (Err (Source fault pos notes files)) → text ≡ refusal files notes fault pos
+    → RefusesInPart text e → IsWriteFault invocation.object (invocation_outcome invocation contents) e
+told_in_part None invocation flags name fault pos notes files text e asked named assembles same refuses = ([], text, inl refuses)
+told_in_part (Some contents) invocation flags name fault pos notes files text e asked named assembles same refuses =
+    let answer : Result Assembled AsmFault = Err (Source fault pos notes files) in
+    let here : AssemblesFile (flags_by invocation) invocation.file (contents invocation.file) answer =
+    subst (λ f. AssemblesFile f invocation.file (contents invocation.file) answer) asked (subst (λ n. AssemblesFile flags n (contents n) answer) named assembles) in
+    subst (λ o. IsWriteFault invocation.object (Some o) e) (sym (fault_of_source invocation (contents invocation.file) fault pos notes files text here same)) refuses

@@ -1,0 +1,135 @@
+-- The definitions computed on command lines and sources written out.
+use Rattle.std.specs.Prelude.{◌≡◌, ℕ, List, [], ◌∷◌, length, take, drop, codes, Option, None, Some, if◌then◌else◌, refl}
+use Rattle.std.specs.Fmt.{digits}
+use Rattle.std.specs.Str.{bytes_eq}
+use Rattle.asm_base.specs.Inputs.{Contents}
+use Rattle.asm_base.specs.ByteClasses.{is_blank, is_name_start, is_name_byte, is_operator_byte}
+use Rattle.asm_base.specs.Digits.{digit_of, number_after}
+use Rattle.asm_base.specs.Dividing.{comment_length, quoted_length, piece_kind, piece_length, pieces_from}
+use Rattle.asm_base.specs.Strings.{string_value_from}
+use Rattle.asm_base.specs.Tokens.{is_long_operator, token_kind, token_length, tokens_from}
+use Rattle.asm_lines.specs.Faults.{nul_found, source_found}
+use Rattle.asm_lines.specs.Statements.{statements_in, statements_of}
+use Rattle.asm_lines.specs.Intervals.{trimmed}
+use Rattle.asm_lines.specs.LineNumbers.{line_of}
+use Rattle.asm_expr.specs.Numbers.{numeral, spelled_number}
+use Rattle.asm_expr.specs.Leaves.{character_code, digits_leaf, leaf_of}
+use Rattle.asm_expr.specs.Operators.{prefix_by, operator_byte, operator_bytes, operator_by, level_of}
+use Rattle.asm_expr.specs.Trees.{height}
+use Rattle.asm_expr.specs.Reading.{whole, operand_of, read_at, reading}
+use Rattle.asm_expr.specs.Linear.{linear, unary_form, binary_form}
+use Rattle.asm_expr.specs.Arithmetic.{combined}
+use Rattle.asm_expr.specs.Forms.{with_term, with_terms}
+use Rattle.asm_expr.specs.Raised.{raised}
+use Rattle.asm_expr.specs.Settled.{put_all, settled}
+use Rattle.asm_symbols.specs.SymbolMap.{changed}
+use Rattle.asm_symbols.specs.Interning.{named}
+use Rattle.asm_symbols.specs.Defining.{defined}
+use Rattle.asm_symbols.specs.Attributes.{bound}
+use Rattle.asm_frags.specs.Sections.{first_sections}
+use Rattle.asm_frags.specs.KnownExtents.{extent_of}
+use Rattle.asm_place.specs.Results.{all_steps}
+use Rattle.asm_place.specs.Rows.{the_rows}
+use Rattle.asm_place.specs.Operands.{checked_name, symbol_name, name_of, each}
+use Rattle.asm_place.specs.Tables.{symbol_of, next_symbol, name_list, name_tree, name_trees}
+use Rattle.asm_place.specs.Places.{spot_at, name_here, name_parts}
+use Rattle.asm_place.specs.State.{push_into}
+use Rattle.asm_place.specs.Expressions.{expression_of, form_in}
+use Rattle.asm_frags.specs.Fields.{fits, low_bytes}
+use Rattle.asm_place.specs.DataItems.{data_of}
+use Rattle.asm_place.specs.SymbolWords.{say_all, plain_of, place_said}
+use Rattle.asm_place.specs.Directives.{the_directives, directive_of}
+use Rattle.asm_place.specs.Placing.{place_data, place_by, place_directive, place_instruction, place_body, label_symbol, place_label, place_tokens}
+use Rattle.asm_place.specs.Sources.{place, place_all}
+use Rattle.asm_relax.specs.Expanding.{assigned, plus_terms, expanded_within, expanded}
+use Rattle.asm_relax.specs.Final.{size_of, address_in, address_of, final_told, laid_value, final_form}
+use Rattle.asm_relax.specs.Layout.{laid_from, laid_out, needed}
+use Rattle.asm_relax.specs.RangeChecks.{first_fault}
+use Rattle.asm_relax.specs.Settling.{planned, settled_sections}
+use Rattle.elf_object.specs.Fields.{half, word, xword}
+use Rattle.elf_object.specs.StringTable.{string_table_of, name_offsets}
+use Rattle.elf_object.specs.Relocations.{name_reference, field_relocation}
+use Rattle.elf_object.specs.Contents.{filled, item_bytes, item_relocations, has_lost, items_bytes, items_relocations}
+use Rattle.elf_object.specs.Faults.{items_fault, object_fault}
+use Rattle.elf_object.specs.Naming.{named_of}
+use Rattle.elf_object.specs.SymbolTable.{listed, table_of}
+use Rattle.elf_object.specs.Sections.{section_names}
+use Rattle.elf_object.specs.Image.{null_header, header_table, elf_header, file_of, symbol_names, symbol_table_of, before_names, all_names, with_names, file_with, image_with, image_of}
+use Rattle.asm_front.specs.Ending.{finished}
+use Rattle.asm_front.specs.Assembly.{assembly_of_lines, assembly_of}
+use Rattle.clap.proofs.OnLiterals.{clap_on_literals}
+use Rattle.asm_run.specs.Words.{as_app, asked_by, command_of, faults_of, invocation_of, rows_of_words, usage_text}
+use Rattle.asm_run.specs.Outcome.{Outcome, usage, missing, refused, object, outcome}
+use Rattle.asm_relax.specs.Placing.{placed_from, size_there}
+use Rattle.asm_relax.specs.Faults.{first_of}
+use Rattle.asm_symbols.specs.Looking.{told}
+
+usage_text-length : length usage_text ≡ 106
+unfolding usage_text
+usage_text-length = refl
+
+-- the one file `x.s`
+abbrev one_source : List ℕ → Option Contents
+one_source source = Some (λ name. if bytes_eq name (codes "x.s") then Some source else None)
+
+abbrev outcome_of : List ℕ → Option Outcome
+outcome_of source = outcome (codes "as" ∷ codes "x.s" ∷ []) (one_source source)
+
+not_there : outcome (codes "as" ∷ codes "none.s" ∷ []) (one_source []) ≡ Some missing
+unfolding command_of asked_by faults_of rows_of_words invocation_of as_app clap_on_literals
+not_there = refl
+
+not_told : outcome (codes "as" ∷ codes "x.s" ∷ []) None ≡ None
+unfolding command_of asked_by faults_of rows_of_words invocation_of as_app clap_on_literals
+not_told = refl
+
+usage_untold : outcome (codes "as" ∷ codes "--zap" ∷ []) None ≡ Some usage
+unfolding command_of asked_by faults_of rows_of_words invocation_of as_app clap_on_literals
+usage_untold = refl
+
+-- the bytes of the object
+abbrev object_bytes : Option Outcome → List ℕ
+object_bytes None = []
+object_bytes (Some usage) = []
+object_bytes (Some missing) = []
+object_bytes (Some (refused messages)) = []
+object_bytes (Some (object name bytes messages)) = bytes
+
+-- its length, and the bytes of its `.text`, which stand behind the header
+abbrev length_and_text : ℕ → Option Outcome → ℕ × List ℕ
+length_and_text count o = (length (object_bytes o), take count (drop 64 (object_bytes o)))
+
+-- what the run says
+abbrev said_by : Option Outcome → List ℕ
+said_by None = []
+said_by (Some usage) = []
+said_by (Some missing) = []
+said_by (Some (refused messages)) = messages
+said_by (Some (object name bytes messages)) = messages
+
+-- the flags
+abbrev flagged : List ℕ → List ℕ → Option Outcome
+flagged flag source = outcome (codes "as" ∷ flag ∷ codes "x.s" ∷ []) (one_source source)
+
+-- sources with a fault: a mnemonic that is unknown, one behind two warnings, an open comment, and a warning that refuses
+refused_rows : (outcome_of (codes "foo\nbar\n") ≡ Some (refused (codes "x.s: Assembler messages:\nx.s:1: Error: unknown mnemonic\n")))
+    × (outcome_of (codes ".byte 256\n.byte 1,511\nfoo") ≡ Some (refused (codes "x.s: Assembler messages:\nx.s:1: Warning: value is truncated\nx.s:2: Warning: value is truncated\nx.s:3: Error: unknown mnemonic\n")))
+    × (outcome_of (codes "nop\n/* x") ≡ Some (refused (codes "x.s: Assembler messages:\nx.s:2: Error: comment is not closed\n")))
+    × (flagged (codes "--fatal-warnings") (codes ".byte 256") ≡ Some (refused (codes "x.s: Assembler messages:\nx.s:1: Warning: value is truncated\nx.s:1: Error: warnings are treated as errors\n")))
+unfolding command_of asked_by faults_of rows_of_words invocation_of as_app clap_on_literals statements_of statements_in comment_length quoted_length piece_kind piece_length pieces_from line_of trimmed nul_found source_found is_blank is_name_start is_name_byte is_operator_byte is_long_operator token_kind token_length tokens_from digits place_all place place_tokens place_label label_symbol symbol_name checked_name string_value_from place_body place_directive directive_of the_directives place_by place_instruction the_rows place_data place_said say_all plain_of name_of each all_steps symbol_of next_symbol named defined bound spot_at extent_of push_into first_sections name_parts name_trees name_tree name_list name_here numeral spelled_number character_code digits_leaf leaf_of prefix_by operator_byte operator_bytes operator_by level_of height whole operand_of read_at reading linear unary_form binary_form combined with_term with_terms raised put_all settled expression_of form_in number_after digit_of fits low_bytes data_of changed assembly_of assembly_of_lines finished planned expanded_within expanded assigned plus_terms settled_sections laid_out laid_from size_of address_in address_of final_told laid_value first_fault object_fault items_fault has_lost items_bytes items_relocations item_bytes item_relocations filled name_reference field_relocation named_of listed table_of image_of image_with file_with with_names all_names before_names file_of elf_header null_header header_table half word xword section_names string_table_of name_offsets symbol_names symbol_table_of placed_from needed first_of size_there final_form told
+refused_rows = (refl, refl, refl, refl)
+
+-- an empty source, an instruction, data with a label, a value that is cut and what is said of it, expressions, a value that just fits,
+-- characters with comments and several statements on a line, and a name in quotes
+object_rows : (length_and_text 0 (outcome_of []) ≡ (584, []))
+    × (length_and_text 1 (outcome_of (codes "nop\n")) ≡ (592, 0x90 ∷ []))
+    × (length_and_text 3 (outcome_of (codes ".globl f\nf: .byte 1, 0x41\nret\n")) ≡ (616, 0x01 ∷ 0x41 ∷ 0xc3 ∷ []))
+    × (length_and_text 1 (outcome_of (codes ".byte 256")) ≡ (592, 0 ∷ []))
+    × (said_by (outcome_of (codes ".byte 256")) ≡ codes "x.s: Assembler messages:\nx.s:1: Warning: value is truncated\n")
+    × (said_by (flagged (codes "-W") (codes ".byte 256")) ≡ [])
+    × (length_and_text 3 (outcome_of (codes ".byte (1+2)*4 >> 1, 'x, -1")) ≡ (592, 0x06 ∷ 0x78 ∷ 0xff ∷ []))
+    × (length_and_text 1 (flagged (codes "--fatal-warnings") (codes ".byte 255")) ≡ (592, 255 ∷ []))
+    × (length_and_text 4 (outcome_of (codes ".byte '/,'#;nop/*x*/;ret # c")) ≡ (592, 0x2f ∷ 0x23 ∷ 0x90 ∷ 0xc3 ∷ []))
+    × (length_and_text 1 (outcome_of (codes "\"a b\": nop\n.globl \"a b\"")) ≡ (624, 0x90 ∷ []))
+unfolding command_of asked_by faults_of rows_of_words invocation_of as_app clap_on_literals statements_of statements_in comment_length quoted_length piece_kind piece_length pieces_from line_of trimmed nul_found source_found is_blank is_name_start is_name_byte is_operator_byte is_long_operator token_kind token_length tokens_from digits place_all place place_tokens place_label label_symbol symbol_name checked_name string_value_from place_body place_directive directive_of the_directives place_by place_instruction the_rows place_data place_said say_all plain_of name_of each all_steps symbol_of next_symbol named defined bound spot_at extent_of push_into first_sections name_parts name_trees name_tree name_list name_here numeral spelled_number character_code digits_leaf leaf_of prefix_by operator_byte operator_bytes operator_by level_of height whole operand_of read_at reading linear unary_form binary_form combined with_term with_terms raised put_all settled expression_of form_in number_after digit_of fits low_bytes data_of changed assembly_of assembly_of_lines finished planned expanded_within expanded assigned plus_terms settled_sections laid_out laid_from size_of address_in address_of final_told laid_value first_fault object_fault items_fault has_lost items_bytes items_relocations item_bytes item_relocations filled name_reference field_relocation named_of listed table_of image_of image_with file_with with_names all_names before_names file_of elf_header null_header header_table half word xword section_names string_table_of name_offsets symbol_names symbol_table_of placed_from needed first_of size_there final_form told
+object_rows = (refl, refl, refl, refl, refl, refl, refl, refl, refl, refl)

@@ -1,0 +1,188 @@
+//! One run, from the words of the command line to the answer.
+
+ghost use Rattle.std.specs.Prelude.{◌≡◌, ◌≤◌, ◌+◌, ◌⊎◌, ◌↔◌, [], map, None, IfOk, OnOk, OnErr, string_bytes};
+ghost use Rattle.std.specs.Io.KnownBytes.{IsAtEnd};
+ghost use Rattle.asm_base.specs.Counts.{HasCause, HasRisen, IsQuiet};
+ghost use Rattle.asm_base.specs.WholeFile.{most_bytes};
+ghost use Rattle.asm_run.specs.Words.{command_of, output_of};
+ghost use Rattle.asm_run.specs.Invoked.{invoked};
+ghost use Rattle.asm_run.specs.Outcome.{invocation_outcome, outcome};
+ghost use Rattle.asm_run.specs.ReadsBack.{CommandReadsBack};
+ghost use Rattle.asm_run.specs.Answers.{Answers, Completes, CountsMissingOutcome, MakesFile, MakesFileInPart, MakesInPart, MakesObject};
+
+use crate::saying::say_all;
+use crate::words::{Invocation, read_command};
+use asm_base::{Channel, Console, Failed, Inputs, NoMemory, Output, Status, refusal, remarks};
+use asm_front::{AsmFault, Options, assemble, written_reads_back};
+use elf_object::Object;
+use std::alloc::{AllocError, Global};
+
+/// What is said where the words are no command.
+const USAGE: &[u8] =
+    b"usage: as [-o FILE] [--64] [--scfi=experimental] [-W|--no-warn] [--fatal-warnings] [--self-load N] [FILE]\n";
+
+/// What the assembler is asked for.
+fn options_for(alloc: Global, invocation: Invocation) -> Result<Options, NoMemory>
+    ensures file { IfOk result (λ options. string_bytes options.file ≡ invocation.entry.file.now) }
+    ensures no_warn { IfOk result (λ options. options.no_warn ≡ invocation.entry.no_warn) }
+    ensures fatal_warnings { IfOk result (λ options. options.fatal_warnings ≡ invocation.entry.fatal_warnings) }
+{
+    Ok(Options {
+        file: String::from_str(alloc, invocation.file)?,
+        scfi: false,
+        no_warn: invocation.no_warn,
+        fatal_warnings: invocation.fatal_warnings,
+    })
+}
+
+/// Creates, writes and finishes the file of this name with the object. It takes no memory.
+#[tactic(auto, using(crate::proofs::MadeFiles::made_whole))]
+fn make_object<O: Output>(name: &str, object: &Object, obj: &mut O) -> Result<(), Failed>
+    ensures ok { OnOk result (MakesFile name.now object.now (O.made obj.old) (O.made obj.new)) }
+    ensures err { OnErr result (MakesFileInPart name.now object.now (O.made obj.old) (O.made obj.new)) }
+    ensures cause { HasCause (O.faults obj.old) (O.faults obj.new) result }
+{
+    obj.create(name)?;
+    object.write_to(obj)?;
+    obj.finish()
+}
+
+/// Says the messages, and only then makes the file of this name with the object. It takes no memory.
+#[tactic(auto, using(crate::proofs::Deliveries::delivered_in_part))]
+fn deliver<O: Output, C: Console>(
+    name: &str,
+    object: &Object,
+    messages: &[u8],
+    obj: &mut O,
+    con: &mut C,
+) -> Result<(), Failed>
+    ensures ok { OnOk result (MakesObject name.now object.now messages.now (record {
+      said = C.said con.old;
+      said_after = C.said con.new;
+      made = O.made obj.old;
+      made_after = O.made obj.new;
+    })) }
+    ensures err { OnErr result (MakesInPart name.now object.now messages.now (record {
+      said = C.said con.old;
+      said_after = C.said con.new;
+      made = O.made obj.old;
+      made_after = O.made obj.new;
+    })) }
+    ensures cause { OnErr result (HasRisen (O.faults obj.old) (O.faults obj.new) ⊎ HasRisen (C.faults con.old) (C.faults con.new)) }
+    ensures output_quiet { OnOk result (O.faults obj.new ≡ O.faults obj.old) }
+    ensures console_quiet { OnOk result (C.faults con.new ≡ C.faults con.old) }
+    ensures output_count { O.faults obj.old ≤ O.faults obj.new }
+    ensures console_count { C.faults con.old ≤ C.faults con.new }
+{
+    say_all(con, Channel::Err, messages)?;
+    make_object(name, object, obj)
+}
+
+/// Assembles the source that is asked for.
+#[tactic(auto, using(crate::proofs::Deliveries::delivered, crate::proofs::Deliveries::made_in_part, crate::proofs::Deliveries::told, crate::proofs::Deliveries::told_in_part))]
+fn run_source<I: Inputs, O: Output, C: Console>(
+    alloc: Global,
+    invocation: Invocation,
+    ins: &mut I,
+    obj: &mut O,
+    con: &mut C,
+) -> Status
+    ensures answer { Answers invocation.entry.object.now (invocation_outcome (invoked invocation.entry) (I.contents ins.old)) result (record {
+      said = C.said con.old;
+      said_after = C.said con.new;
+      made = O.made obj.old;
+      made_after = O.made obj.new;
+    }) }
+    ensures read_fault { result ≡ Status.ReadFault → HasRisen (I.faults ins.old) (I.faults ins.new) }
+    ensures write_fault { result ≡ Status.WriteFault → HasRisen (O.faults obj.old) (O.faults obj.new) ⊎ HasRisen (C.faults con.old) (C.faults con.new) }
+    ensures input_quiet { (result ≡ Status.ReadFault) ⊎ (I.faults ins.new ≡ I.faults ins.old) }
+    ensures missing_quiet { (result ≡ Status.ReadFault) ⊎ (result ≡ Status.NoMemory) ⊎ (I.missing ins.new ≡ I.missing ins.old) }
+    ensures output_quiet { (result ≡ Status.WriteFault) ⊎ (O.faults obj.new ≡ O.faults obj.old) }
+    ensures console_quiet { (result ≡ Status.WriteFault) ⊎ (C.faults con.new ≡ C.faults con.old) }
+    ensures input_count { I.faults ins.old ≤ I.faults ins.new }
+    ensures output_count { O.faults obj.old ≤ O.faults obj.new }
+    ensures console_count { C.faults con.old ≤ C.faults con.new }
+    ensures missing { CountsMissingOutcome (invocation_outcome (invoked invocation.entry) (I.contents ins.old)) (I.missing ins.old) (I.missing ins.new) }
+    ensures taken { I.taken ins.new ≤ I.taken ins.old + (most_bytes + 1) }
+    ensures contents { I.contents ins.new ≡ I.contents ins.old }
+    ensures whole { result ≡ Status.Done → IsAtEnd (I.rest ins.new) }
+{
+    let options = match options_for(alloc, invocation) {
+        Ok(options) => options,
+        Err(_) => return Status::NoMemory,
+    };
+    match assemble(alloc, &options, ins) {
+        Ok(made) => match remarks(alloc, made.notes.as_slice(), &made.files) {
+            Ok(text) => match deliver(invocation.object, &made.object, text.as_slice(), obj, con) {
+                Ok(()) => Status::Done,
+                Err(Failed) => Status::WriteFault,
+            },
+            Err(_) => Status::NoMemory,
+        },
+        Err(AsmFault::Source(fault, pos, notes, files)) => {
+            match refusal(alloc, &fault, &pos, notes.as_slice(), &files) {
+                Ok(text) => match say_all(con, Channel::Err, text.as_slice()) {
+                    Ok(()) => Status::SourceFault,
+                    Err(Failed) => Status::WriteFault,
+                },
+                Err(_) => Status::NoMemory,
+            }
+        }
+        Err(AsmFault::Read) => Status::ReadFault,
+        Err(AsmFault::NoMemory) => Status::NoMemory,
+    }
+}
+
+/// Reads the words, assembles the source that they name, says the messages, and makes the object.
+#[tactic(auto, unfolding(crate::specs::Words::usage_text), using(crate::proofs::ReadsBackAgain::command_reads_back))]
+pub fn run<I: Inputs, O: Output, C: Console>(
+    alloc: Global,
+    words: &Vec<String>,
+    ins: &mut I,
+    obj: &mut O,
+    con: &mut C,
+) -> Status
+    ensures answer { Answers (output_of (command_of (map string_bytes words.now.items))) (outcome (map string_bytes words.now.items) (I.contents ins.old)) result (record {
+      said = C.said con.old;
+      said_after = C.said con.new;
+      made = O.made obj.old;
+      made_after = O.made obj.new;
+    }) }
+
+    // The cause of each answer: which counts of failures have risen, and which are as before.
+    ensures read_fault { result ≡ Status.ReadFault → HasRisen (I.faults ins.old) (I.faults ins.new) }
+    ensures write_fault { result ≡ Status.WriteFault → HasRisen (O.faults obj.old) (O.faults obj.new) ⊎ HasRisen (C.faults con.old) (C.faults con.new) }
+    ensures input_quiet { (result ≡ Status.ReadFault) ⊎ (I.faults ins.new ≡ I.faults ins.old) }
+    ensures missing_quiet { (result ≡ Status.ReadFault) ⊎ (result ≡ Status.NoMemory) ⊎ (I.missing ins.new ≡ I.missing ins.old) }
+    ensures output_quiet { (result ≡ Status.WriteFault) ⊎ (O.faults obj.new ≡ O.faults obj.old) }
+    ensures console_quiet { (result ≡ Status.WriteFault) ⊎ (C.faults con.new ≡ C.faults con.old) }
+    ensures input_count { I.faults ins.old ≤ I.faults ins.new }
+    ensures output_count { O.faults obj.old ≤ O.faults obj.new }
+    ensures console_count { C.faults con.old ≤ C.faults con.new }
+
+    // Where no call fails, the status is that of the outcome; told or not, that of the words where the console is quiet.
+    ensures complete { IsQuiet (I.faults ins.old) (I.faults ins.new) → IsQuiet (O.faults obj.old) (O.faults obj.new) → IsQuiet (C.faults con.old) (C.faults con.new) →
+        Completes (outcome (map string_bytes words.now.items) (I.contents ins.old)) result }
+    ensures usage { result ≡ Status.Usage → command_of (map string_bytes words.now.items) ≡ None }
+    ensures usage_told { IsQuiet (C.faults con.old) (C.faults con.new) → command_of (map string_bytes words.now.items) ≡ None → (result ≡ Status.Usage) ⊎ (result ≡ Status.NoMemory) }
+
+    // In the object that the words stand for, each instruction's place reads as the instruction of the source, and as no other.
+    ensures reads_back { CommandReadsBack (command_of (map string_bytes words.now.items)) (I.contents ins.old) }
+
+    // What is read.
+    ensures missing { CountsMissingOutcome (outcome (map string_bytes words.now.items) (I.contents ins.old)) (I.missing ins.old) (I.missing ins.new) }
+    ensures taken { I.taken ins.new ≤ I.taken ins.old + (most_bytes + 1) }
+    ensures contents { I.contents ins.new ≡ I.contents ins.old }
+    ensures whole { result ≡ Status.Done → IsAtEnd (I.rest ins.new) }
+    ensures usage_reads_nothing { command_of (map string_bytes words.now.items) ≡ None → ins.new ≡ ins.old }
+{
+    written_reads_back();
+    match read_command(alloc, words.as_slice()) {
+        Ok(Some(invocation)) => run_source(alloc, invocation, ins, obj, con),
+        Ok(None) => match say_all(con, Channel::Err, USAGE) {
+            Ok(()) => Status::Usage,
+            Err(Failed) => Status::WriteFault,
+        },
+        Err(AllocError) => Status::NoMemory,
+    }
+}
