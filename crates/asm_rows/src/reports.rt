@@ -1,0 +1,87 @@
+//! What each row makes, as text.
+
+use crate::calls::write_every_call;
+use crate::objects::write_object;
+use crate::rows::{Row, RowFault, Shown, read_row};
+use crate::runs::{memory_files, run_row};
+use asm_base::Channel;
+use std::alloc::{AllocError, Global};
+use std::io::{self, Write};
+
+/// What a row's first line begins with.
+const ROW_MARK: &[u8] = b"=== ";
+
+/// Writes the lines that were said, each behind the mark. Behind the mark of a last line without a line feed stands a `~`.
+fn write_said(said: &[u8], mark: &str, out: &mut Vec<u8>) -> io::Result<()> {
+    for line in said.split_inclusive(|byte| *byte == b'\n') {
+        match line.strip_suffix(b"\n") {
+            Some(line) => {
+                write!(out, "{mark} ")?;
+                out.extend_from_slice(line)?;
+            }
+            None => {
+                write!(out, "{mark}~ ")?;
+                out.extend_from_slice(line)?;
+            }
+        }
+        writeln!(out)?;
+    }
+    Ok(())
+}
+
+/// Runs a row, and writes what it said and made.
+fn write_row(alloc: Global, row: &Row, out: &mut Vec<u8>) -> io::Result<()> {
+    let files = memory_files(alloc, &row.files)?;
+    let ran = run_row(alloc, row, &files, row.failing.numbers());
+    let console = ran.console.inner();
+    write_said(console.said(Channel::Err), "|", out)?;
+    write_said(console.said(Channel::Out), ">", out)?;
+    let status = ran.status;
+    writeln!(out, "status {status:?}")?;
+    let made = ran.output.inner();
+    match row.shown {
+        Shown::Object => write_object(alloc, made, false, out),
+        Shown::FullObject => write_object(alloc, made, true, out),
+        Shown::EveryCall => write_every_call(alloc, row, &files, &ran, out),
+    }
+}
+
+/// The first line without its line feed, and what stands behind it.
+fn split_line(text: &[u8]) -> (&[u8], &[u8]) {
+    match text.iter().position(|byte| *byte == b'\n') {
+        Some(at) => (&text[..at], &text[at + 1..]),
+        None => (text, &[]),
+    }
+}
+
+/// Reads and runs a row, and writes its name and what it makes. No text is no row.
+fn report_row(alloc: Global, text: &[u8], out: &mut Vec<u8>) -> io::Result<()> {
+    if text.is_empty() {
+        return Ok(());
+    }
+    let (name, lines) = split_line(text);
+    out.extend_from_slice(name)?;
+    writeln!(out)?;
+    match read_row(alloc, lines) {
+        Ok(row) => write_row(alloc, &row, out),
+        Err(RowFault::NotUnderstood) => writeln!(out, "row not understood"),
+        Err(RowFault::NoMemory) => Err(io::Error::from(AllocError)),
+    }
+}
+
+/// Reads and runs every row of the text. What stands before the first is not read.
+pub fn report_rows(alloc: Global, text: &[u8], out: &mut Vec<u8>) -> io::Result<()> {
+    let mut row = Vec::new(alloc);
+    let lines = text.strip_suffix(b"\n").unwrap_or(text);
+    for line in lines.split(|byte| *byte == b'\n') {
+        if line.starts_with(ROW_MARK) {
+            report_row(alloc, &row, out)?;
+            row.clear();
+        }
+        if line.starts_with(ROW_MARK) || !row.is_empty() {
+            row.extend_from_slice(line)?;
+            row.push(b'\n')?;
+        }
+    }
+    report_row(alloc, &row, out)
+}
