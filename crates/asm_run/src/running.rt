@@ -25,7 +25,8 @@ const USAGE: &[u8] =
 fn options_for(alloc: Global, invocation: Invocation) -> Result<Options, NoMemory>
     ensures file { IfOk result (λ options. string_bytes options.file ≡ invocation.entry.file.now) }
     ensures no_warn { IfOk result (λ options. options.no_warn ≡ invocation.entry.no_warn) }
-    ensures fatal_warnings { IfOk result (λ options. options.fatal_warnings ≡ invocation.entry.fatal_warnings) }
+    ensures fatal_warnings { IfOk result (λ options.
+        options.fatal_warnings ≡ invocation.entry.fatal_warnings) }
 {
     Ok(Options {
         file: String::from_str(alloc, invocation.file)?,
@@ -39,7 +40,8 @@ fn options_for(alloc: Global, invocation: Invocation) -> Result<Options, NoMemor
 #[tactic(auto, using(crate::proofs::MadeFiles::made_whole))]
 fn make_object<O: Output>(name: &str, object: &Object, obj: &mut O) -> Result<(), Failed>
     ensures ok { OnOk result (MakesFile name.now object.now (O.made obj.old) (O.made obj.new)) }
-    ensures err { OnErr result (MakesFileInPart name.now object.now (O.made obj.old) (O.made obj.new)) }
+    ensures err { OnErr result
+        (MakesFileInPart name.now object.now (O.made obj.old) (O.made obj.new)) }
     ensures cause { HasCause (O.faults obj.old) (O.faults obj.new) result }
 {
     obj.create(name)?;
@@ -68,7 +70,8 @@ fn deliver<O: Output, C: Console>(
       made = O.made obj.old;
       made_after = O.made obj.new;
     })) }
-    ensures cause { OnErr result (HasRisen (O.faults obj.old) (O.faults obj.new) ⊎ HasRisen (C.faults con.old) (C.faults con.new)) }
+    ensures cause { OnErr result
+        (HasRisen (O.faults obj.old) (O.faults obj.new) ⊎ HasRisen (C.faults con.old) (C.faults con.new)) }
     ensures output_quiet { OnOk result (O.faults obj.new ≡ O.faults obj.old) }
     ensures console_quiet { OnOk result (C.faults con.new ≡ C.faults con.old) }
     ensures output_count { O.faults obj.old ≤ O.faults obj.new }
@@ -87,22 +90,29 @@ fn run_source<I: Inputs, O: Output, C: Console>(
     obj: &mut O,
     con: &mut C,
 ) -> Status
-    ensures answer { Answers invocation.entry.object.now (invocation_outcome (invoked invocation.entry) (I.contents ins.old)) result (record {
-      said = C.said con.old;
-      said_after = C.said con.new;
-      made = O.made obj.old;
-      made_after = O.made obj.new;
-    }) }
-    ensures read_fault { result ≡ Status.ReadFault → HasRisen (I.faults ins.old) (I.faults ins.new) }
-    ensures write_fault { result ≡ Status.WriteFault → HasRisen (O.faults obj.old) (O.faults obj.new) ⊎ HasRisen (C.faults con.old) (C.faults con.new) }
+    ensures answer { Answers invocation.entry.object.now
+        (invocation_outcome (invoked invocation.entry) (I.contents ins.old)) result (record {
+          said = C.said con.old;
+          said_after = C.said con.new;
+          made = O.made obj.old;
+          made_after = O.made obj.new;
+        }) }
+    ensures read_fault { result ≡ Status.ReadFault
+        → HasRisen (I.faults ins.old) (I.faults ins.new) }
+    ensures write_fault { result ≡ Status.WriteFault
+        → HasRisen (O.faults obj.old) (O.faults obj.new)
+        ⊎ HasRisen (C.faults con.old) (C.faults con.new) }
     ensures input_quiet { (result ≡ Status.ReadFault) ⊎ (I.faults ins.new ≡ I.faults ins.old) }
-    ensures missing_quiet { (result ≡ Status.ReadFault) ⊎ (result ≡ Status.NoMemory) ⊎ (I.missing ins.new ≡ I.missing ins.old) }
+    ensures missing_quiet { (result ≡ Status.ReadFault) ⊎ (result ≡ Status.NoMemory)
+        ⊎ (I.missing ins.new ≡ I.missing ins.old) }
     ensures output_quiet { (result ≡ Status.WriteFault) ⊎ (O.faults obj.new ≡ O.faults obj.old) }
     ensures console_quiet { (result ≡ Status.WriteFault) ⊎ (C.faults con.new ≡ C.faults con.old) }
     ensures input_count { I.faults ins.old ≤ I.faults ins.new }
     ensures output_count { O.faults obj.old ≤ O.faults obj.new }
     ensures console_count { C.faults con.old ≤ C.faults con.new }
-    ensures missing { CountsMissingOutcome (invocation_outcome (invoked invocation.entry) (I.contents ins.old)) (I.missing ins.old) (I.missing ins.new) }
+    ensures missing { CountsMissingOutcome
+        (invocation_outcome (invoked invocation.entry) (I.contents ins.old))
+        (I.missing ins.old) (I.missing ins.new) }
     ensures taken { I.taken ins.new ≤ I.taken ins.old + (most_bytes + 1) }
     ensures contents { I.contents ins.new ≡ I.contents ins.old }
     ensures whole { result ≡ Status.Done → IsAtEnd (I.rest ins.new) }
@@ -142,18 +152,23 @@ pub fn run<I: Inputs, O: Output, C: Console>(
     obj: &mut O,
     con: &mut C,
 ) -> Status
-    ensures answer { Answers (output_of (command_of (map string_bytes words.now.items))) (outcome (map string_bytes words.now.items) (I.contents ins.old)) result (record {
-      said = C.said con.old;
-      said_after = C.said con.new;
-      made = O.made obj.old;
-      made_after = O.made obj.new;
-    }) }
+    ensures answer { Answers (output_of (command_of (map string_bytes words.now.items)))
+        (outcome (map string_bytes words.now.items) (I.contents ins.old)) result (record {
+          said = C.said con.old;
+          said_after = C.said con.new;
+          made = O.made obj.old;
+          made_after = O.made obj.new;
+        }) }
 
     // The cause of each answer: which counts of failures have risen, and which are as before.
-    ensures read_fault { result ≡ Status.ReadFault → HasRisen (I.faults ins.old) (I.faults ins.new) }
-    ensures write_fault { result ≡ Status.WriteFault → HasRisen (O.faults obj.old) (O.faults obj.new) ⊎ HasRisen (C.faults con.old) (C.faults con.new) }
+    ensures read_fault { result ≡ Status.ReadFault
+        → HasRisen (I.faults ins.old) (I.faults ins.new) }
+    ensures write_fault { result ≡ Status.WriteFault
+        → HasRisen (O.faults obj.old) (O.faults obj.new)
+        ⊎ HasRisen (C.faults con.old) (C.faults con.new) }
     ensures input_quiet { (result ≡ Status.ReadFault) ⊎ (I.faults ins.new ≡ I.faults ins.old) }
-    ensures missing_quiet { (result ≡ Status.ReadFault) ⊎ (result ≡ Status.NoMemory) ⊎ (I.missing ins.new ≡ I.missing ins.old) }
+    ensures missing_quiet { (result ≡ Status.ReadFault) ⊎ (result ≡ Status.NoMemory)
+        ⊎ (I.missing ins.new ≡ I.missing ins.old) }
     ensures output_quiet { (result ≡ Status.WriteFault) ⊎ (O.faults obj.new ≡ O.faults obj.old) }
     ensures console_quiet { (result ≡ Status.WriteFault) ⊎ (C.faults con.new ≡ C.faults con.old) }
     ensures input_count { I.faults ins.old ≤ I.faults ins.new }
@@ -161,20 +176,27 @@ pub fn run<I: Inputs, O: Output, C: Console>(
     ensures console_count { C.faults con.old ≤ C.faults con.new }
 
     // Where no call fails, the status is that of the outcome; told or not, that of the words where the console is quiet.
-    ensures complete { IsQuiet (I.faults ins.old) (I.faults ins.new) → IsQuiet (O.faults obj.old) (O.faults obj.new) → IsQuiet (C.faults con.old) (C.faults con.new) →
-        Completes (outcome (map string_bytes words.now.items) (I.contents ins.old)) result }
+    ensures complete { IsQuiet (I.faults ins.old) (I.faults ins.new)
+        → IsQuiet (O.faults obj.old) (O.faults obj.new) → IsQuiet (C.faults con.old) (C.faults con.new)
+        → Completes (outcome (map string_bytes words.now.items) (I.contents ins.old)) result }
     ensures usage { result ≡ Status.Usage → command_of (map string_bytes words.now.items) ≡ None }
-    ensures usage_told { IsQuiet (C.faults con.old) (C.faults con.new) → command_of (map string_bytes words.now.items) ≡ None → (result ≡ Status.Usage) ⊎ (result ≡ Status.NoMemory) }
+    ensures usage_told { IsQuiet (C.faults con.old) (C.faults con.new)
+        → command_of (map string_bytes words.now.items) ≡ None
+        → (result ≡ Status.Usage) ⊎ (result ≡ Status.NoMemory) }
 
     // In the object that the words stand for, each instruction's place reads as the instruction of the source, and as no other.
-    ensures reads_back { CommandReadsBack (command_of (map string_bytes words.now.items)) (I.contents ins.old) }
+    ensures reads_back { CommandReadsBack (command_of (map string_bytes words.now.items))
+        (I.contents ins.old) }
 
     // What is read.
-    ensures missing { CountsMissingOutcome (outcome (map string_bytes words.now.items) (I.contents ins.old)) (I.missing ins.old) (I.missing ins.new) }
+    ensures missing { CountsMissingOutcome
+        (outcome (map string_bytes words.now.items) (I.contents ins.old))
+        (I.missing ins.old) (I.missing ins.new) }
     ensures taken { I.taken ins.new ≤ I.taken ins.old + (most_bytes + 1) }
     ensures contents { I.contents ins.new ≡ I.contents ins.old }
     ensures whole { result ≡ Status.Done → IsAtEnd (I.rest ins.new) }
-    ensures usage_reads_nothing { command_of (map string_bytes words.now.items) ≡ None → ins.new ≡ ins.old }
+    ensures usage_reads_nothing { command_of (map string_bytes words.now.items) ≡ None
+        → ins.new ≡ ins.old }
 {
     written_reads_back();
     match read_command(alloc, words.as_slice()) {

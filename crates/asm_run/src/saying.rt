@@ -9,8 +9,10 @@ use asm_base::{Channel, Console, Failed};
 
 /// Says the text: all of it, or a front of it where the console fails. It takes no memory.
 pub fn say_all<C: Console>(con: &mut C, to: Channel, text: &[u8]) -> Result<(), Failed>
-    ensures ok { OnOk result (C.said con.new ≡ option_map (after_say to text.now) (C.said con.old)) }
-    ensures prefix { (n : ℕ) × (n ≤ length text.now) × (C.said con.new ≡ option_map (after_say to (take n text.now)) (C.said con.old)) }
+    ensures ok { OnOk result
+        (C.said con.new ≡ option_map (after_say to text.now) (C.said con.old)) }
+    ensures prefix { (n : ℕ) × (n ≤ length text.now)
+        × (C.said con.new ≡ option_map (after_say to (take n text.now)) (C.said con.old)) }
     ensures cause { HasCause (C.faults con.old) (C.faults con.new) result }
 {
     let mut at = 0;

@@ -80,7 +80,8 @@ fn invocation_of<'a>(matches: &ArgMatches<'a>) -> Invocation<'a>
 
 /// What the words ask for, where the command takes them.
 fn read_words<'a>(alloc: Global, words: &'a [String]) -> Result<Option<Invocation<'a>>, NoMemory>
-    ensures { IfOk result (λ answer. option_map invoked answer ≡ asked_by (map string_bytes words.now)) }
+    ensures { IfOk result (λ answer.
+        option_map invoked answer ≡ asked_by (map string_bytes words.now)) }
 {
     let command = as_command(alloc)?;
     match command.try_get_matches_from(words) {
@@ -98,7 +99,8 @@ pub fn read_command<'a>(
     alloc: Global,
     words: &'a [String],
 ) -> Result<Option<Invocation<'a>>, NoMemory>
-    ensures { IfOk result (λ answer. option_map invoked answer ≡ command_of (map string_bytes words.now)) }
+    ensures { IfOk result (λ answer.
+        option_map invoked answer ≡ command_of (map string_bytes words.now)) }
 {
     match words {
         [] => Ok(None),
