@@ -39,7 +39,7 @@ comment_bytes items text = (if items == 0 then (0 ∷ []) else []) ++ (text ++ 0
 abbrev pub comment_header : Header
 comment_header = record { flags = 48; kind = 1; entry_size = 1 }
 
--- `.ident`: the text goes into `.comment`,
+-- `.ident`: the text goes into `.comment`, and a zero byte behind it
 unfoldable pub place_ident : Pos → List SpelledToken → Placed → Result Placed PlacingFault
 place_ident pos tokens placed =
     one_string tokens >>= λ text. entered_as placed.sections (codes ".comment") comment_header >>= λ pair.

@@ -34,7 +34,7 @@ names_symbol token = names_symbol_kind token.kind
 abbrev pub is_dot : SpelledToken → Bool
 is_dot token = is_name token && bytes_eq token.bytes (codes ".")
 
--- the first token is this
+-- the first token is `.` without quotes
 abbrev pub begins_with_place : List SpelledToken → Bool
 begins_with_place [] = false
 begins_with_place (token ∷ rest) = is_dot token

@@ -22,15 +22,15 @@ are_adjacent [] = true
 are_adjacent (token ∷ []) = true
 are_adjacent (first ∷ second ∷ rest) = follows first second && are_adjacent (second ∷ rest)
 
--- name bytes begin with no digit in a name, and with one in a number
+-- the token is a word: a name, or name bytes that begin with a digit
 abbrev pub is_word_kind : TokenKind → Bool
 is_word_kind Name = true
 is_word_kind Digits = true
 is_word_kind _ = false
 
--- a part of a section's name without quotes: name bytes, or `-`
+-- a part of a section's name without quotes: name bytes, `$` among them where it begins no name, or `-`
 abbrev pub is_name_part : SpelledToken → Bool
-is_name_part token = is_word_kind token.kind || is_mark 45 token
+is_name_part token = is_word_kind token.kind || is_mark 45 token || is_mark 36 token
 
 -- a section's name without quotes: parts without blanks between, one at least
 abbrev pub is_joined : List SpelledToken → Bool
@@ -45,7 +45,7 @@ joined_bytes tokens = flat_map (λ part. part.bytes) tokens
 unfoldable pub section_name : List SpelledToken → Result (List ℕ) PlacingFault
 section_name operand = if is_joined operand then Ok (joined_bytes operand) else (string_of operand >>= checked_name)
 
--- a name behind `@` or `%`
+-- the token is the `@` or `%` that stands before the name of a type
 abbrev pub begins_type : SpelledToken → Bool
 begins_type token = is_mark 64 token || is_mark 37 token
 

@@ -51,11 +51,13 @@ fn are_adjacent(tokens: &[Token]) -> bool
     true
 }
 
-/// Whether the token is name bytes, digits among them, or `-`.
+/// Whether the token is name bytes, digits and `$` among them, or `-`.
 fn is_name_part(token: &Token) -> bool
     ensures { result ≡ spec.is_name_part (spelled token.now) }
 {
-    matches!(token.kind, TokenKind::Name | TokenKind::Digits) || is_mark(token, b'-')
+    matches!(token.kind, TokenKind::Name | TokenKind::Digits)
+        || is_mark(token, b'-')
+        || is_mark(token, b'$')
 }
 
 /// Whether all tokens are parts of a section's name without quotes.

@@ -20,7 +20,7 @@ piece_at bytes offset size =
 abbrev pub table_entry : List ℕ → ℕ → ℕ → Option (List ℕ)
 table_entry table size index = piece_at table (size * index) size
 
--- the file is as long as an ELF header, and begins as one
+-- the file is as long as an ELF header and begins with the magic bytes; its class and byte order are taken for granted
 abbrev pub has_file_header : List ℕ → Bool
 has_file_header file = nat_le EHDR_SIZE (length file) && starts_with nat_eq file magic
 

@@ -57,7 +57,8 @@ visibility_number (Some Internal) = 1
 visibility_number (Some Hidden) = 2
 visibility_number (Some Protected) = 3
 
--- SHN_UNDEF, SHN_ABS and SHN_COMMON, and the header indices of sections (gABI, chapter 4, "Special Section Indexes")
+-- SHN_UNDEF, SHN_ABS and SHN_COMMON, and the header indices of sections (gABI, chapter 4, "Special Section Indexes");
+-- each section that a symbol stands in is there
 abbrev pub section_index_of : List ℕ → SymbolSection → ℕ
 section_index_of headers Undefined = 0
 section_index_of headers Absolute = 0xfff1
@@ -93,12 +94,12 @@ said_type (Some said.Common) = type.Common
 abbrev pub type_of : LaidSections → SymbolSection → Option Kind → SymbolType
 type_of sections section kind = if is_thread_local sections section then type.Tls else said_type kind
 
--- the value of a size, and 0 where no size is said
+-- the value of a size, and 0 where no size is said; a size without a value is a fault before
 abbrev pub size_of : SymbolMap → LaidSections → Option Form → ℕ
 size_of map sections None = 0
 size_of map sections (Some made) = unwrap_or (field_value map sections made) 0
 
--- the bytes of a name
+-- the bytes of a name; numeric labels and places have none
 abbrev pub text_of : Name → List ℕ
 text_of (Plain text) = text
 text_of (Numeric number instance) = []
