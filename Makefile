@@ -4,7 +4,7 @@ PREFIX ?= /usr/local
 DESTDIR ?=
 SOURCES := crates.txt $(shell find crates -path '*/out' -prune -o \( -name '*.rt' -o -name '*.antt' \) -print)
 
-all: build/as
+all: build/as build/gcc/as
 
 # Only a proved program is linked. A word that is no command makes it end at once, with status 2.
 build/as: $(SOURCES)
@@ -14,6 +14,11 @@ build/as: $(SOURCES)
 	@cp crates/asm_cli/out/asm_cli $@
 	@echo built $@
 
+# For `gcc -Bbuild/gcc/`: gcc calls its assembler by the name `as`.
+build/gcc/as: tools/gcc/as
+	@mkdir -p build/gcc
+	@cp tools/gcc/as $@
+
 demo: build/as
 	cd build && ./as ../examples/first.s && readelf -hSs a.out && objdump -d a.out
 
@@ -22,9 +27,10 @@ check:
 
 # What no clause can say: the built program on files and devices that fail, and its objects linked by gcc. Random expressions beside
 # Python's integers, and the objects of random sources beside those of the machine's GNU as.
-check-outside: build/as
+check-outside: all
 	checks/outside.sh build/as
 	checks/tables.sh build/as
+	checks/gcc.sh build/gcc
 	checks/expressions.py build/as
 	checks/compare.py --ours build/as
 
@@ -32,9 +38,10 @@ check-outside: build/as
 bench: build/as
 	@python3 bench/bench.py $(BENCH_OPTIONS)
 
-install: build/as
-	install -d $(DESTDIR)$(PREFIX)/bin
+install: build/as build/gcc/as
+	install -d $(DESTDIR)$(PREFIX)/bin $(DESTDIR)$(PREFIX)/lib/gcc-as
 	install -m 755 build/as $(DESTDIR)$(PREFIX)/bin/as
+	install -m 755 build/gcc/as $(DESTDIR)$(PREFIX)/lib/gcc-as/as
 
 clean:
 	rm -rf build

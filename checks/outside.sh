@@ -22,7 +22,12 @@ printf 'foo\n' >bad.s
 [ ! -e a.out ]; status=$?; expect 'no object after messages that could not be said' 0
 ln -s /dev/full a.out
 "$as" good.s; status=$?; expect 'an object on a full device' 4
+[ -e a.out ]; status=$?; expect 'the device is left alone' 0
 rm a.out
+# A write past the limit of a file's size fails once the signal for it is ignored.
+printf '.skip 100000,1\n' >large.s
+(trap '' XFSZ; ulimit -f 1; exec "$as" large.s); status=$?; expect 'an object past the limit of a file' 4
+[ ! -e a.out ]; status=$?; expect 'no half object' 0
 if [ "$(id -u)" -ne 0 ]; then
     mkdir closed && chmod 555 closed
     (cd closed && "$as" ../good.s); status=$?; expect 'a folder that may not be written to' 4
