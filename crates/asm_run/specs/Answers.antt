@@ -25,12 +25,15 @@ Says text e = e.said_after ≡ option_map (after_say channel.Err text) e.said
 abbrev pub SaysFront : List ℕ → Effects → Type 0
 SaysFront text e = (n : ℕ) × (n ≤ length text) × Says (take n text) e
 
+-- nothing was said on either channel
 abbrev pub SaysNothing : Effects → Type 0
 SaysNothing e = e.said_after ≡ e.said
 
+-- the output is as it was
 abbrev pub MakesNothing : Effects → Type 0
 MakesNothing e = e.made_after ≡ e.made
 
+-- console and output are as they were
 abbrev pub LeavesAll : Effects → Type 0
 LeavesAll e = SaysNothing e × MakesNothing e
 
@@ -63,6 +66,7 @@ MakesObject name bytes messages e = Says messages e × MakesFile name bytes e.ma
 abbrev pub MakesInPart : List ℕ → List ℕ → List ℕ → Effects → Type 0
 MakesInPart name bytes messages e = RefusesInPart messages e ⊎ (Says messages e × BeginsFile name bytes e.made e.made_after)
 
+-- what `Done` promises: the object of the outcome was made; untold, some object under the name of the words
 abbrev pub IsDone : List ℕ → Option Outcome → Effects → Type 0
 IsDone output None e = (bytes messages : List ℕ) × MakesObject output bytes messages e
 IsDone output (Some usage) e = ⊥
@@ -70,6 +74,7 @@ IsDone output (Some missing) e = ⊥
 IsDone output (Some (refused messages)) e = ⊥
 IsDone output (Some (object name bytes messages)) e = MakesObject name bytes messages e
 
+-- what `SourceFault` promises: the outcome is a refusal, and its messages were said
 abbrev pub IsSourceFault : Option Outcome → Effects → Type 0
 IsSourceFault None e = (messages : List ℕ) × Refuses messages e
 IsSourceFault (Some usage) e = ⊥
@@ -77,6 +82,7 @@ IsSourceFault (Some missing) e = ⊥
 IsSourceFault (Some (refused messages)) e = Refuses messages e
 IsSourceFault (Some (object name bytes messages)) e = ⊥
 
+-- what `Usage` promises: the words are no command, and the usage text was said
 abbrev pub IsUsage : Option Outcome → Effects → Type 0
 IsUsage None e = ⊥
 IsUsage (Some usage) e = Refuses usage_text e
@@ -84,6 +90,7 @@ IsUsage (Some missing) e = ⊥
 IsUsage (Some (refused messages)) e = ⊥
 IsUsage (Some (object name bytes messages)) e = ⊥
 
+-- what `ReadFault` promises: the words are a command, and nothing was said or made
 abbrev pub IsReadFault : Option Outcome → Effects → Type 0
 IsReadFault None e = LeavesAll e
 IsReadFault (Some usage) e = ⊥
@@ -91,6 +98,7 @@ IsReadFault (Some missing) e = LeavesAll e
 IsReadFault (Some (refused messages)) e = LeavesAll e
 IsReadFault (Some (object name bytes messages)) e = LeavesAll e
 
+-- what `WriteFault` promises: of messages and object there are fronts, in their order
 abbrev pub IsWriteFault : List ℕ → Option Outcome → Effects → Type 0
 IsWriteFault output None e = (bytes messages : List ℕ) × MakesInPart output bytes messages e
 IsWriteFault output (Some usage) e = RefusesInPart usage_text e
@@ -98,6 +106,7 @@ IsWriteFault output (Some missing) e = ⊥
 IsWriteFault output (Some (refused messages)) e = RefusesInPart messages e
 IsWriteFault output (Some (object name bytes messages)) e = MakesInPart name bytes messages e
 
+-- what `NoMemory` promises: nothing was said or made
 abbrev pub IsNoMemory : Option Outcome → Effects → Type 0
 IsNoMemory None e = LeavesAll e
 IsNoMemory (Some usage) e = LeavesAll e

@@ -8,6 +8,7 @@ use Rattle.asm_front.specs.Assembly.{assembly_of}
 use Rattle.asm_front.specs.Outcome.{main_file, files_of}
 use Rattle.asm_run.specs.Words.{Invocation, command_of}
 
+-- what a command line stands for
 pub data Outcome : Type 0 where
   -- the words are no command
   usage : Outcome
@@ -27,6 +28,7 @@ abbrev pub source_outcome : Invocation → Result NotedObject FaultAt → Outcom
 source_outcome invocation (Ok made) = object invocation.object made.object (remarks (files_of invocation.file) made.notes)
 source_outcome invocation (Err first) = refused (refusal (files_of invocation.file) first.notes first.fault first.pos)
 
+-- what the contents of the source's name stand for, if there are any
 abbrev pub file_outcome : Invocation → Option (List ℕ) → Outcome
 file_outcome invocation None = missing
 file_outcome invocation (Some source) = source_outcome invocation (assembly_of (flags_by invocation) main_file source)
@@ -36,6 +38,7 @@ abbrev pub invocation_outcome : Invocation → Option Contents → Option Outcom
 invocation_outcome invocation None = None
 invocation_outcome invocation (Some contents) = Some (file_outcome invocation (contents invocation.file))
 
+-- what the words stand for, where they are a command and where they are none
 abbrev pub command_outcome : Option Invocation → Option Contents → Option Outcome
 command_outcome None contents = Some usage
 command_outcome (Some invocation) contents = invocation_outcome invocation contents

@@ -30,6 +30,7 @@ faults_of words = fault_of as_app words
 unfoldable pub rows_of_words : List (List ℕ) → List Row
 rows_of_words words = matches_of as_app words
 
+-- what the words of a command ask for; the empty file is standard input
 pub record Invocation : Type 0 where
   pub file : List ℕ
   pub object : List ℕ
