@@ -10,6 +10,7 @@ pub mod Messages
 pub mod WholeFile
 pub mod ByteClasses
 pub mod Pieces
+pub mod Refusals
 pub mod Dividing
 pub mod Tokens
 pub mod Digits

@@ -6,18 +6,7 @@ use asm_frags::{
     size,
 };
 use std::alloc::{AllocError, Global};
-use std::process::Abort;
-use std::test::Fail;
-
-/// What an item is, and what is asked of it at address 5.
-#[derive(Drop)]
-struct Case<'a> {
-    content: Content,
-    bytes: &'a [u8],
-    fixed: Option<u64>,
-    alignment: u64,
-    zeros: bool,
-}
+use std::io::{self, Write};
 
 /// Bytes, and behind them a field where one is asked for.
 fn data(alloc: Global, bytes: &[u8], field: Option<FieldSize>) -> Result<Content, AllocError> {
@@ -29,87 +18,44 @@ fn data(alloc: Global, bytes: &[u8], field: Option<FieldSize>) -> Result<Content
     Ok(Content::Bytes(held))
 }
 
-fn check(rt: &impl Abort, alloc: Global, case: &Case<'_>) -> Result<(), AllocError> {
+/// The item's size at address 5 and its bytes there, the size that it has at any address, its alignment, and whether it is known to be zeros.
+fn write_item(alloc: Global, content: &Content, out: &mut Vec<u8>) -> io::Result<()> {
     let mut bytes = Vec::new(alloc);
-    put_bytes(&case.content, 5, &mut bytes)?;
-    assert_eq!(rt; bytes.as_slice(), case.bytes);
-    assert_eq!(rt; size(&case.content, 5), case.bytes.len() as u64);
-    assert_eq!(rt; fixed_size(&case.content), case.fixed);
-    assert_eq!(rt; asked_alignment(&case.content), case.alignment);
-    assert_eq!(rt; is_known_zeros(&case.content), case.zeros);
-    Ok(())
+    put_bytes(content, 5, &mut bytes)?;
+    let size = size(content, 5);
+    write!(out, "{size}:")?;
+    for byte in bytes.as_slice() {
+        write!(out, " {byte:02x}")?;
+    }
+    let fixed = fixed_size(content);
+    let alignment = asked_alignment(content);
+    let zeros = is_known_zeros(content);
+    writeln!(out, ", {fixed:?}, {alignment}, {zeros}")
 }
 
-#[test]
-fn items(rt: HostRuntime) -> Result<(), Fail> {
-    let alloc = rt.alloc();
-    let cases = [
-        Case {
-            content: data(alloc, b"\0\0", None)?,
-            bytes: b"\0\0",
-            fixed: Some(2),
-            alignment: 1,
-            zeros: true,
-        },
-        Case {
-            content: data(alloc, b"\x01\0", None)?,
-            bytes: b"\x01\0",
-            fixed: Some(2),
-            alignment: 1,
-            zeros: false,
-        },
-        Case {
-            content: data(alloc, b"\0", Some(FieldSize::Two))?,
-            bytes: b"\0\0\0",
-            fixed: Some(3),
-            alignment: 1,
-            zeros: false,
-        },
-        Case {
-            content: Content::Fill(Fill::new(3, 2, 0x1234)),
-            bytes: b"\x34\x12\x34\x12\x34\x12",
-            fixed: Some(6),
-            alignment: 1,
-            zeros: false,
-        },
-        Case {
-            content: Content::Fill(Fill::new(1, 6, 0xffff_ffff_ffff_ffff)),
-            bytes: b"\xff\xff\xff\xff\0\0",
-            fixed: Some(6),
-            alignment: 1,
-            zeros: false,
-        },
-        Case {
-            content: Content::Fill(Fill::new(2, 1, 0x100)),
-            bytes: b"\0\0",
-            fixed: Some(2),
-            alignment: 1,
-            zeros: true,
-        },
-        Case {
-            content: Content::Fill(Fill::new(9, 0, 7)),
-            bytes: b"",
-            fixed: Some(0),
-            alignment: 1,
-            zeros: true,
-        },
-        Case {
-            content: Content::Align(Align::new(2)),
-            bytes: b"\0\0\0",
-            fixed: None,
-            alignment: 4,
-            zeros: true,
-        },
-        Case {
-            content: Content::Align(Align::new(0)),
-            bytes: b"",
-            fixed: None,
-            alignment: 1,
-            zeros: true,
-        },
-    ];
-    for case in &cases {
-        check(&rt, alloc, case)?;
-    }
-    Ok(())
+/// `data`: two zeros, a one and a zero, a zero and a field.
+pub fn write_data(alloc: Global, out: &mut Vec<u8>) -> io::Result<()> {
+    write_item(alloc, &data(alloc, b"\0\0", None)?, out)?;
+    write_item(alloc, &data(alloc, b"\x01\0", None)?, out)?;
+    write_item(alloc, &data(alloc, b"\0", Some(FieldSize::Two))?, out)
+}
+
+/// `fill COUNT SIZE VALUE`
+pub fn write_fill(
+    alloc: Global,
+    count: u64,
+    size: u64,
+    value: u64,
+    out: &mut Vec<u8>,
+) -> io::Result<()> {
+    write_item(
+        alloc,
+        &Content::Fill(Fill::new(count.min(1 << 30), size.min(8), value)),
+        out,
+    )
+}
+
+/// `align LOG`
+pub fn write_align(alloc: Global, log: u8, out: &mut Vec<u8>) -> io::Result<()> {
+    write_item(alloc, &Content::Align(Align::new(log.min(30))), out)
 }

@@ -3,7 +3,6 @@
 ghost use Rattle.asm_calls.specs.Numbered.{numbered};
 ghost use Rattle.asm_expr.specs.declared.naming.Name.TheVariants.{Place};
 
-use ExprFault::{BadExpression, DivisionByZero, NotASumOfSymbols, NumberTooWide, ValueNotKnown};
 use asm_base::Tokens;
 use asm_expr::{
     Expr, ExprFault, Known, KnownNow, Linear, Look, Name, Written, constant_form, fold,
@@ -11,7 +10,8 @@ use asm_expr::{
     shown_text, value_of,
 };
 use std::alloc::Global;
-use std::test::Fail;
+use std::fmt::Display;
+use std::io::{self, Write};
 
 /// Each numeric label has three instances before the place, which is item 100 of section 1. No symbol has a value.
 struct Numbered;
@@ -50,117 +50,118 @@ impl Known for Numbered {
 }
 
 /// The tree of a text, and the index of the token behind it.
-fn tree(alloc: Global, text: &[u8], at: usize) -> Result<(Expr, usize), ExprFault> {
-    let tokens = Tokens::read(alloc, text)?;
+fn tree(alloc: Global, text: &str, at: usize) -> Result<(Expr, usize), ExprFault> {
+    let tokens = Tokens::read(alloc, text.as_bytes())?;
     parse(alloc, &tokens, at)
 }
 
-/// What the text counts: as the call says it, and as the fold does.
-fn values(
-    alloc: Global,
-    text: &[u8],
-) -> Result<(Result<u64, ExprFault>, Result<u64, ExprFault>), ExprFault> {
+/// A line with the value, or the fault.
+fn write_answer<T: Display + Drop>(
+    answer: Result<T, ExprFault>,
+    out: &mut Vec<u8>,
+) -> io::Result<()> {
+    match answer {
+        Ok(value) => writeln!(out, "{value}"),
+        Err(fault) => writeln!(out, "{fault}"),
+    }
+}
+
+/// What the text counts, as the call says it.
+fn value(alloc: Global, text: &str) -> Result<u64, ExprFault> {
+    let (expr, _next) = tree(alloc, text, 0)?;
+    known_value(alloc, &expr, &Numbered)
+}
+
+/// What the text counts, as a fold of its tree does.
+fn folded_value(alloc: Global, text: &str) -> Result<u64, ExprFault> {
     let (expr, _next) = tree(alloc, text, 0)?;
     let mut visitor = KnownNow {
         alloc,
         known: &Numbered,
     };
-    let folded = match fold(&expr, &mut visitor) {
-        Ok(form) => visitor.value(form),
-        Err(fault) => Err(fault),
-    };
-    Ok((known_value(alloc, &expr, &Numbered), folded))
+    let form = fold(&expr, &mut visitor)?;
+    visitor.value(form).map_err(ExprFault::Fault)
 }
 
-#[test]
-fn known_values(rt: HostRuntime) -> Result<(), Fail> {
-    let cases: [(&[u8], Result<u64, ExprFault>); 16] = [
-        (b"0x2A", Ok(42)),
-        (b"(1+2)*4 >> 1", Ok(6)),
-        (b"-7/2", Ok(u64::MAX - 2)),
-        (b"'a+'b", Ok(195)),
-        (b"x+y-x-y+3", Ok(3)),
-        (b"2f-2b", Ok(1)),
-        (b".-1b", Ok(97)),
-        (b"1f+7-.", Ok(u64::MAX - 88)),
-        (b"5/(2f-2b)", Ok(5)),
-        (b"1/(x-x)", Err(DivisionByZero)),
-        (b"x*y+1/0", Err(NotASumOfSymbols)),
-        (b"1/0+x*y", Err(DivisionByZero)),
-        (b"x==x", Err(NotASumOfSymbols)),
-        (b"x+x-x", Err(ValueNotKnown)),
-        (b"1f-2f", Err(ValueNotKnown)),
-        (b".", Err(ValueNotKnown)),
-    ];
-    for (text, want) in cases {
-        assert_eq!(rt; values(rt.alloc(), text)?, (want, want), "{text:?}");
-    }
-    Ok(())
+/// `value TEXT`
+pub fn write_value(alloc: Global, text: &str, out: &mut Vec<u8>) -> io::Result<()> {
+    write_answer(value(alloc, text), out)
 }
 
-#[test]
-fn parsed(rt: HostRuntime) -> Result<(), Fail> {
-    // The index of the token behind the expression that begins at an index.
-    let cases: [(&[u8], usize, Result<usize, ExprFault>); 9] = [
-        (b"1)", 0, Ok(1)),
-        (b"2 3", 0, Ok(1)),
-        (b"1, 2+3, 4", 2, Ok(5)),
-        (b"(1)(2)", 0, Ok(3)),
-        (b"a b", 1, Ok(2)),
-        (b"1, ", 2, Err(BadExpression)),
-        (b"1*/2", 0, Err(BadExpression)),
-        (b"1+18446744073709551616+", 0, Err(NumberTooWide)),
-        (b"(1,2)", 0, Err(BadExpression)),
-    ];
-    for (text, at, want) in cases {
-        let next = tree(rt.alloc(), text, at).map(|(_expr, next)| next);
-        assert_eq!(rt; next, want, "{text:?}");
+/// `fold TEXT`
+pub fn write_folded(alloc: Global, text: &str, out: &mut Vec<u8>) -> io::Result<()> {
+    write_answer(folded_value(alloc, text), out)
+}
+
+/// `parse INDEX TEXT`: the index of the token behind the expression that begins at the index.
+pub fn write_parsed(alloc: Global, at: usize, text: &str, out: &mut Vec<u8>) -> io::Result<()> {
+    let next = tree(alloc, text, at).map(|(_expr, next)| next);
+    write_answer(next, out)
+}
+
+/// The names of a text.
+fn names(alloc: Global, text: &str) -> Result<Vec<Written>, ExprFault> {
+    let (expr, _next) = tree(alloc, text, 0)?;
+    Ok(names_of(alloc, &expr)?)
+}
+
+/// `names TEXT`: a name a line.
+pub fn write_names(alloc: Global, text: &str, out: &mut Vec<u8>) -> io::Result<()> {
+    match names(alloc, text) {
+        Ok(names) => {
+            for name in &names {
+                match name {
+                    Written::Plain(text) => {
+                        out.extend_from_slice(text.as_bytes())?;
+                        writeln!(out)?;
+                    }
+                    Written::Back(number) => writeln!(out, "{number} before")?,
+                    Written::Next(number) => writeln!(out, "{number} behind")?,
+                }
+            }
+            Ok(())
+        }
+        Err(fault) => writeln!(out, "{fault}"),
     }
-    let (expr, _next) = tree(rt.alloc(), b"x+1b*-y-(2f)", 0)?;
-    let names = names_of(rt.alloc(), &expr)?;
-    assert_eq!(rt; names.len(), 4);
-    assert!(rt; matches!(&names[0], Written::Plain(name) if name.as_bytes() == b"x".as_slice()));
-    assert!(rt; matches!(&names[1], Written::Back(1)));
-    assert!(rt; matches!(&names[2], Written::Plain(name) if name.as_bytes() == b"y".as_slice()));
-    assert!(rt; matches!(&names[3], Written::Next(2)));
-    Ok(())
 }
 
 /// The text of an expression, shown.
-fn shown_again(alloc: Global, text: &[u8]) -> Result<Vec<u8>, ExprFault> {
+fn shown_again(alloc: Global, text: &str) -> Result<Vec<u8>, ExprFault> {
     let (expr, _next) = tree(alloc, text, 0)?;
     shown_text(alloc, &expr)
 }
 
-#[test]
-fn shown(rt: HostRuntime) -> Result<(), Fail> {
-    let cases: [(&[u8], &[u8]); 20] = [
-        (b"1+2*3", b"1 + 2 * 3"),
-        (b"(1+2)*3", b"(1 + 2) * 3"),
-        (b"10-(3-2)", b"10 - (3 - 2)"),
-        (b"(10-3)-2", b"10 - 3 - 2"),
-        (b"-(-1)", b"--1"),
-        (b"-(1+x)", b"-(1 + x)"),
-        (b"~ .", b"~."),
-        (b"0x10", b"16"),
-        (b"'a", b"97"),
-        (b"1b-2f", b"1b - 2f"),
-        (b"0b", b"0b"),
-        (b"\"a b\"", b"\"a b\""),
-        (b"\"x\"", b"x"),
-        (b"\".\"", b"\".\""),
-        (b"\"a\\\"b\"", b"\"a\\042b\""),
-        (b"\"\\1\"", b"\"\\001\""),
-        (b"((1))", b"1"),
-        (b"1<>2", b"1 != 2"),
-        (b"1||2&&3", b"1 || 2 && 3"),
-        (b"(1||2)&&3", b"(1 || 2) && 3"),
-    ];
-    for (text, want) in cases {
-        let made = shown_again(rt.alloc(), text)?;
-        assert_eq!(rt; made.as_slice(), want, "{text:?}");
+/// `shown TEXT`
+pub fn write_shown(alloc: Global, text: &str, out: &mut Vec<u8>) -> io::Result<()> {
+    match shown_again(alloc, text) {
+        Ok(shown) => {
+            out.extend_from_slice(&shown)?;
+            writeln!(out)
+        }
+        Err(fault) => writeln!(out, "{fault}"),
     }
-    Ok(())
+}
+
+/// The linear form of a text.
+fn form(alloc: Global, text: &str) -> Result<Linear, ExprFault> {
+    let (expr, _next) = tree(alloc, text, 0)?;
+    linear_form(alloc, &expr, &Numbered)
+}
+
+/// `form TEXT`: the constant, and how often each name counts.
+pub fn write_form(alloc: Global, text: &str, out: &mut Vec<u8>) -> io::Result<()> {
+    match form(alloc, text) {
+        Ok(form) => {
+            let constant = form.constant();
+            write!(out, "{constant}")?;
+            for term in form.terms() {
+                let coefficient = term.coefficient;
+                write!(out, " {coefficient}")?;
+            }
+            writeln!(out)
+        }
+        Err(fault) => writeln!(out, "{fault}"),
+    }
 }
 
 /// The form plus so often an instance of numeric label 2.
@@ -177,31 +178,28 @@ fn plus_label(
     Ok(plus_times(alloc, made, factor, &name_form(alloc, name)?)?)
 }
 
-#[test]
-fn forms(rt: HostRuntime) -> Result<(), Fail> {
-    let alloc = rt.alloc();
-    let (expr, _next) = tree(alloc, b"x+y-x+1f-z-z+5", 0)?;
-    let form = linear_form(alloc, &expr, &Numbered)?;
-    assert_eq!(rt; form.constant(), 5);
-    let coefficients = [1, 1, u64::MAX - 1];
-    assert_eq!(rt; form.terms().len(), coefficients.len());
-    for (term, want) in form.terms().iter().zip(coefficients) {
-        assert_eq!(rt; term.coefficient, want);
+/// So many times instances 7 and 3 of numeric label 2, and 5.
+fn two_labels(alloc: Global, first: u64, second: u64) -> Result<Linear, ExprFault> {
+    let made = plus_label(alloc, constant_form(alloc, 5), first, 7)?;
+    plus_label(alloc, made, second, 3)
+}
+
+/// The value of a form, once it is settled.
+fn value_settled(alloc: Global, form: Linear) -> Result<u64, ExprFault> {
+    let whole = settled(alloc, &Numbered, form)?;
+    value_of(&whole).map_err(ExprFault::Fault)
+}
+
+/// `settled FIRST SECOND`: the value of 5 and so many times two instances of one label, by two calls.
+pub fn write_settled(alloc: Global, first: u64, second: u64, out: &mut Vec<u8>) -> io::Result<()> {
+    match two_labels(alloc, first, second) {
+        Ok(form) => {
+            match settled_value(&Numbered, &form) {
+                Some(value) => write!(out, "{value}, ")?,
+                None => write!(out, "none, ")?,
+            }
+            write_answer(value_settled(alloc, form), out)
+        }
+        Err(fault) => writeln!(out, "{fault}"),
     }
-    // So many times instances 7 and 3 of one label, and 5.
-    let cases: [(u64, u64, usize, Option<u64>); 4] = [
-        (1, 0xffff_ffff_ffff_ffff, 2, Some(9)),
-        (3, 0xffff_ffff_ffff_fffd, 2, Some(17)),
-        (2, 0xffff_ffff_ffff_ffff, 2, None),
-        (0, 0, 0, Some(5)),
-    ];
-    for (first, second, terms, want) in cases {
-        let made = plus_label(alloc, constant_form(alloc, 5), first, 7)?;
-        let form = plus_label(alloc, made, second, 3)?;
-        assert_eq!(rt; form.terms().len(), terms, "{first} {second}");
-        assert_eq!(rt; settled_value(&Numbered, &form), want, "{first} {second}");
-        let whole = settled(alloc, &Numbered, form)?;
-        assert_eq!(rt; value_of(&whole).ok(), want, "{first} {second}");
-    }
-    Ok(())
 }

@@ -4,27 +4,42 @@ ghost use Rattle.std.specs.Prelude.{◌≡◌, ℕ, ◌<◌};
 
 use asm_base::{
     Channel, Console, FileInputs, FileOutput, Inputs, MemoryFile, MemoryInputs, Output, Steps,
-    StreamConsole, read_text,
+    read_text,
 };
-use std::fs;
+use std::alloc::Global;
+use std::fs::{self, Files};
+use std::io::{Input, Write};
 use std::marker::Brand;
 use std::sync::ledger::{Blank, Ledger};
 use std::test::Fail;
 
-#[test]
-fn real_files_and_streams(rt: HostRuntime) -> Result<(), Fail> {
-    let mut obj = FileOutput::new(&rt);
+/// A file that is written is read back, and removed; a name that no file has is told so.
+pub fn write_real_file(
+    rt: &(impl Files + Input + Alloc),
+    alloc: Global,
+    out: &mut Vec<u8>,
+) -> Result<(), Fail> {
+    let mut obj = FileOutput::new(rt);
     obj.create("written.tmp")?;
-    assert_eq!(rt; obj.write(b"nop\n")?, 4);
+    let taken = obj.write(b"nop\n")?;
     obj.finish()?;
-    let mut ins = FileInputs::new(&rt);
-    let text = read_text(rt.alloc(), &mut ins, "written.tmp")?;
-    assert_eq!(rt; text.as_bytes(), b"nop\n".as_slice());
-    assert!(rt; ins.start("no such file").is_err());
-    fs::remove_file(&rt, "written.tmp")?;
-    let mut con = StreamConsole::new(rt.stdout(), rt.stderr());
-    assert_eq!(rt; con.say(Channel::Out, b"said\n")?, 5);
-    assert_eq!(rt; con.say(Channel::Err, b"said\n")?, 5);
+    let mut ins = FileInputs::new(rt);
+    let text = read_text(alloc, &mut ins, "written.tmp")?;
+    writeln!(out, "{taken} bytes taken, and read again:")?;
+    out.extend_from_slice(text.as_bytes())?;
+    match ins.start("no such file") {
+        Ok(()) => writeln!(out, "started")?,
+        Err(_) => writeln!(out, "not started")?,
+    }
+    fs::remove_file(rt, "written.tmp")?;
+    Ok(())
+}
+
+/// What is said on a console is taken whole.
+pub fn write_console(con: &mut impl Console, out: &mut Vec<u8>) -> Result<(), Fail> {
+    let on_output = con.say(Channel::Out, b"said\n")?;
+    let on_error = con.say(Channel::Err, b"said\n")?;
+    writeln!(out, "{on_output} and {on_error} bytes said")?;
     Ok(())
 }
 
@@ -51,17 +66,18 @@ fn count_steps<L: Ledger>(blank: Blank)
     let _counted: Steps<L> = three_steps(blank);
 }
 
-#[test]
-fn memory_and_steps(rt: HostRuntime) -> Result<(), Fail> {
+/// A file of an input in memory, a name that none has, and a count of steps.
+pub fn write_memory(alloc: Global, out: &mut Vec<u8>) -> Result<(), Fail> {
     let files = [MemoryFile {
         name: "x.s",
         bytes: b"ret",
     }];
     let mut ins = MemoryInputs::new(&files);
-    let text = read_text(rt.alloc(), &mut ins, "x.s")?;
-    assert_eq!(rt; text.as_bytes(), b"ret".as_slice());
-    let empty = read_text(rt.alloc(), &mut ins, "y.s")?;
-    assert_eq!(rt; empty.as_bytes(), b"".as_slice());
+    let text = read_text(alloc, &mut ins, "x.s")?;
+    let empty = read_text(alloc, &mut ins, "y.s")?;
+    let length = text.as_bytes().len();
+    let none = empty.as_bytes().len();
+    writeln!(out, "{length} and {none} bytes in memory")?;
     count_steps::<Brand>(Blank::new(1));
     Ok(())
 }

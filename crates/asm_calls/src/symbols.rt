@@ -2,13 +2,12 @@
 
 use asm_base::Text;
 use asm_expr::{Look, Name, constant_form};
-use asm_symbols::{Definition, Spot, SymFault, Symbols};
+use asm_symbols::{Definition, Spot, SymFault, SymId, Symbols};
 use std::alloc::{AllocError, Global};
-use std::process::Abort;
-use std::test::Fail;
+use std::io::{self, Write};
 
 /// A symbol's name.
-pub fn plain(alloc: Global, text: &[u8]) -> Result<Name, AllocError> {
+fn plain(alloc: Global, text: &[u8]) -> Result<Name, AllocError> {
     Ok(Name::Plain(Text::new(Vec::from_slice(alloc, text)?)))
 }
 
@@ -20,37 +19,88 @@ const SPOT: Spot = Spot {
     at: 4,
 };
 
-/// An instance is the next one until it is defined, and then the last one.
-fn check_instances<R: Abort>(rt: &R, symbols: &mut Symbols) -> Result<(), Fail> {
-    assert_eq!(rt; symbols.numeric_back(7), None);
-    let first = symbols.numeric_next(7)?;
-    assert_eq!(rt; symbols.numeric_next(7)?, first);
-    symbols.define(first, Definition::Label(SPOT))?;
-    assert_eq!(rt; symbols.numeric_back(7), Some(first));
-    assert_eq!(rt; symbols.numeric_next(7)?.index(), 1);
-    assert_eq!(rt; symbols.count(7), 1);
-    assert_eq!(rt; symbols.count(1), 0);
-    Ok(())
+/// A line with the index of a symbol, or that there is none.
+fn write_index(id: Option<SymId>, out: &mut Vec<u8>) -> io::Result<()> {
+    match id {
+        Some(id) => {
+            let index = id.index();
+            writeln!(out, "{index}")
+        }
+        None => writeln!(out, "none"),
+    }
 }
 
-/// A number that is assigned is known, and a label is not. An equal name is the same symbol.
-fn check_values<R: Abort>(rt: &R, alloc: Global, symbols: &mut Symbols) -> Result<(), Fail> {
+/// The next instance of numeric label 7, as a symbol.
+fn write_next(symbols: &mut Symbols, out: &mut Vec<u8>) -> io::Result<Option<SymId>> {
+    match symbols.numeric_next(7) {
+        Ok(id) => {
+            write_index(Some(id), &mut *out)?;
+            Ok(Some(id))
+        }
+        Err(fault) => {
+            writeln!(out, "{fault}")?;
+            Ok(None)
+        }
+    }
+}
+
+/// Defines a symbol as a label.
+fn define(symbols: &mut Symbols, id: Option<SymId>) -> Result<(), SymFault> {
+    match id {
+        Some(id) if (id.index() as usize) < symbols.as_slice().len() => {
+            symbols.define(id, Definition::Label(SPOT))
+        }
+        _ => Ok(()),
+    }
+}
+
+/// `instances`: the instance behind, the one ahead twice, and after its definition the one behind, the one ahead, and how
+/// many there are of this number and of another.
+pub fn write_instances(alloc: Global, out: &mut Vec<u8>) -> io::Result<()> {
+    let mut symbols = Symbols::new(alloc);
+    write_index(symbols.numeric_back(7), &mut *out)?;
+    let first = write_next(&mut symbols, &mut *out)?;
+    write_next(&mut symbols, &mut *out)?;
+    if let Err(fault) = define(&mut symbols, first) {
+        writeln!(out, "{fault}")?;
+    }
+    write_index(symbols.numeric_back(7), &mut *out)?;
+    write_next(&mut symbols, &mut *out)?;
+    let sevens = symbols.count(7);
+    let ones = symbols.count(1);
+    writeln!(out, "{sevens} {ones}")
+}
+
+/// A map with the symbol `low`, which is assigned -5, and the answer for assigning it again.
+fn assigned(alloc: Global, symbols: &mut Symbols) -> Result<Result<(), SymFault>, SymFault> {
     let low = symbols.name_of(&plain(alloc, b"low")?)?;
     symbols.assign(low, constant_form(alloc, 0xffff_ffff_ffff_fffb), true)?;
-    assert_eq!(rt; symbols.known(low), Some(-5));
-    let name = plain(alloc, b"low")?;
-    assert!(rt; matches!(symbols.look(&name), Look::Constant(0xffff_ffff_ffff_fffb)));
-    assert_eq!(rt; symbols.find(&name), Some(low));
-    assert_eq!(rt; symbols.find(&plain(alloc, b"high")?), None);
-    let again = symbols.assign(low, constant_form(alloc, 1), true);
-    assert_eq!(rt; again, Err(SymFault::SymbolAlreadyDefined));
-    Ok(())
+    Ok(symbols.assign(low, constant_form(alloc, 1), true))
 }
 
-#[test]
-fn tells(rt: HostRuntime) -> Result<(), Fail> {
-    let alloc = rt.alloc();
+/// What the map says of a name: its index, its number as known, and as looked up.
+fn write_known(symbols: &Symbols, name: &Name, out: &mut Vec<u8>) -> io::Result<()> {
+    write_index(symbols.find(name), &mut *out)?;
+    if let Some(id) = symbols.find(name) {
+        let known = symbols.known(id);
+        writeln!(out, "{known:?}")?;
+    }
+    let look = symbols.look(name);
+    match &look {
+        Look::Constant(number) => writeln!(out, "constant {number}"),
+        Look::Absent => writeln!(out, "absent"),
+        _ => writeln!(out, "label or form"),
+    }
+}
+
+/// `assigned`: the fault of assigning once a symbol that is assigned, and what the map says of it and of another name.
+pub fn write_assigned(alloc: Global, out: &mut Vec<u8>) -> io::Result<()> {
     let mut symbols = Symbols::new(alloc);
-    check_instances(&rt, &mut symbols)?;
-    check_values(&rt, alloc, &mut symbols)
+    match assigned(alloc, &mut symbols) {
+        Ok(Ok(())) => writeln!(out, "assigned again")?,
+        Ok(Err(fault)) => writeln!(out, "{fault}")?,
+        Err(fault) => writeln!(out, "{fault}")?,
+    }
+    write_known(&symbols, &plain(alloc, b"low")?, &mut *out)?;
+    write_known(&symbols, &plain(alloc, b"high")?, out)
 }

@@ -3,7 +3,7 @@ use Rattle.std.proofs.Common.{◌≡◌, ℕ, ◌^◌, ◌==◌, ◌||◌, ◌<�
 use Rattle.std.proofs.lemmas.Bool.Decides.{nat_tests}
 use Rattle.std.specs.List.{list_all}
 use Rattle.asm_base.specs.Digits.{is_digit_of, number_after}
-use Rattle.asm_expr.specs.declared.faults.ExprFault.TheVariants.{BadExpression, NumberTooWide}
+use Rattle.asm_expr.specs.declared.faults.ExprCause.TheVariants.{BadExpression, NumberTooWide}
 use Rattle.asm_expr.specs.Numbers.{numeral, spelled_number}
 
 -- numbers that are read fit

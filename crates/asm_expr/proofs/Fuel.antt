@@ -1,12 +1,12 @@
 -- The reading of an expression: how many steps it is given does not count where they are as many as the tokens.
 use Rattle.std.proofs.Common.{◌≡◌, ℕ, zero, suc, ◌+◌, ◌<◌, ◌≤◌, Bool, true, false, cond, nat_lt, List, [], ◌∷◌, Option, Some, None, Result, Ok, Err, length, refl, ap, ◌∙◌, arith}
 use Rattle.asm_base.specs.Tokens.{SpelledToken}
-use Rattle.asm_expr.specs.declared.faults.ExprFault.{ExprFault}
-use Rattle.asm_expr.specs.declared.faults.ExprFault.TheVariants.{BadExpression}
+use Rattle.asm_expr.specs.declared.faults.ExprCause.{ExprCause}
+use Rattle.asm_expr.specs.declared.faults.ExprCause.TheVariants.{BadExpression}
 use Rattle.asm_expr.specs.declared.trees.UnaryOp.{UnaryOp}
 use Rattle.asm_expr.specs.declared.trees.BinaryOp.{BinaryOp}
 use Rattle.asm_expr.specs.Trees.{Tree, unary, binary}
-use Rattle.asm_expr.specs.Gives.{◌>>=◌}
+use Rattle.asm_base.specs.Refusals.{◌>>=◌}
 use Rattle.asm_expr.specs.Operators.{opens, prefix_of, level_of, prefix_level}
 use Rattle.asm_expr.specs.Leaves.{leaf_of}
 use Rattle.asm_expr.specs.Reading.{Reading, Read, read, whole, closed, deeper, unopened, operand_of, operator_at, follow, read_at, read_more, reading, reading_more}
@@ -101,7 +101,7 @@ mutual
       follow_takes (read_at fuel) (read_more fuel) (at_takes fuel) (more_takes fuel) level depth left token rest found (operator_at level token) is
 
 -- one step after the other, of which the second is known where the first succeeds
-bind_same : {A B : Type 0} (first : Result A ExprFault) (next other : A → Result B ExprFault) → ((a : A) → first ≡ Ok a → next a ≡ other a) → (first >>= next) ≡ (first >>= other)
+bind_same : {A B : Type 0} (first : Result A ExprCause) (next other : A → Result B ExprCause) → ((a : A) → first ≡ Ok a → next a ≡ other a) → (first >>= next) ≡ (first >>= other)
 bind_same (Ok a) next other same = same a refl
 bind_same (Err fault) next other same = refl
 

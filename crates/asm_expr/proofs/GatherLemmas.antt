@@ -1,11 +1,12 @@
 -- A visitor that gathers part by part gathers the names of the whole.
 use Rattle.std.proofs.Common.{◌≡◌, List, [], ◌++◌, Ok, Err, refl, sym, ap, ◌∙◌, append_assoc}
-use Rattle.asm_expr.specs.declared.faults.ExprFault.{ExprFault}
-use Rattle.asm_expr.specs.declared.faults.ExprFault.TheVariants.{NoMemory}
+use Rattle.asm_base.specs.declared.refusals.Refusal.{Refusal}
+use Rattle.asm_base.specs.declared.refusals.Refusal.TheVariants.{NoMemory}
+use Rattle.asm_base.specs.Refusals.{◌>>=◌}
+use Rattle.asm_expr.specs.declared.faults.ExprCause.{ExprCause}
 use Rattle.asm_expr.specs.declared.trees.Written.{Written}
 use Rattle.asm_expr.specs.Trees.{Tree, number, name, here, unary, binary}
 use Rattle.asm_expr.specs.Folds.{Folds}
-use Rattle.asm_expr.specs.Gives.{◌>>=◌}
 use Rattle.asm_expr.specs.NamesOf.{names_of, Gathered, Gathers, NumGathers, NameGathers, HereGathers, UnaryGathers, BinaryGathers}
 
 joins : (first second third : List Written) (left right answer : Gathered) (one other : List Written)
@@ -36,6 +37,6 @@ pub all_gathered : (before : List Written) (answer : Gathered) (after more : Lis
 all_gathered before (Ok done) after more empty is gathers = rw empty at gathers
 all_gathered before (Err fault) after more empty is gathers = cc
 
-pub only_memory : (before : List Written) (answer : Gathered) (after more : List Written) (fault : ExprFault) → answer ≡ Err fault → Gathers before answer after more → fault ≡ NoMemory
-only_memory before (Ok done) after more fault is gathers = cc
-only_memory before (Err other) after more fault is gathers = let same : other ≡ fault = cc in sym same ∙ gathers
+pub only_memory : (before : List Written) (answer : Gathered) (after more : List Written) (refusal : Refusal ExprCause) → answer ≡ Err refusal → Gathers before answer after more → refusal ≡ NoMemory
+only_memory before (Ok done) after more refusal is gathers = cc
+only_memory before (Err other) after more refusal is gathers = let same : other ≡ refusal = cc in sym same ∙ gathers

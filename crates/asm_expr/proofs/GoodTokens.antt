@@ -7,11 +7,11 @@ use Rattle.asm_base.specs.declared.tokens.TokenKind.{TokenKind}
 use Rattle.asm_base.specs.declared.tokens.TokenKind.TheVariants.{Name, Digits, Character, String, Operator, Other}
 use Rattle.asm_base.specs.Strings.{string_value}
 use Rattle.asm_base.specs.Tokens.{SpelledToken, token_kind, token_length, tokens_from, tokens_of}
-use Rattle.asm_expr.specs.declared.faults.ExprFault.{ExprFault}
-use Rattle.asm_expr.specs.declared.faults.ExprFault.TheVariants.{BadExpression}
+use Rattle.asm_expr.specs.declared.faults.ExprCause.{ExprCause}
+use Rattle.asm_expr.specs.declared.faults.ExprCause.TheVariants.{BadExpression}
 use Rattle.asm_expr.specs.declared.trees.Written.TheVariants.{Plain, Back, Next}
 use Rattle.asm_expr.specs.Trees.{Tree, number, name, here}
-use Rattle.asm_expr.specs.Gives.{◌>>=◌}
+use Rattle.asm_base.specs.Refusals.{◌>>=◌}
 use Rattle.asm_expr.specs.Numbers.{numeral, spelled_number}
 use Rattle.asm_expr.specs.Leaves.{character_code, between_quotes, is_symbol_name, last_byte, without_last, is_numeric_label, label_written, digits_leaf, leaf_by, leaf_of}
 use Rattle.asm_expr.specs.Reading.{ReadTree, reading_of}
@@ -67,7 +67,7 @@ tokens_good zero offset (byte ∷ rest) all =
     choose false one other good also = also
 
 -- a good token spells what can be written
-seen : (made tree : Tree) → IsShowable made → (let whole : Result Tree ExprFault = Ok made in whole ≡ Ok tree) → IsShowable tree
+seen : (made tree : Tree) → IsShowable made → (let whole : Result Tree ExprCause = Ok made in whole ≡ Ok tree) → IsShowable tree
 seen made tree showable is = let same : made ≡ tree = cc in subst IsShowable same showable
 
 label_fits : (b : Bool) (n : ℕ) → n < 2 ^ 64 → IsWritable (cond b (Back n) (Next n))

@@ -1,9 +1,9 @@
 -- The reading of an expression and the grammar say the same.
 use Rattle.std.proofs.Common.{◌≡◌, ℕ, ◌+◌, ◌-◌, false, List, [], ◌∷◌, ◌++◌, Result, Ok, length, drop, refl, sym, ap, subst, ◌∙◌, arith, length-append, length-drop}
 use Rattle.asm_base.specs.Tokens.{SpelledToken}
-use Rattle.asm_expr.specs.declared.faults.ExprFault.{ExprFault}
+use Rattle.asm_expr.specs.declared.faults.ExprCause.{ExprCause}
 use Rattle.asm_expr.specs.Trees.{Tree}
-use Rattle.asm_expr.specs.Gives.{◌>>=◌}
+use Rattle.asm_base.specs.Refusals.{◌>>=◌}
 use Rattle.asm_expr.specs.Reading.{Reading, Read, read, reading, reading_of, ReadTree}
 use Rattle.asm_expr.specs.Grammar.{IsTextOf, IsFoundIn, IsReadAs, operator_follows}
 use Rattle.asm_expr.proofs.ReadingLemmas.{steps}
@@ -34,7 +34,7 @@ text_is_read tree before text behind is none =
 placed_by : Reading → ℕ → ReadTree
 placed_by r n = record { tree = r.tree; next = n }
 
-same_placed : (one other : ReadTree) → (let made : Result ReadTree ExprFault = Ok one in made ≡ Ok other) → one ≡ other
+same_placed : (one other : ReadTree) → (let made : Result ReadTree ExprCause = Ok one in made ≡ Ok other) → one ≡ other
 same_placed one other is = cc
 
 -- a reading that is placed begins with a text

@@ -4,12 +4,12 @@ use Rattle.asm_base.specs.declared.tokens.TokenKind.{TokenKind}
 use Rattle.asm_base.specs.declared.tokens.TokenKind.TheVariants.{Name, Digits, Character, String, Operator, Other}
 use Rattle.asm_base.specs.Strings.{string_value}
 use Rattle.asm_base.specs.Tokens.{SpelledToken}
-use Rattle.asm_expr.specs.declared.faults.ExprFault.{ExprFault}
-use Rattle.asm_expr.specs.declared.faults.ExprFault.TheVariants.{BadExpression}
+use Rattle.asm_expr.specs.declared.faults.ExprCause.{ExprCause}
+use Rattle.asm_expr.specs.declared.faults.ExprCause.TheVariants.{BadExpression}
 use Rattle.asm_expr.specs.declared.trees.Written.{Written}
 use Rattle.asm_expr.specs.declared.trees.Written.TheVariants.{Plain}
 use Rattle.asm_expr.specs.Trees.{Tree, number, name, here, height}
-use Rattle.asm_expr.specs.Gives.{◌>>=◌}
+use Rattle.asm_base.specs.Refusals.{◌>>=◌}
 use Rattle.asm_expr.specs.Numbers.{numeral, spelled_number}
 use Rattle.asm_expr.specs.Leaves.{character_code, between_quotes, is_symbol_name, last_byte, without_last, is_numeric_label, label_written, digits_leaf, leaf_by, leaf_of}
 use Rattle.asm_expr.proofs.ReadingLemmas.{steps}
@@ -20,7 +20,7 @@ pub data IsLeaf : Tree → Type 0 where
   a_name : (w : Written) → IsLeaf (name w)
   the_place : IsLeaf here
 
-seen : (made tree : Tree) → IsLeaf made → (let whole : Result Tree ExprFault = Ok made in whole ≡ Ok tree) → IsLeaf tree
+seen : (made tree : Tree) → IsLeaf made → (let whole : Result Tree ExprCause = Ok made in whole ≡ Ok tree) → IsLeaf tree
 seen made tree leaf is = let same : made ≡ tree = cc in subst IsLeaf same leaf
 
 digits_seen : (b : Bool) (digits : List ℕ) (tree : Tree)

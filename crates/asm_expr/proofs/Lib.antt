@@ -1,6 +1,7 @@
 -- The proofs of this crate.
 pub mod Terms
 pub mod SettledLemmas
+pub mod RefusedSteps
 pub mod LinearFolds
 pub mod NumberLemmas
 pub mod ReadingLemmas

@@ -1,39 +1,31 @@
 -- A visitor that answers part by part what makes the linear form gives the linear form of the whole.
 use Rattle.std.proofs.Common.{◌≡◌, ℕ, Result, Ok, Err, refl, ◌∙◌}
-use Rattle.asm_expr.specs.declared.faults.ExprFault.{ExprFault}
-use Rattle.asm_expr.specs.declared.faults.ExprFault.TheVariants.{BadExpression, NumberTooWide, ExpressionTooDeep, DivisionByZero, ValueNotKnown, NotASumOfSymbols, NoMemory}
+use Rattle.asm_base.specs.declared.refusals.Refusal.{Refusal}
+use Rattle.asm_base.specs.declared.refusals.Refusal.TheVariants.{Fault, NoMemory}
+use Rattle.asm_base.specs.Refusals.{◌>>=◌, Fails, Returns}
+use Rattle.asm_expr.specs.declared.faults.ExprCause.{ExprCause}
+use Rattle.asm_expr.specs.Following.{Follows, FollowsBoth}
 use Rattle.asm_expr.specs.Trees.{Tree, number, name, here, unary, binary}
 use Rattle.asm_expr.specs.Folds.{Folds}
 use Rattle.asm_expr.specs.Forms.{Form}
 use Rattle.asm_expr.specs.Knowledge.{Knowledge}
-use Rattle.asm_expr.specs.Linear.{linear, unary_form, binary_form}
-use Rattle.asm_expr.specs.Gives.{◌>>=◌, Gives}
+use Rattle.asm_expr.specs.Linear.{linear, unary_form, binary_form, value_of}
 use Rattle.asm_expr.specs.Evaluating.{Answer, AnswersWanted, NumGives, NameGives, HereGives, UnaryGives, BinaryGives}
+use Rattle.asm_expr.proofs.RefusedSteps.{fails_after}
 
--- a step that gives what follows from an answer gives what follows from what was wanted
-pub gives_after : {A B : Type 0} (answer wanted : Result A ExprFault) (next : A → Result B ExprFault) (given : Result B ExprFault)
-    → Gives answer wanted → Gives given (answer >>= next) → Gives given (wanted >>= next)
-gives_after (Ok made) wanted next given is step = rw is step
-gives_after (Err NoMemory) wanted next (Ok made) is step = cc
-gives_after (Err NoMemory) wanted next (Err NoMemory) is step = tt
-gives_after (Err NoMemory) wanted next (Err BadExpression) is step = cc
-gives_after (Err NoMemory) wanted next (Err NumberTooWide) is step = cc
-gives_after (Err NoMemory) wanted next (Err ExpressionTooDeep) is step = cc
-gives_after (Err NoMemory) wanted next (Err DivisionByZero) is step = cc
-gives_after (Err NoMemory) wanted next (Err ValueNotKnown) is step = cc
-gives_after (Err NoMemory) wanted next (Err NotASumOfSymbols) is step = cc
-gives_after (Err BadExpression) wanted next given is step = rw is step
-gives_after (Err NumberTooWide) wanted next given is step = rw is step
-gives_after (Err ExpressionTooDeep) wanted next given is step = rw is step
-gives_after (Err DivisionByZero) wanted next given is step = rw is step
-gives_after (Err ValueNotKnown) wanted next given is step = rw is step
-gives_after (Err NotASumOfSymbols) wanted next given is step = rw is step
+-- what follows on an answer is what follows on what was wanted
+pub returns_after : {A B F : Type 0} (answer : Result A (Refusal F)) (wanted : Result A F) (next : A → Result B F) (given : Result B (Refusal F))
+    → Returns answer wanted → Follows answer next given → Returns given (wanted >>= next)
+returns_after (Ok made) wanted next given is step = rw is step
+returns_after (Err (Fault fault)) wanted next given is step = rw (is, step) refl
+returns_after (Err NoMemory) wanted next given is step = rw step tt
 
 -- the same, where a second answer comes between
-pub gives_after_both : {A B C : Type 0} (left wanted_left : Result A ExprFault) (right wanted_right : Result B ExprFault) (next : A → B → Result C ExprFault) (given : Result C ExprFault)
-    → Gives left wanted_left → Gives right wanted_right → Gives given (left >>= (λ a. right >>= next a)) → Gives given (wanted_left >>= (λ a. wanted_right >>= next a))
-gives_after_both (Ok made) wanted_left right wanted_right next given is other step = rw is (gives_after right wanted_right (next made) given other step)
-gives_after_both (Err fault) wanted_left right wanted_right next given is other step = gives_after (Err fault) wanted_left (λ a. wanted_right >>= next a) given is step
+pub returns_after_both : {A B C F : Type 0} (left : Result A (Refusal F)) (wanted_left : Result A F) (right : Result B (Refusal F)) (wanted_right : Result B F) (next : A → B → Result C F) (given : Result C (Refusal F))
+    → Returns left wanted_left → Returns right wanted_right → FollowsBoth left right next given → Returns given (wanted_left >>= (λ a. wanted_right >>= next a))
+returns_after_both (Ok made) wanted_left right wanted_right next given is other step = rw is (returns_after right wanted_right (next made) given other step)
+returns_after_both (Err (Fault fault)) wanted_left right wanted_right next given is other step = rw (is, step) refl
+returns_after_both (Err NoMemory) wanted_left right wanted_right next given is other step = rw step tt
 
 module _ {V : Type 0} (knows : V → Knowledge) where
   pub folds_linear : (tree : Tree) (first : V) (answer : Answer) (last : V)
@@ -46,32 +38,27 @@ module _ {V : Type 0} (knows : V → Knowledge) where
   folds_linear (unary op operand) first answer last folds =
       let below = folds_linear operand first folds.1 folds.0 folds.2 in
       record {
-        same = folds.3.same ∙ below.same;
-        given = gives_after folds.1 (linear (knows first) operand) (unary_form (knows first).told op) answer below.given (rw below.same at folds.3.given);
+        same = folds.3.0 ∙ below.same;
+        given = returns_after folds.1 (linear (knows first) operand) (unary_form (knows first).told op) answer below.given (rw below.same at folds.3.1);
       }
   folds_linear (binary op left right) first answer last folds =
       let one = folds_linear left first folds.2 folds.0 folds.4 in
       let other = folds_linear right folds.0 folds.3 folds.1 folds.5 in
       record {
-        same = folds.6.same ∙ other.same ∙ one.same;
+        same = folds.6.0 ∙ other.same ∙ one.same;
         given =
-            gives_after_both folds.2 (linear (knows first) left) folds.3 (linear (knows first) right) (binary_form (knows first).told op) answer one.given (rw one.same at other.given)
-            (rw (other.same ∙ one.same) at folds.6.given);
+            returns_after_both folds.2 (linear (knows first) left) folds.3 (linear (knows first) right) (binary_form (knows first).told op) answer one.given (rw one.same at other.given)
+            (rw (other.same ∙ one.same) at folds.6.1);
       }
 
 -- the value of what a fold gives
-pub value_given : (answer wanted : Answer) (next : Form → Result ℕ ExprFault) (given : Result ℕ ExprFault) → Gives answer wanted → given ≡ (answer >>= next) → Gives given (wanted >>= next)
-value_given answer wanted next given is step = gives_after answer wanted next given is (by given (answer >>= next) step)
-  where
-    same : (r : Result ℕ ExprFault) → Gives r r
-    same (Ok made) = refl
-    same (Err NoMemory) = tt
-    same (Err BadExpression) = refl
-    same (Err NumberTooWide) = refl
-    same (Err ExpressionTooDeep) = refl
-    same (Err DivisionByZero) = refl
-    same (Err ValueNotKnown) = refl
-    same (Err NotASumOfSymbols) = refl
+pub value_given : (answer : Answer) (wanted : Result Form ExprCause) (made : Form) (given : Result ℕ (Refusal ExprCause))
+    → answer ≡ Ok made → Returns answer wanted → Returns given (value_of made) → Returns given (wanted >>= value_of)
+value_given (Ok other) wanted made given is returns value = let same : other ≡ made = cc in rw (returns, same) value
+value_given (Err refusal) wanted made given is returns value = absurd cc
 
-    by : (a b : Result ℕ ExprFault) → a ≡ b → Gives a b
-    by a b e = rw e (same b)
+-- the refusal of a fold
+pub value_fails : (answer : Answer) (wanted : Result Form ExprCause) (refusal : Refusal ExprCause)
+    → answer ≡ Err refusal → Returns answer wanted → Fails refusal (wanted >>= value_of)
+value_fails (Ok made) wanted refusal is returns = absurd cc
+value_fails (Err other) wanted refusal is returns = let same : other ≡ refusal = cc in fails_after refusal wanted value_of (wanted >>= value_of) refl (rw same at returns)

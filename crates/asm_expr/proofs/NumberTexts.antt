@@ -8,7 +8,7 @@ use Rattle.std.specs.Char.{is_ascii_digit}
 use Rattle.std.specs.Fmt.{decimal}
 use Rattle.asm_base.specs.ByteClasses.{is_name_byte, is_name_start}
 use Rattle.asm_base.specs.Digits.{digit_of, is_digit_of, number_after}
-use Rattle.asm_expr.specs.declared.faults.ExprFault.TheVariants.{BadExpression, NumberTooWide}
+use Rattle.asm_expr.specs.declared.faults.ExprCause.TheVariants.{BadExpression, NumberTooWide}
 use Rattle.asm_expr.specs.Trees.{number, name}
 use Rattle.asm_expr.specs.Numbers.{numeral, spelled_number}
 use Rattle.asm_expr.specs.Leaves.{last_byte, without_last, label_written, digits_leaf}

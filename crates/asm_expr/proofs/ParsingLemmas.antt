@@ -3,30 +3,21 @@ use Rattle.std.proofs.Common.{◌≡◌, ℕ, ◌+◌, ◌<◌, ◌≤◌, Bool,
 use Rattle.std.proofs.lemmas.Bool.Decides.{nat_tests}
 use Rattle.asm_base.specs.declared.tokens.Token.{Token}
 use Rattle.asm_base.specs.Tokens.{SpelledToken, spelled}
-use Rattle.asm_expr.specs.declared.faults.ExprFault.{ExprFault}
-use Rattle.asm_expr.specs.declared.faults.ExprFault.TheVariants.{BadExpression, NumberTooWide, ExpressionTooDeep, DivisionByZero, ValueNotKnown, NotASumOfSymbols, NoMemory}
+use Rattle.asm_base.specs.declared.refusals.Refusal.{Refusal}
+use Rattle.asm_base.specs.declared.refusals.Refusal.TheVariants.{Fault, NoMemory}
+use Rattle.asm_base.specs.Refusals.{◌>>=◌, Fails}
+use Rattle.asm_expr.specs.declared.faults.ExprCause.{ExprCause}
+use Rattle.asm_expr.specs.declared.faults.ExprCause.TheVariants.{BadExpression, ExpressionTooDeep}
 use Rattle.asm_expr.specs.declared.trees.UnaryOp.{UnaryOp}
 use Rattle.asm_expr.specs.declared.trees.BinaryOp.{BinaryOp}
 use Rattle.asm_expr.specs.declared.parsing.Found.{Found}
 use Rattle.asm_expr.specs.Trees.{Tree, tree_of, unary, height}
-use Rattle.asm_expr.specs.Gives.{◌>>=◌, Fails}
 use Rattle.asm_expr.specs.Operators.{opens, prefix_of}
 use Rattle.asm_expr.specs.Leaves.{leaf_of}
 use Rattle.asm_expr.specs.Reading.{Read, read, whole, closed, deeper, unopened, operand_of, operator_at, follow, reading, reading_more}
 use Rattle.asm_expr.specs.Found.{spelled_from, operand_in, operator_in, Finds, IsNode, CompletesNode}
 use Rattle.asm_expr.proofs.TokenLists.{none_left, one_left}
 use Rattle.asm_expr.proofs.Fuel.{right_of, reading_none, reading_step, reading_more_none, reading_more_step}
-
--- the first fault ends the steps
-pub fails_after : {A B : Type 0} (fault : ExprFault) (first : Result A ExprFault) (next : A → Result B ExprFault) (wanted : Result B ExprFault)
-    → wanted ≡ (first >>= next) → Fails fault first → Fails fault wanted
-fails_after NoMemory first next wanted is fails = tt
-fails_after BadExpression first next wanted is fails = is ∙ ap (λ r. r >>= next) fails
-fails_after NumberTooWide first next wanted is fails = is ∙ ap (λ r. r >>= next) fails
-fails_after ExpressionTooDeep first next wanted is fails = is ∙ ap (λ r. r >>= next) fails
-fails_after DivisionByZero first next wanted is fails = is ∙ ap (λ r. r >>= next) fails
-fails_after ValueNotKnown first next wanted is fails = is ∙ ap (λ r. r >>= next) fails
-fails_after NotASumOfSymbols first next wanted is fails = is ∙ ap (λ r. r >>= next) fails
 
 -- a node that is complete
 too_high : (b : Bool) (tree : Tree) (rest : List SpelledToken) → nat_lt 256 (height tree) ≡ b → 256 < height tree → cond b (Err ExpressionTooDeep) (Ok (read tree rest)) ≡ Err ExpressionTooDeep
@@ -45,14 +36,9 @@ pub whole_low : (tree : Tree) (rest : List SpelledToken) → height tree ≤ 256
 unfolding whole
 whole_low tree rest low = low_enough (nat_lt 256 (height tree)) tree rest refl low
 
-pub node_fails : (tree : Tree) (next : ℕ) (fault : ExprFault) (rest : List SpelledToken) → CompletesNode tree next (Err fault) → Fails fault (whole tree rest)
+pub node_fails : (tree : Tree) (next : ℕ) (refusal : Refusal ExprCause) (rest : List SpelledToken) → CompletesNode tree next (Err refusal) → Fails refusal (whole tree rest)
+node_fails tree next (Fault fault) rest is = whole_high tree rest is.1 ∙ ap Err (sym is.0)
 node_fails tree next NoMemory rest is = tt
-node_fails tree next ExpressionTooDeep rest is = whole_high tree rest is
-node_fails tree next BadExpression rest is = absurd is
-node_fails tree next NumberTooWide rest is = absurd is
-node_fails tree next DivisionByZero rest is = absurd is
-node_fails tree next ValueNotKnown rest is = absurd is
-node_fails tree next NotASumOfSymbols rest is = absurd is
 
 pub node_done : (tokens : List Token) (tree : Tree) (next : ℕ) (found : Found) → IsNode tree next found
     → whole tree (spelled_from tokens next) ≡ Ok (read (tree_of found.expr) (spelled_from tokens found.next))
@@ -166,17 +152,17 @@ leaf_at tokens at depth d inside is none =
     ∙ ap (unopened reading depth (spelled (get_or tokens at d)) (spelled_from tokens (at + 1))) (sym none)
 
 -- what was found at a later index was found behind an earlier one
-pub finds_after : (tokens : List Token) (at next : ℕ) (wanted step : Read) (answer : Result Found ExprFault) → wanted ≡ step → at ≤ next → Finds tokens next step answer → Finds tokens at wanted answer
+pub finds_after : (tokens : List Token) (at next : ℕ) (wanted step : Read) (answer : Result Found (Refusal ExprCause)) → wanted ≡ step → at ≤ next → Finds tokens next step answer → Finds tokens at wanted answer
 finds_after tokens at next wanted step (Ok found) is before finds = record {
   value = is ∙ finds.value;
   low = finds.low;
   later = let later = finds.later in omega arith;
   within = finds.within;
 }
-finds_after tokens at next wanted step (Err fault) is before finds = rw is finds
+finds_after tokens at next wanted step (Err refusal) is before finds = rw is finds
 
 -- a node that was completed was found behind its first token
-pub finds_node : (tokens : List Token) (at next : ℕ) (tree : Tree) (wanted : Read) (answer : Result Found ExprFault) → wanted ≡ whole tree (spelled_from tokens next) → at < next → next ≤ length tokens
+pub finds_node : (tokens : List Token) (at next : ℕ) (tree : Tree) (wanted : Read) (answer : Result Found (Refusal ExprCause)) → wanted ≡ whole tree (spelled_from tokens next) → at < next → next ≤ length tokens
     → CompletesNode tree next answer → Finds tokens at wanted answer
 finds_node tokens at next tree wanted (Ok found) is before within completes = record {
   value = is ∙ node_done tokens tree next found completes;
@@ -184,4 +170,4 @@ finds_node tokens at next tree wanted (Ok found) is before within completes = re
   later = let same = completes.next in omega arith;
   within = let same = completes.next in omega arith;
 }
-finds_node tokens at next tree wanted (Err fault) is before within completes = rw is (node_fails tree next fault (spelled_from tokens next) completes)
+finds_node tokens at next tree wanted (Err refusal) is before within completes = rw is (node_fails tree next refusal (spelled_from tokens next) completes)

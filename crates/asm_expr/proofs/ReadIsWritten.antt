@@ -2,11 +2,11 @@
 use Rattle.std.proofs.Common.{◌≡◌, ℕ, zero, suc, ◌+◌, ◌-◌, ◌<◌, ◌≤◌, Bool, true, false, cond, nat_lt, nat_le, List, [], ◌∷◌, ◌++◌, Option, Some, None, Ok, Err, length, refl, sym, ap, subst, ◌∙◌, arith, append_assoc}
 use Rattle.std.proofs.lemmas.Bool.Decides.{nat_tests}
 use Rattle.asm_base.specs.Tokens.{SpelledToken}
-use Rattle.asm_expr.specs.declared.faults.ExprFault.TheVariants.{BadExpression}
+use Rattle.asm_expr.specs.declared.faults.ExprCause.TheVariants.{BadExpression}
 use Rattle.asm_expr.specs.declared.trees.UnaryOp.{UnaryOp}
 use Rattle.asm_expr.specs.declared.trees.BinaryOp.{BinaryOp}
 use Rattle.asm_expr.specs.Trees.{Tree, unary, binary, height}
-use Rattle.asm_expr.specs.Gives.{◌>>=◌}
+use Rattle.asm_base.specs.Refusals.{◌>>=◌}
 use Rattle.asm_expr.specs.Operators.{opens, closes, prefix_of, operator_of, level_of}
 use Rattle.asm_expr.specs.Leaves.{leaf_of}
 use Rattle.asm_expr.specs.Reading.{Reading, read, whole, closed_by, closed, deeper, unopened, operand_of, operator_from, operator_at, follow, reading, reading_more}

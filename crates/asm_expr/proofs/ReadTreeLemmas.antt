@@ -3,15 +3,16 @@ use Rattle.std.proofs.Common.{◌≡◌, ℕ, ◌-◌, ◌≤◌, List, Result, 
 use Rattle.std.proofs.lemmas.List.{drop-map, length-map}
 use Rattle.asm_base.specs.declared.tokens.Token.{Token}
 use Rattle.asm_base.specs.Tokens.{SpelledToken, spelled}
-use Rattle.asm_expr.specs.declared.faults.ExprFault.{ExprFault}
+use Rattle.asm_base.specs.declared.refusals.Refusal.{Refusal}
+use Rattle.asm_base.specs.Refusals.{◌>>=◌, Fails}
+use Rattle.asm_expr.specs.declared.faults.ExprCause.{ExprCause}
 use Rattle.asm_expr.specs.declared.parsing.Found.{Found}
 use Rattle.asm_expr.specs.Trees.{tree_of}
-use Rattle.asm_expr.specs.Gives.{◌>>=◌, Fails}
 use Rattle.asm_expr.specs.Reading.{Reading, Read, ReadTree, reading, reading_of}
 use Rattle.asm_expr.specs.Found.{spelled_from, read_tree, IsFound}
-use Rattle.asm_expr.proofs.ParsingLemmas.{fails_after}
+use Rattle.asm_expr.proofs.RefusedSteps.{fails_after}
 
-placing : List SpelledToken → Reading → Result ReadTree ExprFault
+placing : List SpelledToken → Reading → Result ReadTree ExprCause
 placing tokens found = Ok (record { tree = found.tree; next = length tokens - length found.rest })
 
 from_is : (list : List Token) (tokens : List SpelledToken) (at : ℕ) → map spelled list ≡ tokens → reading 1 0 (drop at tokens) ≡ reading 1 0 (spelled_from list at)
@@ -31,8 +32,8 @@ read_tree_found list tokens at found is finds =
     ap (λ (r : Read). r >>= placing tokens) (from_is list tokens at is ∙ finds.value)
     ∙ ap (λ n. Ok (record { tree = tree_of found.expr; next = n })) (next_is list tokens found.next is finds.within)
 
-pub read_tree_fails : (list : List Token) (tokens : List SpelledToken) (at : ℕ) (fault : ExprFault) → map spelled list ≡ tokens → Fails fault (reading 1 0 (spelled_from list at))
-    → Fails fault (reading_of tokens at)
+pub read_tree_fails : (list : List Token) (tokens : List SpelledToken) (at : ℕ) (refusal : Refusal ExprCause) → map spelled list ≡ tokens → Fails refusal (reading 1 0 (spelled_from list at))
+    → Fails refusal (reading_of tokens at)
 unfolding reading_of placing
-read_tree_fails list tokens at fault is fails =
-    fails_after fault (reading 1 0 (spelled_from list at)) (placing tokens) (reading_of tokens at) (ap (λ (r : Read). r >>= placing tokens) (from_is list tokens at is)) fails
+read_tree_fails list tokens at refusal is fails =
+    fails_after refusal (reading 1 0 (spelled_from list at)) (placing tokens) (reading_of tokens at) (ap (λ (r : Read). r >>= placing tokens) (from_is list tokens at is)) fails

@@ -3,20 +3,20 @@ use Rattle.std.proofs.Common.{◌≡◌, suc, ◌≤◌, Bool, true, false, cond
 use Rattle.std.proofs.Common.{nat_lt}
 use Rattle.std.proofs.lemmas.Bool.Decides.{nat_tests}
 use Rattle.asm_base.specs.Tokens.{SpelledToken}
-use Rattle.asm_expr.specs.declared.faults.ExprFault.{ExprFault}
-use Rattle.asm_expr.specs.declared.faults.ExprFault.TheVariants.{BadExpression, ExpressionTooDeep}
+use Rattle.asm_expr.specs.declared.faults.ExprCause.{ExprCause}
+use Rattle.asm_expr.specs.declared.faults.ExprCause.TheVariants.{BadExpression, ExpressionTooDeep}
 use Rattle.asm_expr.specs.Trees.{Tree, height}
-use Rattle.asm_expr.specs.Gives.{◌>>=◌}
+use Rattle.asm_base.specs.Refusals.{◌>>=◌}
 use Rattle.asm_expr.specs.Operators.{closes}
 use Rattle.asm_expr.specs.Reading.{Reading, Read, read, whole, closed_by}
 
 -- what a step that succeeds stands on
-pub record Steps {A B : Type 0} (first : Result A ExprFault) (next : A → Result B ExprFault) (last : B) : Type 0 where
+pub record Steps {A B : Type 0} (first : Result A ExprCause) (next : A → Result B ExprCause) (last : B) : Type 0 where
   pub middle : A
   pub begins : first ≡ Ok middle
   pub ends : next middle ≡ Ok last
 
-pub steps : {A B : Type 0} (first : Result A ExprFault) (next : A → Result B ExprFault) (last : B) → (first >>= next) ≡ Ok last → Steps first next last
+pub steps : {A B : Type 0} (first : Result A ExprCause) (next : A → Result B ExprCause) (last : B) → (first >>= next) ≡ Ok last → Steps first next last
 steps (Ok middle) next last is = record { middle = middle; begins = refl; ends = is }
 steps (Err fault) next last is = cc
 

@@ -10,7 +10,7 @@ use Rattle.asm_base.specs.declared.tokens.TokenKind.TheVariants.{Name, Digits, S
 use Rattle.asm_base.specs.Strings.{string_value}
 use Rattle.asm_base.specs.StringGrammar.{StandsFor}
 use Rattle.asm_base.specs.Tokens.{SpelledToken, tokens_from}
-use Rattle.asm_expr.specs.declared.faults.ExprFault.TheVariants.{BadExpression}
+use Rattle.asm_expr.specs.declared.faults.ExprCause.TheVariants.{BadExpression}
 use Rattle.asm_expr.specs.declared.trees.Written.TheVariants.{Plain, Back, Next}
 use Rattle.asm_expr.specs.Trees.{Tree, number, name, here}
 use Rattle.asm_expr.specs.Leaves.{is_symbol_name, digits_leaf, quoted_leaf, leaf_of}

@@ -2,12 +2,12 @@
 use Rattle.std.proofs.Common.{◌≡◌, ℕ, ◌+◌, ◌<◌, ◌≤◌, Bool, true, false, cond, nat_lt, List, [], ◌∷◌, ◌++◌, Option, Some, None, Result, Ok, Err, refl, sym, ap, ◌∙◌, arith, append_assoc}
 use Rattle.std.proofs.lemmas.Bool.Decides.{nat_tests}
 use Rattle.asm_base.specs.Tokens.{SpelledToken}
-use Rattle.asm_expr.specs.declared.faults.ExprFault.{ExprFault}
-use Rattle.asm_expr.specs.declared.faults.ExprFault.TheVariants.{BadExpression, ExpressionTooDeep}
+use Rattle.asm_expr.specs.declared.faults.ExprCause.{ExprCause}
+use Rattle.asm_expr.specs.declared.faults.ExprCause.TheVariants.{BadExpression, ExpressionTooDeep}
 use Rattle.asm_expr.specs.declared.trees.UnaryOp.{UnaryOp}
 use Rattle.asm_expr.specs.declared.trees.BinaryOp.{BinaryOp}
 use Rattle.asm_expr.specs.Trees.{Tree, unary, binary, height}
-use Rattle.asm_expr.specs.Gives.{◌>>=◌}
+use Rattle.asm_base.specs.Refusals.{◌>>=◌}
 use Rattle.asm_expr.specs.Operators.{opens, closes, prefix_of, operator_of, level_of}
 use Rattle.asm_expr.specs.Leaves.{leaf_of}
 use Rattle.asm_expr.specs.Reading.{Read, read, whole, closed, deeper, unopened, operand_of, operator_from, operator_at, follow, reading, reading_more}
@@ -36,7 +36,7 @@ leaf_reads level depth tree token rest is =
     let plain = leaf_opens_not token tree is in
     reading_step level depth token rest
     ∙ ap (λ (r : Read). r >>= (λ left. reading_more level depth left.tree left.rest))
-    (choose token rest depth false plain.0 ∙ ap (unopened reading depth token rest) plain.1 ∙ ap (λ (r : Result Tree ExprFault). r >>= (λ t. Ok (read t rest))) is)
+    (choose token rest depth false plain.0 ∙ ap (unopened reading depth token rest) plain.1 ∙ ap (λ (r : Result Tree ExprCause). r >>= (λ t. Ok (read t rest))) is)
 
 pub prefix_reads : (level depth : ℕ) (op : UnaryOp) (operand : Tree) (token : SpelledToken) (inside rest : List SpelledToken) → prefix_of token ≡ Some op → depth < 64 → height (unary op operand) ≤ 256
     → reading 7 (depth + 1) inside ≡ Ok (read operand rest)

@@ -1,7 +1,7 @@
 -- What operators give for constants, modulo 2^64 (GNU as manual, "Infix Operators", with the signs and shifts stated here).
 use Rattle.std.specs.Prelude.{ℕ, ◌+◌, ◌-◌, ◌*◌, ◌/◌, ◌%◌, ◌^◌, ◌==◌, ◌&&◌, ◌||◌, Bool, true, false, not, nat_lt, nat_le, if◌then◌else◌, bit_and, bit_or, bit_xor, Result, Ok, Err}
-use Rattle.asm_expr.specs.declared.faults.ExprFault.{ExprFault}
-use Rattle.asm_expr.specs.declared.faults.ExprFault.TheVariants.{DivisionByZero}
+use Rattle.asm_expr.specs.declared.faults.ExprCause.{ExprCause}
+use Rattle.asm_expr.specs.declared.faults.ExprCause.TheVariants.{DivisionByZero}
 use Rattle.asm_expr.specs.declared.trees.UnaryOp.{UnaryOp}
 use Rattle.asm_expr.specs.declared.trees.UnaryOp.TheVariants.{Minus, Complement}
 use Rattle.asm_expr.specs.declared.trees.BinaryOp.{BinaryOp}
@@ -50,11 +50,11 @@ abbrev pub complement : ℕ → ℕ
 complement n = 2 ^ 64 - 1 - n
 
 -- a division by 0 is a fault
-abbrev pub unless_zero : ℕ → ℕ → Result ℕ ExprFault
+abbrev pub unless_zero : ℕ → ℕ → Result ℕ ExprCause
 unless_zero divisor n = if divisor == 0 then Err DivisionByZero else Ok n
 
 -- what an operator gives for two constants
-unfoldable pub combined : BinaryOp → ℕ → ℕ → Result ℕ ExprFault
+unfoldable pub combined : BinaryOp → ℕ → ℕ → Result ℕ ExprCause
 combined Mul a b = Ok (wrapped (a * b))
 combined Div a b = unless_zero b (quotient a b)
 combined Rem a b = unless_zero b (remainder a b)

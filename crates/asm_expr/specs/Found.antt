@@ -2,13 +2,15 @@
 use Rattle.std.specs.Prelude.{◌≡◌, ℕ, ◌<◌, ◌≤◌, List, [], ◌∷◌, length, map, drop, Option, None, Result, Ok, Err}
 use Rattle.asm_base.specs.declared.tokens.Token.{Token}
 use Rattle.asm_base.specs.Tokens.{SpelledToken, spelled}
-use Rattle.asm_expr.specs.declared.faults.ExprFault.{ExprFault}
-use Rattle.asm_expr.specs.declared.faults.ExprFault.TheVariants.{BadExpression, NumberTooWide, ExpressionTooDeep, DivisionByZero, ValueNotKnown, NotASumOfSymbols, NoMemory}
+use Rattle.asm_base.specs.declared.refusals.Refusal.{Refusal}
+use Rattle.asm_base.specs.declared.refusals.Refusal.TheVariants.{Fault, NoMemory}
+use Rattle.asm_base.specs.Refusals.{Fails}
+use Rattle.asm_expr.specs.declared.faults.ExprCause.{ExprCause}
+use Rattle.asm_expr.specs.declared.faults.ExprCause.TheVariants.{BadExpression, ExpressionTooDeep}
 use Rattle.asm_expr.specs.declared.trees.Expr.{Expr}
 use Rattle.asm_expr.specs.declared.trees.BinaryOp.{BinaryOp}
 use Rattle.asm_expr.specs.declared.parsing.Found.{Found}
 use Rattle.asm_expr.specs.Trees.{Tree, tree_of, height}
-use Rattle.asm_expr.specs.Gives.{Fails}
 use Rattle.asm_expr.specs.Reading.{Read, Reading, ReadTree, most_height, operand_of, operator_at, reading}
 
 -- the tokens from this one on
@@ -46,9 +48,9 @@ pub record IsFound (tokens : List Token) (at : ℕ) (wanted : Read) (found : Fou
   pub within : found.next ≤ length tokens
 
 -- a call finds what is wanted, or has its fault, unless memory ran out
-abbrev pub Finds : List Token → ℕ → Read → Result Found ExprFault → Type 0
+abbrev pub Finds : List Token → ℕ → Read → Result Found (Refusal ExprCause) → Type 0
 Finds tokens at wanted (Ok found) = IsFound tokens at wanted found
-Finds tokens at wanted (Err fault) = Fails fault wanted
+Finds tokens at wanted (Err refusal) = Fails refusal wanted
 
 -- the node is complete, unless it is too high
 pub record IsNode (node : Tree) (behind : ℕ) (found : Found) : Type 0 where
@@ -57,12 +59,7 @@ pub record IsNode (node : Tree) (behind : ℕ) (found : Found) : Type 0 where
   pub low : IsLow found
 
 -- a node is complete, or too high, unless memory ran out
-abbrev pub CompletesNode : Tree → ℕ → Result Found ExprFault → Type 0
+abbrev pub CompletesNode : Tree → ℕ → Result Found (Refusal ExprCause) → Type 0
 CompletesNode tree next (Ok found) = IsNode tree next found
+CompletesNode tree next (Err (Fault fault)) = (fault ≡ ExpressionTooDeep) × (most_height < height tree)
 CompletesNode tree next (Err NoMemory) = Unit {0}
-CompletesNode tree next (Err ExpressionTooDeep) = most_height < height tree
-CompletesNode tree next (Err BadExpression) = ⊥
-CompletesNode tree next (Err NumberTooWide) = ⊥
-CompletesNode tree next (Err DivisionByZero) = ⊥
-CompletesNode tree next (Err ValueNotKnown) = ⊥
-CompletesNode tree next (Err NotASumOfSymbols) = ⊥

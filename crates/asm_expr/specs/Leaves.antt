@@ -7,16 +7,16 @@ use Rattle.asm_base.specs.declared.tokens.TokenKind.TheVariants.{Name, Digits, C
 use Rattle.asm_base.specs.Digits.{is_digit_of}
 use Rattle.asm_base.specs.Strings.{string_value}
 use Rattle.asm_base.specs.Tokens.{SpelledToken}
-use Rattle.asm_expr.specs.declared.faults.ExprFault.{ExprFault}
-use Rattle.asm_expr.specs.declared.faults.ExprFault.TheVariants.{BadExpression}
+use Rattle.asm_expr.specs.declared.faults.ExprCause.{ExprCause}
+use Rattle.asm_expr.specs.declared.faults.ExprCause.TheVariants.{BadExpression}
 use Rattle.asm_expr.specs.declared.trees.Written.{Written}
 use Rattle.asm_expr.specs.declared.trees.Written.TheVariants.{Plain, Back, Next}
 use Rattle.asm_expr.specs.Trees.{Tree, number, name, here}
-use Rattle.asm_expr.specs.Gives.{◌>>=◌}
+use Rattle.asm_base.specs.Refusals.{◌>>=◌}
 use Rattle.asm_expr.specs.Numbers.{numeral, spelled_number}
 
 -- the code of the byte behind the quote
-unfoldable pub character_code : List ℕ → Result ℕ ExprFault
+unfoldable pub character_code : List ℕ → Result ℕ ExprCause
 character_code [] = Err BadExpression
 character_code (quote ∷ []) = Err BadExpression
 character_code (quote ∷ byte ∷ rest) = Ok byte
@@ -46,7 +46,7 @@ abbrev pub label_written : ℕ → ℕ → Written
 label_written direction n = if direction == 98 then Back n else Next n
 
 -- what a token of digits spells: a numeric label, or else a number
-unfoldable pub digits_leaf : List ℕ → Result Tree ExprFault
+unfoldable pub digits_leaf : List ℕ → Result Tree ExprCause
 digits_leaf digits =
     if is_numeric_label digits then numeral 10 (without_last digits) >>= (λ n. Ok (name (label_written (last_byte digits) n)))
     else spelled_number digits >>= (λ n. Ok (number n))
@@ -56,11 +56,11 @@ abbrev pub word_leaf : List ℕ → Tree
 word_leaf bytes = if bytes_eq bytes (codes ".") then here else name (Plain bytes)
 
 -- what a string spells in place of a name
-abbrev pub quoted_leaf : List ℕ → Result Tree ExprFault
+abbrev pub quoted_leaf : List ℕ → Result Tree ExprCause
 quoted_leaf text = if is_symbol_name text then Ok (name (Plain text)) else Err BadExpression
 
 -- what a token of this class spells
-abbrev pub leaf_by : TokenKind → List ℕ → Result Tree ExprFault
+abbrev pub leaf_by : TokenKind → List ℕ → Result Tree ExprCause
 leaf_by Name bytes = Ok (word_leaf bytes)
 leaf_by Digits bytes = digits_leaf bytes
 leaf_by Character bytes = character_code bytes >>= (λ n. Ok (number n))
@@ -68,5 +68,5 @@ leaf_by String bytes = quoted_leaf (string_value (between_quotes bytes))
 leaf_by _ bytes = Err BadExpression
 
 -- the number or the name that a token spells
-unfoldable pub leaf_of : SpelledToken → Result Tree ExprFault
+unfoldable pub leaf_of : SpelledToken → Result Tree ExprCause
 leaf_of token = leaf_by token.kind token.bytes

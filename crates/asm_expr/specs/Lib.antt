@@ -7,7 +7,7 @@ pub mod Knowledge
 pub mod Raised
 pub mod Settled
 pub mod Arithmetic
-pub mod Gives
+pub mod Following
 pub mod Linear
 pub mod Evaluating
 pub mod Numbers

@@ -1,7 +1,7 @@
 -- The linear form of an expression, and whether its value is known.
 use Rattle.std.specs.Prelude.{ℕ, ◌+◌, ◌-◌, ◌^◌, min, List, [], ◌∷◌, Result, Ok, Err}
-use Rattle.asm_expr.specs.declared.faults.ExprFault.{ExprFault}
-use Rattle.asm_expr.specs.declared.faults.ExprFault.TheVariants.{NotASumOfSymbols, ValueNotKnown}
+use Rattle.asm_expr.specs.declared.faults.ExprCause.{ExprCause}
+use Rattle.asm_expr.specs.declared.faults.ExprCause.TheVariants.{NotASumOfSymbols, ValueNotKnown}
 use Rattle.asm_expr.specs.declared.naming.Name.{Name}
 use Rattle.asm_expr.specs.declared.naming.Name.TheVariants as naming
 use Rattle.asm_expr.specs.declared.forms.Term.{Term}
@@ -16,7 +16,7 @@ use Rattle.asm_expr.specs.Forms.{Form, constant_form, name_form, sum_of, differe
 use Rattle.asm_expr.specs.Knowledge.{Told, absent, constant, label, form, Knowledge}
 use Rattle.asm_expr.specs.Settled.{settled}
 use Rattle.asm_expr.specs.Arithmetic.{complement, combined}
-use Rattle.asm_expr.specs.Gives.{◌>>=◌}
+use Rattle.asm_base.specs.Refusals.{◌>>=◌}
 
 -- the name that is meant: `Nb` is the instance that is counted, and `Nf` the next one; no instance is above the last u32
 abbrev pub name_of : Knowledge → Written → Name
@@ -36,31 +36,31 @@ abbrev pub form_of_name : (Name → Told) → Name → Form
 form_of_name told own = form_by told own (told own)
 
 -- the constant of a form that has no names
-abbrev pub constant_or : ExprFault → List Term → ℕ → Result ℕ ExprFault
+abbrev pub constant_or : ExprCause → List Term → ℕ → Result ℕ ExprCause
 constant_or fault [] n = Ok n
 constant_or fault (term ∷ terms) n = Err fault
 
 -- the constant of a form, where an operator wants one
-abbrev pub constant_of : Form → Result ℕ ExprFault
+abbrev pub constant_of : Form → Result ℕ ExprCause
 constant_of made = constant_or NotASumOfSymbols made.terms made.constant
 
 -- minus is taken of any form, and the complement of a constant alone
-unfoldable pub unary_form : (Name → Told) → UnaryOp → Form → Result Form ExprFault
+unfoldable pub unary_form : (Name → Told) → UnaryOp → Form → Result Form ExprCause
 unary_form told Minus made = Ok (settled told (difference_of (constant_form 0) made))
 unary_form told Complement made = constant_of made >>= λ n. Ok (constant_form (complement n))
 
 -- an operator between constants: the first fault counts
-abbrev pub constant_binary : BinaryOp → Form → Form → Result Form ExprFault
+abbrev pub constant_binary : BinaryOp → Form → Form → Result Form ExprCause
 constant_binary op one other = constant_of one >>= (λ a. constant_of other >>= (λ b. combined op a b >>= (λ n. Ok (constant_form n))))
 
 -- sums and differences are made of any forms, and all else of constants alone
-unfoldable pub binary_form : (Name → Told) → BinaryOp → Form → Form → Result Form ExprFault
+unfoldable pub binary_form : (Name → Told) → BinaryOp → Form → Form → Result Form ExprCause
 binary_form told Add one other = Ok (settled told (sum_of one other))
 binary_form told Sub one other = Ok (settled told (difference_of one other))
 binary_form told op one other = constant_binary op one other
 
 -- the linear form of an expression, or the first fault: operands come from left to right, then the operator
-unfoldable pub linear : Knowledge → Tree → Result Form ExprFault
+unfoldable pub linear : Knowledge → Tree → Result Form ExprCause
 linear known (number value) = Ok (constant_form value)
 linear known (name written) = Ok (form_of_name known.told (name_of known written))
 linear known here = Ok (form_of_name known.told known.place)
@@ -68,9 +68,9 @@ linear known (unary op operand) = linear known operand >>= unary_form known.told
 linear known (binary op left right) = linear known left >>= (λ one. linear known right >>= (λ other. binary_form known.told op one other))
 
 -- the value of a form, which is known where it has no names
-abbrev pub value_of : Form → Result ℕ ExprFault
+abbrev pub value_of : Form → Result ℕ ExprCause
 value_of made = constant_or ValueNotKnown made.terms made.constant
 
 -- the value of an expression
-abbrev pub known_now : Knowledge → Tree → Result ℕ ExprFault
+abbrev pub known_now : Knowledge → Tree → Result ℕ ExprCause
 known_now known tree = linear known tree >>= value_of

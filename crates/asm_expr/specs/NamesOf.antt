@@ -1,12 +1,13 @@
 -- The names of an expression, from left to right, and what a visitor answers part by part that gathers them.
 use Rattle.std.specs.Prelude.{◌≡◌, ℕ, List, [], ◌∷◌, ◌++◌, Result, Ok, Err}
-use Rattle.asm_expr.specs.declared.faults.ExprFault.{ExprFault}
-use Rattle.asm_expr.specs.declared.faults.ExprFault.TheVariants.{NoMemory}
+use Rattle.asm_base.specs.declared.refusals.Refusal.{Refusal}
+use Rattle.asm_base.specs.declared.refusals.Refusal.TheVariants.{NoMemory}
+use Rattle.asm_base.specs.Refusals.{◌>>=◌}
+use Rattle.asm_expr.specs.declared.faults.ExprCause.{ExprCause}
 use Rattle.asm_expr.specs.declared.trees.Written.{Written}
 use Rattle.asm_expr.specs.declared.trees.UnaryOp.{UnaryOp}
 use Rattle.asm_expr.specs.declared.trees.BinaryOp.{BinaryOp}
 use Rattle.asm_expr.specs.Trees.{Tree, number, name, here, unary, binary}
-use Rattle.asm_expr.specs.Gives.{◌>>=◌}
 
 -- the names of an expression, from left to right
 abbrev pub names_of : Tree → List Written
@@ -18,12 +19,12 @@ names_of (binary op left right) = names_of left ++ names_of right
 
 -- whether memory sufficed so far
 abbrev pub Gathered : Type 0
-Gathered = Result (Unit {0}) ExprFault
+Gathered = Result (Unit {0}) (Refusal ExprCause)
 
 -- the names stand behind those that were there, unless memory ran out
 abbrev pub Gathers : List Written → Gathered → List Written → List Written → Type 0
 Gathers before (Ok done) after more = after ≡ before ++ more
-Gathers before (Err fault) after more = fault ≡ NoMemory
+Gathers before (Err refusal) after more = refusal ≡ NoMemory
 
 module _ {V : Type 0} (has : V → List Written) where
   -- a number has no names

@@ -1,12 +1,12 @@
 -- The reading of an expression from its tokens: the tree and the tokens behind it, or the first fault from the left.
 use Rattle.std.specs.Prelude.{ℕ, zero, suc, ◌+◌, ◌-◌, List, [], ◌∷◌, length, drop, nat_lt, nat_le, if◌then◌else◌, Option, Some, None, Result, Ok, Err}
 use Rattle.asm_base.specs.Tokens.{SpelledToken}
-use Rattle.asm_expr.specs.declared.faults.ExprFault.{ExprFault}
-use Rattle.asm_expr.specs.declared.faults.ExprFault.TheVariants.{BadExpression, ExpressionTooDeep}
+use Rattle.asm_expr.specs.declared.faults.ExprCause.{ExprCause}
+use Rattle.asm_expr.specs.declared.faults.ExprCause.TheVariants.{BadExpression, ExpressionTooDeep}
 use Rattle.asm_expr.specs.declared.trees.UnaryOp.{UnaryOp}
 use Rattle.asm_expr.specs.declared.trees.BinaryOp.{BinaryOp}
 use Rattle.asm_expr.specs.Trees.{Tree, unary, binary, height}
-use Rattle.asm_expr.specs.Gives.{◌>>=◌}
+use Rattle.asm_base.specs.Refusals.{◌>>=◌}
 use Rattle.asm_expr.specs.Operators.{opens, closes, prefix_of, operator_of, level_of, prefix_level}
 use Rattle.asm_expr.specs.Leaves.{leaf_of}
 
@@ -25,7 +25,7 @@ pub record Reading : Type 0 where
 
 -- what a reading answers
 abbrev pub Read : Type 0
-Read = Result Reading ExprFault
+Read = Result Reading ExprCause
 
 -- a tree that was read, and the tokens behind it
 abbrev pub read : Tree → List SpelledToken → Reading
@@ -101,5 +101,5 @@ pub record ReadTree : Type 0 where
   pub next : ℕ
 
 -- the expression that begins at this token
-unfoldable pub reading_of : List SpelledToken → ℕ → Result ReadTree ExprFault
+unfoldable pub reading_of : List SpelledToken → ℕ → Result ReadTree ExprCause
 reading_of tokens at = reading 1 0 (drop at tokens) >>= (λ found. Ok (record { tree = found.tree; next = length tokens - length found.rest }))

@@ -4,7 +4,7 @@ ghost use Rattle.std.specs.Prelude.{◌≡◌, ◌<◌, ◌≤◌, ◌^◌};
 ghost use Rattle.asm_expr.specs.Forms.{signed};
 ghost use Rattle.asm_expr.specs.Arithmetic.{is_negative, magnitude, quotient, remainder, is_signed_below, comparison, truth, combined};
 
-use crate::faults::ExprFault;
+use crate::faults::ExprCause;
 use crate::trees::BinaryOp;
 
 /// The number, or minus the number.
@@ -75,14 +75,14 @@ fn truth(holds: bool) -> u64
 
 /// What an operator gives for two constants.
 #[tactic(auto, unfolding(crate::specs::Arithmetic::combined))]
-pub(crate) fn combined(op: BinaryOp, a: u64, b: u64) -> Result<u64, ExprFault>
+pub(crate) fn combined(op: BinaryOp, a: u64, b: u64) -> Result<u64, ExprCause>
     ensures { result ≡ combined op a b }
 {
     match op {
         BinaryOp::Mul => Ok(a.wrapping_mul(b)),
-        BinaryOp::Div if b == 0 => Err(ExprFault::DivisionByZero),
+        BinaryOp::Div if b == 0 => Err(ExprCause::DivisionByZero),
         BinaryOp::Div => Ok(quotient(a, b)),
-        BinaryOp::Rem if b == 0 => Err(ExprFault::DivisionByZero),
+        BinaryOp::Rem if b == 0 => Err(ExprCause::DivisionByZero),
         BinaryOp::Rem => Ok(remainder(a, b)),
         BinaryOp::Shl => Ok(if b < 64 { a.wrapping_shl(b as u32) } else { 0 }),
         BinaryOp::Shr => Ok(if b < 64 { a >> b } else { 0 }),

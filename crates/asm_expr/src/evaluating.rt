@@ -1,12 +1,13 @@
 //! The linear form of a part of an expression, by the forms of its operands.
 
 ghost use Rattle.std.specs.Prelude.{◌≡◌, Ok, IfOk};
-ghost use Rattle.asm_expr.specs.Gives.{Gives};
+ghost use Rattle.asm_base.specs.Refusals.{Returns};
+ghost use Rattle.asm_expr.specs.Following.{Follows, FollowsBoth};
 ghost use Rattle.asm_expr.specs.Linear.{name_of, form_of_name, constant_of, unary_form, constant_binary, binary_form, value_of};
-ghost use Rattle.asm_expr.specs.Evaluating.{knowledge_by, unary_answer, binary_answer, value_answer};
+ghost use Rattle.asm_expr.specs.Evaluating.{knowledge_by};
 
 use crate::arithmetic::combined;
-use crate::faults::ExprFault;
+use crate::faults::{ExprCause, ExprFault};
 use crate::forms::{Linear, constant_form, copied_form, name_form};
 use crate::knowledge::{Known, Look};
 use crate::naming::{Name, copied_text};
@@ -35,7 +36,7 @@ fn name_of<K: Known>(alloc: Global, known: &K, written: &Written) -> Result<Name
 
 /// What a name stands for.
 fn form_of_name<K: Known>(alloc: Global, known: &K, name: Name) -> Result<Linear, ExprFault>
-    ensures { Gives result (Ok (form_of_name (K.told known.now) name)) }
+    ensures { Returns result (Ok (form_of_name (K.told known.now) name)) }
 {
     match known.look(&name) {
         Look::Absent => Ok(name_form(alloc, name)?),
@@ -46,13 +47,13 @@ fn form_of_name<K: Known>(alloc: Global, known: &K, name: Name) -> Result<Linear
 }
 
 /// The constant of a form that has no names.
-fn constant_of(form: &Linear) -> Result<u64, ExprFault>
+fn constant_of(form: &Linear) -> Result<u64, ExprCause>
     ensures { result ≡ constant_of form.now }
 {
     if form.terms().is_empty() {
         Ok(form.constant())
     } else {
-        Err(ExprFault::NotASumOfSymbols)
+        Err(ExprCause::NotASumOfSymbols)
     }
 }
 
@@ -64,14 +65,17 @@ fn unary_form<K: Known>(
     op: UnaryOp,
     operand: Linear,
 ) -> Result<Linear, ExprFault>
-    ensures { Gives result (unary_form (K.told known.now) op operand) }
+    ensures { Returns result (unary_form (K.told known.now) op operand) }
 {
     match op {
         UnaryOp::Minus => {
             let made = joined(true, constant_form(alloc, 0), operand)?;
             settled(alloc, known, made)
         }
-        UnaryOp::Complement => Ok(constant_form(alloc, !constant_of(&operand)?)),
+        UnaryOp::Complement => {
+            let number = constant_of(&operand).map_err(ExprFault::Fault)?;
+            Ok(constant_form(alloc, !number))
+        }
     }
 }
 
@@ -81,7 +85,7 @@ fn constant_binary(
     op: BinaryOp,
     left: Linear,
     right: Linear,
-) -> Result<Linear, ExprFault>
+) -> Result<Linear, ExprCause>
     ensures { result ≡ constant_binary op left right }
 {
     let a = constant_of(&left)?;
@@ -98,7 +102,7 @@ fn binary_form<K: Known>(
     left: Linear,
     right: Linear,
 ) -> Result<Linear, ExprFault>
-    ensures { Gives result (binary_form (K.told known.now) op left right) }
+    ensures { Returns result (binary_form (K.told known.now) op left right) }
 {
     match op {
         BinaryOp::Add => {
@@ -109,7 +113,7 @@ fn binary_form<K: Known>(
             let made = joined(true, left, right)?;
             settled(alloc, known, made)
         }
-        _ => constant_binary(alloc, op, left, right),
+        _ => constant_binary(alloc, op, left, right).map_err(ExprFault::Fault),
     }
 }
 
@@ -120,7 +124,7 @@ pub(crate) fn named_form<K: Known>(
     written: &Written,
 ) -> Result<Linear, ExprFault>
     ensures { let name = name_of (knowledge_by K.told K.counted K.place known.now) written.now in
-        Gives result (Ok (form_of_name (K.told known.now) name)) }
+        Returns result (Ok (form_of_name (K.told known.now) name)) }
 {
     let name = name_of(alloc, known, written)?;
     form_of_name(alloc, known, name)
@@ -128,27 +132,27 @@ pub(crate) fn named_form<K: Known>(
 
 /// The form of the place.
 pub(crate) fn here_form<K: Known>(alloc: Global, known: &K) -> Result<Linear, ExprFault>
-    ensures { Gives result (Ok (form_of_name (K.told known.now) (K.place known.now))) }
+    ensures { Returns result (Ok (form_of_name (K.told known.now) (K.place known.now))) }
 {
     form_of_name(alloc, known, known.here())
 }
 
-/// The form of a prefix operator, by the answer for its operand.
+/// The form of a prefix operator, by the answer for its operand: a refusal goes on.
 pub(crate) fn unary_answer<K: Known>(
     alloc: Global,
     known: &K,
     op: UnaryOp,
     operand: Result<Linear, ExprFault>,
 ) -> Result<Linear, ExprFault>
-    ensures { Gives result (unary_answer (K.told known.now) op operand) }
+    ensures { Follows operand (unary_form (K.told known.now) op) result }
 {
     match operand {
         Ok(below) => unary_form(alloc, known, op, below),
-        Err(fault) => Err(fault),
+        Err(refusal) => Err(refusal),
     }
 }
 
-/// The form of an operator, by the answers for its operands.
+/// The form of an operator, by the answers for its operands: the first refusal goes on.
 pub(crate) fn binary_answer<K: Known>(
     alloc: Global,
     known: &K,
@@ -156,32 +160,22 @@ pub(crate) fn binary_answer<K: Known>(
     left: Result<Linear, ExprFault>,
     right: Result<Linear, ExprFault>,
 ) -> Result<Linear, ExprFault>
-    ensures { Gives result (binary_answer (K.told known.now) op left right) }
+    ensures { FollowsBoth left right (binary_form (K.told known.now) op) result }
 {
     match (left, right) {
         (Ok(one), Ok(other)) => binary_form(alloc, known, op, one, other),
-        (Err(fault), _) => Err(fault),
-        (_, Err(fault)) => Err(fault),
+        (Err(refusal), _) => Err(refusal),
+        (_, Err(refusal)) => Err(refusal),
     }
 }
 
 /// The constant of a form, which is known where the form has no names.
-pub fn value_of(form: &Linear) -> Result<u64, ExprFault>
+pub fn value_of(form: &Linear) -> Result<u64, ExprCause>
     ensures { result ≡ value_of form.now }
 {
     if form.terms().is_empty() {
         Ok(form.constant())
     } else {
-        Err(ExprFault::ValueNotKnown)
-    }
-}
-
-/// The value, by the answer for the form.
-pub(crate) fn value_answer(folded: Result<Linear, ExprFault>) -> Result<u64, ExprFault>
-    ensures { result ≡ value_answer folded }
-{
-    match folded {
-        Ok(form) => value_of(&form),
-        Err(fault) => Err(fault),
+        Err(ExprCause::ValueNotKnown)
     }
 }

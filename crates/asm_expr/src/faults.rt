@@ -1,14 +1,11 @@
 //! What an expression is refused for.
 
-ghost use Rattle.std.specs.Prelude.{◌≡◌};
-ghost use Rattle.asm_expr.specs.declared.faults.ExprFault.TheVariants.{NoMemory};
-
-use std::alloc::{AllocError, AllocFailed};
+use asm_base::Refusal;
 use thiserror::Error;
 
 /// A fault of an expression.
 #[derive(Clone, Copy, Debug, PartialEq, Eq, Error)]
-pub enum ExprFault {
+pub enum ExprCause {
     /// An operand or a closing parenthesis is missing, or a token spells no number and no name.
     #[error("bad expression")]
     BadExpression,
@@ -28,23 +25,7 @@ pub enum ExprFault {
     /// An operator other than `+`, `-` and prefix `-` has an operand that is no constant.
     #[error("not a sum of symbols")]
     NotASumOfSymbols,
-    /// Memory ran out.
-    #[error("out of memory")]
-    NoMemory,
 }
 
-impl From<AllocError> for ExprFault {
-    ghost from_gives = { λ _ e. e ≡ NoMemory };
-
-    fn from(_refused: AllocError) -> ExprFault {
-        ExprFault::NoMemory
-    }
-}
-
-impl<T: Drop> From<AllocFailed<T>> for ExprFault {
-    ghost from_gives = { λ _ e. e ≡ NoMemory };
-
-    fn from(_refused: AllocFailed<T>) -> ExprFault {
-        ExprFault::NoMemory
-    }
-}
+/// Why a call on expressions is refused: the expression has a fault, or memory ran out.
+pub type ExprFault = Refusal<ExprCause>;

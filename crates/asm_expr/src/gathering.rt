@@ -1,9 +1,9 @@
 //! The visitor that gathers the names of an expression.
 
 ghost use Rattle.std.specs.Prelude.{◌≡◌, Ok, [], MatchResult, IfOk};
-ghost use Rattle.asm_expr.specs.declared.faults.ExprFault.TheVariants.{NoMemory};
+ghost use Rattle.asm_base.specs.declared.refusals.Refusal.TheVariants.{NoMemory};
+ghost use Rattle.asm_base.specs.Refusals.{GivesBy};
 ghost use Rattle.asm_expr.specs.Trees.{tree_of};
-ghost use Rattle.asm_expr.specs.Gives.{GivesBy};
 ghost use Rattle.asm_expr.specs.NamesOf.{names_of, NumGathers, NameGathers, HereGathers, UnaryGathers, BinaryGathers};
 
 use crate::faults::ExprFault;
@@ -69,7 +69,7 @@ impl ExprFold for Names {
     ) -> Result<(), ExprFault> {
         match left {
             Ok(()) => right,
-            Err(fault) => Err(fault),
+            Err(refusal) => Err(refusal),
         }
     }
 }
@@ -84,6 +84,6 @@ pub fn names_of(alloc: Global, expr: &Expr) -> Result<Vec<Written>, ExprFault>
     };
     match fold(expr, &mut visitor) {
         Ok(()) => Ok(visitor.names),
-        Err(fault) => Err(fault),
+        Err(refusal) => Err(refusal),
     }
 }

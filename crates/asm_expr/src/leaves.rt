@@ -2,11 +2,11 @@
 
 ghost use Rattle.std.specs.Prelude.{◌≡◌, Ok};
 ghost use Rattle.asm_base.specs.Tokens.{spelled};
-ghost use Rattle.asm_expr.specs.Gives.{GivesBy};
+ghost use Rattle.asm_base.specs.Refusals.{GivesBy};
 ghost use Rattle.asm_expr.specs.Trees.{tree_of};
 ghost use Rattle.asm_expr.specs.Leaves.{character_code, between_quotes, is_symbol_name, is_numeric_label, label_written, digits_leaf, word_leaf, quoted_leaf, leaf_of};
 
-use crate::faults::ExprFault;
+use crate::faults::{ExprCause, ExprFault};
 use crate::numbers::{all_digits, numeral, spelled_number};
 use crate::trees::{Expr, Written};
 use asm_base::{Text, Token, TokenKind, string_value};
@@ -14,12 +14,12 @@ use std::alloc::Global;
 
 /// The code of the byte behind the quote of a character.
 #[tactic(auto, unfolding(crate::specs::Leaves::character_code))]
-pub fn character_code(character: &[u8]) -> Result<u64, ExprFault>
+pub fn character_code(character: &[u8]) -> Result<u64, ExprCause>
     ensures { result ≡ character_code character.now }
 {
     match character {
         [_, byte, ..] => Ok(u64::from(*byte)),
-        _ => Err(ExprFault::BadExpression),
+        _ => Err(ExprCause::BadExpression),
     }
 }
 
@@ -70,10 +70,11 @@ fn digits_leaf(digits: &[u8]) -> Result<Expr, ExprFault>
 {
     if is_numeric_label(digits) {
         let end = digits.len() - 1;
-        let number = numeral(10, &digits[..end])?;
+        let number = numeral(10, &digits[..end]).map_err(ExprFault::Fault)?;
         Ok(Expr::Name(label_written(digits[end], number)))
     } else {
-        Ok(Expr::Num(spelled_number(digits)?))
+        let number = spelled_number(digits).map_err(ExprFault::Fault)?;
+        Ok(Expr::Num(number))
     }
 }
 
@@ -96,7 +97,7 @@ fn quoted_leaf(value: Vec<u8>) -> Result<Expr, ExprFault>
     if is_symbol_name(value.as_slice()) {
         Ok(Expr::Name(Written::Plain(Text::new(value))))
     } else {
-        Err(ExprFault::BadExpression)
+        Err(ExprFault::Fault(ExprCause::BadExpression))
     }
 }
 
@@ -108,8 +109,11 @@ pub(crate) fn leaf_of(alloc: Global, token: &Token) -> Result<Expr, ExprFault>
     match token.kind {
         TokenKind::Name => word_leaf(alloc, token.bytes),
         TokenKind::Digits => digits_leaf(token.bytes),
-        TokenKind::Character => Ok(Expr::Num(character_code(token.bytes)?)),
+        TokenKind::Character => {
+            let code = character_code(token.bytes).map_err(ExprFault::Fault)?;
+            Ok(Expr::Num(code))
+        }
         TokenKind::String => quoted_leaf(string_value(alloc, between_quotes(token.bytes))?),
-        _ => Err(ExprFault::BadExpression),
+        _ => Err(ExprFault::Fault(ExprCause::BadExpression)),
     }
 }

@@ -23,7 +23,7 @@ mod visiting;
 mod visitors;
 
 pub use evaluating::value_of;
-pub use faults::ExprFault;
+pub use faults::{ExprCause, ExprFault};
 pub use folding::fold;
 pub use forms::{Linear, Term, constant_form, copied_form, name_form};
 pub use gathering::{Names, names_of};

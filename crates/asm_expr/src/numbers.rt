@@ -5,7 +5,7 @@ ghost use Rattle.std.specs.List.{list_all};
 ghost use Rattle.asm_base.specs.Digits.{digit_of, number_after, is_digit_of};
 ghost use Rattle.asm_expr.specs.Numbers.{numeral, spelled_number};
 
-use crate::faults::ExprFault;
+use crate::faults::ExprCause;
 use asm_base::digit_of;
 
 /// Whether the radix has all these digits.
@@ -42,19 +42,19 @@ fn number(radix: u64, digits: &[u8]) -> Option<u64>
 
 /// A number in this radix.
 #[tactic(auto, unfolding(crate::specs::Numbers::numeral))]
-pub(crate) fn numeral(radix: u64, digits: &[u8]) -> Result<u64, ExprFault>
+pub(crate) fn numeral(radix: u64, digits: &[u8]) -> Result<u64, ExprCause>
     requires { 0 < radix }
     ensures { result ≡ numeral radix digits.now }
 {
     if digits.is_empty() || !all_digits(radix, digits) {
-        return Err(ExprFault::BadExpression);
+        return Err(ExprCause::BadExpression);
     }
-    number(radix, digits).ok_or(ExprFault::NumberTooWide)
+    number(radix, digits).ok_or(ExprCause::NumberTooWide)
 }
 
 /// The number of decimal digits, leading zeros among them. `BadExpression` comes where there are
 /// none or another byte is among them, and `NumberTooWide` where the number is above 2^64 - 1.
-pub fn decimal_number(digits: &[u8]) -> Result<u64, ExprFault>
+pub fn decimal_number(digits: &[u8]) -> Result<u64, ExprCause>
     ensures { result ≡ numeral 10 digits.now }
 {
     numeral(10, digits)
@@ -62,7 +62,7 @@ pub fn decimal_number(digits: &[u8]) -> Result<u64, ExprFault>
 
 /// The number that a token of digits spells.
 #[tactic(auto, unfolding(crate::specs::Numbers::spelled_number))]
-pub fn spelled_number(digits: &[u8]) -> Result<u64, ExprFault>
+pub fn spelled_number(digits: &[u8]) -> Result<u64, ExprCause>
     ensures { result ≡ spelled_number digits.now }
 {
     match digits {

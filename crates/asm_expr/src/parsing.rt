@@ -3,12 +3,12 @@
 ghost use Rattle.std.specs.Prelude.{◌≡◌, ◌+◌, ◌<◌, ◌≤◌, length, map, IsSome, IfOk};
 ghost use Rattle.asm_base.specs.Tokens.{spelled};
 ghost use Rattle.asm_expr.specs.Trees.{tree_of, unary, binary};
-ghost use Rattle.asm_expr.specs.Gives.{GivesBy};
+ghost use Rattle.asm_base.specs.Refusals.{GivesBy};
 ghost use Rattle.asm_expr.specs.Reading.{closed_by, operator_from, reading, reading_of};
 ghost use Rattle.asm_expr.specs.Grammar.{IsFoundIn};
 ghost use Rattle.asm_expr.specs.Found.{spelled_from, front_of, read_tree, operand_in, operator_in, IsLow, Finds, CompletesNode};
 
-use crate::faults::ExprFault;
+use crate::faults::{ExprCause, ExprFault};
 use crate::laws::read_is_written;
 use crate::leaves::leaf_of;
 use crate::operators::{closes, level_of, opens, operator_of, prefix_of};
@@ -38,7 +38,7 @@ fn unary_node(alloc: Global, op: UnaryOp, operand: Found) -> Result<Found, ExprF
 {
     let height = operand.height + 1;
     if height > MOST_HEIGHT {
-        return Err(ExprFault::ExpressionTooDeep);
+        return Err(ExprFault::Fault(ExprCause::ExpressionTooDeep));
     }
     let expr = Expr::Unary(op, Box::new(alloc, operand.expr)?);
     Ok(Found {
@@ -57,7 +57,7 @@ fn binary_node(alloc: Global, op: BinaryOp, left: Found, right: Found) -> Result
 {
     let height = left.height.max(right.height) + 1;
     if height > MOST_HEIGHT {
-        return Err(ExprFault::ExpressionTooDeep);
+        return Err(ExprFault::Fault(ExprCause::ExpressionTooDeep));
     }
     let one = Box::new(alloc, left.expr)?;
     let other = Box::new(alloc, right.expr)?;
@@ -100,7 +100,7 @@ fn closed(tokens: &[Token], inner: Found) -> Result<Found, ExprFault>
         Finds tokens.now inner.next (closed_by (tree_of inner.expr) behind) result }
 {
     if inner.next >= tokens.len() || !closes(&tokens[inner.next]) {
-        return Err(ExprFault::BadExpression);
+        return Err(ExprFault::Fault(ExprCause::BadExpression));
     }
     Ok(Found {
         expr: inner.expr,
@@ -116,12 +116,12 @@ fn read_operand(alloc: Global, tokens: &[Token], at: usize, depth: u8) -> Result
     ensures { Finds tokens.now at (operand_in depth (spelled_from tokens.now at)) result }
 {
     if at >= tokens.len() {
-        return Err(ExprFault::BadExpression);
+        return Err(ExprFault::Fault(ExprCause::BadExpression));
     }
     let token = &tokens[at];
     if opens(token) {
         if depth >= MOST_OPEN {
-            return Err(ExprFault::ExpressionTooDeep);
+            return Err(ExprFault::Fault(ExprCause::ExpressionTooDeep));
         }
         let inner = read_at(alloc, tokens, at + 1, 1, depth + 1)?;
         return closed(tokens, inner);
@@ -129,7 +129,7 @@ fn read_operand(alloc: Global, tokens: &[Token], at: usize, depth: u8) -> Result
     match prefix_of(token) {
         Some(op) => {
             if depth >= MOST_OPEN {
-                return Err(ExprFault::ExpressionTooDeep);
+                return Err(ExprFault::Fault(ExprCause::ExpressionTooDeep));
             }
             let operand = read_at(alloc, tokens, at + 1, 7, depth + 1)?;
             unary_node(alloc, op, operand)

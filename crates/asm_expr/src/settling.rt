@@ -1,7 +1,7 @@
 //! Labels that cancel: those of one stretch whose coefficients sum to 0.
 
 ghost use Rattle.std.specs.Prelude.{◌≡◌, ◌<◌, length, map, Ok, IfOk, IsTrue};
-ghost use Rattle.asm_expr.specs.Gives.{Gives};
+ghost use Rattle.asm_base.specs.Refusals.{Returns};
 ghost use Rattle.asm_expr.specs.Settled.{spot_of, counted_in, stretch_sum, cancelled_number, put_one, cannot_cancel, settled, constant_left};
 ghost use Rattle.asm_expr.specs.Forms.{wrapped, is_kept};
 
@@ -110,7 +110,7 @@ fn cannot_cancel(terms: &[Term]) -> bool
 
 /// The form where the labels of each stretch that cancel are replaced by their numbers.
 pub fn settled<K: Known>(alloc: Global, known: &K, form: Linear) -> Result<Linear, ExprFault>
-    ensures { Gives result (Ok (settled (K.told known.now) form)) }
+    ensures { Returns result (Ok (settled (K.told known.now) form)) }
 {
     if cannot_cancel(form.terms.as_slice()) {
         return Ok(form);

@@ -2,10 +2,10 @@
 
 ghost use Rattle.std.specs.Prelude.{◌≡◌, ◌+◌, Ok, IfOk};
 ghost use Rattle.asm_expr.specs.Trees.{tree_of};
-ghost use Rattle.asm_expr.specs.Gives.{Gives, GivesBy};
+ghost use Rattle.asm_base.specs.Refusals.{GivesBy};
 ghost use Rattle.asm_expr.specs.Operators.{level_of};
 ghost use Rattle.asm_expr.specs.Shown.{piece, enclosed_text, unary_piece, binary_piece, piece_of, shown};
-ghost use Rattle.asm_expr.specs.Showing.{unary_shown, binary_shown, NumShows, NameShows, HereShows, UnaryShows, BinaryShows};
+ghost use Rattle.asm_expr.specs.Showing.{NumShows, NameShows, HereShows, UnaryShows, BinaryShows};
 
 use crate::faults::ExprFault;
 use crate::folding::fold;
@@ -130,7 +130,7 @@ impl ExprFold for Shown {
     ) -> Result<Piece, ExprFault> {
         match operand {
             Ok(below) => Ok(unary_piece(self.alloc, op, below)?),
-            Err(fault) => Err(fault),
+            Err(refusal) => Err(refusal),
         }
     }
 
@@ -142,8 +142,8 @@ impl ExprFold for Shown {
     ) -> Result<Piece, ExprFault> {
         match (left, right) {
             (Ok(one), Ok(other)) => Ok(binary_piece(self.alloc, op, one, other)?),
-            (Err(fault), _) => Err(fault),
-            (_, Err(fault)) => Err(fault),
+            (Err(refusal), _) => Err(refusal),
+            (_, Err(refusal)) => Err(refusal),
         }
     }
 }
@@ -155,6 +155,6 @@ pub fn shown_text(alloc: Global, expr: &Expr) -> Result<Vec<u8>, ExprFault>
     let mut visitor = Shown { alloc };
     match fold(expr, &mut visitor) {
         Ok(piece) => Ok(piece.into_text()),
-        Err(fault) => Err(fault),
+        Err(refusal) => Err(refusal),
     }
 }

@@ -2,14 +2,12 @@
 
 ghost use Rattle.std.specs.Prelude.{◌≡◌};
 ghost use Rattle.asm_expr.specs.Trees.{tree_of};
-ghost use Rattle.asm_expr.specs.Gives.{Gives};
+ghost use Rattle.asm_base.specs.Refusals.{Returns};
 ghost use Rattle.asm_expr.specs.Linear.{linear, value_of, known_now};
 ghost use Rattle.asm_expr.specs.Evaluating.{knowledge_by, NumGives, NameGives, HereGives, UnaryGives, BinaryGives};
 
-use crate::evaluating::{
-    binary_answer, here_form, named_form, unary_answer, value_answer, value_of,
-};
-use crate::faults::ExprFault;
+use crate::evaluating::{binary_answer, here_form, named_form, unary_answer, value_of};
+use crate::faults::{ExprCause, ExprFault};
 use crate::folding::fold;
 use crate::forms::{Linear, constant_form};
 use crate::knowledge::Known;
@@ -139,7 +137,7 @@ impl<'a, K: Known> ExprFold for KnownNow<'a, K> {
 
 impl<'a, K: Known> KnownNow<'a, K> {
     /// The value of an expression, by its form. It takes no memory.
-    pub fn value(&self, folded: Linear) -> Result<u64, ExprFault>
+    pub fn value(&self, folded: Linear) -> Result<u64, ExprCause>
         ensures { result ≡ value_of folded }
     {
         value_of(&folded)
@@ -149,7 +147,7 @@ impl<'a, K: Known> KnownNow<'a, K> {
 /// The linear form of an expression.
 pub fn linear_form<K: Known>(alloc: Global, expr: &Expr, known: &K) -> Result<Linear, ExprFault>
     ensures { let knows = knowledge_by K.told K.counted K.place known.now in
-        Gives result (linear knows (tree_of expr.now)) }
+        Returns result (linear knows (tree_of expr.now)) }
 {
     let mut visitor = ToLinear { alloc, known };
     fold(expr, &mut visitor)
@@ -158,8 +156,11 @@ pub fn linear_form<K: Known>(alloc: Global, expr: &Expr, known: &K) -> Result<Li
 /// The value of an expression, where it is known.
 pub fn known_value<K: Known>(alloc: Global, expr: &Expr, known: &K) -> Result<u64, ExprFault>
     ensures { let knows = knowledge_by K.told K.counted K.place known.now in
-        Gives result (known_now knows (tree_of expr.now)) }
+        Returns result (known_now knows (tree_of expr.now)) }
 {
     let mut visitor = KnownNow { alloc, known };
-    value_answer(fold(expr, &mut visitor))
+    match fold(expr, &mut visitor) {
+        Ok(form) => value_of(&form).map_err(ExprFault::Fault),
+        Err(refusal) => Err(refusal),
+    }
 }

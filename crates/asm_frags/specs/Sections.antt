@@ -1,7 +1,9 @@
 -- The sections of a source in the order in which they are first seen.
-use Rattle.std.specs.Prelude.{◌≡◌, ℕ, List, [], ◌∷◌, ◌++◌, Option, None, Some, Result, Ok, Err, IsOk, codes, length, nat_lt, slice_get, slice_set, if◌then◌else◌}
-use Rattle.asm_frags.specs.declared.faults.FragFault.{FragFault}
-use Rattle.asm_frags.specs.declared.faults.FragFault.TheVariants.{BadSection, NoMemory}
+use Rattle.std.specs.Prelude.{◌≡◌, ℕ, List, [], ◌∷◌, ◌++◌, Option, None, Some, Result, Ok, Err, codes, length, nat_lt, slice_get, slice_set, if◌then◌else◌}
+use Rattle.asm_base.specs.declared.refusals.Refusal.{Refusal}
+use Rattle.asm_base.specs.Refusals.{FailsLast}
+use Rattle.asm_frags.specs.declared.faults.FragCause.{FragCause}
+use Rattle.asm_frags.specs.declared.faults.FragCause.TheVariants.{BadSection}
 use Rattle.asm_frags.specs.declared.flags.SectionFlags.{SectionFlags}
 use Rattle.asm_frags.specs.declared.items.Frag.{Frag}
 use Rattle.asm_frags.specs.SectionOf.{SectionOf, new_section, is_alike, number_of}
@@ -19,39 +21,38 @@ first_sections =
     ∷ new_section (codes ".bss") (flags_of 3) 8 0 ∷ []
 
 -- the section last, whose number is how many there were; a source makes at most 30,000 beside the first three
-abbrev pub new_last : {Item : Type 0} → List (SectionOf Item) → SectionOf Item → Result (ℕ × List (SectionOf Item)) FragFault
+abbrev pub new_last : {Item : Type 0} → List (SectionOf Item) → SectionOf Item → Result (ℕ × List (SectionOf Item)) FragCause
 new_last sections made = if nat_lt (length sections) 30003 then Ok (length sections, sections ++ made ∷ []) else Err BadSection
 
 -- the number of the section that there is, unless flags, type or entry size differ
-abbrev pub entered_there : {Item : Type 0} → List (SectionOf Item) → ℕ → Option (SectionOf Item) → SectionFlags → ℕ → ℕ → Result (ℕ × List (SectionOf Item)) FragFault
+abbrev pub entered_there : {Item : Type 0} → List (SectionOf Item) → ℕ → Option (SectionOf Item) → SectionFlags → ℕ → ℕ → Result (ℕ × List (SectionOf Item)) FragCause
 entered_there sections number None flags kind entry_size = Err BadSection
 entered_there sections number (Some section) flags kind entry_size = if is_alike section flags kind entry_size then Ok (number, sections) else Err BadSection
 
 -- the section of the number that the name has, or a new section where the name is new
-abbrev pub entered_by : {Item : Type 0} → List (SectionOf Item) → Option ℕ → List ℕ → SectionFlags → ℕ → ℕ → Result (ℕ × List (SectionOf Item)) FragFault
+abbrev pub entered_by : {Item : Type 0} → List (SectionOf Item) → Option ℕ → List ℕ → SectionFlags → ℕ → ℕ → Result (ℕ × List (SectionOf Item)) FragCause
 entered_by sections None name flags kind entry_size = new_last sections (new_section name flags kind entry_size)
 entered_by sections (Some number) name flags kind entry_size = entered_there sections number (slice_get sections number) flags kind entry_size
 
 -- the number of the section of this name, and the sections with it, or the fault (GNU as manual, ".section")
-abbrev pub entered : {Item : Type 0} → List (SectionOf Item) → List ℕ → SectionFlags → ℕ → ℕ → Result (ℕ × List (SectionOf Item)) FragFault
+abbrev pub entered : {Item : Type 0} → List (SectionOf Item) → List ℕ → SectionFlags → ℕ → ℕ → Result (ℕ × List (SectionOf Item)) FragCause
 entered sections name flags kind entry_size = entered_by sections (number_of name sections) name flags kind entry_size
 
--- the answer is the due one, with the new sections or with a fault and nothing changed; want of memory may stand in the place of a number
-abbrev pub Enters : {Value : Type 0} → Value → Value → Result ℕ FragFault → Result (ℕ × Value) FragFault → Type 0
+-- the call made the due value and answers the due number, or is refused as `Changes` says
+abbrev pub Enters : {Value : Type 0} → Value → Value → Result ℕ (Refusal FragCause) → Result (ℕ × Value) FragCause → Type 0
 Enters old new (Ok number) due = due ≡ Ok (number, new)
-Enters old new (Err BadSection) due = (due ≡ Err BadSection) × (new ≡ old)
-Enters old new (Err NoMemory) due = IsOk due × (new ≡ old)
+Enters old new (Err refusal) due = FailsLast refusal due × (new ≡ old)
 
 -- the sections with the section of this number replaced, or the fault
-abbrev pub replaced : {P Address : Type 0} → List (SectionOf (Frag P Address)) → ℕ → Result (SectionOf (Frag P Address)) FragFault → Result (List (SectionOf (Frag P Address))) FragFault
+abbrev pub replaced : {P Address : Type 0} → List (SectionOf (Frag P Address)) → ℕ → Result (SectionOf (Frag P Address)) FragCause → Result (List (SectionOf (Frag P Address))) FragCause
 replaced sections number (Ok section) = Ok (slice_set sections number section)
 replaced sections number (Err fault) = Err fault
 
 -- the same, by the section that there is of this number
-abbrev pub pushed_into : {P Address : Type 0} → List (SectionOf (Frag P Address)) → ℕ → Option (SectionOf (Frag P Address)) → Frag P Address → Result (List (SectionOf (Frag P Address))) FragFault
+abbrev pub pushed_into : {P Address : Type 0} → List (SectionOf (Frag P Address)) → ℕ → Option (SectionOf (Frag P Address)) → Frag P Address → Result (List (SectionOf (Frag P Address))) FragCause
 pushed_into sections number None item = Err BadSection
 pushed_into sections number (Some section) item = replaced sections number (with_item_or_fault section item)
 
 -- the sections with the item last in the one of this number, or the fault
-abbrev pub pushed : {P Address : Type 0} → List (SectionOf (Frag P Address)) → ℕ → Frag P Address → Result (List (SectionOf (Frag P Address))) FragFault
+abbrev pub pushed : {P Address : Type 0} → List (SectionOf (Frag P Address)) → ℕ → Frag P Address → Result (List (SectionOf (Frag P Address))) FragCause
 pushed sections number item = pushed_into sections number (slice_get sections number) item

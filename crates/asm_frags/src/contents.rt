@@ -3,7 +3,7 @@
 ghost use Rattle.std.specs.Prelude.{◌≡◌, ◌≤◌, ◌^◌, OnOk, OnErr, IfOk, IfErr, take};
 ghost use Rattle.asm_frags.specs.DataOf.{IsData, no_data, with_bytes, with_field};
 ghost use Rattle.asm_frags.specs.Substituting.{substituted_data, substituted_content};
-ghost use Rattle.asm_frags.specs.declared.faults.FragFault.TheVariants.{NoMemory};
+ghost use Rattle.asm_base.specs.declared.refusals.Refusal.TheVariants.{NoMemory};
 
 use crate::faults::FragFault;
 use crate::fields::{Field, FieldSize};

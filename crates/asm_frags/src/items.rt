@@ -20,7 +20,7 @@ pub struct Frag<P: Phase> {
 
 impl Frag<Loose> {
     ghost use Rattle.asm_frags.specs.Substituting.{laid_item};
-    ghost use Rattle.asm_frags.specs.declared.faults.FragFault.TheVariants.{NoMemory};
+    ghost use Rattle.asm_base.specs.declared.refusals.Refusal.TheVariants.{NoMemory};
 
     /// An item of a statement.
     pub fn new(pos: Pos, content: Content) -> Frag<Loose>

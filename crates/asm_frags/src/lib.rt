@@ -22,7 +22,7 @@ mod zeros;
 
 pub use alignments::{AskedAlignment, asked_alignment};
 pub use contents::{Align, Content, Data, Fill};
-pub use faults::FragFault;
+pub use faults::{FragCause, FragFault};
 pub use fields::{Field, FieldSize};
 pub use flags::{
     SHT_FINI_ARRAY, SHT_INIT_ARRAY, SHT_NOBITS, SHT_NOTE, SHT_PREINIT_ARRAY, SHT_PROGBITS,

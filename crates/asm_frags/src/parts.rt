@@ -3,10 +3,10 @@
 ghost use Rattle.std.specs.Prelude.{◌≡◌, ◌<◌, ◌≤◌, ◌^◌, length, map, IfOk, IfErr};
 ghost use Rattle.asm_frags.specs.Substituting.{laid_item, laid_section};
 ghost use Rattle.asm_frags.specs.Addresses.{section_with_address};
-ghost use Rattle.asm_frags.specs.declared.faults.FragFault.TheVariants.{NoMemory};
+ghost use Rattle.asm_base.specs.declared.refusals.Refusal.TheVariants.{NoMemory};
 
 use crate::alignments::asked_alignment;
-use crate::faults::FragFault;
+use crate::faults::{FragCause, FragFault};
 use crate::flags::{SHT_NOBITS, SectionFlags};
 use crate::items::Frag;
 use crate::known_extents::KnownExtent;
@@ -145,7 +145,7 @@ impl<P: Phase> Section<P> {
         ensures { Changes self.old self.new result (with_item_or_fault self.old item) }
     {
         if self.kind == SHT_NOBITS && !is_known_zeros(&item.content) {
-            return Err(FragFault::BadSection);
+            return Err(FragFault::Fault(FragCause::BadSection));
         }
         if self.items.len() >= MOST_ITEMS {
             return Err(FragFault::NoMemory);

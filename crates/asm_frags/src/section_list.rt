@@ -3,9 +3,9 @@
 ghost use Rattle.std.specs.Prelude.{◌≡◌, ◌==◌, ◌≤◌, ◌<◌, ◌^◌, [], ◌∷◌, ◌++◌, length, false, map, slice_get, Some, IfOk, IfErr, IfSome, OnOk, is_some};
 ghost use Rattle.std.specs.List.{list_any};
 ghost use Rattle.asm_frags.specs.Substituting.{laid_section};
-ghost use Rattle.asm_frags.specs.declared.faults.FragFault.TheVariants.{NoMemory};
+ghost use Rattle.asm_base.specs.declared.refusals.Refusal.TheVariants.{NoMemory};
 
-use crate::faults::FragFault;
+use crate::faults::{FragCause, FragFault};
 use crate::flags::{SHT_NOBITS, SHT_PROGBITS, SectionFlags};
 use crate::items::Frag;
 use crate::parts::Section;
@@ -143,7 +143,7 @@ impl Sections<Loose> {
     {
         let number = self.sections.len();
         if number >= MOST_SECTIONS {
-            return Err(FragFault::BadSection);
+            return Err(FragFault::Fault(FragCause::BadSection));
         }
         let key = Vec::from_slice(self.alloc, name.as_bytes())?;
         self.sections.reserve(1)?;
@@ -172,7 +172,7 @@ impl Sections<Loose> {
                 if self.section(number).is_alike(flags, kind, entry_size) {
                     Ok(number)
                 } else {
-                    Err(FragFault::BadSection)
+                    Err(FragFault::Fault(FragCause::BadSection))
                 }
             }
             None => self.add(name, flags, kind, entry_size),

@@ -3,7 +3,7 @@
 ghost use Rattle.std.specs.Prelude.{◌≡◌, IfOk, IfErr, OnOk, map};
 ghost use Rattle.asm_expr.specs.Forms.{Form};
 ghost use Rattle.asm_frags.specs.Substituting.{substituted_field};
-ghost use Rattle.asm_frags.specs.declared.faults.FragFault.TheVariants.{NoMemory};
+ghost use Rattle.asm_base.specs.declared.refusals.Refusal.TheVariants.{NoMemory};
 
 use crate::faults::FragFault;
 use crate::fields::Field;

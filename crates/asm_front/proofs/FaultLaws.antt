@@ -6,19 +6,19 @@ use Rattle.asm_base.specs.declared.faults.Fault.{Fault}
 use Rattle.asm_base.specs.declared.notes.Noted.{Noted}
 use Rattle.asm_base.specs.declared.positions.Pos.{Pos}
 use Rattle.asm_lines.specs.Statements.{StatementAt, statements_of}
-use Rattle.asm_lines.specs.declared.faults.LineFault.{LineFault}
-use Rattle.asm_lines.specs.declared.faults.LineFault.TheVariants as line
+use Rattle.asm_base.specs.Refusals.{◌>>=◌}
+use Rattle.asm_lines.specs.declared.faults.LineCause.{LineCause}
+use Rattle.asm_lines.specs.declared.faults.LineCause.TheVariants as line
 use Rattle.asm_relax.specs.Settling.{LaidSections, layout_of}
 use Rattle.asm_relax.specs.declared.faults.LayoutFault.{LayoutFault}
-use Rattle.asm_place.specs.Results.{◌>>=◌}
 use Rattle.asm_place.specs.Faults.{is_file_too_large}
 use Rattle.asm_place.specs.Tables.{Table}
 use Rattle.asm_place.specs.Places.{LooseSection}
 use Rattle.asm_place.specs.State.{Placed, nothing_placed}
 use Rattle.asm_place.specs.Sources.{FaultAt, fault_at, place_all}
 use Rattle.asm_place.proofs.PlacingLaws.{no_fault_of_reading}
-use Rattle.elf_object.specs.declared.faults.ObjectFault.{ObjectFault}
-use Rattle.elf_object.specs.declared.faults.ObjectFault.TheVariants.{UndefinedLocalSymbol, NoRelocation, SizeNotKnown, NoMemory}
+use Rattle.elf_object.specs.declared.faults.ObjectCause.{ObjectCause}
+use Rattle.elf_object.specs.declared.faults.ObjectCause.TheVariants.{UndefinedLocalSymbol, NoRelocation, SizeNotKnown}
 use Rattle.elf_object.specs.Objects.{object_of}
 use Rattle.asm_front.specs.Ending.{Flags, first_warning, warned_end, made_end, laid_end, finished}
 use Rattle.asm_front.specs.Assembly.{lines_answer, assembly_of_lines}
@@ -53,12 +53,11 @@ warned_fine : (place : Option Pos) (notes : List Noted) (made : List ℕ) → No
 warned_fine None notes made = no_fault _
 warned_fine (Some pos) notes made = a_fault _ refl
 
-made_fine : (fatal : Bool) (table : Table) (notes : List Noted) (made : Result (List ℕ) ObjectFault) → NotTooLarge (made_end fatal table notes made)
+made_fine : (fatal : Bool) (table : Table) (notes : List Noted) (made : Result (List ℕ) ObjectCause) → NotTooLarge (made_end fatal table notes made)
 made_fine fatal table notes (Ok made) = warned_fine (first_warning fatal notes) notes made
 made_fine fatal table notes (Err (UndefinedLocalSymbol index)) = a_fault _ refl
 made_fine fatal table notes (Err (NoRelocation pos)) = a_fault _ refl
 made_fine fatal table notes (Err (SizeNotKnown index)) = a_fault _ refl
-made_fine fatal table notes (Err NoMemory) = a_fault _ refl
 
 laid_fine : (fatal : Bool) (table : Table) (notes : List Noted) (laid : Result LaidSections LayoutFault) → NotTooLarge (laid_end fatal table notes laid)
 laid_fine fatal table notes (Ok sections) = made_fine fatal table notes (object_of table.symbols sections)
@@ -68,13 +67,12 @@ finished_fine : (fatal : Bool) (sections : List LooseSection) (table : Table) (n
 unfolding finished
 finished_fine fatal sections table notes = laid_fine fatal table notes (layout_of table.symbols sections)
 
-lines_fine : (file : ℕ) (lines : Result (List StatementAt) LineFault) → NotTooLarge (lines_answer file lines)
+lines_fine : (file : ℕ) (lines : Result (List StatementAt) LineCause) → NotTooLarge (lines_answer file lines)
 lines_fine file (Ok statements) = no_fault _
 lines_fine file (Err (line.NulByte number)) = a_fault _ refl
 lines_fine file (Err (line.UnclosedString number)) = a_fault _ refl
 lines_fine file (Err (line.UnclosedComment number)) = a_fault _ refl
 lines_fine file (Err (line.StatementTooLong number)) = a_fault _ refl
-lines_fine file (Err line.NoMemory) = no_fault _
 
 assembly_fine : (flags : Flags) (file : ℕ) (source : List ℕ) → NotTooLarge (assembly_of_lines flags file source)
 unfolding assembly_of_lines

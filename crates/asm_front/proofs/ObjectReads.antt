@@ -21,7 +21,7 @@ use Rattle.asm_relax.specs.Placing.{placed_from, placed_section, behind}
 use Rattle.asm_place.specs.declared.instructions.Row.{Row}
 use Rattle.asm_place.specs.Rows.{the_rows, has_name, bytes_of}
 use Rattle.asm_place.specs.Reads.{Reads}
-use Rattle.asm_place.specs.Results.{◌>>=◌}
+use Rattle.asm_base.specs.Refusals.{◌>>=◌}
 use Rattle.asm_place.specs.Idents.{plain_item}
 use Rattle.asm_place.specs.Operands.{is_name}
 use Rattle.asm_place.specs.Placing.{begins_with_dot}
@@ -32,7 +32,7 @@ use Rattle.asm_place.specs.Sources.{FaultAt, place_all}
 use Rattle.asm_place.specs.Instructions.{behind_labels, row_written, next_item, StandsAt}
 use Rattle.asm_place.proofs.InstructionLaws.{instruction_there}
 use Rattle.asm_place.proofs.Readings.{found_reads, one_instruction}
-use Rattle.elf_object.specs.declared.faults.ObjectFault.{ObjectFault}
+use Rattle.elf_object.specs.declared.faults.ObjectCause.{ObjectCause}
 use Rattle.elf_object.specs.Contents.{filled, item_bytes}
 use Rattle.elf_object.specs.Faults.{object_fault}
 use Rattle.elf_object.specs.Image.{image_of}
@@ -135,7 +135,7 @@ warned_is : (place : Option Pos) (notes : List Noted) (object : List ℕ) (made 
 warned_is None notes object made e = cc
 warned_is (Some pos) notes object made e = absurd cc
 
-made_is : (fatal : Bool) (table : Table) (notes : List Noted) (fault : Option ObjectFault) (image : List ℕ) (made : NotedObject)
+made_is : (fatal : Bool) (table : Table) (notes : List Noted) (fault : Option ObjectCause) (image : List ℕ) (made : NotedObject)
     → made_end fatal table notes (unless fault image) ≡ Ok made → made.object ≡ image
 made_is fatal table notes None image made e = warned_is (first_warning fatal notes) notes image made e
 made_is fatal table notes (Some fault) image made e = absurd cc

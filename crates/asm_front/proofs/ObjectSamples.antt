@@ -20,7 +20,7 @@ use Rattle.asm_symbols.specs.SymbolMap.{SymbolMap}
 use Rattle.asm_relax.specs.Final.{size_of, address_in, address_of, final_told, laid_value, final_form}
 use Rattle.asm_relax.specs.Expanding.{assigned, plus_terms, expanded_within, expanded}
 use Rattle.asm_relax.specs.Settling.{LaidItem, LaidSections}
-use Rattle.elf_object.specs.declared.faults.ObjectFault.{ObjectFault}
+use Rattle.elf_object.specs.declared.faults.ObjectCause.{ObjectCause}
 use Rattle.elf_object.specs.Fields.{half, word, xword}
 use Rattle.elf_object.specs.StringTable.{string_table_of, name_offsets}
 use Rattle.elf_object.specs.Relocations.{name_reference, field_relocation}
@@ -90,7 +90,7 @@ no_sections = section (codes ".text") 6 1 [] ∷ section (codes ".data") 3 1 [] 
 thread_sections : LaidSections
 thread_sections = no_sections ++ section (codes ".tdata") 0x403 1 (item 0 4 Four [] 1 ∷ []) ∷ []
 
-bytes_of : Result (List ℕ) ObjectFault → List ℕ
+bytes_of : Result (List ℕ) ObjectCause → List ℕ
 bytes_of (Ok bytes) = bytes
 bytes_of (Err fault) = []
 

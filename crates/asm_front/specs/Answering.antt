@@ -5,20 +5,21 @@ use Rattle.asm_front.specs.Outcome.{files_of}
 use Rattle.asm_front.specs.declared.answers.Assembled.{Assembled}
 use Rattle.asm_front.specs.declared.answers.AsmFault.{AsmFault}
 use Rattle.asm_front.specs.declared.answers.AsmFault.TheVariants.{Source, Read, NoMemory}
-use Rattle.asm_place.specs.declared.place_faults.LocatedFault.{LocatedFault}
-use Rattle.asm_place.specs.declared.place_faults.LocatedFault.TheVariants as stop
+use Rattle.asm_base.specs.declared.refusals.Refusal.{Refusal}
+use Rattle.asm_base.specs.declared.refusals.Refusal.TheVariants as refusal
+use Rattle.asm_place.specs.declared.place_faults.LocatedCause.{LocatedCause}
 
 -- the object or fault is answered with the notes and the names of the files, unless memory runs out
-abbrev pub IsAnswered : List ℕ → List Noted → Result (List ℕ) LocatedFault → Result Assembled AsmFault → Type 0
+abbrev pub IsAnswered : List ℕ → List Noted → Result (List ℕ) (Refusal LocatedCause) → Result Assembled AsmFault → Type 0
 IsAnswered name notes (Ok object) (Ok made) = (made.object ≡ object) × (made.notes ≡ notes) × (made.files ≡ files_of name)
 IsAnswered name notes (Ok object) (Err (Source fault pos told_notes files)) = ⊥
 IsAnswered name notes (Ok object) (Err Read) = ⊥
 IsAnswered name notes (Ok object) (Err NoMemory) = Unit {0}
-IsAnswered name notes (Err (stop.Source fault pos)) (Ok made) = ⊥
-IsAnswered name notes (Err (stop.Source fault pos)) (Err (Source told at told_notes files)) = (told ≡ fault) × (at ≡ pos) × (told_notes ≡ notes) × (files ≡ files_of name)
-IsAnswered name notes (Err (stop.Source fault pos)) (Err Read) = ⊥
-IsAnswered name notes (Err (stop.Source fault pos)) (Err NoMemory) = Unit {0}
-IsAnswered name notes (Err stop.NoMemory) (Ok made) = ⊥
-IsAnswered name notes (Err stop.NoMemory) (Err (Source fault pos told_notes files)) = ⊥
-IsAnswered name notes (Err stop.NoMemory) (Err Read) = ⊥
-IsAnswered name notes (Err stop.NoMemory) (Err NoMemory) = Unit {0}
+IsAnswered name notes (Err (refusal.Fault cause)) (Ok made) = ⊥
+IsAnswered name notes (Err (refusal.Fault cause)) (Err (Source told at told_notes files)) = (told ≡ cause.fault) × (at ≡ cause.pos) × (told_notes ≡ notes) × (files ≡ files_of name)
+IsAnswered name notes (Err (refusal.Fault cause)) (Err Read) = ⊥
+IsAnswered name notes (Err (refusal.Fault cause)) (Err NoMemory) = Unit {0}
+IsAnswered name notes (Err refusal.NoMemory) (Ok made) = ⊥
+IsAnswered name notes (Err refusal.NoMemory) (Err (Source fault pos told_notes files)) = ⊥
+IsAnswered name notes (Err refusal.NoMemory) (Err Read) = ⊥
+IsAnswered name notes (Err refusal.NoMemory) (Err NoMemory) = Unit {0}

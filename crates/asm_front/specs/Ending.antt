@@ -9,9 +9,10 @@ use Rattle.asm_base.specs.declared.positions.Pos.{Pos}
 use Rattle.asm_relax.specs.Settling.{LaidSections, layout_of}
 use Rattle.asm_relax.specs.declared.faults.LayoutFault.{LayoutFault}
 use Rattle.asm_relax.specs.declared.faults.LayoutFault.TheVariants as layout
-use Rattle.elf_object.specs.declared.faults.ObjectFault.{ObjectFault}
-use Rattle.elf_object.specs.declared.faults.ObjectFault.TheVariants as object
+use Rattle.elf_object.specs.declared.faults.ObjectCause.{ObjectCause}
+use Rattle.elf_object.specs.declared.faults.ObjectCause.TheVariants as object
 use Rattle.elf_object.specs.Objects.{object_of}
+use Rattle.asm_place.specs.declared.place_faults.LocatedCause.{LocatedCause}
 use Rattle.asm_place.specs.Tables.{Table}
 use Rattle.asm_place.specs.Places.{LooseSection}
 use Rattle.asm_place.specs.Sources.{FaultAt, fault_at}
@@ -48,18 +49,20 @@ named_at named index = unwrap_or (slice_get named index) source_start
 abbrev pub sized_at : List (ℕ × Pos) → ℕ → Pos
 sized_at sized index = if nat_lt index (2 ^ 32) then unwrap_or (lookup (nat_eq index) sized) source_start else source_start
 
--- the fault of the object: at the first statement that names the symbol, at that of the field, or where the size is said; a
--- definition never wants memory
-abbrev pub object_end : Table → ObjectFault → Ended
+-- the fault of the object: at the first statement that names the symbol, at that of the field, or where the size is said
+abbrev pub object_end : Table → ObjectCause → Ended
 object_end table (object.UndefinedLocalSymbol index) = ended_at end.UndefinedLocalSymbol (named_at table.named index)
 object_end table (object.NoRelocation pos) = ended_at end.NoRelocation pos
 object_end table (object.SizeNotKnown index) = ended_at end.NoRelocation (sized_at table.sized index)
-object_end table object.NoMemory = ended_at end.NoRelocation source_start
 
 -- the place of the first warning, where warnings are to refuse the run
 abbrev pub first_warning : Bool → List Noted → Option Pos
 first_warning false notes = None
 first_warning true notes = option_map (λ noted. noted.pos) (slice_get notes 0)
+
+-- a fault at the end as that of the assembly
+abbrev pub located : Ended → LocatedCause
+located ended = record { fault = End ended.fault; pos = ended.pos }
 
 -- the fault at the end, with the notes
 abbrev pub end_fault : Ended → List Noted → Result NotedObject FaultAt
@@ -71,7 +74,7 @@ warned_end None notes made = Ok (record { object = made; notes = notes })
 warned_end (Some pos) notes made = end_fault (ended_at end.WarningsAreErrors pos) notes
 
 -- the object or its fault, with the notes; a warning refuses it last
-abbrev pub made_end : Bool → Table → List Noted → Result (List ℕ) ObjectFault → Result NotedObject FaultAt
+abbrev pub made_end : Bool → Table → List Noted → Result (List ℕ) ObjectCause → Result NotedObject FaultAt
 made_end fatal table notes (Ok made) = warned_end (first_warning fatal notes) notes made
 made_end fatal table notes (Err fault) = end_fault (object_end table fault) notes
 

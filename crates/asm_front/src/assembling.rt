@@ -4,7 +4,8 @@ ghost use Rattle.std.specs.Prelude.{◌≡◌, ◌≤◌, ◌+◌, map, string_b
 ghost use Rattle.std.specs.Io.KnownBytes.{IsAtEnd};
 ghost use Rattle.asm_base.specs.Inputs.{CountsMissing};
 ghost use Rattle.asm_base.specs.WholeFile.{most_bytes};
-ghost use Rattle.asm_front.specs.Assembly.{placed_end, assembly_of_lines};
+ghost use Rattle.asm_base.specs.Refusals.{Raises};
+ghost use Rattle.asm_front.specs.Assembly.{line_fault, too_large, placed_end, assembly_of_lines};
 ghost use Rattle.asm_lines.specs.Seen.{seen};
 ghost use Rattle.asm_place.specs.State.{nothing_placed};
 ghost use Rattle.asm_place.specs.Sources.{place_all};
@@ -12,54 +13,46 @@ ghost use Rattle.asm_place.specs.PlacedBy.{placed_by};
 ghost use Rattle.asm_front.specs.Outcome.{main_file, shown_name, files_of, flags_of, Assembles, NamesFiles, HasAssemblyCause, KeepsCount, TakesSource};
 ghost use Rattle.asm_front.specs.Answering.{IsAnswered};
 ghost use Rattle.asm_front.specs.ReadsBack.{ReadsBackFrom};
-ghost use Rattle.asm_front.specs.Stops.{MakesNoted, line_stop, too_large_stop};
+ghost use Rattle.asm_front.specs.Stops.{MakesNoted};
 
 use crate::answers::{AsmFault, Assembled, Options};
 use crate::ending::{Made, finished};
 use asm_base::{
     Fault, Files, Inputs, NoMemory, Notes, Pos, StatementFault, Text, TextFault, read_text,
 };
-use asm_lines::{LineFault, Statement, read_statements};
-use asm_place::{Assembler, LocatedFault, place_all};
+use asm_lines::{LineCause, LineFault, Statement, read_statements};
+use asm_place::{Assembler, LocatedCause, LocatedFault, place_all};
 use elf_object::Object;
 use std::alloc::{AllocError, Global};
 
 /// The number of the source file, which is the only one.
 const MAIN_FILE: u32 = 0;
 
-/// A fault of the lines, as the fault of the assembly.
-fn line_stop(fault: LineFault) -> LocatedFault
-    ensures { result ≡ line_stop main_file fault }
+/// A fault of the lines, at its place.
+fn line_fault(cause: LineCause) -> LocatedCause
+    ensures { result ≡ line_fault main_file cause }
 {
-    match fault {
-        LineFault::NulByte(line) => LocatedFault::Source(
-            Fault::Statement(StatementFault::NulByte),
-            Pos {
-                file: MAIN_FILE,
-                line,
-            },
-        ),
-        LineFault::UnclosedString(line) => LocatedFault::Source(
-            Fault::Statement(StatementFault::UnclosedString),
-            Pos {
-                file: MAIN_FILE,
-                line,
-            },
-        ),
-        LineFault::UnclosedComment(line) => LocatedFault::Source(
-            Fault::Statement(StatementFault::UnclosedComment),
-            Pos {
-                file: MAIN_FILE,
-                line,
-            },
-        ),
-        LineFault::StatementTooLong(line) => LocatedFault::Source(
-            Fault::Statement(StatementFault::StatementTooLong),
-            Pos {
-                file: MAIN_FILE,
-                line,
-            },
-        ),
+    let (fault, line) = match cause {
+        LineCause::NulByte(line) => (StatementFault::NulByte, line),
+        LineCause::UnclosedString(line) => (StatementFault::UnclosedString, line),
+        LineCause::UnclosedComment(line) => (StatementFault::UnclosedComment, line),
+        LineCause::StatementTooLong(line) => (StatementFault::StatementTooLong, line),
+    };
+    LocatedCause {
+        fault: Fault::Statement(fault),
+        pos: Pos {
+            file: MAIN_FILE,
+            line,
+        },
+    }
+}
+
+/// The refusal of the lines, as that of the assembly.
+fn line_refusal(refusal: LineFault) -> LocatedFault
+    ensures { Raises (λ cause raised. raised ≡ line_fault main_file cause) refusal result }
+{
+    match refusal {
+        LineFault::Fault(cause) => LocatedFault::Fault(line_fault(cause)),
         LineFault::NoMemory => LocatedFault::NoMemory,
     }
 }
@@ -78,9 +71,9 @@ fn assemble_statements(
     let mut assembler = assembler;
     match place_all(&mut assembler, statements) {
         Ok(()) => finished(alloc, fatal, assembler.into_parts()),
-        Err(stop) => Made {
+        Err(refusal) => Made {
             notes: assembler.into_parts().notes,
-            object: Err(stop),
+            object: Err(refusal),
         },
     }
 }
@@ -99,9 +92,9 @@ fn made_of_text(alloc: Global, options: &Options, assembler: Assembler, text: &T
             statements.as_slice(),
             assembler,
         ),
-        Err(fault) => Made {
+        Err(refusal) => Made {
             notes: Notes::new(alloc),
-            object: Err(line_stop(fault)),
+            object: Err(line_refusal(refusal)),
         },
     }
 }
@@ -156,22 +149,24 @@ fn answered(
             files,
             object,
         }),
-        Err(LocatedFault::Source(fault, pos)) => Err(AsmFault::Source(fault, pos, notes, files)),
+        Err(LocatedFault::Fault(cause)) => {
+            Err(AsmFault::Source(cause.fault, cause.pos, notes, files))
+        }
         Err(LocatedFault::NoMemory) => Err(AsmFault::NoMemory),
     }
 }
 
 /// The fault of a file that is too large.
-fn too_large() -> LocatedFault
-    ensures { result ≡ too_large_stop main_file }
+fn too_large() -> LocatedCause
+    ensures { result ≡ too_large main_file }
 {
-    LocatedFault::Source(
-        Fault::Statement(StatementFault::FileTooLarge),
-        Pos {
+    LocatedCause {
+        fault: Fault::Statement(StatementFault::FileTooLarge),
+        pos: Pos {
             file: MAIN_FILE,
             line: 1,
         },
-    )
+    }
 }
 
 /// Reads the source and assembles it: its object, or its first fault.
@@ -201,7 +196,10 @@ pub fn assemble<I: Inputs>(
             Ok(made) => answered(alloc, name, made.notes, made.object),
             Err(_) => Err(AsmFault::NoMemory),
         },
-        Err(TextFault::TooLarge) => answered(alloc, name, Notes::new(alloc), Err(too_large())),
+        Err(TextFault::TooLarge) => {
+            let refusal = LocatedFault::Fault(too_large());
+            answered(alloc, name, Notes::new(alloc), Err(refusal))
+        }
         Err(TextFault::Read) => Err(AsmFault::Read),
         Err(TextFault::NoMemory) => Err(AsmFault::NoMemory),
     }

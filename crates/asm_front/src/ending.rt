@@ -2,13 +2,14 @@
 
 ghost use Rattle.std.specs.Prelude.{◌≡◌, Ok};
 ghost use Rattle.asm_front.specs.Ending as spec;
-ghost use Rattle.asm_front.specs.Stops.{MakesNoted, end_stop, object_stop};
+ghost use Rattle.asm_base.specs.Refusals.{Raises};
+ghost use Rattle.asm_front.specs.Stops.{MakesNoted};
 
 use asm_base::{EndFault, Fault, Noted, Notes, Pos};
 use asm_frags::{Laid, Sections};
-use asm_place::{LocatedFault, Placed, SymbolUses};
+use asm_place::{LocatedCause, LocatedFault, Placed, SymbolUses};
 use asm_relax::{LayoutFault, Plan};
-use elf_object::{Object, ObjectFault};
+use elf_object::{Object, ObjectCause, ObjectFault};
 use std::alloc::Global;
 
 /// A fault that is found at the end of a source, and its place.
@@ -55,27 +56,39 @@ fn sized_at(table: &SymbolUses, index: usize) -> Pos
     }
 }
 
-/// A fault that is found at the end of a source, as the fault of the assembly.
-fn end_stop(fault: EndFault, pos: Pos) -> LocatedFault
-    ensures { result ≡ end_stop fault pos }
-{
-    LocatedFault::Source(Fault::End(fault), pos)
+impl Ended {
+    /// The fault as that of the assembly.
+    fn located(self) -> LocatedCause
+        ensures { result ≡ spec.located self }
+    {
+        LocatedCause {
+            fault: Fault::End(self.fault),
+            pos: self.pos,
+        }
+    }
 }
 
 /// The fault of the object, at the first statement that names the symbol, at that of the field, or at the `.size` statement.
-fn object_stop(table: &SymbolUses, fault: ObjectFault) -> LocatedFault
-    ensures { result ≡ object_stop table.now fault }
+fn object_end(table: &SymbolUses, cause: ObjectCause) -> Ended
+    ensures { result ≡ spec.object_end table.now cause }
 {
-    match fault {
-        ObjectFault::UndefinedLocalSymbol(index) => end_stop(
+    let (fault, pos) = match cause {
+        ObjectCause::UndefinedLocalSymbol(index) => (
             EndFault::UndefinedLocalSymbol,
             named_at(table.named(), index),
         ),
-        ObjectFault::NoRelocation(pos) => end_stop(EndFault::NoRelocation, pos),
-        ObjectFault::SizeNotKnown(index) => end_stop(
-            EndFault::NoRelocation,
-            sized_at(table, index),
-        ),
+        ObjectCause::NoRelocation(pos) => (EndFault::NoRelocation, pos),
+        ObjectCause::SizeNotKnown(index) => (EndFault::NoRelocation, sized_at(table, index)),
+    };
+    Ended { fault, pos }
+}
+
+/// The refusal of the object, as that of the assembly.
+fn object_refusal(table: &SymbolUses, refusal: ObjectFault) -> LocatedFault
+    ensures { Raises (λ cause raised. raised ≡ spec.located (spec.object_end table.now cause)) refusal result }
+{
+    match refusal {
+        ObjectFault::Fault(cause) => LocatedFault::Fault(object_end(table, cause).located()),
         ObjectFault::NoMemory => LocatedFault::NoMemory,
     }
 }
@@ -112,10 +125,13 @@ fn laid_end(
 {
     match Object::new(alloc, sections, table.symbols()) {
         Ok(object) => match first_warning(fatal, notes) {
-            Some(pos) => Err(end_stop(EndFault::WarningsAreErrors, pos)),
+            Some(pos) => {
+                let fault = EndFault::WarningsAreErrors;
+                Err(LocatedFault::Fault(Ended { fault, pos }.located()))
+            }
             None => Ok(object),
         },
-        Err(fault) => Err(object_stop(table, fault)),
+        Err(refusal) => Err(object_refusal(table, refusal)),
     }
 }
 
@@ -133,10 +149,7 @@ fn finished_object(
     let mut plan = Plan::new(alloc, sections, table.symbols())?;
     match plan.settle() {
         Ok(_) => laid_end(alloc, fatal, plan.laid(), table, notes),
-        Err(fault) => {
-            let ended = layout_end(fault);
-            Err(end_stop(ended.fault, ended.pos))
-        }
+        Err(fault) => Err(LocatedFault::Fault(layout_end(fault).located())),
     }
 }
 

@@ -111,7 +111,7 @@ long_of : (source : List ℕ) (P : ℕ → Type 0) (pieces : List Piece) (found 
 long_of source P [] found all is = cc
 long_of source P (first ∷ others) found all is = by_length (nat_lt longest_statement (own_length (first ∷ others))) is
   where
-    by_length : (long : Bool) → cond long (Some (Rattle.asm_lines.specs.Faults.found_at first.start (Rattle.asm_lines.specs.declared.faults.LineFault.TheVariants.StatementTooLong (Rattle.asm_lines.specs.LineNumbers.line_of source first.start)))) None ≡ Some found → P found.offset
+    by_length : (long : Bool) → cond long (Some (Rattle.asm_lines.specs.Faults.found_at first.start (Rattle.asm_lines.specs.declared.faults.LineCause.TheVariants.StatementTooLong (Rattle.asm_lines.specs.LineNumbers.line_of source first.start)))) None ≡ Some found → P found.offset
     by_length true is = some_offset P _ found all.0 is
     by_length false is = cc
 

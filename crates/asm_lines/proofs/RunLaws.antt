@@ -12,7 +12,7 @@ use Rattle.asm_base.specs.ByteClasses.{is_feed}
 use Rattle.asm_base.specs.Pieces.{Piece, ends_statement}
 use Rattle.asm_base.specs.Dividing.{first_piece, piece_kind, piece_length, pieces_from, pieces_of}
 use Rattle.asm_lines.specs.declared.faults.Found.{Found}
-use Rattle.asm_lines.specs.declared.faults.LineFault.TheVariants.{NulByte}
+use Rattle.asm_lines.specs.declared.faults.LineCause.TheVariants.{NulByte}
 use Rattle.asm_lines.specs.LineNumbers.{end_of_pieces, line_of, bytes_between}
 use Rattle.asm_lines.specs.Intervals.{intervals_of, trimmed}
 use Rattle.asm_lines.specs.Faults.{earlier, first_long, first_open, found_at, nul_found, nul_offset, source_found}

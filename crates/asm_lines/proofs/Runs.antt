@@ -10,7 +10,7 @@ use Rattle.std.proofs.Math.Seq.{take-append_seam}
 use Rattle.asm_base.specs.Pieces.{Piece, IsDivision, IsDivisionFrom, ends_statement, is_space}
 use Rattle.asm_base.specs.Dividing.{pieces_of}
 use Rattle.asm_lines.specs.declared.faults.Found.{Found}
-use Rattle.asm_lines.specs.declared.faults.LineFault.TheVariants.{StatementTooLong}
+use Rattle.asm_lines.specs.declared.faults.LineCause.TheVariants.{StatementTooLong}
 use Rattle.asm_lines.specs.LineNumbers.{end_of_pieces, line_of, bytes_between}
 use Rattle.asm_lines.specs.Intervals.{before_others, intervals_of, own_length, trimmed, without_space_after, without_space_before}
 use Rattle.asm_lines.specs.Faults.{earlier, first_long, first_open, found_at, long_found, longest_statement, nul_found, source_found}

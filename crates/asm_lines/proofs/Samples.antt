@@ -2,7 +2,7 @@
 use Rattle.std.specs.Prelude.{◌≡◌, ℕ, List, [], ◌∷◌, ◌++◌, codes, Ok, Err, refl}
 use Rattle.asm_base.specs.ByteClasses.{is_blank}
 use Rattle.asm_base.specs.Dividing.{comment_length, piece_kind, piece_length, pieces_from, quoted_length}
-use Rattle.asm_lines.specs.declared.faults.LineFault.TheVariants.{NulByte, UnclosedString, UnclosedComment}
+use Rattle.asm_lines.specs.declared.faults.LineCause.TheVariants.{NulByte, UnclosedString, UnclosedComment}
 use Rattle.asm_lines.specs.LineNumbers.{line_of}
 use Rattle.asm_lines.specs.Intervals.{trimmed}
 use Rattle.asm_lines.specs.Faults.{nul_found, source_found}

@@ -8,14 +8,16 @@ use Rattle.std.proofs.lemmas.Bool.{le-ltb, lt-ltb}
 use Rattle.std.specs.List.{AllByRecursion}
 use Rattle.asm_base.specs.Pieces.{Piece, IsDivision, ends_statement}
 use Rattle.asm_base.specs.Dividing.{pieces_of}
-use Rattle.asm_lines.specs.declared.faults.LineFault.{LineFault}
-use Rattle.asm_lines.specs.declared.faults.LineFault.TheVariants.{NulByte, UnclosedString, UnclosedComment, StatementTooLong, NoMemory}
+use Rattle.asm_base.specs.declared.refusals.Refusal.{Refusal}
+use Rattle.asm_base.specs.Refusals.{Returns}
+use Rattle.asm_lines.specs.declared.faults.LineCause.{LineCause}
+use Rattle.asm_lines.specs.declared.faults.LineCause.TheVariants.{NulByte, UnclosedString, UnclosedComment, StatementTooLong}
 use Rattle.asm_lines.specs.declared.faults.Found.{Found}
 use Rattle.asm_lines.specs.Intervals.{intervals_of, trimmed}
 use Rattle.asm_base.specs.declared.pieces.PieceKind.{PieceKind}
 use Rattle.asm_base.specs.declared.pieces.PieceKind.TheVariants.{LineFeed, Semicolon, Blank, LineComment, BlockComment, OpenComment, Character, String, OpenString, Other}
 use Rattle.asm_lines.specs.Faults.{earlier, first_long, first_open, long_found, nul_found, open_by, open_found, source_found}
-use Rattle.asm_lines.specs.Statements.{StatementAt, Fails, Gives, statement_in, statements_in, statements_of, unless_found}
+use Rattle.asm_lines.specs.Statements.{StatementAt, statement_in, statements_in, statements_of, unless_found}
 use Rattle.asm_lines.specs.Scan.{first_interval, interval_found, later_pieces, pieces_at}
 use Rattle.asm_lines.proofs.Order.{all_in, first_long_at, first_open_at, in_order, long_found_at, neither_found}
 use Rattle.asm_lines.proofs.Pieces.{none_off}
@@ -160,15 +162,8 @@ answer_ok file source done none no_nul same =
     ap (λ one. unless_found (earlier (nul_found source) one) (filter_map (statement_in file source) (intervals_of (pieces_of source)))) none
     ∙ ap (λ one. unless_found (earlier one None) (filter_map (statement_in file source) (intervals_of (pieces_of source)))) no_nul ∙ ap Ok same
 
-pub fails_with : (fault : LineFault) (answer : Result (List StatementAt) LineFault) → answer ≡ Err fault → Fails fault answer
-fails_with NoMemory answer same = tt
-fails_with (NulByte line) answer same = same
-fails_with (UnclosedString line) answer same = same
-fails_with (UnclosedComment line) answer same = same
-fails_with (StatementTooLong line) answer same = same
-
 -- what is wanted of the computed division is wanted of every division
-pub by_grammar : (file : ℕ) (source : List ℕ) (answer : Result (List StatementAt) LineFault) → ((text : List ℕ) (pieces : List Piece) → IsDivision text pieces → pieces ≡ pieces_of text)
-    → Gives answer (statements_of file source) → (pieces : List Piece) → IsDivision source pieces → Gives answer (statements_in file source pieces)
+pub by_grammar : (file : ℕ) (source : List ℕ) (answer : Result (List StatementAt) (Refusal LineCause)) → ((text : List ℕ) (pieces : List Piece) → IsDivision text pieces → pieces ≡ pieces_of text)
+    → Returns answer (statements_of file source) → (pieces : List Piece) → IsDivision source pieces → Returns answer (statements_in file source pieces)
 unfolding statements_of
-by_grammar file source answer only value pieces division = let Wanted : List Piece → Type 0 = λ these. Gives answer (statements_in file source these) in subst Wanted (sym (only source pieces division)) value
+by_grammar file source answer only value pieces division = let Wanted : List Piece → Type 0 = λ these. Returns answer (statements_in file source these) in subst Wanted (sym (only source pieces division)) value

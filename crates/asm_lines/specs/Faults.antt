@@ -5,8 +5,8 @@ use Rattle.std.specs.Option.{option_or}
 use Rattle.asm_base.specs.Pieces.{Piece}
 use Rattle.asm_base.specs.declared.pieces.PieceKind.{PieceKind}
 use Rattle.asm_base.specs.declared.pieces.PieceKind.TheVariants.{OpenString, OpenComment}
-use Rattle.asm_lines.specs.declared.faults.LineFault.{LineFault}
-use Rattle.asm_lines.specs.declared.faults.LineFault.TheVariants.{NulByte, UnclosedString, UnclosedComment, StatementTooLong}
+use Rattle.asm_lines.specs.declared.faults.LineCause.{LineCause}
+use Rattle.asm_lines.specs.declared.faults.LineCause.TheVariants.{NulByte, UnclosedString, UnclosedComment, StatementTooLong}
 use Rattle.asm_lines.specs.declared.faults.Found.{Found}
 use Rattle.asm_lines.specs.LineNumbers.{line_of}
 use Rattle.asm_lines.specs.Intervals.{intervals_of, trimmed, own_length}
@@ -16,7 +16,7 @@ abbrev pub longest_statement : ℕ
 longest_statement = 2 ^ 16
 
 -- a fault at an offset
-abbrev pub found_at : ℕ → LineFault → Found
+abbrev pub found_at : ℕ → LineCause → Found
 found_at offset fault = record { offset = offset; fault = fault }
 
 -- of two faults the one that stands first, and of two at one place the first of these two

@@ -6,7 +6,7 @@ use Rattle.asm_base.specs.declared.pieces.PieceKind.{PieceKind}
 use Rattle.asm_base.specs.declared.pieces.PieceKind.TheVariants.{OpenString, OpenComment, Other}
 use Rattle.asm_base.specs.Dividing.{pieces_from}
 use Rattle.asm_lines.specs.declared.faults.Found.{Found}
-use Rattle.asm_lines.specs.declared.faults.LineFault.TheVariants.{UnclosedString, UnclosedComment, StatementTooLong}
+use Rattle.asm_lines.specs.declared.faults.LineCause.TheVariants.{UnclosedString, UnclosedComment, StatementTooLong}
 use Rattle.asm_lines.specs.declared.intervals.PieceAt.{PieceAt}
 use Rattle.asm_lines.specs.declared.intervals.Span.{Span}
 use Rattle.asm_lines.specs.declared.intervals.Scan.{Scan}

@@ -1,10 +1,9 @@
 -- The statements of a source, each with its file and line, or the first fault.
-use Rattle.std.specs.Prelude.{◌≡◌, ℕ, List, [], ◌∷◌, Option, Some, None, Result, Ok, Err}
+use Rattle.std.specs.Prelude.{ℕ, List, [], ◌∷◌, Option, Some, None, Result, Ok, Err}
 use Rattle.std.specs.List.{filter_map}
 use Rattle.asm_base.specs.Pieces.{Piece}
 use Rattle.asm_base.specs.Dividing.{pieces_of}
-use Rattle.asm_lines.specs.declared.faults.LineFault.{LineFault}
-use Rattle.asm_lines.specs.declared.faults.LineFault.TheVariants.{NoMemory}
+use Rattle.asm_lines.specs.declared.faults.LineCause.{LineCause}
 use Rattle.asm_lines.specs.declared.faults.Found.{Found}
 use Rattle.asm_lines.specs.Intervals.{intervals_of, trimmed}
 use Rattle.asm_lines.specs.LineNumbers.{line_of, end_of_pieces, bytes_between}
@@ -27,26 +26,15 @@ abbrev pub statement_in : ℕ → List ℕ → List Piece → Option StatementAt
 statement_in file source interval = statement_of file source (trimmed interval)
 
 -- the statements, unless the source has a fault
-abbrev pub unless_found : Option Found → List StatementAt → Result (List StatementAt) LineFault
+abbrev pub unless_found : Option Found → List StatementAt → Result (List StatementAt) LineCause
 unless_found None statements = Ok statements
 unless_found (Some found) statements = Err found.fault
 
 -- the first fault of a source that has these pieces, or else its statements
-unfoldable pub statements_in : ℕ → List ℕ → List Piece → Result (List StatementAt) LineFault
+unfoldable pub statements_in : ℕ → List ℕ → List Piece → Result (List StatementAt) LineCause
 statements_in file source pieces =
     unless_found (source_found source pieces) (filter_map (statement_in file source) (intervals_of pieces))
 
 -- the first fault of a source, or else its statements
-unfoldable pub statements_of : ℕ → List ℕ → Result (List StatementAt) LineFault
+unfoldable pub statements_of : ℕ → List ℕ → Result (List StatementAt) LineCause
 statements_of file source = statements_in file source (pieces_of source)
-
--- a call that fails has the wanted fault, unless memory ran out
-abbrev pub Fails : LineFault → Result (List StatementAt) LineFault → Type 0
-Fails NoMemory wanted = Unit {0}
-Fails fault wanted = wanted ≡ Err fault
-
--- a call gives what is wanted
-abbrev pub Gives : Result (List StatementAt) LineFault → Result (List StatementAt) LineFault
-    → Type 0
-Gives (Ok statements) wanted = wanted ≡ Ok statements
-Gives (Err fault) wanted = Fails fault wanted

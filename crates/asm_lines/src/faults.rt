@@ -1,16 +1,15 @@
 //! What the lines of a source are refused for.
 
 ghost use Rattle.std.specs.Prelude.{◌≡◌, ◌≤◌, length};
-ghost use Rattle.asm_lines.specs.declared.faults.LineFault.TheVariants.{NoMemory};
 ghost use Rattle.asm_lines.specs.Faults.{earlier, nul_offset, nul_found};
 
 use crate::line_numbers::line_of;
-use std::alloc::{AllocError, AllocFailed};
+use asm_base::Refusal;
 use thiserror::Error;
 
 /// A fault of the lines of a source, with the line that it stands on. Lines past the last `u32` have that number.
 #[derive(Clone, Copy, Debug, PartialEq, Eq, Error)]
-pub enum LineFault {
+pub enum LineCause {
     /// A byte 0.
     #[error("NUL byte in source")]
     NulByte(u32),
@@ -23,32 +22,16 @@ pub enum LineFault {
     /// A statement has more than 65536 bytes, those of comments not counted.
     #[error("statement is too long")]
     StatementTooLong(u32),
-    /// Memory ran out.
-    #[error("out of memory")]
-    NoMemory,
 }
 
-impl From<AllocError> for LineFault {
-    ghost from_gives = { λ _ e. e ≡ NoMemory };
-
-    fn from(_refused: AllocError) -> LineFault {
-        LineFault::NoMemory
-    }
-}
-
-impl<T: Drop> From<AllocFailed<T>> for LineFault {
-    ghost from_gives = { λ _ e. e ≡ NoMemory };
-
-    fn from(_refused: AllocFailed<T>) -> LineFault {
-        LineFault::NoMemory
-    }
-}
+/// Why the lines of a source are not read: they have a fault, or memory ran out.
+pub type LineFault = Refusal<LineCause>;
 
 /// A fault, and the offset where it stands, in bytes from the beginning of the source.
 #[derive(Clone, Copy, Debug)]
 pub(crate) struct Found {
     pub offset: usize,
-    pub fault: LineFault,
+    pub fault: LineCause,
 }
 
 /// Of two faults the one that stands first, and of two at one place the first of these two.
@@ -76,7 +59,7 @@ pub(crate) fn nul_found(source: &[u8]) -> Option<Found>
 {
     let offset = nul_offset(source);
     if offset < source.len() {
-        let fault = LineFault::NulByte(line_of(source, offset));
+        let fault = LineCause::NulByte(line_of(source, offset));
         Some(Found { offset, fault })
     } else {
         None

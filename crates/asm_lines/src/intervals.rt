@@ -5,7 +5,7 @@ ghost use Rattle.asm_lines.specs.LineNumbers.{line_of};
 ghost use Rattle.asm_lines.specs.Scan as spec;
 ghost use Rattle.asm_lines.specs.Scan.{EndsBy, pieces_at, scan_of, nothing_scanned};
 
-use crate::faults::{Found, LineFault, earlier};
+use crate::faults::{Found, LineCause, earlier};
 use crate::line_numbers::line_behind;
 use asm_base::{PieceKind, first_piece, plain_length};
 
@@ -74,8 +74,8 @@ fn unclosed_by(piece: PieceAt) -> Option<Found>
     ensures { result ≡ spec.unclosed_by piece.kind piece }
 {
     let fault = match piece.kind {
-        PieceKind::OpenString => LineFault::UnclosedString(piece.line),
-        PieceKind::OpenComment => LineFault::UnclosedComment(piece.line),
+        PieceKind::OpenString => LineCause::UnclosedString(piece.line),
+        PieceKind::OpenComment => LineCause::UnclosedComment(piece.line),
         _ => return None,
     };
     Some(Found {
@@ -150,7 +150,7 @@ impl Scan {
     {
         match self.span {
             Some(span) if span.own > LONGEST_STATEMENT => {
-                let fault = LineFault::StatementTooLong(span.line);
+                let fault = LineCause::StatementTooLong(span.line);
                 let long = Found {
                     offset: span.begin,
                     fault,

@@ -8,7 +8,7 @@ mod line_numbers;
 mod reading;
 mod statements;
 
-pub use faults::LineFault;
+pub use faults::{LineCause, LineFault};
 pub use laws::{lines_never_fall, no_statement_has_nul, statements_are_whole};
 pub use reading::read_statements;
 pub use statements::{Statement, Statements};

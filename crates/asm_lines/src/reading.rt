@@ -3,7 +3,8 @@
 ghost use Rattle.std.specs.Prelude.{◌≡◌, List, length};
 ghost use Rattle.std.specs.Option.{option_map};
 ghost use Rattle.asm_base.specs.Pieces.{Piece, IsDivision};
-ghost use Rattle.asm_lines.specs.Statements.{Gives, statements_in, statements_of};
+ghost use Rattle.asm_base.specs.Refusals.{Returns};
+ghost use Rattle.asm_lines.specs.Statements.{statements_in, statements_of};
 ghost use Rattle.asm_lines.specs.Seen.{seen};
 ghost use Rattle.asm_lines.specs.Scan.{EndsBy, statement_by_span};
 
@@ -36,8 +37,8 @@ pub fn read_statements<'a>(
     file: u32,
 ) -> Result<Statements<'a>, LineFault>
     ensures grammar { (pieces : List Piece) → IsDivision text.now pieces
-        → Gives result (statements_in file text.now pieces) }
-    ensures value { Gives result (statements_of file text.now) }
+        → Returns result (statements_in file text.now pieces) }
+    ensures value { Returns result (statements_of file text.now) }
 {
     one_division();
     let source = text.as_bytes();
@@ -48,7 +49,7 @@ pub fn read_statements<'a>(
     while at < source.len() {
         let interval = first_interval(source, at, line);
         if let Some(found) = interval.scan.found() {
-            return Err(earlier(nul, found).fault);
+            return Err(LineFault::Fault(earlier(nul, found).fault));
         }
         if let Some(statement) = statement_by_span(source, file, interval.scan.span) {
             items.push(statement)?;
@@ -57,7 +58,7 @@ pub fn read_statements<'a>(
         line = interval.line;
     }
     match nul {
-        Some(found) => Err(found.fault),
+        Some(found) => Err(LineFault::Fault(found.fault)),
         None => Ok(Statements { items }),
     }
 }

@@ -5,21 +5,21 @@ use Rattle.std.specs.List.{list_all}
 use Rattle.std.specs.Option.{option_map_or}
 use Rattle.std.proofs.lemmas.Bool.{false≢true}
 use Rattle.std.proofs.lemmas.Option.{none-some}
-use Rattle.asm_place.specs.declared.place_faults.PlacingFault.{PlacingFault}
-use Rattle.asm_place.specs.declared.place_faults.PlacingFault.TheVariants.{NumberTooWide, UnknownMnemonic}
+use Rattle.asm_place.specs.declared.place_faults.PlaceCause.{PlaceCause}
+use Rattle.asm_place.specs.declared.place_faults.PlaceCause.TheVariants.{NumberTooWide, UnknownMnemonic}
 use Rattle.asm_base.specs.declared.notes.Noted.{Noted}
 use Rattle.asm_base.specs.declared.positions.Pos.{Pos}
 use Rattle.asm_base.specs.Tokens.{SpelledToken, tokens_of}
 use Rattle.asm_lines.specs.Statements.{StatementAt}
 use Rattle.asm_frags.specs.declared.contents.Content.{Content}
-use Rattle.asm_frags.specs.declared.faults.FragFault.TheVariants as frag
+use Rattle.asm_frags.specs.declared.faults.FragCause.TheVariants as frag
 use Rattle.asm_frags.specs.SectionOf.{with_item}
 use Rattle.asm_frags.specs.DataOf.{is_zero}
 use Rattle.asm_frags.specs.Contents.{is_known_zeros}
 use Rattle.asm_frags.specs.Answers.{refuses}
 use Rattle.asm_frags.specs.Sections.{replaced, pushed_into}
 use Rattle.asm_place.specs.declared.instructions.Row.{Row}
-use Rattle.asm_place.specs.Results.{◌>>=◌}
+use Rattle.asm_base.specs.Refusals.{◌>>=◌}
 use Rattle.asm_place.specs.Rows.{the_rows, has_name, bytes_of}
 use Rattle.asm_place.specs.LayerFaults.{of_sections}
 use Rattle.asm_place.specs.Operands.{is_name, is_dot, names_symbol}
@@ -99,7 +99,7 @@ name_test true true found row is = absurd (none-some row is)
 name_test true false found row is = (refl, refl, is)
 name_test false dotted found row is = absurd (none-some row is)
 
-body_test : (symbol named dotted : Bool) (assignment directive instruction : Result Placed PlacingFault) → named ≡ true → dotted ≡ false
+body_test : (symbol named dotted : Bool) (assignment directive instruction : Result Placed PlaceCause) → named ≡ true → dotted ≡ false
     → cond (symbol && false) assignment (cond (not named) (Err UnknownMnemonic) (cond dotted directive instruction)) ≡ instruction
 body_test symbol false dotted assignment directive instruction named not_dotted = absurd (false≢true named)
 body_test symbol true true assignment directive instruction named not_dotted = absurd (false≢true (sym not_dotted))
@@ -124,7 +124,7 @@ dot_ok true made placed is = err-ok _ placed is
 dot_ok false made placed is = same_Ok made placed is
 
 -- and the numbers of its labels are not too wide
-wide_ok : (wide : Bool) (answer : Result Placed PlacingFault) (placed : Placed) → cond wide (Err NumberTooWide) answer ≡ Ok placed → answer ≡ Ok placed
+wide_ok : (wide : Bool) (answer : Result Placed PlaceCause) (placed : Placed) → cond wide (Err NumberTooWide) answer ≡ Ok placed → answer ≡ Ok placed
 wide_ok true answer placed is = err-ok _ placed is
 wide_ok false answer placed is = is
 
@@ -169,7 +169,7 @@ instruction_put pos tokens before placed row written is =
     labelled_put pos tokens before placed row written (wide_ok (has_wide_label tokens) (place_labelled pos tokens before) placed is)
 
 -- what a statement adds, where the others before and behind it are placed too
-located_ok : (pos : Pos) (notes : List Noted) (answer : Result Placed PlacingFault) (next : Placed) → located pos notes answer ≡ Ok next → answer ≡ Ok next
+located_ok : (pos : Pos) (notes : List Noted) (answer : Result Placed PlaceCause) (next : Placed) → located pos notes answer ≡ Ok next → answer ≡ Ok next
 located_ok pos notes (Ok more) next is = ap Ok (same_Ok more next is)
 located_ok pos notes (Err fault) next is = err-ok _ next is
 

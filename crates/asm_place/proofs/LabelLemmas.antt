@@ -5,12 +5,11 @@ use Rattle.std.proofs.Common.{length-drop}
 use Rattle.std.proofs.lemmas.List.{length-map}
 use Rattle.asm_base.specs.declared.positions.Pos.{Pos}
 use Rattle.asm_base.specs.declared.tokens.Token.{Token}
-use Rattle.asm_place.specs.declared.place_faults.PlacingFault.{PlacingFault}
+use Rattle.asm_place.specs.declared.place_faults.PlaceCause.{PlaceCause}
 use Rattle.asm_base.specs.Tokens.{spelled, SpelledToken}
-use Rattle.asm_place.specs.Answers.{Fails}
-use Rattle.asm_place.specs.declared.place_faults.PlaceFault.{PlaceFault}
-use Rattle.asm_place.specs.declared.place_faults.PlaceFault.TheVariants.{Source, NoMemory}
-use Rattle.asm_place.specs.Results.{◌>>=◌}
+use Rattle.asm_base.specs.Refusals.{Fails, ◌>>=◌}
+use Rattle.asm_base.specs.declared.refusals.Refusal.{Refusal}
+use Rattle.asm_base.specs.declared.refusals.Refusal.TheVariants.{Fault, NoMemory}
 use Rattle.asm_place.specs.State.{Placed}
 use Rattle.asm_place.specs.Placing.{place_label, place_body, place_unlabelled, begins_with_label, is_label, is_too_wide, has_wide_label, place_labelled}
 use Rattle.asm_place.proofs.TokenLists.{two_left}
@@ -38,23 +37,23 @@ label_left pos tokens at d placed inside labelled =
     ap (λ ts. place_labelled pos ts placed) two
     ∙ label_two pos (spelled (get_or tokens at d)) (spelled (get_or tokens (at + 1) d)) (map spelled (drop (at + 2) tokens)) placed (sym (ap begins_with_label two) ∙ labelled)
 
-pub label_step : (pos : Pos) (tokens : List Token) (at : ℕ) (d : Token) (placed more : Placed) (whole : Result Placed PlacingFault)
+pub label_step : (pos : Pos) (tokens : List Token) (at : ℕ) (d : Token) (placed more : Placed) (whole : Result Placed PlaceCause)
     → at + 2 ≤ length tokens → begins_with_label (map spelled (drop at tokens)) ≡ true → place_label pos (spelled (get_or tokens at d)) placed ≡ Ok more
     → place_labelled pos (map spelled (drop at tokens)) placed ≡ whole → place_labelled pos (map spelled (drop (at + 2) tokens)) more ≡ whole
 label_step pos tokens at d placed more whole inside labelled is before =
     sym (label_left pos tokens at d placed inside labelled ∙ ap (λ r. r >>= (λ labels. place_labelled pos (map spelled (drop (at + 2) tokens)) labels)) is) ∙ before
 
-pub label_stop : (pos : Pos) (tokens : List Token) (at : ℕ) (d : Token) (placed : Placed) (fault : PlacingFault) (whole : Result Placed PlacingFault)
+pub label_stop : (pos : Pos) (tokens : List Token) (at : ℕ) (d : Token) (placed : Placed) (fault : PlaceCause) (whole : Result Placed PlaceCause)
     → at + 2 ≤ length tokens → begins_with_label (map spelled (drop at tokens)) ≡ true → place_label pos (spelled (get_or tokens at d)) placed ≡ Err fault
     → place_labelled pos (map spelled (drop at tokens)) placed ≡ whole → whole ≡ Err fault
 label_stop pos tokens at d placed fault whole inside labelled is before =
     sym before ∙ label_left pos tokens at d placed inside labelled ∙ ap (λ r. r >>= (λ labels. place_labelled pos (map spelled (drop (at + 2) tokens)) labels)) is
 
 -- a label that can't be placed ends the statement
-pub label_fails : (pos : Pos) (tokens : List Token) (at : ℕ) (d : Token) (placed : Placed) (fault : PlaceFault) (whole : Result Placed PlacingFault)
+pub label_fails : (pos : Pos) (tokens : List Token) (at : ℕ) (d : Token) (placed : Placed) (fault : Refusal PlaceCause) (whole : Result Placed PlaceCause)
     → at + 2 ≤ length tokens → begins_with_label (map spelled (drop at tokens)) ≡ true → Fails fault (place_label pos (spelled (get_or tokens at d)) placed)
     → place_labelled pos (map spelled (drop at tokens)) placed ≡ whole → Fails fault whole
-label_fails pos tokens at d placed (Source fault) whole inside labelled is before = label_stop pos tokens at d placed fault whole inside labelled is before
+label_fails pos tokens at d placed (Fault fault) whole inside labelled is before = label_stop pos tokens at d placed fault whole inside labelled is before
 label_fails pos tokens at d placed NoMemory whole inside labelled is before = tt
 
 -- whether the number of a label is too wide, where one is in front

@@ -3,8 +3,8 @@ use Rattle.std.proofs.Common.{◌≡◌, ℕ, Bool, true, false, cond, List, [],
 use Rattle.std.specs.Prelude.{◌&&◌, ◌^◌, nat_lt, not, drop, codes, unwrap_or}
 use Rattle.std.specs.List.{list_any, count_by}
 use Rattle.std.proofs.lemmas.Result.{IfOk-at_ok, IfErr-at_err}
-use Rattle.asm_place.specs.declared.place_faults.PlacingFault.{PlacingFault}
-use Rattle.asm_place.specs.declared.place_faults.PlacingFault.TheVariants.{BadExpression, NumberTooWide, ExpressionTooDeep, DivisionByZero, ValueNotKnown, NotASumOfSymbols, UnknownMnemonic, UnknownDirective, BadOperand, OutOfRange, BadSection, SymbolAlreadyDefined, BadSymbolUse}
+use Rattle.asm_place.specs.declared.place_faults.PlaceCause.{PlaceCause}
+use Rattle.asm_place.specs.declared.place_faults.PlaceCause.TheVariants.{BadExpression, NumberTooWide, ExpressionTooDeep, DivisionByZero, ValueNotKnown, NotASumOfSymbols, UnknownMnemonic, UnknownDirective, BadOperand, OutOfRange, BadSection, SymbolAlreadyDefined, BadSymbolUse}
 use Rattle.asm_base.specs.declared.notes.Noted.{Noted}
 use Rattle.asm_base.specs.declared.positions.Pos.{Pos}
 use Rattle.asm_base.specs.Tokens.{SpelledToken, tokens_of}
@@ -15,7 +15,7 @@ use Rattle.asm_expr.specs.Trees.{Tree}
 use Rattle.asm_frags.specs.declared.contents.Content.{Content}
 use Rattle.asm_frags.specs.declared.contents.Content.TheVariants as content
 use Rattle.asm_frags.specs.declared.fields.FieldSize.{FieldSize}
-use Rattle.asm_frags.specs.declared.faults.FragFault.TheVariants as frag
+use Rattle.asm_frags.specs.declared.faults.FragCause.TheVariants as frag
 use Rattle.asm_frags.specs.SectionOf.{new_section, is_alike, number_of, with_item}
 use Rattle.asm_frags.specs.Answers.{refuses}
 use Rattle.asm_frags.specs.Sections.{flags_of, entered_there, entered_by, replaced, pushed_into}
@@ -28,7 +28,7 @@ use Rattle.asm_place.specs.declared.directives.SymbolAttribute.{SymbolAttribute}
 use Rattle.asm_place.specs.declared.instructions.Row.{Row}
 use Rattle.asm_place.specs.declared.section_changes.Header.{Header}
 use Rattle.asm_place.specs.declared.stacks.Entered.{Entered}
-use Rattle.asm_place.specs.Results.{◌>>=◌}
+use Rattle.asm_base.specs.Refusals.{◌>>=◌}
 use Rattle.asm_place.specs.LayerFaults.{of_sections}
 use Rattle.asm_place.specs.Operands.{is_name, names_symbol, operands_of, is_dot, begins_with_place, symbol_name, each, joined_strings, name_of}
 use Rattle.asm_place.specs.Expressions.{expression_of, form_in, known_operands, no_more}
@@ -233,7 +233,7 @@ ident_steps pos tokens placed =
     after (one_string tokens) (λ text. step (entered_grows placed.sections (codes ".comment") comment_header)
     (λ pair grows. from pair grows (push_steps pos pair.1 (plain_item (comment_bytes (items_in pair.0 pair.1) text)) (record placed { sections = pair.0 }))))
   where
-    from : (pair : List LooseSection × ℕ) {r : Result Placed PlacingFault} → Grows placed.sections pair.0 → Steps (record placed { sections = pair.0 }) r → Steps placed r
+    from : (pair : List LooseSection × ℕ) {r : Result Placed PlaceCause} → Grows placed.sections pair.0 → Steps (record placed { sections = pair.0 }) r → Steps placed r
     from pair grows later = on placed (record placed { sections = pair.0 }) _ grows later
 
 file_steps : (tokens : List SpelledToken) (placed : Placed) → Steps placed (place_file tokens placed)
@@ -243,7 +243,7 @@ file_steps tokens placed =
     (λ name. after (file_named (naming.Plain name) placed.table) (λ table. made (with_table placed table) (still placed))))
 
 -- directives
-bare_steps : (tokens : List SpelledToken) (placed : Placed) (answer : Result Placed PlacingFault) → Steps placed answer → Steps placed (bare tokens answer)
+bare_steps : (tokens : List SpelledToken) (placed : Placed) (answer : Result Placed PlaceCause) → Steps placed answer → Steps placed (bare tokens answer)
 bare_steps [] placed answer steps = steps
 bare_steps (token ∷ rest) placed answer steps = refused _
 
@@ -313,7 +313,7 @@ unfolding place_tokens
 tokens_steps pos tokens placed = either (has_wide_label tokens) (refused NumberTooWide) (labelled_steps pos tokens placed)
 
 -- the same of statements in their places
-located_steps : (pos : Pos) (notes : List Noted) (before : Placed) (answer : Result Placed PlacingFault) → Steps before answer → Steps before (located pos notes answer)
+located_steps : (pos : Pos) (notes : List Noted) (before : Placed) (answer : Result Placed PlaceCause) → Steps before answer → Steps before (located pos notes answer)
 located_steps pos notes before (Ok more) steps = made more steps.holds
 located_steps pos notes before (Err fault) steps = refused _
 
@@ -331,7 +331,7 @@ pub all_grow : (statements : List StatementAt) (before placed : Placed) → plac
 all_grow statements before placed is = IfOk-at_ok (λ (made : Placed). Grows before.sections made.sections) is (all_steps_grow statements before).holds
 
 -- no fault of placing is that a file is too large
-not_of_reading : (fault : PlacingFault) → is_too_large (statement_fault fault) ≡ false
+not_of_reading : (fault : PlaceCause) → is_too_large (statement_fault fault) ≡ false
 not_of_reading BadExpression = refl
 not_of_reading NumberTooWide = refl
 not_of_reading ExpressionTooDeep = refl
@@ -346,7 +346,7 @@ not_of_reading BadSection = refl
 not_of_reading SymbolAlreadyDefined = refl
 not_of_reading BadSymbolUse = refl
 
-located_fault : (pos : Pos) (notes : List Noted) (answer : Result Placed PlacingFault) (stop : FaultAt) → located pos notes answer ≡ Err stop → is_file_too_large stop.fault ≡ false
+located_fault : (pos : Pos) (notes : List Noted) (answer : Result Placed PlaceCause) (stop : FaultAt) → located pos notes answer ≡ Err stop → is_file_too_large stop.fault ≡ false
 located_fault pos notes (Ok more) stop is = cc
 located_fault pos notes (Err fault) stop is = IfErr-at_err (λ (at : FaultAt). is_file_too_large at.fault ≡ false) is (not_of_reading fault)
 

@@ -1,7 +1,7 @@
 -- Placing statements in two parts.
 use Rattle.std.proofs.Common.{◌≡◌, List, [], ◌∷◌, ◌++◌, Result, Ok, Err, refl, ap}
 use Rattle.asm_lines.specs.Statements.{StatementAt}
-use Rattle.asm_place.specs.Results.{◌>>=◌}
+use Rattle.asm_base.specs.Refusals.{◌>>=◌}
 use Rattle.asm_place.specs.State.{Placed}
 use Rattle.asm_place.specs.Sources.{FaultAt, place, place_all}
 

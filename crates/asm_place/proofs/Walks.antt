@@ -1,7 +1,7 @@
 -- Steps one after the other: what is known of what they make.
 use Rattle.std.proofs.Common.{Bool, true, false, cond, Result, Ok, Err}
 use Rattle.std.specs.Result.{IfOk}
-use Rattle.asm_place.specs.Results.{◌>>=◌}
+use Rattle.asm_base.specs.Refusals.{◌>>=◌}
 use Rattle.asm_place.specs.State.{Placed}
 use Rattle.asm_place.specs.Instructions.{Grows}
 use Rattle.asm_place.proofs.GrowthLemmas.{grows_not, grows_on}

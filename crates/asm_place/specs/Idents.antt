@@ -2,15 +2,15 @@
 use Rattle.std.specs.Prelude.{ℕ, ◌==◌, List, [], ◌∷◌, ◌++◌, length, codes, Result, Ok, Err, slice_get, if◌then◌else◌}
 use Rattle.std.specs.List.{list_any}
 use Rattle.std.specs.Option.{option_map_or}
-use Rattle.asm_place.specs.declared.place_faults.PlacingFault.{PlacingFault}
-use Rattle.asm_place.specs.declared.place_faults.PlacingFault.TheVariants.{BadOperand}
+use Rattle.asm_place.specs.declared.place_faults.PlaceCause.{PlaceCause}
+use Rattle.asm_place.specs.declared.place_faults.PlaceCause.TheVariants.{BadOperand}
 use Rattle.asm_base.specs.declared.positions.Pos.{Pos}
 use Rattle.asm_base.specs.Tokens.{SpelledToken}
 use Rattle.asm_expr.specs.declared.naming.Name.TheVariants as naming
 use Rattle.asm_frags.specs.declared.contents.Content.{Content}
 use Rattle.asm_frags.specs.declared.contents.Content.TheVariants as content
 use Rattle.asm_place.specs.declared.section_changes.Header.{Header}
-use Rattle.asm_place.specs.Results.{◌>>=◌}
+use Rattle.asm_base.specs.Refusals.{◌>>=◌}
 use Rattle.asm_place.specs.Tables.{file_named}
 use Rattle.asm_place.specs.Places.{LooseSection}
 use Rattle.asm_place.specs.State.{Placed, with_table, push_into}
@@ -24,7 +24,7 @@ abbrev pub plain_item : List ℕ → Content
 plain_item bytes = content.Bytes (record { bytes = bytes; fields = [] })
 
 -- one string
-unfoldable pub one_string : List SpelledToken → Result (List ℕ) PlacingFault
+unfoldable pub one_string : List SpelledToken → Result (List ℕ) PlaceCause
 one_string tokens = needed string_of (operands_of tokens) >>= λ string. no_more string.1 string.0
 
 -- how many items the section of this number has
@@ -40,16 +40,16 @@ abbrev pub comment_header : Header
 comment_header = record { flags = 48; kind = 1; entry_size = 1 }
 
 -- `.ident`: the text goes into `.comment`, and a zero byte behind it
-unfoldable pub place_ident : Pos → List SpelledToken → Placed → Result Placed PlacingFault
+unfoldable pub place_ident : Pos → List SpelledToken → Placed → Result Placed PlaceCause
 place_ident pos tokens placed =
     one_string tokens >>= λ text. entered_as placed.sections (codes ".comment") comment_header >>= λ pair.
     push_into pos pair.1 (plain_item (comment_bytes (items_in pair.0 pair.1) text)) (record placed { sections = pair.0 })
 
 -- a string table can hold the name of a file, which may be empty
-abbrev pub file_name : List ℕ → Result (List ℕ) PlacingFault
+abbrev pub file_name : List ℕ → Result (List ℕ) PlaceCause
 file_name name = if list_any (λ byte. byte == 0) name then Err BadOperand else Ok name
 
 -- `.file`
-unfoldable pub place_file : List SpelledToken → Placed → Result Placed PlacingFault
+unfoldable pub place_file : List SpelledToken → Placed → Result Placed PlaceCause
 place_file tokens placed =
     one_string tokens >>= λ text. file_name text >>= λ name. file_named (naming.Plain name) placed.table >>= λ table. Ok (with_table placed table)

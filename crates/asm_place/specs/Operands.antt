@@ -2,13 +2,13 @@
 use Rattle.std.specs.Prelude.{ℕ, ◌&&◌, Bool, true, false, List, [], ◌∷◌, ◌++◌, codes, if◌then◌else◌, Result, Ok, Err}
 use Rattle.std.specs.List.{slice_split}
 use Rattle.std.specs.Str.{bytes_eq}
-use Rattle.asm_place.specs.declared.place_faults.PlacingFault.{PlacingFault}
-use Rattle.asm_place.specs.declared.place_faults.PlacingFault.TheVariants.{BadOperand}
+use Rattle.asm_place.specs.declared.place_faults.PlaceCause.{PlaceCause}
+use Rattle.asm_place.specs.declared.place_faults.PlaceCause.TheVariants.{BadOperand}
 use Rattle.asm_base.specs.declared.tokens.TokenKind.{TokenKind}
 use Rattle.asm_base.specs.declared.tokens.TokenKind.TheVariants.{Name, String}
 use Rattle.asm_base.specs.Tokens.{SpelledToken}
 use Rattle.asm_base.specs.Strings.{string_value}
-use Rattle.asm_place.specs.Results.{◌>>=◌}
+use Rattle.asm_base.specs.Refusals.{◌>>=◌}
 use Rattle.asm_expr.specs.Leaves.{between_quotes, is_symbol_name}
 
 -- the class of names without quotes
@@ -48,32 +48,32 @@ abbrev pub is_comma : SpelledToken → Bool
 is_comma token = is_mark 44 token
 
 -- the name, if it can stand in a string table
-unfoldable pub checked_name : List ℕ → Result (List ℕ) PlacingFault
+unfoldable pub checked_name : List ℕ → Result (List ℕ) PlaceCause
 checked_name name = if is_symbol_name name then Ok name else Err BadOperand
 
 -- the name that a token of this class gives a symbol
-abbrev pub name_by_kind : TokenKind → List ℕ → Result (List ℕ) PlacingFault
+abbrev pub name_by_kind : TokenKind → List ℕ → Result (List ℕ) PlaceCause
 name_by_kind Name bytes = Ok bytes
 name_by_kind String bytes = checked_name (string_value (between_quotes bytes))
 name_by_kind _ bytes = Err BadOperand
 
 -- the name that a token gives a symbol, in quotes or not (GNU as manual, "Symbol Names")
-unfoldable pub symbol_name : SpelledToken → Result (List ℕ) PlacingFault
+unfoldable pub symbol_name : SpelledToken → Result (List ℕ) PlaceCause
 symbol_name token = name_by_kind token.kind token.bytes
 
 -- a name alone
-unfoldable pub name_of : List SpelledToken → Result (List ℕ) PlacingFault
+unfoldable pub name_of : List SpelledToken → Result (List ℕ) PlaceCause
 name_of [] = Err BadOperand
 name_of (token ∷ []) = symbol_name token
 name_of (token ∷ more ∷ rest) = Err BadOperand
 
 -- what the string of a token stands for
-abbrev pub string_by_kind : TokenKind → List ℕ → Result (List ℕ) PlacingFault
+abbrev pub string_by_kind : TokenKind → List ℕ → Result (List ℕ) PlaceCause
 string_by_kind String bytes = Ok (string_value (between_quotes bytes))
 string_by_kind _ bytes = Err BadOperand
 
 -- a string alone (GNU as manual, "Strings")
-unfoldable pub string_of : List SpelledToken → Result (List ℕ) PlacingFault
+unfoldable pub string_of : List SpelledToken → Result (List ℕ) PlaceCause
 string_of [] = Err BadOperand
 string_of (token ∷ []) = string_by_kind token.kind token.bytes
 string_of (token ∷ more ∷ rest) = Err BadOperand
@@ -84,12 +84,12 @@ operands_of [] = []
 operands_of (token ∷ rest) = slice_split is_comma (token ∷ rest)
 
 -- what each gives, or the first fault
-unfoldable pub each : {A B : Type 0} → (A → Result B PlacingFault) → List A → Result (List B) PlacingFault
+unfoldable pub each : {A B : Type 0} → (A → Result B PlaceCause) → List A → Result (List B) PlaceCause
 each give [] = Ok []
 each give (one ∷ more) = give one >>= λ first. each give more >>= λ others. Ok (first ∷ others)
 
 -- what operands give, behind what stands before it
-unfoldable pub behind : {A : Type 0} → List A → Result (List A) PlacingFault → Result (List A) PlacingFault
+unfoldable pub behind : {A : Type 0} → List A → Result (List A) PlaceCause → Result (List A) PlaceCause
 behind front rest = rest >>= λ others. Ok (front ++ others)
 
 -- the zero byte that ends a string, where it is asked for
@@ -98,7 +98,7 @@ end_byte false = []
 end_byte true = 0 ∷ []
 
 -- the bytes that strings stand for, one after the other, each with a zero byte behind it where that is asked for
-unfoldable pub joined_strings : Bool → List (List SpelledToken) → Result (List ℕ) PlacingFault
+unfoldable pub joined_strings : Bool → List (List SpelledToken) → Result (List ℕ) PlaceCause
 joined_strings ended [] = Ok []
 joined_strings ended (operand ∷ operands) =
     string_of operand >>= λ string. joined_strings ended operands >>= λ others. Ok ((string ++ end_byte ended) ++ others)

@@ -1,8 +1,8 @@
 -- What the assembler has placed, as the definitions have it.
 use Rattle.std.specs.Prelude.{Result}
-use Rattle.asm_place.specs.declared.place_faults.PlaceFault.{PlaceFault}
-use Rattle.asm_place.specs.declared.place_faults.PlacingFault.{PlacingFault}
-use Rattle.asm_place.specs.Answers.{Gives}
+use Rattle.asm_base.specs.declared.refusals.Refusal.{Refusal}
+use Rattle.asm_place.specs.declared.place_faults.PlaceCause.{PlaceCause}
+use Rattle.asm_base.specs.Refusals.{Gives}
 use Rattle.asm_place.specs.State.{Placed}
 use Rattle.asm_place.specs.declared.assemblers.Assembler.{Assembler}
 
@@ -19,5 +19,5 @@ placed_by assembler = record {
 }
 
 -- the call made what the step makes of what was placed before, or answered its fault
-abbrev pub PlacesBy : {T : Type 0} → (Placed → Result Placed PlacingFault) → Assembler → Assembler → Result T PlaceFault → Type 0
+abbrev pub PlacesBy : {T : Type 0} → (Placed → Result Placed PlaceCause) → Assembler → Assembler → Result T (Refusal PlaceCause) → Type 0
 PlacesBy step old new result = Gives (placed_by new) result (step (placed_by old))

@@ -2,7 +2,7 @@
 use Rattle.std.specs.Prelude.{ℕ, ◌+◌, ◌*◌, ◌^◌, ◌==◌, ◌&&◌, Bool, true, false, List, length, Option, None, Some, Result, Ok, slice_get, if◌then◌else◌}
 use Rattle.std.specs.List.{list_any}
 use Rattle.std.specs.Option.{option_map_or}
-use Rattle.asm_place.specs.declared.place_faults.PlacingFault.{PlacingFault}
+use Rattle.asm_place.specs.declared.place_faults.PlaceCause.{PlaceCause}
 use Rattle.asm_base.specs.declared.positions.Pos.{Pos}
 use Rattle.asm_expr.specs.declared.naming.Name.{Name}
 use Rattle.asm_expr.specs.declared.naming.Name.TheVariants.{Plain, Numeric, Place}
@@ -19,7 +19,7 @@ use Rattle.asm_symbols.specs.SymbolMap.{SymbolMap, names, index_of}
 use Rattle.asm_symbols.specs.Counting.{counted}
 use Rattle.asm_symbols.specs.Looking.{told}
 use Rattle.asm_symbols.specs.Defining.{defined}
-use Rattle.asm_place.specs.Results.{◌>>=◌}
+use Rattle.asm_base.specs.Refusals.{◌>>=◌}
 use Rattle.asm_place.specs.Tables.{Table, change_named, name_tree, name_trees}
 
 -- an item, and a section of items, before they have addresses
@@ -63,19 +63,19 @@ abbrev pub uses_dot : Spot → Form → Bool
 uses_dot spot form = list_any (λ term. is_here spot term.name) form.terms
 
 -- then the place becomes a symbol of its own, unless it is one already
-abbrev pub here_by : Pos → Spot → Option ℕ → Table → Result Table PlacingFault
+abbrev pub here_by : Pos → Spot → Option ℕ → Table → Result Table PlaceCause
 here_by pos spot (Some index) table = Ok table
 here_by pos spot None table = change_named pos (λ map index. defined map index (Label spot)) (here_name spot) table
 
 -- the place becomes a symbol where a form keeps it
-unfoldable pub name_here : Pos → Spot → Bool → Table → Result Table PlacingFault
+unfoldable pub name_here : Pos → Spot → Bool → Table → Result Table PlaceCause
 name_here pos spot false table = Ok table
 name_here pos spot true table = here_by pos spot (index_of (here_name spot) (names table.symbols.symbols)) table
 
 -- the names of an expression, and the place if its form keeps it
-unfoldable pub name_part : Pos → Spot → Bool → Tree → Table → Result Table PlacingFault
+unfoldable pub name_part : Pos → Spot → Bool → Tree → Table → Result Table PlaceCause
 name_part pos spot keeps tree table = name_tree pos tree table >>= name_here pos spot keeps
 
 -- the names of expressions, and the place if a form keeps it
-unfoldable pub name_parts : Pos → Spot → Bool → List Tree → Table → Result Table PlacingFault
+unfoldable pub name_parts : Pos → Spot → Bool → List Tree → Table → Result Table PlaceCause
 name_parts pos spot keeps trees table = name_trees pos trees table >>= name_here pos spot keeps

@@ -3,8 +3,8 @@ use Rattle.std.specs.Prelude.{ℕ, ◌&&◌, ◌||◌, ◌==◌, Bool, false, no
 use Rattle.std.specs.Result.{is_err}
 use Rattle.std.specs.List.{list_all, list_any}
 use Rattle.std.specs.List.{count_by}
-use Rattle.asm_place.specs.declared.place_faults.PlacingFault.{PlacingFault}
-use Rattle.asm_place.specs.declared.place_faults.PlacingFault.TheVariants.{NumberTooWide, UnknownMnemonic, UnknownDirective, BadOperand}
+use Rattle.asm_place.specs.declared.place_faults.PlaceCause.{PlaceCause}
+use Rattle.asm_place.specs.declared.place_faults.PlaceCause.TheVariants.{NumberTooWide, UnknownMnemonic, UnknownDirective, BadOperand}
 use Rattle.asm_base.specs.declared.positions.Pos.{Pos}
 use Rattle.asm_base.specs.declared.tokens.TokenKind.{TokenKind}
 use Rattle.asm_base.specs.declared.tokens.TokenKind.TheVariants.{Digits}
@@ -25,7 +25,7 @@ use Rattle.asm_place.specs.declared.directives.Directive.TheVariants as directiv
 use Rattle.asm_place.specs.declared.directives.InitialSection.{InitialSection}
 use Rattle.asm_place.specs.declared.directives.InitialSection.TheVariants.{Text, Data, Bss}
 use Rattle.asm_place.specs.declared.instructions.Row.{Row}
-use Rattle.asm_place.specs.Results.{◌>>=◌}
+use Rattle.asm_base.specs.Refusals.{◌>>=◌}
 use Rattle.asm_place.specs.Rows.{the_rows, has_name, bytes_of}
 use Rattle.asm_place.specs.ExprFaults.{in_statement}
 use Rattle.asm_place.specs.Tables.{Table, symbol_of, next_symbol, changed_by, name_trees}
@@ -48,49 +48,49 @@ pub record DataWords : Type 0 where
   pub forms : List Form
 
 -- all operands are read before a form is made
-unfoldable pub data_words : Knowledge → List SpelledToken → Result DataWords PlacingFault
+unfoldable pub data_words : Knowledge → List SpelledToken → Result DataWords PlaceCause
 data_words known tokens =
     each expression_of (operands_of tokens) >>= λ trees. each (form_in known) trees >>= λ forms. Ok (record { trees = trees; forms = forms })
 
 -- an item of all values, of which those that are not known are fields, and a note for each that does not fit
-unfoldable pub put_data : Pos → FieldSize → DataWords → Placed → Result Placed PlacingFault
+unfoldable pub put_data : Pos → FieldSize → DataWords → Placed → Result Placed PlaceCause
 put_data pos size words placed =
     push_item pos (content.Bytes (data_of size words.forms)) placed >>= λ pushed.
     name_parts pos (here placed) (list_any (uses_dot (here placed)) words.forms) words.trees pushed.table >>= λ table.
     Ok (with_notes (cut_notes pos (count_by (is_cut size) words.forms)) (with_table pushed table))
 
 -- `.byte` and the others
-unfoldable pub place_data : Pos → FieldSize → List SpelledToken → Placed → Result Placed PlacingFault
+unfoldable pub place_data : Pos → FieldSize → List SpelledToken → Placed → Result Placed PlaceCause
 place_data pos size tokens placed = data_words (known_here placed) tokens >>= λ words. put_data pos size words placed
 
 -- `.ascii` and the others: the bytes of all strings, each with a zero byte behind it where that is asked for
-unfoldable pub place_strings : Pos → Bool → List SpelledToken → Placed → Result Placed PlacingFault
+unfoldable pub place_strings : Pos → Bool → List SpelledToken → Placed → Result Placed PlaceCause
 place_strings pos ended tokens placed = joined_strings ended (operands_of tokens) >>= λ bytes. push_item pos (plain_item bytes) placed
 
 -- space, and the names of its operands
-abbrev pub with_item : Pos → List Tree → Content → Placed → Result Placed PlacingFault
+abbrev pub with_item : Pos → List Tree → Content → Placed → Result Placed PlaceCause
 with_item pos trees item placed = push_item pos item placed >>= λ pushed. name_trees pos trees pushed.table >>= λ table. Ok (with_table pushed table)
 
 -- `.zero`
-unfoldable pub place_zero : Pos → List SpelledToken → Placed → Result Placed PlacingFault
+unfoldable pub place_zero : Pos → List SpelledToken → Placed → Result Placed PlaceCause
 place_zero pos tokens placed =
     known_operands (known_here placed) 1 (operands_of tokens) >>= λ given.
     space_of given.values.first 0 >>= λ item. with_item pos given.trees item placed
 
 -- `.skip`, `.space`
-unfoldable pub place_skip : Pos → List SpelledToken → Placed → Result Placed PlacingFault
+unfoldable pub place_skip : Pos → List SpelledToken → Placed → Result Placed PlaceCause
 place_skip pos tokens placed =
     known_operands (known_here placed) 2 (operands_of tokens) >>= λ given.
     space_of given.values.first (unwrap_or given.values.second 0) >>= λ item. with_item pos given.trees item placed
 
 -- `.fill`
-unfoldable pub place_fill : Pos → List SpelledToken → Placed → Result Placed PlacingFault
+unfoldable pub place_fill : Pos → List SpelledToken → Placed → Result Placed PlaceCause
 place_fill pos tokens placed =
     known_operands (known_here placed) 3 (operands_of tokens) >>= λ given. unit_size given.values.second >>= λ size.
     units_of given.values.first size (unwrap_or given.values.third 0) >>= λ item. with_item pos given.trees item placed
 
 -- a directive that stands alone
-abbrev pub bare : List SpelledToken → Result Placed PlacingFault → Result Placed PlacingFault
+abbrev pub bare : List SpelledToken → Result Placed PlaceCause → Result Placed PlaceCause
 bare [] answer = answer
 bare (token ∷ rest) answer = Err BadOperand
 
@@ -101,7 +101,7 @@ initial_number Data = 1
 initial_number Bss = 2
 
 -- a directive, by what it is
-unfoldable pub place_by : Directive → Pos → List SpelledToken → Placed → Result Placed PlacingFault
+unfoldable pub place_by : Directive → Pos → List SpelledToken → Placed → Result Placed PlaceCause
 place_by (directive.Data size) pos tokens placed = place_data pos size tokens placed
 place_by (directive.Strings ended) pos tokens placed = place_strings pos ended tokens placed
 place_by directive.Zero pos tokens placed = place_zero pos tokens placed
@@ -122,22 +122,22 @@ place_by directive.Ident pos tokens placed = place_ident pos tokens placed
 place_by directive.File pos tokens placed = place_file tokens placed
 
 -- the directive that was found, or the fault that there is none of the name
-abbrev pub place_found : Option Directive → Pos → List SpelledToken → Placed → Result Placed PlacingFault
+abbrev pub place_found : Option Directive → Pos → List SpelledToken → Placed → Result Placed PlaceCause
 place_found None pos tokens placed = Err UnknownDirective
 place_found (Some found) pos tokens placed = place_by found pos tokens placed
 
 -- a directive by its name
-unfoldable pub place_directive : Pos → List ℕ → List SpelledToken → Placed → Result Placed PlacingFault
+unfoldable pub place_directive : Pos → List ℕ → List SpelledToken → Placed → Result Placed PlaceCause
 place_directive pos name tokens placed = place_found (directive_of name) pos tokens placed
 
 -- an instruction of this row, which takes no operands
-abbrev pub place_row : Pos → Option Row → List SpelledToken → Placed → Result Placed PlacingFault
+abbrev pub place_row : Pos → Option Row → List SpelledToken → Placed → Result Placed PlaceCause
 place_row pos None operands placed = Err UnknownMnemonic
 place_row pos (Some row) [] placed = push_item pos (plain_item (bytes_of row)) placed
 place_row pos (Some row) (token ∷ rest) placed = Err BadOperand
 
 -- an instruction by its name
-unfoldable pub place_instruction : Pos → List ℕ → List SpelledToken → Placed → Result Placed PlacingFault
+unfoldable pub place_instruction : Pos → List ℕ → List SpelledToken → Placed → Result Placed PlaceCause
 place_instruction pos name operands placed = place_row pos (find (λ row. has_name row name) the_rows) operands placed
 
 -- an equals sign behind a name makes an assignment
@@ -151,7 +151,7 @@ begins_with_dot [] = false
 begins_with_dot (byte ∷ bytes) = byte == 46
 
 -- what stands behind the labels: an assignment, a directive or an instruction
-unfoldable pub place_body : Pos → SpelledToken → List SpelledToken → Placed → Result Placed PlacingFault
+unfoldable pub place_body : Pos → SpelledToken → List SpelledToken → Placed → Result Placed PlaceCause
 place_body pos first rest placed =
     if names_symbol first && is_assignment rest then place_assignment pos first (drop 1 rest) placed
     else (if not (is_name first) then Err UnknownMnemonic
@@ -172,22 +172,22 @@ abbrev pub is_label : SpelledToken → SpelledToken → Bool
 is_label first second = (names_symbol first || is_number first) && is_mark 58 second
 
 -- the symbol of a label, by its token: that of the next instance of a number
-abbrev pub label_by : TokenKind → Pos → SpelledToken → Table → Result (Table × ℕ) PlacingFault
+abbrev pub label_by : TokenKind → Pos → SpelledToken → Table → Result (Table × ℕ) PlaceCause
 label_by Digits pos token table = in_statement (numeral 10 token.bytes) >>= λ number. next_symbol pos number table
 label_by _ pos token table = symbol_name token >>= λ name. symbol_of pos (naming.Plain name) table
 
 -- the symbol that a label is of
-unfoldable pub label_symbol : Pos → SpelledToken → Table → Result (Table × ℕ) PlacingFault
+unfoldable pub label_symbol : Pos → SpelledToken → Table → Result (Table × ℕ) PlaceCause
 label_symbol pos token table = label_by token.kind pos token table
 
 -- a label, by its token
-unfoldable pub place_label : Pos → SpelledToken → Placed → Result Placed PlacingFault
+unfoldable pub place_label : Pos → SpelledToken → Placed → Result Placed PlaceCause
 place_label pos token placed =
     label_symbol pos token placed.table >>= changed_by (λ map index. defined map index (Label (here placed))) >>= λ table.
     unless_dot (is_dot token) (with_table placed table)
 
 -- behind the labels, where anything is
-unfoldable pub place_unlabelled : Pos → List SpelledToken → Placed → Result Placed PlacingFault
+unfoldable pub place_unlabelled : Pos → List SpelledToken → Placed → Result Placed PlaceCause
 place_unlabelled pos [] placed = Ok placed
 place_unlabelled pos (first ∷ rest) placed = place_body pos first rest placed
 
@@ -198,7 +198,7 @@ begins_with_label (first ∷ []) = false
 begins_with_label (first ∷ second ∷ rest) = is_label first second
 
 -- the labels one after the other, and what stands behind them
-unfoldable pub place_labelled : Pos → List SpelledToken → Placed → Result Placed PlacingFault
+unfoldable pub place_labelled : Pos → List SpelledToken → Placed → Result Placed PlaceCause
 place_labelled pos [] placed = Ok placed
 place_labelled pos (first ∷ []) placed = place_body pos first [] placed
 place_labelled pos (first ∷ second ∷ rest) placed =
@@ -216,5 +216,5 @@ has_wide_label (first ∷ []) = false
 has_wide_label (first ∷ second ∷ rest) = is_label first second && (is_too_wide first || has_wide_label rest)
 
 -- a statement: the numbers of all its labels are read before one is placed
-unfoldable pub place_tokens : Pos → List SpelledToken → Placed → Result Placed PlacingFault
+unfoldable pub place_tokens : Pos → List SpelledToken → Placed → Result Placed PlaceCause
 place_tokens pos tokens placed = if has_wide_label tokens then Err NumberTooWide else place_labelled pos tokens placed

@@ -1,11 +1,6 @@
--- What a step answers, step after step: the first fault ends it.
+-- Steps for each of a list, and for one where it is given.
 use Rattle.std.specs.Prelude.{List, [], ◌∷◌, Option, None, Some, Result, Ok, Err}
-
-infixl 10 ◌>>=◌
--- a step after another, which the first fault ends
-abbrev pub ◌>>=◌ : {A B E : Type 0} → Result A E → (A → Result B E) → Result B E
-(Ok x) >>= f = f x
-(Err e) >>= f = Err e
+use Rattle.asm_base.specs.Refusals.{◌>>=◌}
 
 -- a step for each of a list, one after the other
 unfoldable pub all_steps : {A S E : Type 0} → (A → S → Result S E) → List A → S → Result S E

@@ -1,17 +1,18 @@
 -- Which section items go into (GNU as manual, ".text", ".data", ".bss", ".section", ".pushsection", ".popsection", ".previous").
 use Rattle.std.specs.Prelude.{ℕ, ◌-◌, ◌^◌, ◌==◌, nat_lt, Bool, true, false, List, [], ◌∷◌, ◌++◌, length, take, Option, None, Some, Result, Ok, Err, slice_get, option_and_then, if◌then◌else◌}
-use Rattle.asm_place.specs.declared.place_faults.PlacingFault.{PlacingFault}
-use Rattle.asm_place.specs.declared.place_faults.PlacingFault.TheVariants.{BadSection, OutOfRange}
+use Rattle.asm_place.specs.declared.place_faults.PlaceCause.{PlaceCause}
+use Rattle.asm_place.specs.declared.place_faults.PlaceCause.TheVariants.{BadSection, OutOfRange}
 use Rattle.asm_base.specs.declared.positions.Pos.{Pos}
 use Rattle.asm_base.specs.Tokens.{SpelledToken}
 use Rattle.asm_expr.specs.Knowledge.{Knowledge}
 use Rattle.asm_expr.specs.Trees.{Tree}
-use Rattle.asm_frags.specs.declared.faults.FragFault.{FragFault}
+use Rattle.asm_frags.specs.declared.faults.FragCause.{FragCause}
 use Rattle.asm_frags.specs.SectionOf.{number_of}
 use Rattle.asm_frags.specs.Sections.{flags_of, entered}
 use Rattle.asm_place.specs.declared.stacks.Entered.{Entered}
 use Rattle.asm_place.specs.declared.section_changes.Header.{Header}
-use Rattle.asm_place.specs.Results.{◌>>=◌, if_some}
+use Rattle.asm_base.specs.Refusals.{◌>>=◌}
+use Rattle.asm_place.specs.Results.{if_some}
 use Rattle.asm_place.specs.LayerFaults.{section_fault}
 use Rattle.asm_place.specs.Tables.{name_trees}
 use Rattle.asm_place.specs.Places.{LooseSection}
@@ -43,28 +44,28 @@ kind_by None (Some section) name = section.kind
 kind_by None None name = (default_header name).kind
 
 -- a section that may be merged has entries of some size, which has to be said
-abbrev pub merge_size : Bool → Option ℕ → Result ℕ PlacingFault
+abbrev pub merge_size : Bool → Option ℕ → Result ℕ PlaceCause
 merge_size false size = Ok 0
 merge_size true None = Err BadSection
 merge_size true (Some size) = if size == 0 then Err BadSection else Ok size
 
 -- the size of entries, where flags are said, or else that of the section that is there
-abbrev pub entry_size_by : Option (List ℕ) → Option ℕ → Option LooseSection → Result ℕ PlacingFault
+abbrev pub entry_size_by : Option (List ℕ) → Option ℕ → Option LooseSection → Result ℕ PlaceCause
 entry_size_by (Some letters) size there = merge_size (says_merge (Some letters)) size
 entry_size_by None size (Some section) = Ok section.entry_size
 entry_size_by None size None = Ok 0
 
 -- a size of entries that is said
-abbrev pub said_size : Option ℕ → Result (Option ℕ) PlacingFault
+abbrev pub said_size : Option ℕ → Result (Option ℕ) PlaceCause
 said_size None = Ok None
 said_size (Some size) = if is_negative size then Err OutOfRange else Ok (Some size)
 
 -- the value of the expression of the size of entries, where there is one
-unfoldable pub entry_size_in : Knowledge → Option Tree → Result (Option ℕ) PlacingFault
+unfoldable pub entry_size_in : Knowledge → Option Tree → Result (Option ℕ) PlaceCause
 entry_size_in known tree = if_some (form_in known) tree >>= λ form. if_some constant_in form >>= said_size
 
 -- what the header of the section of these words says; its entries have this size where it is said
-unfoldable pub header_by : List LooseSection → SectionWords → Option ℕ → Result Header PlacingFault
+unfoldable pub header_by : List LooseSection → SectionWords → Option ℕ → Result Header PlaceCause
 header_by sections words size =
     let there = section_named sections words.name in
     if_some said_flags words.flags >>= λ flags. if_some said_kind words.kind >>= λ kind.
@@ -72,16 +73,16 @@ header_by sections words size =
     Ok (record { flags = flags_by flags there words.name; kind = kind_by kind there words.name; entry_size = entry_size })
 
 -- the sections and the number of one
-abbrev pub numbered : Result (ℕ × List LooseSection) FragFault → Result (List LooseSection × ℕ) PlacingFault
+abbrev pub numbered : Result (ℕ × List LooseSection) FragCause → Result (List LooseSection × ℕ) PlaceCause
 numbered (Ok pair) = Ok (pair.1, pair.0)
 numbered (Err fault) = Err (section_fault fault)
 
 -- the number of the section of this name and header, which is made if it is not there
-abbrev pub entered_short : List LooseSection → List ℕ → Header → Result (List LooseSection × ℕ) PlacingFault
+abbrev pub entered_short : List LooseSection → List ℕ → Header → Result (List LooseSection × ℕ) PlaceCause
 entered_short sections name header = numbered (entered sections name (flags_of header.flags) header.kind header.entry_size)
 
 -- the same; a name has at most as many bytes as a statement
-unfoldable pub entered_as : List LooseSection → List ℕ → Header → Result (List LooseSection × ℕ) PlacingFault
+unfoldable pub entered_as : List LooseSection → List ℕ → Header → Result (List LooseSection × ℕ) PlaceCause
 entered_as sections name header =
     if nat_lt (2 ^ 16) (length name) then Err BadSection
     else entered_short sections name header
@@ -92,7 +93,7 @@ option_trees None = []
 option_trees (Some tree) = tree ∷ []
 
 -- items go into the section of these words, which is made if it is not there
-unfoldable pub enter_words : Pos → SectionWords → Placed → Result Placed PlacingFault
+unfoldable pub enter_words : Pos → SectionWords → Placed → Result Placed PlaceCause
 enter_words pos words placed =
     entry_size_in (known_here placed) words.entry_size >>= λ size.
     header_by placed.sections words size >>= λ header. entered_as placed.sections words.name header >>= λ pair.
@@ -100,7 +101,7 @@ enter_words pos words placed =
     Ok (with_table (with_current pair.1 (record placed { sections = pair.0 })) table)
 
 -- `.section`
-unfoldable pub place_section : Pos → List SpelledToken → Placed → Result Placed PlacingFault
+unfoldable pub place_section : Pos → List SpelledToken → Placed → Result Placed PlaceCause
 place_section pos tokens placed = section_words (operands_of tokens) >>= λ words. enter_words pos words placed
 
 -- the section that items go into, and the one before it
@@ -108,12 +109,12 @@ abbrev pub entered_now : Placed → Entered
 entered_now placed = record { current = placed.current; previous = placed.previous }
 
 -- `.pushsection`: the same, and `.popsection` comes back
-unfoldable pub place_pushed : Pos → List SpelledToken → Placed → Result Placed PlacingFault
+unfoldable pub place_pushed : Pos → List SpelledToken → Placed → Result Placed PlaceCause
 place_pushed pos tokens placed =
     place_section pos tokens placed >>= λ made. Ok (record made { stack = made.stack ++ entered_now placed ∷ [] })
 
 -- items go where they went when the entry was pushed
-abbrev pub back_to : Option Entered → Placed → Result Placed PlacingFault
+abbrev pub back_to : Option Entered → Placed → Result Placed PlaceCause
 back_to None placed = Err BadSection
 back_to (Some entered) placed = Ok (record placed {
   current = entered.current;
@@ -122,5 +123,5 @@ back_to (Some entered) placed = Ok (record placed {
 })
 
 -- `.popsection`
-unfoldable pub popped : Placed → Result Placed PlacingFault
+unfoldable pub popped : Placed → Result Placed PlaceCause
 popped placed = back_to (slice_get placed.stack (length placed.stack - 1)) placed

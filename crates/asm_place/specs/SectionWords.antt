@@ -2,13 +2,13 @@
 use Rattle.std.specs.Prelude.{ℕ, ◌+◌, ◌==◌, ◌&&◌, ◌||◌, Bool, true, false, List, [], ◌∷◌, flat_map, length, codes, Option, None, Some, Result, Ok, Err, if◌then◌else◌}
 use Rattle.std.specs.List.{list_all, list_any}
 use Rattle.std.specs.Str.{bytes_eq}
-use Rattle.asm_place.specs.declared.place_faults.PlacingFault.{PlacingFault}
-use Rattle.asm_place.specs.declared.place_faults.PlacingFault.TheVariants.{BadOperand, BadSection}
+use Rattle.asm_place.specs.declared.place_faults.PlaceCause.{PlaceCause}
+use Rattle.asm_place.specs.declared.place_faults.PlaceCause.TheVariants.{BadOperand, BadSection}
 use Rattle.asm_base.specs.declared.tokens.TokenKind.{TokenKind}
 use Rattle.asm_base.specs.declared.tokens.TokenKind.TheVariants.{Name, Digits}
 use Rattle.asm_base.specs.Tokens.{SpelledToken}
 use Rattle.asm_expr.specs.Trees.{Tree}
-use Rattle.asm_place.specs.Results.{◌>>=◌}
+use Rattle.asm_base.specs.Refusals.{◌>>=◌}
 use Rattle.asm_place.specs.Operands.{is_name, is_mark, checked_name, string_of}
 use Rattle.asm_place.specs.Expressions.{expression_of, no_more}
 
@@ -42,7 +42,7 @@ abbrev pub joined_bytes : List SpelledToken → List ℕ
 joined_bytes tokens = flat_map (λ part. part.bytes) tokens
 
 -- the name of a section, quoted or not
-unfoldable pub section_name : List SpelledToken → Result (List ℕ) PlacingFault
+unfoldable pub section_name : List SpelledToken → Result (List ℕ) PlaceCause
 section_name operand = if is_joined operand then Ok (joined_bytes operand) else (string_of operand >>= checked_name)
 
 -- the token is the `@` or `%` that stands before the name of a type
@@ -50,22 +50,22 @@ abbrev pub begins_type : SpelledToken → Bool
 begins_type token = is_mark 64 token || is_mark 37 token
 
 -- the name of a section's type
-unfoldable pub type_name : List SpelledToken → Result (List ℕ) PlacingFault
+unfoldable pub type_name : List SpelledToken → Result (List ℕ) PlaceCause
 type_name (mark ∷ name ∷ []) = if begins_type mark && is_name name then Ok name.bytes else Err BadOperand
 type_name _ = Err BadOperand
 
 -- an operand by what it has to be, where it has to be there
-abbrev pub needed : {A : Type 0} → (List SpelledToken → Result A PlacingFault) → List (List SpelledToken) → Result (A × List (List SpelledToken)) PlacingFault
+abbrev pub needed : {A : Type 0} → (List SpelledToken → Result A PlaceCause) → List (List SpelledToken) → Result (A × List (List SpelledToken)) PlaceCause
 needed give [] = Err BadOperand
 needed give (operand ∷ operands) = give operand >>= λ made. Ok (made, operands)
 
 -- the same, where it may be missing: behind a comma it is due
-abbrev pub missing_or : {A : Type 0} → (List SpelledToken → Result A PlacingFault) → List (List SpelledToken) → Result (Option A × List (List SpelledToken)) PlacingFault
+abbrev pub missing_or : {A : Type 0} → (List SpelledToken → Result A PlaceCause) → List (List SpelledToken) → Result (Option A × List (List SpelledToken)) PlaceCause
 missing_or give [] = Ok (None, [])
 missing_or give (operand ∷ operands) = give operand >>= λ made. Ok (Some made, operands)
 
 -- an expression that may be missing, where one may stand
-abbrev pub expression_if : Bool → List (List SpelledToken) → Result (Option Tree × List (List SpelledToken)) PlacingFault
+abbrev pub expression_if : Bool → List (List SpelledToken) → Result (Option Tree × List (List SpelledToken)) PlaceCause
 expression_if true operands = missing_or expression_of operands
 expression_if false operands = Ok (None, operands)
 
@@ -86,7 +86,7 @@ says_merge None = false
 says_merge (Some letters) = has_letter 77 letters
 
 -- the operands of `.section`, from left to right
-unfoldable pub section_words : List (List SpelledToken) → Result SectionWords PlacingFault
+unfoldable pub section_words : List (List SpelledToken) → Result SectionWords PlaceCause
 section_words operands =
     needed section_name operands >>= λ name. missing_or string_of name.1 >>= λ flags. missing_or type_name flags.1 >>= λ kind.
     expression_if (says_merge flags.0) kind.1 >>= λ size.
@@ -106,11 +106,11 @@ letter_flags letters =
     flag_if 119 1 letters + flag_if 97 2 letters + flag_if 120 4 letters + flag_if 77 16 letters + flag_if 83 32 letters + flag_if 84 1024 letters
 
 -- the flags that the letters ask for; another letter is no flag
-unfoldable pub said_flags : List ℕ → Result ℕ PlacingFault
+unfoldable pub said_flags : List ℕ → Result ℕ PlaceCause
 said_flags letters = if list_all is_flag_letter letters then Ok (letter_flags letters) else Err BadSection
 
 -- `sh_type` by its name (gABI, chapter 4, "sh_type")
-unfoldable pub said_kind : List ℕ → Result ℕ PlacingFault
+unfoldable pub said_kind : List ℕ → Result ℕ PlaceCause
 said_kind name =
     if bytes_eq name (codes "progbits") then Ok 1
     else (if bytes_eq name (codes "note") then Ok 7

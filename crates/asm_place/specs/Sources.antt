@@ -6,9 +6,9 @@ use Rattle.asm_base.specs.declared.notes.Noted.{Noted}
 use Rattle.asm_base.specs.declared.positions.Pos.{Pos}
 use Rattle.asm_base.specs.Tokens.{tokens_of}
 use Rattle.asm_lines.specs.Statements.{StatementAt}
-use Rattle.asm_place.specs.declared.place_faults.PlacingFault.{PlacingFault}
+use Rattle.asm_place.specs.declared.place_faults.PlaceCause.{PlaceCause}
 use Rattle.asm_place.specs.Faults.{statement_fault}
-use Rattle.asm_place.specs.Results.{◌>>=◌}
+use Rattle.asm_base.specs.Refusals.{◌>>=◌}
 use Rattle.asm_place.specs.State.{Placed}
 use Rattle.asm_place.specs.Placing.{place_tokens}
 
@@ -27,7 +27,7 @@ abbrev pub fault_at : Fault → Pos → List Noted → FaultAt
 fault_at fault pos notes = record { fault = fault; pos = pos; notes = notes }
 
 -- a fault of a statement at this place, with the notes of those before it
-abbrev pub located : Pos → List Noted → Result Placed PlacingFault → Result Placed FaultAt
+abbrev pub located : Pos → List Noted → Result Placed PlaceCause → Result Placed FaultAt
 located pos notes (Ok more) = Ok more
 located pos notes (Err fault) = Err (fault_at (Statement (statement_fault fault)) pos notes)
 

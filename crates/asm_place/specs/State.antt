@@ -1,7 +1,7 @@
 -- What the statements so far have placed.
 use Rattle.std.specs.Prelude.{ℕ, Bool, true, false, List, [], ◌++◌, Result, Ok, Err, if◌then◌else◌}
-use Rattle.asm_place.specs.declared.place_faults.PlacingFault.{PlacingFault}
-use Rattle.asm_place.specs.declared.place_faults.PlacingFault.TheVariants.{BadSymbolUse}
+use Rattle.asm_place.specs.declared.place_faults.PlaceCause.{PlaceCause}
+use Rattle.asm_place.specs.declared.place_faults.PlaceCause.TheVariants.{BadSymbolUse}
 use Rattle.asm_base.specs.declared.notes.Noted.{Noted}
 use Rattle.asm_base.specs.declared.positions.Pos.{Pos}
 use Rattle.asm_expr.specs.Knowledge.{Knowledge}
@@ -9,7 +9,7 @@ use Rattle.asm_frags.specs.declared.contents.Content.{Content}
 use Rattle.asm_frags.specs.Sections.{first_sections, pushed}
 use Rattle.asm_symbols.specs.declared.entries.Spot.{Spot}
 use Rattle.asm_place.specs.declared.stacks.Entered.{Entered}
-use Rattle.asm_place.specs.Results.{◌>>=◌}
+use Rattle.asm_base.specs.Refusals.{◌>>=◌}
 use Rattle.asm_place.specs.LayerFaults.{of_sections}
 use Rattle.asm_place.specs.Tables.{Table, no_table}
 use Rattle.asm_place.specs.Places.{Item, LooseSection, spot_at, known_at}
@@ -42,7 +42,7 @@ abbrev pub with_table : Placed → Table → Placed
 with_table placed table = record placed { table = table }
 
 -- what is placed, unless the statement names a symbol by `.`
-abbrev pub unless_dot : Bool → Placed → Result Placed PlacingFault
+abbrev pub unless_dot : Bool → Placed → Result Placed PlaceCause
 unless_dot true placed = Err BadSymbolUse
 unless_dot false placed = Ok placed
 
@@ -63,9 +63,9 @@ abbrev pub item_of : Pos → Content → Item
 item_of pos content = record { pos = pos; content = content; address = tt }
 
 -- the item last in the section of this number
-unfoldable pub push_into : Pos → ℕ → Content → Placed → Result Placed PlacingFault
+unfoldable pub push_into : Pos → ℕ → Content → Placed → Result Placed PlaceCause
 push_into pos number content placed = of_sections (pushed placed.sections number (item_of pos content)) >>= λ sections. Ok (record placed { sections = sections })
 
 -- the item last in the current section
-abbrev pub push_item : Pos → Content → Placed → Result Placed PlacingFault
+abbrev pub push_item : Pos → Content → Placed → Result Placed PlaceCause
 push_item pos content placed = push_into pos placed.current content placed

@@ -3,8 +3,8 @@ use Rattle.std.specs.Prelude.{ℕ, nat_eq, ◌&&◌, List, [], ◌∷◌, codes,
 use Rattle.indexmap.specs.IndexMap.{insert_entry}
 use Rattle.std.specs.List.{list_any}
 use Rattle.std.specs.Str.{bytes_eq}
-use Rattle.asm_place.specs.declared.place_faults.PlacingFault.{PlacingFault}
-use Rattle.asm_place.specs.declared.place_faults.PlacingFault.TheVariants.{BadExpression, BadOperand}
+use Rattle.asm_place.specs.declared.place_faults.PlaceCause.{PlaceCause}
+use Rattle.asm_place.specs.declared.place_faults.PlaceCause.TheVariants.{BadExpression, BadOperand}
 use Rattle.asm_base.specs.declared.positions.Pos.{Pos}
 use Rattle.asm_base.specs.Tokens.{SpelledToken}
 use Rattle.asm_expr.specs.declared.naming.Name.{Name}
@@ -14,12 +14,13 @@ use Rattle.asm_expr.specs.Trees.{Tree}
 use Rattle.asm_symbols.specs.declared.entries.Spot.{Spot}
 use Rattle.asm_symbols.specs.declared.entries.Kind.{Kind}
 use Rattle.asm_symbols.specs.declared.entries.Kind.TheVariants.{NoType, Object, Function, Tls, Common}
-use Rattle.asm_symbols.specs.declared.faults.SymFault.{SymFault}
+use Rattle.asm_symbols.specs.declared.faults.SymCause.{SymCause}
 use Rattle.asm_symbols.specs.SymbolMap.{SymbolMap, with_symbol}
 use Rattle.asm_symbols.specs.Attributes.{bound, with_kind, with_next_size, with_visibility}
 use Rattle.asm_place.specs.declared.directives.SymbolAttribute.{SymbolAttribute}
 use Rattle.asm_place.specs.declared.directives.SymbolAttribute.TheVariants.{Bind, See}
-use Rattle.asm_place.specs.Results.{◌>>=◌, all_steps}
+use Rattle.asm_base.specs.Refusals.{◌>>=◌}
+use Rattle.asm_place.specs.Results.{all_steps}
 use Rattle.asm_place.specs.Tables.{Table, symbol_of, change_named, with_map}
 use Rattle.asm_place.specs.Places.{uses_dot, name_part}
 use Rattle.asm_place.specs.State.{Placed, with_table, unless_dot, here, known_here}
@@ -28,31 +29,31 @@ use Rattle.asm_place.specs.Expressions.{expression_of, form_in, no_more}
 use Rattle.asm_place.specs.SectionWords.{needed, begins_type}
 
 -- a binding or a visibility is said of a symbol
-abbrev pub said : SymbolAttribute → SymbolMap → ℕ → Result SymbolMap SymFault
+abbrev pub said : SymbolAttribute → SymbolMap → ℕ → Result SymbolMap SymCause
 said (Bind binding) map index = bound map index binding
 said (See visibility) map index = Ok (with_symbol (with_visibility visibility) map index)
 
 -- it is said of one name
-abbrev pub say_one : Pos → SymbolAttribute → Name → Table → Result Table PlacingFault
+abbrev pub say_one : Pos → SymbolAttribute → Name → Table → Result Table PlaceCause
 say_one pos attribute name table = change_named pos (said attribute) name table
 
 -- it is said of each name
-unfoldable pub say_all : Pos → SymbolAttribute → List Name → Table → Result Table PlacingFault
+unfoldable pub say_all : Pos → SymbolAttribute → List Name → Table → Result Table PlaceCause
 say_all pos attribute names table = all_steps (say_one pos attribute) names table
 
 -- the name that an operand gives a symbol
-unfoldable pub plain_of : List SpelledToken → Result Name PlacingFault
+unfoldable pub plain_of : List SpelledToken → Result Name PlaceCause
 plain_of operand = name_of operand >>= λ name. Ok (naming.Plain name)
 
 -- `.globl` and the others, with a name at least
-unfoldable pub place_said : Pos → SymbolAttribute → List SpelledToken → Placed → Result Placed PlacingFault
+unfoldable pub place_said : Pos → SymbolAttribute → List SpelledToken → Placed → Result Placed PlaceCause
 place_said pos attribute [] placed = Err BadOperand
 place_said pos attribute (token ∷ rest) placed =
     each plain_of (operands_of (token ∷ rest)) >>= λ names. say_all pos attribute names placed.table >>= λ table.
     unless_dot (list_any is_dot (token ∷ rest)) (with_table placed table)
 
 -- the kind of a symbol by its word (gABI, chapter 4, "Symbol Table")
-unfoldable pub kind_named : List ℕ → Result Kind PlacingFault
+unfoldable pub kind_named : List ℕ → Result Kind PlaceCause
 kind_named word =
     if bytes_eq word (codes "function") then Ok Function
     else (if bytes_eq word (codes "object") then Ok Object
@@ -62,16 +63,16 @@ kind_named word =
     else Err BadOperand))))
 
 -- a kind behind `@` or `%`
-unfoldable pub kind_of : List SpelledToken → Result Kind PlacingFault
+unfoldable pub kind_of : List SpelledToken → Result Kind PlaceCause
 kind_of (mark ∷ word ∷ []) = if begins_type mark && is_name word then kind_named word.bytes else Err BadOperand
 kind_of _ = Err BadOperand
 
 -- the symbol is of this kind from now on
-abbrev pub kind_said : Kind → SymbolMap → ℕ → Result SymbolMap SymFault
+abbrev pub kind_said : Kind → SymbolMap → ℕ → Result SymbolMap SymCause
 kind_said kind map index = Ok (with_symbol (with_kind kind) map index)
 
 -- `.type`
-unfoldable pub place_type : Pos → List SpelledToken → Placed → Result Placed PlacingFault
+unfoldable pub place_type : Pos → List SpelledToken → Placed → Result Placed PlaceCause
 place_type pos tokens placed =
     needed name_of (operands_of tokens) >>= λ name. needed kind_of name.1 >>= λ kind. no_more kind.1 kind.0 >>= λ made.
     change_named pos (kind_said made) (naming.Plain name.0) placed.table >>= λ table.
@@ -83,16 +84,16 @@ pub record NamedTree : Type 0 where
   pub tree : Tree
 
 -- an expression has to follow, and nothing else
-abbrev pub last_tree : List (List SpelledToken) → Result Tree PlacingFault
+abbrev pub last_tree : List (List SpelledToken) → Result Tree PlaceCause
 last_tree [] = Err BadExpression
 last_tree (operand ∷ operands) = expression_of operand >>= λ tree. no_more operands tree
 
 -- the operands of `.size` and `.set`: a name and an expression
-unfoldable pub named_tree : List (List SpelledToken) → Result NamedTree PlacingFault
+unfoldable pub named_tree : List (List SpelledToken) → Result NamedTree PlaceCause
 named_tree operands = needed name_of operands >>= λ name. last_tree name.1 >>= λ tree. Ok (record { name = naming.Plain name.0; tree = tree })
 
 -- the names of the expression, behind the symbol that the statement is of
-abbrev pub name_rest : Pos → Spot → NamedTree → Form → Table → Result Table PlacingFault
+abbrev pub name_rest : Pos → Spot → NamedTree → Form → Table → Result Table PlaceCause
 name_rest pos spot words form table = name_part pos spot (uses_dot spot form) words.tree table
 
 -- the size is said of the symbol at this place
@@ -100,7 +101,7 @@ abbrev pub sized : Pos → Form → Table × ℕ → Table
 sized pos form found = record (with_map found.0 (with_next_size form found.0.symbols found.1)) { sized = insert_entry nat_eq found.0.sized found.1 pos }
 
 -- `.size`
-unfoldable pub place_size : Pos → List SpelledToken → Placed → Result Placed PlacingFault
+unfoldable pub place_size : Pos → List SpelledToken → Placed → Result Placed PlaceCause
 place_size pos tokens placed =
     named_tree (operands_of tokens) >>= λ words. form_in (known_here placed) words.tree >>= λ form.
     symbol_of pos words.name placed.table >>= λ found. name_rest pos (here placed) words form (sized pos form found) >>= λ table.

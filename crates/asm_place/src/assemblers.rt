@@ -5,12 +5,12 @@ ghost use Rattle.asm_frags.specs.Answers.{Changes};
 ghost use Rattle.asm_place.specs.DataItems.{cut_notes};
 ghost use Rattle.asm_frags.specs.Sections.{pushed};
 
-use crate::place_faults::{PlaceFault, PlacingFault};
+use crate::place_faults::{PlaceCause, PlaceFault};
 use crate::places::{View, spot_at};
 use crate::stacks::Entered;
 use crate::tables::SymbolUses;
 use asm_base::{Note, Noted, Notes, Pos};
-use asm_frags::{Content, Frag, FragFault, Loose, Sections};
+use asm_frags::{Content, Frag, FragCause, FragFault, Loose, Sections};
 use asm_symbols::Spot;
 use std::alloc::{AllocError, Global};
 
@@ -46,7 +46,7 @@ fn push(sections: &mut Sections, number: u32, item: Frag<Loose>) -> Result<(), F
     if (number as usize) < sections.len() {
         sections.push(number, item)
     } else {
-        Err(FragFault::BadSection)
+        Err(FragFault::Fault(FragCause::BadSection))
     }
 }
 
@@ -66,8 +66,8 @@ fn add_notes(notes: &mut Notes, pos: Pos, times: usize) -> Result<(), AllocError
 
 impl Assembler {
     ghost use Rattle.std.specs.Prelude.{◌≡◌, IfOk, IfErr, OnOk};
-    ghost use Rattle.asm_frags.specs.declared.faults.FragFault.TheVariants.{NoMemory};
-    ghost use Rattle.asm_place.specs.Answers.{Gives};
+    ghost use Rattle.asm_base.specs.declared.refusals.Refusal.TheVariants.{NoMemory};
+    ghost use Rattle.asm_base.specs.Refusals.{Gives};
     ghost use Rattle.asm_place.specs.DataItems.{cut_notes};
     ghost use Rattle.asm_place.specs.State.{nothing_placed, unless_dot, with_notes, here, push_into, push_item};
     ghost use Rattle.asm_place.specs.PlacedBy.{placed_by, PlacesBy};
@@ -75,7 +75,7 @@ impl Assembler {
     /// Nothing is placed yet.
     pub fn new(alloc: Global, no_warn: bool) -> Result<Assembler, FragFault>
         ensures ok { IfOk result (λ assembler. placed_by assembler ≡ nothing_placed no_warn) }
-        ensures err { IfErr result (λ fault. fault ≡ NoMemory) }
+        ensures memory { IfErr result (λ fault. fault ≡ NoMemory) }
     {
         Ok(Assembler {
             alloc,
@@ -131,7 +131,7 @@ impl Assembler {
         ensures { PlacesBy (unless_dot dot) self.now self.now result }
     {
         if dot {
-            Err(PlaceFault::Source(PlacingFault::BadSymbolUse))
+            Err(PlaceFault::Fault(PlaceCause::BadSymbolUse))
         } else {
             Ok(())
         }
@@ -148,8 +148,7 @@ impl Assembler {
         ensures placed { PlacesBy (push_into pos number content) self.old self.new result }
         ensures notes { self.new.notes ≡ self.old.notes }
     {
-        push(&mut self.sections, number, Frag::new(pos, content))?;
-        Ok(())
+        push(&mut self.sections, number, Frag::new(pos, content)).map_err(FragFault::raise)
     }
 
     /// Puts an item last in the current section.

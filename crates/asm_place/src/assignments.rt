@@ -12,7 +12,7 @@ use asm_expr::Name;
 impl Assembler {
     ghost use Rattle.std.specs.Prelude.{◌≡◌, map};
     ghost use Rattle.asm_base.specs.Tokens.{spelled};
-    ghost use Rattle.asm_place.specs.Answers.{Gives};
+    ghost use Rattle.asm_base.specs.Refusals.{Gives};
     ghost use Rattle.asm_place.specs.Assignments.{assign_words, place_set, place_assignment};
     ghost use Rattle.asm_place.specs.NamedTrees.{named_tree_in};
     ghost use Rattle.asm_place.specs.PlacedBy.{placed_by, PlacesBy};

@@ -1,7 +1,7 @@
 //! Common symbols, and space in `.bss` (GNU as manual, ".comm", ".lcomm").
 
 ghost use Rattle.std.specs.Prelude.{◌≡◌, ◌≤◌, map};
-ghost use Rattle.asm_place.specs.Answers.{GivesBy};
+ghost use Rattle.asm_base.specs.Refusals.{GivesBy};
 ghost use Rattle.asm_base.specs.Tokens.{spelled};
 ghost use Rattle.asm_place.specs.Commons as spec;
 ghost use Rattle.asm_place.specs.KnownIn.{known_in};
@@ -9,7 +9,7 @@ ghost use Rattle.asm_place.specs.SpaceWordsIn.{space_words_in};
 
 use crate::assemblers::Assembler;
 use crate::operands::{Operands, begins_with_place};
-use crate::place_faults::{PlaceFault, PlacingFault};
+use crate::place_faults::{PlaceCause, PlaceFault};
 use crate::places::{View, spot_at};
 use crate::section_words::needed_name;
 use crate::spaces::{is_negative, log_of, space_of};
@@ -40,7 +40,7 @@ fn space_size(size: u64) -> Result<u64, PlaceFault>
     ensures { GivesBy (λ size. size) result (spec.space_size size) }
 {
     if is_negative(size) {
-        Err(PlaceFault::Source(PlacingFault::OutOfRange))
+        Err(PlaceFault::Fault(PlaceCause::OutOfRange))
     } else {
         Ok(size)
     }
@@ -76,7 +76,7 @@ fn space_words(
 impl SymbolUses {
     ghost use Rattle.std.specs.Prelude.{◌≡◌, map};
     ghost use Rattle.asm_expr.specs.Trees.{tree_of};
-    ghost use Rattle.asm_place.specs.Answers.{Gives};
+    ghost use Rattle.asm_base.specs.Refusals.{Gives};
     ghost use Rattle.asm_place.specs.Commons.{define_space};
 
     /// The symbol of the name is defined so, and has this size.
@@ -104,7 +104,7 @@ impl Assembler {
     ghost use Rattle.std.specs.Prelude.{◌≡◌, map};
     ghost use Rattle.asm_base.specs.Tokens.{spelled};
     ghost use Rattle.asm_expr.specs.Trees.{tree_of};
-    ghost use Rattle.asm_place.specs.Answers.{Gives};
+    ghost use Rattle.asm_base.specs.Refusals.{Gives};
     ghost use Rattle.asm_place.specs.Commons.{with_space, with_common, place_space, place_comm, place_lcomm};
     ghost use Rattle.asm_place.specs.PlacedBy.{placed_by, PlacesBy};
 

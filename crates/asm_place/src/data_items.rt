@@ -2,7 +2,7 @@
 
 ghost use Rattle.std.specs.Prelude.{◌≡◌, map, IfOk, OnOk};
 ghost use Rattle.asm_base.specs.Tokens.{spelled};
-ghost use Rattle.asm_place.specs.Answers.{GivesBy};
+ghost use Rattle.asm_base.specs.Refusals.{GivesBy};
 ghost use Rattle.asm_place.specs.KnownIn.{known_in};
 ghost use Rattle.asm_place.specs.Placing.{data_words};
 ghost use Rattle.asm_place.specs.DataWordsIn.{data_words_in};
@@ -79,7 +79,8 @@ fn data_words(alloc: Global, view: View, tokens: &[Token]) -> Result<DataWords, 
 impl Assembler {
     ghost use Rattle.std.specs.Prelude.{◌≡◌, map};
     ghost use Rattle.asm_base.specs.Tokens.{spelled};
-    ghost use Rattle.asm_place.specs.Answers.{Gives, KeepsNotes};
+    ghost use Rattle.asm_base.specs.Refusals.{Gives};
+    ghost use Rattle.asm_place.specs.Answers.{KeepsNotes};
     ghost use Rattle.asm_place.specs.Placing.{put_data, place_data};
     ghost use Rattle.asm_place.specs.DataWordsIn.{data_words_in};
     ghost use Rattle.asm_place.specs.PlacedBy.{placed_by, PlacesBy};

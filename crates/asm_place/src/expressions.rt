@@ -3,7 +3,7 @@
 ghost use Rattle.std.specs.Prelude.{◌≡◌, map, option_map, nat_le};
 ghost use Rattle.asm_base.specs.Tokens.{spelled};
 ghost use Rattle.asm_expr.specs.Trees.{tree_of};
-ghost use Rattle.asm_place.specs.Answers.{GivesBy};
+ghost use Rattle.asm_base.specs.Refusals.{GivesBy};
 ghost use Rattle.asm_place.specs.Results.{if_some};
 ghost use Rattle.asm_place.specs.Operands.{each};
 ghost use Rattle.asm_place.specs.OperandParts.{operands_left};
@@ -11,10 +11,10 @@ ghost use Rattle.asm_place.specs.KnownIn.{known_in};
 ghost use Rattle.asm_place.specs.Expressions.{alone, expression_of, form_in, constant_in};
 
 use crate::operands::Operands;
-use crate::place_faults::{PlaceFault, PlacingFault};
+use crate::place_faults::{PlaceCause, PlaceFault};
 use crate::places::View;
 use asm_base::Token;
-use asm_expr::{Expr, Linear, linear_form, parse_front, value_of};
+use asm_expr::{Expr, ExprFault, Linear, linear_form, parse_front, value_of};
 use std::alloc::Global;
 
 /// The expression, where nothing stands behind it.
@@ -24,7 +24,7 @@ fn alone(expr: Expr, rest: &[Token]) -> Result<Expr, PlaceFault>
     if rest.is_empty() {
         Ok(expr)
     } else {
-        Err(PlaceFault::Source(PlacingFault::BadOperand))
+        Err(PlaceFault::Fault(PlaceCause::BadOperand))
     }
 }
 
@@ -33,7 +33,7 @@ fn alone(expr: Expr, rest: &[Token]) -> Result<Expr, PlaceFault>
 pub(crate) fn expression_of(alloc: Global, operand: &[Token]) -> Result<Expr, PlaceFault>
     ensures { GivesBy tree_of result (expression_of (map spelled operand.now)) }
 {
-    let (expr, length) = parse_front(alloc, operand)?;
+    let (expr, length) = parse_front(alloc, operand).map_err(ExprFault::raise)?;
     alone(expr, &operand[length..])
 }
 
@@ -55,7 +55,7 @@ pub(crate) fn expressions(alloc: Global, operands: Operands) -> Result<Vec<Expr>
 pub(crate) fn form_in(alloc: Global, view: View, expr: &Expr) -> Result<Linear, PlaceFault>
     ensures { GivesBy (λ form. form) result (form_in (known_in view.entry) (tree_of expr.now)) }
 {
-    Ok(linear_form(alloc, expr, &view)?)
+    linear_form(alloc, expr, &view).map_err(ExprFault::raise)
 }
 
 /// The forms of expressions.
@@ -76,5 +76,8 @@ pub(crate) fn forms(alloc: Global, view: View, exprs: &[Expr]) -> Result<Vec<Lin
 pub(crate) fn constant_in(form: &Linear) -> Result<u64, PlaceFault>
     ensures { GivesBy (λ value. value) result (constant_in form.now) }
 {
-    Ok(value_of(form)?)
+    match value_of(form) {
+        Ok(value) => Ok(value),
+        Err(cause) => Err(PlaceFault::Fault(PlaceCause::from(cause))),
+    }
 }

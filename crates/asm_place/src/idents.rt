@@ -3,12 +3,12 @@
 ghost use Rattle.std.specs.Prelude.{◌≡◌, ◌==◌, map, IfOk};
 ghost use Rattle.std.specs.List.{list_any};
 ghost use Rattle.asm_base.specs.Tokens.{spelled};
-ghost use Rattle.asm_place.specs.Answers.{GivesBy};
+ghost use Rattle.asm_base.specs.Refusals.{GivesBy};
 ghost use Rattle.asm_place.specs.Idents as spec;
 
 use crate::assemblers::Assembler;
 use crate::operands::Operands;
-use crate::place_faults::{PlaceFault, PlacingFault};
+use crate::place_faults::{PlaceCause, PlaceFault};
 use crate::section_changes::{Header, enter};
 use crate::section_words::needed_string;
 use crate::texts::plain_item;
@@ -67,7 +67,7 @@ fn file_name(name: Vec<u8>) -> Result<Vec<u8>, PlaceFault>
     ensures { GivesBy (λ name. name.items) result (spec.file_name name.items) }
 {
     if has_zero(&name) {
-        Err(PlaceFault::Source(PlacingFault::BadOperand))
+        Err(PlaceFault::Fault(PlaceCause::BadOperand))
     } else {
         Ok(name)
     }
@@ -76,7 +76,7 @@ fn file_name(name: Vec<u8>) -> Result<Vec<u8>, PlaceFault>
 impl Assembler {
     ghost use Rattle.std.specs.Prelude.{◌≡◌, map};
     ghost use Rattle.asm_base.specs.Tokens.{spelled};
-    ghost use Rattle.asm_place.specs.Answers.{Gives};
+    ghost use Rattle.asm_base.specs.Refusals.{Gives};
     ghost use Rattle.asm_place.specs.Idents.{place_ident, place_file};
     ghost use Rattle.asm_place.specs.PlacedBy.{placed_by, PlacesBy};
 

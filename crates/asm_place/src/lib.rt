@@ -36,6 +36,6 @@ pub use instructions::{
     put_instruction, rows, rows_apart, rows_read,
 };
 pub use laws::{instruction_items, instruction_stands, placing_grows, placing_is_not_reading};
-pub use place_faults::{LocatedFault, PlacingFault};
+pub use place_faults::{LocatedCause, LocatedFault, PlaceCause};
 pub use sources::place_all;
 pub use tables::SymbolUses;

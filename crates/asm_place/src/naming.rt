@@ -11,7 +11,7 @@ use std::alloc::Global;
 impl SymbolUses {
     ghost use Rattle.std.specs.Prelude.{◌≡◌, map};
     ghost use Rattle.asm_expr.specs.Trees.{tree_of};
-    ghost use Rattle.asm_place.specs.Answers.{Gives};
+    ghost use Rattle.asm_base.specs.Refusals.{Gives};
     ghost use Rattle.asm_place.specs.Tables.{name_list, name_tree, name_trees};
     ghost use Rattle.asm_place.specs.Places.{name_here, name_part, name_parts};
 

@@ -2,12 +2,12 @@
 
 ghost use Rattle.std.specs.Prelude.{◌≡◌, ◌≤◌, length, map, IsTrue};
 ghost use Rattle.asm_base.specs.Tokens.{spelled};
-ghost use Rattle.asm_place.specs.Answers.{GivesBy};
+ghost use Rattle.asm_base.specs.Refusals.{GivesBy};
 ghost use Rattle.std.specs.List.{list_any, position_or_len};
 ghost use Rattle.asm_place.specs.Operands.{is_name, is_dot, begins_with_place, names_symbol, is_mark, is_comma, checked_name, symbol_name, name_of, string_of};
 ghost use Rattle.asm_place.specs.Placing.{is_assignment, begins_with_dot, is_number, begins_with_label};
 
-use crate::place_faults::{PlaceFault, PlacingFault};
+use crate::place_faults::{PlaceCause, PlaceFault};
 use asm_base::{Token, TokenKind, string_value};
 use asm_expr::{all_digits, between_quotes, is_symbol_name};
 use std::alloc::Global;
@@ -131,7 +131,7 @@ pub(crate) fn checked_name(name: Vec<u8>) -> Result<Vec<u8>, PlaceFault>
     if is_symbol_name(&name) {
         Ok(name)
     } else {
-        Err(PlaceFault::Source(PlacingFault::BadOperand))
+        Err(PlaceFault::Fault(PlaceCause::BadOperand))
     }
 }
 
@@ -143,7 +143,7 @@ pub(crate) fn symbol_name(alloc: Global, token: &Token) -> Result<Vec<u8>, Place
     match token.kind {
         TokenKind::Name => Ok(Vec::from_slice(alloc, token.bytes)?),
         TokenKind::String => checked_name(string_value(alloc, between_quotes(token.bytes))?),
-        _ => Err(PlaceFault::Source(PlacingFault::BadOperand)),
+        _ => Err(PlaceFault::Fault(PlaceCause::BadOperand)),
     }
 }
 
@@ -192,7 +192,7 @@ pub(crate) fn name_of(alloc: Global, operand: &[Token]) -> Result<Vec<u8>, Place
 {
     match operand {
         [token] => symbol_name(alloc, token),
-        _ => Err(PlaceFault::Source(PlacingFault::BadOperand)),
+        _ => Err(PlaceFault::Fault(PlaceCause::BadOperand)),
     }
 }
 
@@ -205,6 +205,6 @@ pub(crate) fn string_of(alloc: Global, operand: &[Token]) -> Result<Vec<u8>, Pla
         [token] if token.kind == TokenKind::String => {
             Ok(string_value(alloc, between_quotes(token.bytes))?)
         }
-        _ => Err(PlaceFault::Source(PlacingFault::BadOperand)),
+        _ => Err(PlaceFault::Fault(PlaceCause::BadOperand)),
     }
 }

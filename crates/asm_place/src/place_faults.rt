@@ -1,18 +1,15 @@
 //! Why a step of the placing ends without its result.
 
 ghost use Rattle.std.specs.Prelude.{◌≡◌};
-ghost use Rattle.asm_place.specs.declared.place_faults.PlaceFault.TheVariants.{NoMemory};
-ghost use Rattle.asm_place.specs.declared.place_faults.LocatedFault.TheVariants as stop;
 
-use asm_base::{Fault, Pos};
-use asm_expr::ExprFault;
-use asm_frags::FragFault;
-use asm_symbols::SymFault;
-use std::alloc::{AllocError, AllocFailed};
+use asm_base::{Fault, Pos, Refusal};
+use asm_expr::ExprCause;
+use asm_frags::FragCause;
+use asm_symbols::SymCause;
 
 /// A fault of a statement that placing answers.
 #[derive(Clone, Copy, Drop)]
-pub enum PlacingFault {
+pub enum PlaceCause {
     /// An operand or a closing parenthesis is missing.
     BadExpression,
     /// A number is above 2^64 - 1.
@@ -41,95 +38,57 @@ pub enum PlacingFault {
     BadSymbolUse,
 }
 
-/// Why a step refuses a statement: a fault of the source, or want of memory.
+/// Why a step refuses a statement.
+pub(crate) type PlaceFault = Refusal<PlaceCause>;
+
+impl From<ExprCause> for PlaceCause {
+    ghost use Rattle.asm_place.specs.ExprFaults.{stated};
+
+    ghost from_gives = { λ cause e. e ≡ stated cause };
+
+    fn from(cause: ExprCause) -> PlaceCause {
+        match cause {
+            ExprCause::BadExpression => PlaceCause::BadExpression,
+            ExprCause::NumberTooWide => PlaceCause::NumberTooWide,
+            ExprCause::ExpressionTooDeep => PlaceCause::ExpressionTooDeep,
+            ExprCause::DivisionByZero => PlaceCause::DivisionByZero,
+            ExprCause::ValueNotKnown => PlaceCause::ValueNotKnown,
+            ExprCause::NotASumOfSymbols => PlaceCause::NotASumOfSymbols,
+        }
+    }
+}
+
+impl From<SymCause> for PlaceCause {
+    ghost use Rattle.asm_place.specs.LayerFaults.{symbol_fault};
+
+    ghost from_gives = { λ cause e. e ≡ symbol_fault cause };
+
+    fn from(cause: SymCause) -> PlaceCause {
+        match cause {
+            SymCause::SymbolAlreadyDefined => PlaceCause::SymbolAlreadyDefined,
+            SymCause::BadSymbolUse => PlaceCause::BadSymbolUse,
+        }
+    }
+}
+
+impl From<FragCause> for PlaceCause {
+    ghost use Rattle.asm_place.specs.LayerFaults.{section_fault};
+
+    ghost from_gives = { λ cause e. e ≡ section_fault cause };
+
+    fn from(cause: FragCause) -> PlaceCause {
+        match cause {
+            FragCause::BadSection => PlaceCause::BadSection,
+        }
+    }
+}
+
+/// The first fault of a source, and where it stands.
 #[derive(Drop)]
-pub(crate) enum PlaceFault {
-    Source(PlacingFault),
-    NoMemory,
+pub struct LocatedCause {
+    pub fault: Fault,
+    pub pos: Pos,
 }
 
-impl From<ExprFault> for PlaceFault {
-    ghost use Rattle.asm_place.specs.ExprFaults.{step_fault};
-
-    ghost from_gives = { λ f e. e ≡ step_fault f };
-
-    fn from(fault: ExprFault) -> PlaceFault {
-        match fault {
-            ExprFault::BadExpression => PlaceFault::Source(PlacingFault::BadExpression),
-            ExprFault::NumberTooWide => PlaceFault::Source(PlacingFault::NumberTooWide),
-            ExprFault::ExpressionTooDeep => PlaceFault::Source(PlacingFault::ExpressionTooDeep),
-            ExprFault::DivisionByZero => PlaceFault::Source(PlacingFault::DivisionByZero),
-            ExprFault::ValueNotKnown => PlaceFault::Source(PlacingFault::ValueNotKnown),
-            ExprFault::NotASumOfSymbols => PlaceFault::Source(PlacingFault::NotASumOfSymbols),
-            ExprFault::NoMemory => PlaceFault::NoMemory,
-        }
-    }
-}
-
-impl From<SymFault> for PlaceFault {
-    ghost use Rattle.asm_place.specs.LayerFaults.{symbol_step};
-
-    ghost from_gives = { λ f e. e ≡ symbol_step f };
-
-    fn from(fault: SymFault) -> PlaceFault {
-        match fault {
-            SymFault::SymbolAlreadyDefined => {
-                PlaceFault::Source(PlacingFault::SymbolAlreadyDefined)
-            }
-            SymFault::BadSymbolUse => PlaceFault::Source(PlacingFault::BadSymbolUse),
-            SymFault::NoMemory => PlaceFault::NoMemory,
-        }
-    }
-}
-
-impl From<FragFault> for PlaceFault {
-    ghost use Rattle.asm_place.specs.LayerFaults.{section_step};
-
-    ghost from_gives = { λ f e. e ≡ section_step f };
-
-    fn from(fault: FragFault) -> PlaceFault {
-        match fault {
-            FragFault::BadSection => PlaceFault::Source(PlacingFault::BadSection),
-            FragFault::NoMemory => PlaceFault::NoMemory,
-        }
-    }
-}
-
-impl From<AllocError> for PlaceFault {
-    ghost from_gives = { λ _ e. e ≡ NoMemory };
-
-    fn from(_refused: AllocError) -> PlaceFault {
-        PlaceFault::NoMemory
-    }
-}
-
-impl<T: Drop> From<AllocFailed<T>> for PlaceFault {
-    ghost from_gives = { λ _ e. e ≡ NoMemory };
-
-    fn from(_refused: AllocFailed<T>) -> PlaceFault {
-        PlaceFault::NoMemory
-    }
-}
-
-/// Why the assembly of a source ends without an object: its first fault and where that stands, or want of memory.
-#[derive(Drop)]
-pub enum LocatedFault {
-    Source(Fault, Pos),
-    NoMemory,
-}
-
-impl From<AllocError> for LocatedFault {
-    ghost from_gives = { λ _ e. e ≡ stop.NoMemory };
-
-    fn from(_refused: AllocError) -> LocatedFault {
-        LocatedFault::NoMemory
-    }
-}
-
-impl<T: Drop> From<AllocFailed<T>> for LocatedFault {
-    ghost from_gives = { λ _ e. e ≡ stop.NoMemory };
-
-    fn from(_refused: AllocFailed<T>) -> LocatedFault {
-        LocatedFault::NoMemory
-    }
-}
+/// Why the assembly of a source ends without an object.
+pub type LocatedFault = Refusal<LocatedCause>;

@@ -11,7 +11,7 @@ use crate::operands::{
     begins_assignment, begins_with_dot, begins_with_label, is_dot, is_name, is_number,
     names_symbol, symbol_name,
 };
-use crate::place_faults::{PlaceFault, PlacingFault};
+use crate::place_faults::{PlaceCause, PlaceFault};
 use crate::tables::SymbolUses;
 use crate::texts::plain_item;
 use asm_base::{Pos, Text, Token, TokenKind};
@@ -54,19 +54,21 @@ fn has_wide_label(tokens: &[Token]) -> bool
 impl SymbolUses {
     ghost use Rattle.std.specs.Prelude.{◌≡◌, ◌<◌, length, IfOk};
     ghost use Rattle.asm_base.specs.Tokens.{spelled};
-    ghost use Rattle.asm_place.specs.Answers.{GivesNumber};
+    ghost use Rattle.asm_base.specs.Refusals.{GivesBy};
     ghost use Rattle.asm_place.specs.Placing.{label_symbol};
 
     /// The symbol of a label, by its token: that of the next instance of a number.
     #[tactic(auto, unfolding(crate::specs::Placing::label_symbol))]
     fn label_symbol(&mut self, alloc: Global, pos: Pos, token: &Token) -> Result<SymId, PlaceFault>
-        ensures gives { GivesNumber self.new result
+        ensures gives { GivesBy (λ id. (self.new, id)) result
             (label_symbol pos (spelled token.now) self.old) }
         ensures there { IfOk result (λ id. id < length self.new.symbols.symbols) }
     {
         if token.kind == TokenKind::Digits {
-            let number = decimal_number(token.bytes)?;
-            self.next_symbol(pos, number)
+            match decimal_number(token.bytes) {
+                Ok(number) => self.next_symbol(pos, number),
+                Err(cause) => Err(PlaceFault::Fault(PlaceCause::from(cause))),
+            }
         } else {
             let name = Name::Plain(Text::new(symbol_name(alloc, token)?));
             self.symbol_of(pos, &name)
@@ -77,7 +79,8 @@ impl SymbolUses {
 impl Assembler {
     ghost use Rattle.std.specs.Prelude.{◌≡◌, map, Ok};
     ghost use Rattle.asm_base.specs.Tokens.{spelled};
-    ghost use Rattle.asm_place.specs.Answers.{Gives, KeepsNotes};
+    ghost use Rattle.asm_base.specs.Refusals.{Gives};
+    ghost use Rattle.asm_place.specs.Answers.{KeepsNotes};
     ghost use Rattle.asm_place.specs.SectionChanges.{with_current, popped};
     ghost use Rattle.asm_place.specs.State.{push_item};
     ghost use Rattle.asm_place.specs.Idents.{plain_item};
@@ -93,7 +96,7 @@ impl Assembler {
         ensures notes { self.new.notes ≡ self.old.notes }
     {
         if !tokens.is_empty() {
-            return Err(PlaceFault::Source(PlacingFault::BadOperand));
+            return Err(PlaceFault::Fault(PlaceCause::BadOperand));
         }
         self.set_current(number);
         Ok(())
@@ -106,7 +109,7 @@ impl Assembler {
         ensures notes { self.new.notes ≡ self.old.notes }
     {
         if !tokens.is_empty() {
-            return Err(PlaceFault::Source(PlacingFault::BadOperand));
+            return Err(PlaceFault::Fault(PlaceCause::BadOperand));
         }
         self.pop_section()
     }
@@ -154,7 +157,7 @@ impl Assembler {
     {
         match directive_of(name) {
             Some(directive) => self.place_by(directive, pos, tokens),
-            None => Err(PlaceFault::Source(PlacingFault::UnknownDirective)),
+            None => Err(PlaceFault::Fault(PlaceCause::UnknownDirective)),
         }
     }
 
@@ -183,10 +186,10 @@ impl Assembler {
         ensures notes { self.new.notes ≡ self.old.notes }
     {
         match find_row(name) {
-            None => Err(PlaceFault::Source(PlacingFault::UnknownMnemonic)),
+            None => Err(PlaceFault::Fault(PlaceCause::UnknownMnemonic)),
             Some(row) => {
                 if !operands.is_empty() {
-                    return Err(PlaceFault::Source(PlacingFault::BadOperand));
+                    return Err(PlaceFault::Fault(PlaceCause::BadOperand));
                 }
                 self.put_row(pos, row)
             }
@@ -203,7 +206,7 @@ impl Assembler {
         if names_symbol(first) && begins_assignment(rest) {
             self.place_assignment(pos, first, &rest[1..])
         } else if !is_name(first) {
-            Err(PlaceFault::Source(PlacingFault::UnknownMnemonic))
+            Err(PlaceFault::Fault(PlaceCause::UnknownMnemonic))
         } else if begins_with_dot(first.bytes) {
             self.place_directive(pos, first.bytes, rest)
         } else {
@@ -258,7 +261,7 @@ impl Assembler {
         ensures notes { KeepsNotes result self.old.notes self.new.notes }
     {
         if has_wide_label(tokens) {
-            return Err(PlaceFault::Source(PlacingFault::NumberTooWide));
+            return Err(PlaceFault::Fault(PlaceCause::NumberTooWide));
         }
         self.place_labelled(pos, tokens)
     }

@@ -2,17 +2,16 @@
 
 ghost use Rattle.std.specs.Prelude.{◌≡◌, ◌≤◌, ◌^◌, length, map, option_map, option_copied, IfOk, IfSome, Ok};
 ghost use Rattle.asm_expr.specs.Trees.{tree_of};
-ghost use Rattle.asm_place.specs.Answers.{GivesBy};
+ghost use Rattle.asm_base.specs.Refusals.{GivesBy};
 ghost use Rattle.asm_place.specs.KnownIn.{known_in};
 ghost use Rattle.asm_place.specs.Results.{if_some};
 ghost use Rattle.asm_place.specs.SectionWords as words;
 ghost use Rattle.asm_place.specs.SectionChanges as spec;
 ghost use Rattle.asm_place.specs.SaidWords.{words_in};
-ghost use Rattle.asm_place.specs.Answers.{GivesNumber};
 
 use crate::assemblers::Assembler;
 use crate::operands::Operands;
-use crate::place_faults::{PlaceFault, PlacingFault};
+use crate::place_faults::{PlaceCause, PlaceFault};
 use crate::places::View;
 use crate::section_defaults::default_header;
 use crate::section_words::{SectionWords, said_flags, said_kind, says_merge, section_words};
@@ -70,7 +69,7 @@ fn merge_size(merge: bool, size: Option<u64>) -> Result<u64, PlaceFault>
     match (merge, size) {
         (false, _) => Ok(0),
         (true, Some(size)) if size != 0 => Ok(size),
-        (true, _) => Err(PlaceFault::Source(PlacingFault::BadSection)),
+        (true, _) => Err(PlaceFault::Fault(PlaceCause::BadSection)),
     }
 }
 
@@ -96,7 +95,7 @@ fn said_size(size: Option<u64>) -> Result<Option<u64>, PlaceFault>
     ensures { GivesBy (λ size. size) result (spec.said_size size) }
 {
     match size {
-        Some(number) if is_negative(number) => { Err(PlaceFault::Source(PlacingFault::OutOfRange)) }
+        Some(number) if is_negative(number) => { Err(PlaceFault::Fault(PlaceCause::OutOfRange)) }
         _ => Ok(size),
     }
 }
@@ -165,14 +164,13 @@ fn header_of(
 /// The number of the section of this name, which is short, and header.
 fn enter_short(sections: &mut Sections, name: Text, header: Header) -> Result<u32, PlaceFault>
     requires { length name ≤ 2 ^ 16 }
-    ensures { GivesNumber sections.new result (spec.entered_short sections.old name header) }
+    ensures { GivesBy (λ number. (sections.new, number)) result
+        (spec.entered_short sections.old name header) }
 {
     let flags = SectionFlags::from_bits_retain(header.flags);
-    match sections.enter(name, flags, header.kind, header.entry_size) {
-        Ok(number) => Ok(number),
-        Err(FragFault::BadSection) => Err(PlaceFault::Source(PlacingFault::BadSection)),
-        Err(FragFault::NoMemory) => Err(PlaceFault::NoMemory),
-    }
+    sections
+        .enter(name, flags, header.kind, header.entry_size)
+        .map_err(FragFault::raise)
 }
 
 /// The number of the section of this name and header, which is made if it is not there.
@@ -183,10 +181,11 @@ pub(crate) fn enter(
     name: &[u8],
     header: Header,
 ) -> Result<u32, PlaceFault>
-    ensures { GivesNumber sections.new result (spec.entered_as sections.old name.now header) }
+    ensures { GivesBy (λ number. (sections.new, number)) result
+        (spec.entered_as sections.old name.now header) }
 {
     if name.len() > MOST_NAME {
-        return Err(PlaceFault::Source(PlacingFault::BadSection));
+        return Err(PlaceFault::Fault(PlaceCause::BadSection));
     }
     let text = Text::new(Vec::from_slice(alloc, name)?);
     enter_short(sections, text, header)
@@ -207,7 +206,7 @@ fn option_exprs(alloc: Global, expr: Option<Expr>) -> Result<Vec<Expr>, PlaceFau
 impl Assembler {
     ghost use Rattle.std.specs.Prelude.{◌≡◌, map};
     ghost use Rattle.asm_base.specs.Tokens.{spelled};
-    ghost use Rattle.asm_place.specs.Answers.{Gives};
+    ghost use Rattle.asm_base.specs.Refusals.{Gives};
     ghost use Rattle.asm_place.specs.SaidWords.{words_in};
     ghost use Rattle.asm_place.specs.SectionChanges.{with_current, enter_words, place_section, place_pushed, popped};
     ghost use Rattle.asm_place.specs.PlacedBy.{placed_by, PlacesBy};
@@ -275,7 +274,7 @@ impl Assembler {
                 self.previous = entered.previous;
                 Ok(())
             }
-            None => Err(PlaceFault::Source(PlacingFault::BadSection)),
+            None => Err(PlaceFault::Fault(PlaceCause::BadSection)),
         }
     }
 }

@@ -4,7 +4,7 @@ ghost use Rattle.std.specs.Prelude.{◌≡◌, ◌≤◌, map, option_map, Ok};
 ghost use Rattle.std.specs.List.{list_all};
 ghost use Rattle.asm_base.specs.Tokens.{spelled};
 ghost use Rattle.asm_expr.specs.Trees.{tree_of};
-ghost use Rattle.asm_place.specs.Answers.{GivesBy, GivesAnd};
+ghost use Rattle.asm_base.specs.Refusals.{GivesBy};
 ghost use Rattle.asm_place.specs.OperandParts.{operands_left, Takes};
 ghost use Rattle.asm_place.specs.Operands.{name_of, string_of};
 ghost use Rattle.asm_place.specs.SectionWords as spec;
@@ -12,7 +12,7 @@ ghost use Rattle.asm_place.specs.SaidWords.{words_in};
 
 use crate::expressions::expression_of;
 use crate::operands::{Operands, checked_name, is_mark, is_name, name_of, string_of};
-use crate::place_faults::{PlaceFault, PlacingFault};
+use crate::place_faults::{PlaceCause, PlaceFault};
 use crate::up_to_three::no_more;
 use asm_base::{Token, TokenKind};
 use asm_expr::Expr;
@@ -119,7 +119,7 @@ fn type_name(alloc: Global, operand: &[Token]) -> Result<Vec<u8>, PlaceFault>
         [mark, name] if begins_type(mark) && is_name(name) => {
             Ok(Vec::from_slice(alloc, name.bytes)?)
         }
-        _ => Err(PlaceFault::Source(PlacingFault::BadOperand)),
+        _ => Err(PlaceFault::Fault(PlaceCause::BadOperand)),
     }
 }
 
@@ -130,7 +130,7 @@ fn needed_section(alloc: Global, operands: &mut Operands) -> Result<Vec<u8>, Pla
 {
     match operands.next() {
         Some(operand) => section_name(alloc, operand),
-        None => Err(PlaceFault::Source(PlacingFault::BadOperand)),
+        None => Err(PlaceFault::Fault(PlaceCause::BadOperand)),
     }
 }
 
@@ -140,7 +140,7 @@ pub(crate) fn needed_name(alloc: Global, operands: &mut Operands) -> Result<Vec<
 {
     match operands.next() {
         Some(operand) => name_of(alloc, operand),
-        None => Err(PlaceFault::Source(PlacingFault::BadOperand)),
+        None => Err(PlaceFault::Fault(PlaceCause::BadOperand)),
     }
 }
 
@@ -151,7 +151,7 @@ pub(crate) fn needed_string(alloc: Global, operands: &mut Operands) -> Result<Ve
 {
     match operands.next() {
         Some(operand) => string_of(alloc, operand),
-        None => Err(PlaceFault::Source(PlacingFault::BadOperand)),
+        None => Err(PlaceFault::Fault(PlaceCause::BadOperand)),
     }
 }
 
@@ -277,7 +277,7 @@ pub(crate) fn said_flags(letters: &[u8]) -> Result<u64, PlaceFault>
     if are_flag_letters(letters) {
         Ok(letter_flags(letters))
     } else {
-        Err(PlaceFault::Source(PlacingFault::BadSection))
+        Err(PlaceFault::Fault(PlaceCause::BadSection))
     }
 }
 
@@ -299,6 +299,6 @@ pub(crate) fn said_kind(name: &[u8]) -> Result<u32, PlaceFault>
     } else if name == b"preinit_array".as_slice() {
         Ok(SHT_PREINIT_ARRAY)
     } else {
-        Err(PlaceFault::Source(PlacingFault::BadSection))
+        Err(PlaceFault::Fault(PlaceCause::BadSection))
     }
 }

@@ -8,28 +8,28 @@ ghost use Rattle.asm_place.specs.Sources.{place, place_all};
 ghost use Rattle.asm_place.specs.Stops.{Places, stop_at};
 
 use crate::assemblers::Assembler;
-use crate::place_faults::{LocatedFault, PlaceFault, PlacingFault};
+use crate::place_faults::{LocatedCause, LocatedFault, PlaceCause, PlaceFault};
 use asm_base::{Fault, Pos, StatementFault, Tokens};
 use asm_lines::Statement;
 
 /// The fault of the statement that placing answers.
-fn statement_fault(fault: PlacingFault) -> StatementFault
+fn statement_fault(fault: PlaceCause) -> StatementFault
     ensures { result ≡ statement_fault fault }
 {
     match fault {
-        PlacingFault::BadExpression => StatementFault::BadExpression,
-        PlacingFault::NumberTooWide => StatementFault::NumberTooWide,
-        PlacingFault::ExpressionTooDeep => StatementFault::ExpressionTooDeep,
-        PlacingFault::DivisionByZero => StatementFault::DivisionByZero,
-        PlacingFault::ValueNotKnown => StatementFault::ValueNotKnown,
-        PlacingFault::NotASumOfSymbols => StatementFault::NotASumOfSymbols,
-        PlacingFault::UnknownMnemonic => StatementFault::UnknownMnemonic,
-        PlacingFault::UnknownDirective => StatementFault::UnknownDirective,
-        PlacingFault::BadOperand => StatementFault::BadOperand,
-        PlacingFault::OutOfRange => StatementFault::OutOfRange,
-        PlacingFault::BadSection => StatementFault::BadSection,
-        PlacingFault::SymbolAlreadyDefined => StatementFault::SymbolAlreadyDefined,
-        PlacingFault::BadSymbolUse => StatementFault::BadSymbolUse,
+        PlaceCause::BadExpression => StatementFault::BadExpression,
+        PlaceCause::NumberTooWide => StatementFault::NumberTooWide,
+        PlaceCause::ExpressionTooDeep => StatementFault::ExpressionTooDeep,
+        PlaceCause::DivisionByZero => StatementFault::DivisionByZero,
+        PlaceCause::ValueNotKnown => StatementFault::ValueNotKnown,
+        PlaceCause::NotASumOfSymbols => StatementFault::NotASumOfSymbols,
+        PlaceCause::UnknownMnemonic => StatementFault::UnknownMnemonic,
+        PlaceCause::UnknownDirective => StatementFault::UnknownDirective,
+        PlaceCause::BadOperand => StatementFault::BadOperand,
+        PlaceCause::OutOfRange => StatementFault::OutOfRange,
+        PlaceCause::BadSection => StatementFault::BadSection,
+        PlaceCause::SymbolAlreadyDefined => StatementFault::SymbolAlreadyDefined,
+        PlaceCause::BadSymbolUse => StatementFault::BadSymbolUse,
     }
 }
 
@@ -38,8 +38,11 @@ fn stands_at(fault: PlaceFault, pos: Pos) -> LocatedFault
     ensures { result ≡ stop_at fault pos }
 {
     match fault {
-        PlaceFault::Source(fault) => {
-            LocatedFault::Source(Fault::Statement(statement_fault(fault)), pos)
+        PlaceFault::Fault(cause) => {
+            LocatedFault::Fault(LocatedCause {
+                fault: Fault::Statement(statement_fault(cause)),
+                pos,
+            })
         }
         PlaceFault::NoMemory => LocatedFault::NoMemory,
     }

@@ -1,12 +1,12 @@
 //! Space (GNU as manual, ".zero", ".skip", ".space", ".fill"), and the alignments of space for symbols.
 
 ghost use Rattle.std.specs.Prelude.{◌≡◌, ◌≤◌, IfOk};
-ghost use Rattle.asm_place.specs.Answers.{GivesBy};
+ghost use Rattle.asm_base.specs.Refusals.{GivesBy};
 ghost use Rattle.asm_place.specs.Spaces.{is_negative, space_of, units_of, unit_size, default_log, said_log, log_of};
 
 use crate::assemblers::Assembler;
 use crate::operands::Operands;
-use crate::place_faults::{PlaceFault, PlacingFault};
+use crate::place_faults::{PlaceCause, PlaceFault};
 use crate::up_to_three::known_operands;
 use asm_base::{Pos, Token};
 use asm_expr::Expr;
@@ -28,7 +28,7 @@ pub(crate) fn space_of(count: u64, value: u64) -> Result<Content, PlaceFault>
     ensures { GivesBy (λ item. item) result (space_of count value) }
 {
     if count > MOST_SPACE {
-        return Err(PlaceFault::Source(PlacingFault::OutOfRange));
+        return Err(PlaceFault::Fault(PlaceCause::OutOfRange));
     }
     Ok(Content::Fill(Fill::new(count, 1, value)))
 }
@@ -40,13 +40,13 @@ fn units_of(count: u64, size: u64, value: u64) -> Result<Content, PlaceFault>
     ensures { GivesBy (λ item. item) result (units_of count size value) }
 {
     if is_negative(count) {
-        return Err(PlaceFault::Source(PlacingFault::OutOfRange));
+        return Err(PlaceFault::Fault(PlaceCause::OutOfRange));
     }
     if size == 0 {
         return Ok(Content::Fill(Fill::new(0, 0, value)));
     }
     if count > MOST_SPACE || count * size > MOST_SPACE {
-        return Err(PlaceFault::Source(PlacingFault::OutOfRange));
+        return Err(PlaceFault::Fault(PlaceCause::OutOfRange));
     }
     Ok(Content::Fill(Fill::new(count, size, value)))
 }
@@ -61,7 +61,7 @@ fn unit_size(size: Option<u64>) -> Result<u64, PlaceFault>
         None => Ok(1),
         Some(size) => {
             if is_negative(size) {
-                Err(PlaceFault::Source(PlacingFault::OutOfRange))
+                Err(PlaceFault::Fault(PlaceCause::OutOfRange))
             } else {
                 Ok(size.min(8))
             }
@@ -97,7 +97,7 @@ fn said_log(alignment: u64) -> Result<u8, PlaceFault>
     if alignment.is_power_of_two() && log <= 30 {
         Ok(log as u8)
     } else {
-        Err(PlaceFault::Source(PlacingFault::OutOfRange))
+        Err(PlaceFault::Fault(PlaceCause::OutOfRange))
     }
 }
 
@@ -116,7 +116,7 @@ impl Assembler {
     ghost use Rattle.std.specs.Prelude.{◌≡◌, map};
     ghost use Rattle.asm_base.specs.Tokens.{spelled};
     ghost use Rattle.asm_expr.specs.Trees.{tree_of};
-    ghost use Rattle.asm_place.specs.Answers.{Gives};
+    ghost use Rattle.asm_base.specs.Refusals.{Gives};
     ghost use Rattle.asm_place.specs.Placing.{with_item, place_zero, place_skip, place_fill};
     ghost use Rattle.asm_place.specs.PlacedBy.{placed_by, PlacesBy};
 

@@ -3,7 +3,7 @@
 ghost use Rattle.std.specs.Prelude.{◌≡◌, map, Ok};
 ghost use Rattle.asm_base.specs.Tokens.{spelled};
 ghost use Rattle.asm_expr.specs.Trees.{tree_of};
-ghost use Rattle.asm_place.specs.Answers.{GivesBy, GivesAnd};
+ghost use Rattle.asm_base.specs.Refusals.{GivesBy};
 ghost use Rattle.asm_place.specs.OperandParts.{operands_left, Takes};
 ghost use Rattle.asm_place.specs.Operands.{name_of, each};
 ghost use Rattle.asm_place.specs.SectionWords.{needed};
@@ -14,7 +14,7 @@ use crate::assemblers::Assembler;
 use crate::directives::SymbolAttribute;
 use crate::expressions::{expression_of, form_in};
 use crate::operands::{Operands, begins_with_place, has_dot, is_name, name_of};
-use crate::place_faults::{PlaceFault, PlacingFault};
+use crate::place_faults::{PlaceCause, PlaceFault};
 use crate::places::uses_dot;
 use crate::section_words::{begins_type, needed_name};
 use crate::tables::SymbolUses;
@@ -61,7 +61,7 @@ fn kind_named(word: &[u8]) -> Result<Kind, PlaceFault>
     } else if word == b"common".as_slice() {
         Ok(Kind::Common)
     } else {
-        Err(PlaceFault::Source(PlacingFault::BadOperand))
+        Err(PlaceFault::Fault(PlaceCause::BadOperand))
     }
 }
 
@@ -72,7 +72,7 @@ fn kind_of(operand: &[Token]) -> Result<Kind, PlaceFault>
 {
     match operand {
         [mark, word] if begins_type(mark) && is_name(word) => kind_named(word.bytes),
-        _ => Err(PlaceFault::Source(PlacingFault::BadOperand)),
+        _ => Err(PlaceFault::Fault(PlaceCause::BadOperand)),
     }
 }
 
@@ -82,7 +82,7 @@ fn needed_kind(operands: &mut Operands) -> Result<Kind, PlaceFault>
 {
     match operands.next() {
         Some(operand) => kind_of(operand),
-        None => Err(PlaceFault::Source(PlacingFault::BadOperand)),
+        None => Err(PlaceFault::Fault(PlaceCause::BadOperand)),
     }
 }
 
@@ -102,7 +102,7 @@ fn last_tree(alloc: Global, operands: &mut Operands) -> Result<Expr, PlaceFault>
             let expr = expression_of(alloc, operand)?;
             no_more(operands, expr)
         }
-        None => Err(PlaceFault::Source(PlacingFault::BadExpression)),
+        None => Err(PlaceFault::Fault(PlaceCause::BadExpression)),
     }
 }
 
@@ -121,7 +121,7 @@ pub(crate) fn named_tree(alloc: Global, operands: &mut Operands) -> Result<Named
 
 impl SymbolUses {
     ghost use Rattle.std.specs.Prelude.{◌≡◌};
-    ghost use Rattle.asm_place.specs.Answers.{Gives};
+    ghost use Rattle.asm_base.specs.Refusals.{Gives};
     ghost use Rattle.asm_place.specs.SymbolWords.{say_one, say_all};
 
     /// This is said of a name.
@@ -158,7 +158,7 @@ impl SymbolUses {
 impl Assembler {
     ghost use Rattle.std.specs.Prelude.{◌≡◌, map};
     ghost use Rattle.asm_base.specs.Tokens.{spelled};
-    ghost use Rattle.asm_place.specs.Answers.{Gives};
+    ghost use Rattle.asm_base.specs.Refusals.{Gives};
     ghost use Rattle.asm_place.specs.SymbolWords.{place_said, place_type, place_size};
     ghost use Rattle.asm_place.specs.PlacedBy.{placed_by, PlacesBy};
 
@@ -175,7 +175,7 @@ impl Assembler {
         ensures notes { self.new.notes ≡ self.old.notes }
     {
         if tokens.is_empty() {
-            return Err(PlaceFault::Source(PlacingFault::BadOperand));
+            return Err(PlaceFault::Fault(PlaceCause::BadOperand));
         }
         let names = names(self.alloc, Operands::new(tokens))?;
         self.table.say_all(pos, attribute, &names)?;

@@ -3,10 +3,10 @@
 ghost use Rattle.std.specs.Prelude.{◌≡◌};
 
 use crate::directives::SymbolAttribute;
-use crate::place_faults::{PlaceFault, PlacingFault};
+use crate::place_faults::{PlaceCause, PlaceFault};
 use asm_base::{Pos, Text};
 use asm_expr::{Linear, Name, Written, constant_form};
-use asm_symbols::{Definition, Kind, SymId, Symbols};
+use asm_symbols::{Definition, Kind, SymFault, SymId, Symbols};
 use indexmap::IndexMap;
 use std::alloc::Global;
 use std::marker::Model;
@@ -35,7 +35,7 @@ impl SymbolUses {
     ghost use Rattle.std.specs.Map.{lookup};
     ghost use Rattle.asm_symbols.specs.Defining.{defined};
     ghost use Rattle.asm_symbols.specs.LeadsBack.{assigned};
-    ghost use Rattle.asm_place.specs.Answers.{Gives, GivesNumber};
+    ghost use Rattle.asm_base.specs.Refusals.{Gives, GivesBy};
     ghost use Rattle.asm_place.specs.Tables.{no_table, with_map, symbol_of, next_symbol, changed_by, file_named, name_written};
     ghost use Rattle.asm_place.specs.Commons.{as_space};
     ghost use Rattle.asm_place.specs.SymbolWords.{said, kind_said, sized};
@@ -76,11 +76,12 @@ impl SymbolUses {
     /// The symbol of the name, which is put last if it is new.
     #[tactic(auto, unfolding(crate::specs::Tables::symbol_of))]
     pub(crate) fn symbol_of(&mut self, pos: Pos, name: &Name) -> Result<SymId, PlaceFault>
-        ensures gives { GivesNumber self.new result (symbol_of pos name.now self.old) }
+        ensures gives { GivesBy (λ id. (self.new, id)) result
+            (symbol_of pos name.now self.old) }
         ensures there { IfOk result (λ id. id < length self.new.symbols.symbols) }
     {
         let before = self.symbols.len();
-        let id = self.symbols.name_of(name)?;
+        let id = self.symbols.name_of(name).map_err(SymFault::raise)?;
         if self.symbols.len() > before {
             self.named.push(pos)?;
         }
@@ -90,11 +91,12 @@ impl SymbolUses {
     /// The symbol of the next instance of a numeric label.
     #[tactic(auto, unfolding(crate::specs::Tables::next_symbol))]
     pub(crate) fn next_symbol(&mut self, pos: Pos, number: u64) -> Result<SymId, PlaceFault>
-        ensures gives { GivesNumber self.new result (next_symbol pos number self.old) }
+        ensures gives { GivesBy (λ id. (self.new, id)) result
+            (next_symbol pos number self.old) }
         ensures there { IfOk result (λ id. id < length self.new.symbols.symbols) }
     {
         let before = self.symbols.len();
-        let id = self.symbols.numeric_next(number)?;
+        let id = self.symbols.numeric_next(number).map_err(SymFault::raise)?;
         if self.symbols.len() > before {
             self.named.push(pos)?;
         }
@@ -108,8 +110,7 @@ impl SymbolUses {
             (changed_by (λ map index. defined map index what) (self.old, id)) }
         ensures length { length self.new.symbols.symbols ≡ length self.old.symbols.symbols }
     {
-        self.symbols.define(id, what)?;
-        Ok(())
+        self.symbols.define(id, what).map_err(SymFault::raise)
     }
 
     /// This is said of the symbol.
@@ -118,10 +119,16 @@ impl SymbolUses {
         ensures { Gives self.new result (changed_by (said attribute) (self.old, id)) }
     {
         match attribute {
-            SymbolAttribute::Bind(binding) => self.symbols.bind(id, binding)?,
-            SymbolAttribute::See(visibility) => self.symbols.visibility(id, visibility)?,
+            SymbolAttribute::Bind(binding) => self
+                .symbols
+                .bind(id, binding)
+                .map_err(SymFault::raise),
+            SymbolAttribute::See(visibility) => {
+                self.symbols
+                    .visibility(id, visibility)
+                    .map_err(SymFault::raise)
+            }
         }
-        Ok(())
     }
 
     /// The symbol is of this kind.
@@ -130,8 +137,7 @@ impl SymbolUses {
         ensures gives { Gives self.new result (changed_by (kind_said kind) (self.old, id)) }
         ensures length { length self.new.symbols.symbols ≡ length self.old.symbols.symbols }
     {
-        self.symbols.kind(id, kind)?;
-        Ok(())
+        self.symbols.kind(id, kind).map_err(SymFault::raise)
     }
 
     /// The symbol is space of this size.
@@ -146,9 +152,10 @@ impl SymbolUses {
             (Ok (with_map self.old (as_space size self.old.symbols id))) }
     {
         let kind = self.symbols.symbol(id).kind.unwrap_or(Kind::Object);
-        self.symbols.size(id, constant_form(alloc, size))?;
-        self.symbols.kind(id, kind)?;
-        Ok(())
+        self.symbols
+            .size(id, constant_form(alloc, size))
+            .map_err(SymFault::raise)?;
+        self.symbols.kind(id, kind).map_err(SymFault::raise)
     }
 
     /// The symbol has this size, which is said at this place.
@@ -156,7 +163,7 @@ impl SymbolUses {
         requires { id < length self.old.symbols.symbols }
         ensures { Gives self.new result (Ok (sized pos size (self.old, id))) }
     {
-        self.symbols.size(id, size)?;
+        self.symbols.size(id, size).map_err(SymFault::raise)?;
         self.sized.insert(id.index(), pos)?;
         Ok(())
     }
@@ -167,16 +174,14 @@ impl SymbolUses {
         ensures { Gives self.new result
             (changed_by (λ map index. assigned map index form once) (self.old, id)) }
     {
-        self.symbols.assign(id, form, once)?;
-        Ok(())
+        self.symbols.assign(id, form, once).map_err(SymFault::raise)
     }
 
     /// The name of a file more.
     pub(crate) fn file(&mut self, name: &Name) -> Result<(), PlaceFault>
         ensures { Gives self.new result (file_named name.now self.old) }
     {
-        self.symbols.file(name)?;
-        Ok(())
+        self.symbols.file(name).map_err(SymFault::raise)
     }
 
     /// A name of an expression becomes a symbol.
@@ -192,7 +197,7 @@ impl SymbolUses {
             }
             Written::Back(number) => match self.symbols.numeric_back(*number) {
                 Some(_) => Ok(()),
-                None => Err(PlaceFault::Source(PlacingFault::BadSymbolUse)),
+                None => Err(PlaceFault::Fault(PlaceCause::BadSymbolUse)),
             },
             Written::Next(number) => {
                 self.next_symbol(pos, *number)?;

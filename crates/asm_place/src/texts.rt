@@ -1,7 +1,7 @@
 //! Items of strings (GNU as manual, ".ascii", ".asciz", ".string"), and bytes alone.
 
 ghost use Rattle.std.specs.Prelude.{◌≡◌, IfOk};
-ghost use Rattle.asm_place.specs.Answers.{GivesBy};
+ghost use Rattle.asm_base.specs.Refusals.{GivesBy};
 ghost use Rattle.asm_place.specs.Operands.{joined_strings, end_byte};
 ghost use Rattle.asm_place.specs.OperandParts.{operands_left};
 ghost use Rattle.asm_place.specs.Idents.{plain_item};
@@ -47,7 +47,7 @@ pub(crate) fn plain_item(alloc: Global, bytes: &[u8]) -> Result<Content, AllocEr
 impl Assembler {
     ghost use Rattle.std.specs.Prelude.{◌≡◌, map};
     ghost use Rattle.asm_base.specs.Tokens.{spelled};
-    ghost use Rattle.asm_place.specs.Answers.{Gives};
+    ghost use Rattle.asm_base.specs.Refusals.{Gives};
     ghost use Rattle.asm_place.specs.Placing.{place_strings};
     ghost use Rattle.asm_place.specs.PlacedBy.{placed_by, PlacesBy};
 

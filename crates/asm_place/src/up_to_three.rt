@@ -3,7 +3,7 @@
 ghost use Rattle.std.specs.Prelude.{◌≡◌, map, option_map, nat_le, IfOk, Ok};
 ghost use Rattle.asm_base.specs.Tokens.{spelled};
 ghost use Rattle.asm_expr.specs.Trees.{tree_of};
-ghost use Rattle.asm_place.specs.Answers.{GivesBy, GivesAnd};
+ghost use Rattle.asm_base.specs.Refusals.{GivesBy};
 ghost use Rattle.asm_place.specs.Results.{if_some};
 ghost use Rattle.asm_place.specs.OperandParts.{operands_left, Takes};
 ghost use Rattle.asm_place.specs.KnownIn.{known_in};
@@ -12,7 +12,7 @@ ghost use Rattle.asm_place.specs.UpToThreeTrees.{trees_in, trees_listed, known_o
 
 use crate::expressions::{constant_in, expression_of, form_in};
 use crate::operands::Operands;
-use crate::place_faults::{PlaceFault, PlacingFault};
+use crate::place_faults::{PlaceCause, PlaceFault};
 use crate::places::View;
 use asm_expr::{Expr, Linear};
 use std::alloc::Global;
@@ -39,7 +39,7 @@ fn first_tree(alloc: Global, operands: &mut Operands) -> Result<Expr, PlaceFault
 {
     match operands.next() {
         Some(operand) => expression_of(alloc, operand),
-        None => Err(PlaceFault::Source(PlacingFault::BadExpression)),
+        None => Err(PlaceFault::Fault(PlaceCause::BadExpression)),
     }
 }
 
@@ -75,7 +75,7 @@ pub(crate) fn no_more<T: Drop>(operands: &mut Operands, made: T) -> Result<T, Pl
 {
     match operands.next() {
         None => Ok(made),
-        Some(_) => Err(PlaceFault::Source(PlacingFault::BadOperand)),
+        Some(_) => Err(PlaceFault::Fault(PlaceCause::BadOperand)),
     }
 }
 

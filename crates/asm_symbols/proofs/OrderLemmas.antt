@@ -6,9 +6,9 @@ use Rattle.asm_symbols.specs.declared.entries.Symbol.{Symbol}
 use Rattle.asm_symbols.specs.declared.entries.Meaning.{Meaning}
 use Rattle.asm_symbols.specs.declared.entries.Definition.{Definition}
 use Rattle.asm_symbols.specs.declared.entries.Binding.{Binding}
-use Rattle.asm_symbols.specs.declared.faults.SymFault.{SymFault}
+use Rattle.asm_symbols.specs.declared.faults.SymCause.{SymCause}
 use Rattle.asm_symbols.specs.SymbolMap.{SymbolMap, names, changed, with_symbol, with_meaning}
-use Rattle.asm_symbols.specs.Answering.{◌>>=◌}
+use Rattle.asm_base.specs.Refusals.{◌>>=◌}
 use Rattle.asm_symbols.specs.Defining.{redefined, with_defined, defined_by, defined}
 use Rattle.asm_symbols.specs.Attributes.{bound_as, with_binding, bound_by, bound}
 use Rattle.asm_symbols.specs.Order.{KeepsOrder}
@@ -34,7 +34,7 @@ pub record ChangesOne (map made : SymbolMap) (at : ℕ) : Type 0 where
 order_one : (map made : SymbolMap) (at : ℕ) → ChangesOne map made at → KeepsOrder map made
 order_one map made at one = rw one.is (order_changed one.change one.keeps map.symbols at)
 
-defined_made : (map made : SymbolMap) (at : ℕ) (what : Definition) (symbol : Symbol) (r : Result Meaning SymFault)
+defined_made : (map made : SymbolMap) (at : ℕ) (what : Definition) (symbol : Symbol) (r : Result Meaning SymCause)
     → (r >>= λ new. Ok (with_defined map at symbol.name what new)) ≡ Ok made → ChangesOne map made at
 defined_made map made at what symbol (Err fault) is = cc
 defined_made map made at what symbol (Ok new) is =
@@ -49,7 +49,7 @@ pub order_defined : (map made : SymbolMap) (at : ℕ) (what : Definition) → de
 unfolding defined
 order_defined map made at what is = order_one map made at (defined_found map made at what (slice_get map.symbols at) is)
 
-bound_made : (map made : SymbolMap) (at : ℕ) (r : Result Binding SymFault) → (r >>= λ new. Ok (with_symbol (with_binding new) map at)) ≡ Ok made → ChangesOne map made at
+bound_made : (map made : SymbolMap) (at : ℕ) (r : Result Binding SymCause) → (r >>= λ new. Ok (with_symbol (with_binding new) map at)) ≡ Ok made → ChangesOne map made at
 bound_made map made at (Err fault) is = cc
 bound_made map made at (Ok new) is =
     let same : with_symbol (with_binding new) map at ≡ made = cc in

@@ -6,13 +6,13 @@ use Rattle.asm_expr.specs.Forms.{Form}
 use Rattle.asm_symbols.specs.declared.entries.Spot.{Spot}
 use Rattle.asm_symbols.specs.declared.entries.Definition.TheVariants.{Label, Common}
 use Rattle.asm_symbols.specs.declared.entries.Binding.TheVariants.{Local, Global, Weak}
-use Rattle.asm_symbols.specs.declared.faults.SymFault.TheVariants.{SymbolAlreadyDefined, BadSymbolUse}
+use Rattle.asm_symbols.specs.declared.faults.SymCause.TheVariants.{SymbolAlreadyDefined, BadSymbolUse}
 use Rattle.asm_symbols.specs.SymbolMap.{SymbolMap, nothing_named, changed, with_symbol}
-use Rattle.asm_symbols.specs.Answering.{◌>>=◌}
+use Rattle.asm_base.specs.Refusals.{◌>>=◌}
 use Rattle.asm_symbols.specs.Interning.{with_name, named}
 use Rattle.asm_symbols.specs.Counting.{next_named, last_named}
 use Rattle.asm_symbols.specs.Defining.{defined}
-use Rattle.asm_symbols.specs.Assigning.{refusal_at, with_form}
+use Rattle.asm_symbols.specs.Assigning.{form_fault_at, with_form}
 use Rattle.asm_symbols.specs.Searching.{seen_with}
 use Rattle.asm_symbols.specs.LeadsBack.{searched, leads_back, assigned}
 use Rattle.asm_symbols.specs.Attributes.{with_binding, bound}
@@ -64,12 +64,12 @@ unfolding defined bound changed
 common_local = refl
 
 -- `.equiv` of a symbol that is undefined, and an assignment to `.`
-equiv_first : refusal_at (one word) 0 true ≡ None
-unfolding refusal_at
+equiv_first : form_fault_at (one word) 0 true ≡ None
+unfolding form_fault_at
 equiv_first = refl
 
-here_refused : refusal_at (one (naming.Plain (codes "."))) 0 false ≡ Some BadSymbolUse
-unfolding refusal_at
+here_refused : form_fault_at (one (naming.Plain (codes "."))) 0 false ≡ Some BadSymbolUse
+unfolding form_fault_at
 here_refused = refl
 
 -- three symbols, and the forms of a symbol and of a number
@@ -84,22 +84,22 @@ of_number = record { terms = []; constant = 3 }
 
 -- `a=a`, `a=b` before `b=a`, and `a=b` before `b=c` and `c=a` lead back
 itself_refused : assigned letters 0 (of_name (naming.Plain (codes "a"))) false ≡ Err BadSymbolUse
-unfolding assigned leads_back searched seen_with refusal_at changed
+unfolding assigned leads_back searched seen_with form_fault_at changed
 itself_refused = refl
 
 two_refused : (assigned letters 0 (of_name (naming.Plain (codes "b"))) false >>= λ map. assigned map 1 (of_name (naming.Plain (codes "a"))) false) ≡ Err BadSymbolUse
-unfolding assigned leads_back searched seen_with refusal_at changed
+unfolding assigned leads_back searched seen_with form_fault_at changed
 two_refused = refl
 
 three_refused : (assigned letters 0 (of_name (naming.Plain (codes "b"))) false >>= λ map. assigned map 1 (of_name (naming.Plain (codes "c"))) false
     >>= λ map. assigned map 2 (of_name (naming.Plain (codes "a"))) false) ≡ Err BadSymbolUse
-unfolding assigned leads_back searched seen_with refusal_at changed
+unfolding assigned leads_back searched seen_with form_fault_at changed
 three_refused = refl
 
 -- `a=b` before `b=3` does not
 number_taken : (assigned letters 0 (of_name (naming.Plain (codes "b"))) false >>= λ map. assigned map 1 of_number false)
     ≡ Ok (with_form (with_form letters 0 (of_name (naming.Plain (codes "b")))) 1 of_number)
-unfolding assigned leads_back searched seen_with refusal_at changed
+unfolding assigned leads_back searched seen_with form_fault_at changed
 number_taken = refl
 
 -- `7:` defines the first instance, `7b` is that, and `7f` the second

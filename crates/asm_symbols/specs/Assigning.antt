@@ -1,6 +1,8 @@
 -- How a symbol is assigned a form, and which forms lead back to it.
 use Rattle.std.specs.Prelude.{◌≡◌, ℕ, Bool, true, false, ◌⊎◌, List, [], ◌∷◌, Option, None, Some, Result, Ok, Err, slice_get, option_and_then, IsErrOf, codes, if◌then◌else◌}
 use Rattle.std.specs.Str.{bytes_eq}
+use Rattle.asm_base.specs.declared.refusals.Refusal.{Refusal}
+use Rattle.asm_base.specs.declared.refusals.Refusal.TheVariants.{Fault, NoMemory}
 use Rattle.asm_expr.specs.declared.naming.Name.{Name}
 use Rattle.asm_expr.specs.declared.naming.Name.TheVariants as naming
 use Rattle.asm_expr.specs.declared.forms.Term.{Term}
@@ -8,8 +10,8 @@ use Rattle.asm_expr.specs.Forms.{Form}
 use Rattle.asm_symbols.specs.declared.entries.Symbol.{Symbol}
 use Rattle.asm_symbols.specs.declared.entries.Meaning.{Meaning}
 use Rattle.asm_symbols.specs.declared.entries.Meaning.TheVariants as meaning
-use Rattle.asm_symbols.specs.declared.faults.SymFault.{SymFault}
-use Rattle.asm_symbols.specs.declared.faults.SymFault.TheVariants.{SymbolAlreadyDefined, BadSymbolUse, NoMemory}
+use Rattle.asm_symbols.specs.declared.faults.SymCause.{SymCause}
+use Rattle.asm_symbols.specs.declared.faults.SymCause.TheVariants.{SymbolAlreadyDefined, BadSymbolUse}
 use Rattle.asm_symbols.specs.SymbolMap.{SymbolMap, names, index_of, with_symbol, with_meaning}
 
 -- whether the name is `.`, which is the place of a statement
@@ -18,19 +20,19 @@ is_dot (naming.Plain text) = bytes_eq text (codes ".")
 is_dot _ = false
 
 -- why a symbol that is this takes no form; with `once` it takes one only if it is undefined
-abbrev pub refusal_of : Meaning → Bool → Option SymFault
-refusal_of meaning.Undefined once = None
-refusal_of (meaning.Assigned form) false = None
-refusal_of (meaning.Assigned form) true = Some SymbolAlreadyDefined
-refusal_of (meaning.Common size align) false = Some BadSymbolUse
-refusal_of (meaning.Common size align) true = Some SymbolAlreadyDefined
-refusal_of (meaning.Label spot) once = Some SymbolAlreadyDefined
-refusal_of (meaning.Space spot) once = Some SymbolAlreadyDefined
+abbrev pub form_fault_of : Meaning → Bool → Option SymCause
+form_fault_of meaning.Undefined once = None
+form_fault_of (meaning.Assigned form) false = None
+form_fault_of (meaning.Assigned form) true = Some SymbolAlreadyDefined
+form_fault_of (meaning.Common size align) false = Some BadSymbolUse
+form_fault_of (meaning.Common size align) true = Some SymbolAlreadyDefined
+form_fault_of (meaning.Label spot) once = Some SymbolAlreadyDefined
+form_fault_of (meaning.Space spot) once = Some SymbolAlreadyDefined
 
 -- why the symbol at this index takes no form
-unfoldable pub refusal_at : SymbolMap → ℕ → Bool → Option SymFault
-refusal_at map index once =
-    option_and_then (λ symbol. if is_dot symbol.name then Some BadSymbolUse else refusal_of symbol.meaning once) (slice_get map.symbols index)
+unfoldable pub form_fault_at : SymbolMap → ℕ → Bool → Option SymCause
+form_fault_at map index once =
+    option_and_then (λ symbol. if is_dot symbol.name then Some BadSymbolUse else form_fault_of symbol.meaning once) (slice_get map.symbols index)
 
 -- the form of an assigned symbol
 abbrev pub form_of : Meaning → Option Form
@@ -65,10 +67,10 @@ TellsLeads symbols form index false = Leads symbols form index → ⊥
 abbrev pub with_form : SymbolMap → ℕ → Form → SymbolMap
 with_form map index form = with_symbol (with_meaning (meaning.Assigned form)) map index
 
--- what an assignment answers: the symbol's refusal, or else the form is taken exactly where it does not lead back to the symbol
-abbrev pub Assigns : {T : Type 0} → SymbolMap → SymbolMap → ℕ → Form → Option SymFault → Result T SymFault → Type 0
-Assigns old new index form (Some fault) result = IsErrOf result fault
+-- what an assignment answers: why the symbol takes no form, or else the form is taken exactly where it does not lead back to it
+abbrev pub Assigns : {T : Type 0} → SymbolMap → SymbolMap → ℕ → Form → Option SymCause → Result T (Refusal SymCause) → Type 0
+Assigns old new index form (Some fault) result = IsErrOf result (Fault fault)
 Assigns old new index form None (Ok t) = (Leads old.symbols form index → ⊥) × (new ≡ with_form old index form)
-Assigns old new index form None (Err BadSymbolUse) = Leads old.symbols form index
+Assigns old new index form None (Err (Fault BadSymbolUse)) = Leads old.symbols form index
 Assigns old new index form None (Err NoMemory) = Unit {0}
-Assigns old new index form None (Err SymbolAlreadyDefined) = ⊥
+Assigns old new index form None (Err (Fault SymbolAlreadyDefined)) = ⊥

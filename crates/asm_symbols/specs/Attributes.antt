@@ -8,13 +8,13 @@ use Rattle.asm_symbols.specs.declared.entries.Binding.{Binding}
 use Rattle.asm_symbols.specs.declared.entries.Binding.TheVariants.{Local, Global, Weak}
 use Rattle.asm_symbols.specs.declared.entries.Kind.{Kind}
 use Rattle.asm_symbols.specs.declared.entries.Visibility.{Visibility}
-use Rattle.asm_symbols.specs.declared.faults.SymFault.{SymFault}
-use Rattle.asm_symbols.specs.declared.faults.SymFault.TheVariants.{BadSymbolUse}
+use Rattle.asm_symbols.specs.declared.faults.SymCause.{SymCause}
+use Rattle.asm_symbols.specs.declared.faults.SymCause.TheVariants.{BadSymbolUse}
 use Rattle.asm_symbols.specs.SymbolMap.{SymbolMap, changed, with_symbol}
-use Rattle.asm_symbols.specs.Answering.{◌>>=◌}
+use Rattle.asm_base.specs.Refusals.{◌>>=◌}
 
 -- the binding of a symbol that has this one already: weak wins over global, and neither goes with local
-abbrev pub rebound : Option Binding → Binding → Result Binding SymFault
+abbrev pub rebound : Option Binding → Binding → Result Binding SymCause
 rebound None binding = Ok binding
 rebound (Some Local) Local = Ok Local
 rebound (Some Local) Global = Err BadSymbolUse
@@ -27,7 +27,7 @@ rebound (Some Weak) Global = Ok Weak
 rebound (Some Weak) Weak = Ok Weak
 
 -- a common symbol is never local
-abbrev pub bound_as : Meaning → Option Binding → Binding → Result Binding SymFault
+abbrev pub bound_as : Meaning → Option Binding → Binding → Result Binding SymCause
 bound_as (meaning.Common size align) before Local = Err BadSymbolUse
 bound_as _ before binding = rebound before binding
 
@@ -52,10 +52,10 @@ abbrev pub with_next_size : Form → SymbolMap → ℕ → SymbolMap
 with_next_size size map index = record map { symbols = changed (with_size size (map.sizes + 1)) map.symbols index; sizes = map.sizes + 1 }
 
 -- the map where the symbol that is found is bound so
-abbrev pub bound_by : Option Symbol → SymbolMap → ℕ → Binding → Result SymbolMap SymFault
+abbrev pub bound_by : Option Symbol → SymbolMap → ℕ → Binding → Result SymbolMap SymCause
 bound_by None map index binding = Err BadSymbolUse
 bound_by (Some symbol) map index binding = bound_as symbol.meaning symbol.binding binding >>= λ made. Ok (with_symbol (with_binding made) map index)
 
 -- the map where the symbol at this index is bound so
-unfoldable pub bound : SymbolMap → ℕ → Binding → Result SymbolMap SymFault
+unfoldable pub bound : SymbolMap → ℕ → Binding → Result SymbolMap SymCause
 bound map index binding = bound_by (slice_get map.symbols index) map index binding

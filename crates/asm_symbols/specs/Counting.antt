@@ -10,7 +10,7 @@ use Rattle.asm_symbols.specs.declared.entries.Meaning.{Meaning}
 use Rattle.asm_symbols.specs.declared.entries.Meaning.TheVariants as meaning
 use Rattle.asm_symbols.specs.declared.entries.Definition.{Definition}
 use Rattle.asm_symbols.specs.declared.entries.Definition.TheVariants as definition
-use Rattle.asm_symbols.specs.declared.faults.SymFault.{SymFault}
+use Rattle.asm_symbols.specs.declared.faults.SymCause.{SymCause}
 use Rattle.asm_symbols.specs.SymbolMap.{SymbolMap, names, index_of}
 use Rattle.asm_symbols.specs.Interning.{named}
 
@@ -29,7 +29,7 @@ abbrev pub next_instance : ℕ → ℕ
 next_instance count = min (count + 1) (2 ^ 32 - 1)
 
 -- the map where the next instance of the numeric label is a symbol's name, and the symbol's index
-unfoldable pub next_named : SymbolMap → ℕ → Result (SymbolMap × ℕ) SymFault
+unfoldable pub next_named : SymbolMap → ℕ → Result (SymbolMap × ℕ) SymCause
 next_named map number = named map (naming.Numeric number (next_instance (counted map.counts number)))
 
 -- the last instance that is defined

@@ -6,11 +6,11 @@ use Rattle.asm_symbols.specs.declared.entries.Meaning.{Meaning}
 use Rattle.asm_symbols.specs.declared.entries.Meaning.TheVariants as meaning
 use Rattle.asm_symbols.specs.declared.entries.Definition.{Definition}
 use Rattle.asm_symbols.specs.declared.entries.Definition.TheVariants.{Label, Common, Space}
-use Rattle.asm_symbols.specs.declared.faults.SymFault.{SymFault}
-use Rattle.asm_symbols.specs.declared.faults.SymFault.TheVariants.{SymbolAlreadyDefined, BadSymbolUse}
+use Rattle.asm_symbols.specs.declared.faults.SymCause.{SymCause}
+use Rattle.asm_symbols.specs.declared.faults.SymCause.TheVariants.{SymbolAlreadyDefined, BadSymbolUse}
 use Rattle.asm_symbols.specs.SymbolMap.{SymbolMap, changed, with_meaning}
 use Rattle.asm_symbols.specs.Counting.{counts_after}
-use Rattle.asm_symbols.specs.Answering.{◌>>=◌}
+use Rattle.asm_base.specs.Refusals.{◌>>=◌}
 
 -- what a definition makes of a symbol that is undefined
 abbrev pub meant : Definition → Meaning
@@ -19,7 +19,7 @@ meant (Common size align) = meaning.Common size align
 meant (Space spot) = meaning.Space spot
 
 -- what a definition makes of a symbol that is this already
-abbrev pub redefined : Meaning → Definition → Result Meaning SymFault
+abbrev pub redefined : Meaning → Definition → Result Meaning SymCause
 redefined meaning.Undefined what = Ok (meant what)
 redefined (meaning.Label spot) what = Err SymbolAlreadyDefined
 redefined (meaning.Space spot) what = Err SymbolAlreadyDefined
@@ -33,10 +33,10 @@ abbrev pub with_defined : SymbolMap → ℕ → Name → Definition → Meaning 
 with_defined map index name what made = record map { symbols = changed (with_meaning made) map.symbols index; counts = counts_after name what map.counts }
 
 -- the map where the symbol that is found is defined so
-abbrev pub defined_by : Option Symbol → SymbolMap → ℕ → Definition → Result SymbolMap SymFault
+abbrev pub defined_by : Option Symbol → SymbolMap → ℕ → Definition → Result SymbolMap SymCause
 defined_by None map index what = Err BadSymbolUse
 defined_by (Some symbol) map index what = redefined symbol.meaning what >>= λ made. Ok (with_defined map index symbol.name what made)
 
 -- the map where the symbol at this index is defined so
-unfoldable pub defined : SymbolMap → ℕ → Definition → Result SymbolMap SymFault
+unfoldable pub defined : SymbolMap → ℕ → Definition → Result SymbolMap SymCause
 defined map index what = defined_by (slice_get map.symbols index) map index what

@@ -4,8 +4,8 @@ use Rattle.asm_expr.specs.declared.naming.Name.{Name}
 use Rattle.asm_expr.specs.declared.naming.Name.TheVariants as naming
 use Rattle.asm_symbols.specs.declared.entries.Symbol.{Symbol}
 use Rattle.asm_symbols.specs.declared.entries.Meaning.TheVariants.{Undefined}
-use Rattle.asm_symbols.specs.declared.faults.SymFault.{SymFault}
-use Rattle.asm_symbols.specs.declared.faults.SymFault.TheVariants.{BadSymbolUse}
+use Rattle.asm_symbols.specs.declared.faults.SymCause.{SymCause}
+use Rattle.asm_symbols.specs.declared.faults.SymCause.TheVariants.{BadSymbolUse}
 use Rattle.asm_symbols.specs.SymbolMap.{SymbolMap, names, index_of}
 
 -- the bytes that a name takes: those of a text, and a zero byte
@@ -39,17 +39,17 @@ abbrev pub with_name : SymbolMap → Name → SymbolMap
 with_name map name = record map { symbols = map.symbols ++ undefined name ∷ [] }
 
 -- the map with a symbol more of this name, and its index, if there is room for it
-abbrev pub added : SymbolMap → Name → Result (SymbolMap × ℕ) SymFault
+abbrev pub added : SymbolMap → Name → Result (SymbolMap × ℕ) SymCause
 added map name = if has_room map name then Ok (with_name map name, length map.symbols) else Err BadSymbolUse
 
 -- the map where the name is a symbol's, and the symbol's index
-unfoldable pub named : SymbolMap → Name → Result (SymbolMap × ℕ) SymFault
+unfoldable pub named : SymbolMap → Name → Result (SymbolMap × ℕ) SymCause
 named map name = named_by (index_of name (names map.symbols)) map name
   where
-    named_by : Option ℕ → SymbolMap → Name → Result (SymbolMap × ℕ) SymFault
+    named_by : Option ℕ → SymbolMap → Name → Result (SymbolMap × ℕ) SymCause
     named_by (Some index) map name = Ok (map, index)
     named_by None map name = added map name
 
 -- the map with the name of a file more
-unfoldable pub with_file : SymbolMap → Name → Result SymbolMap SymFault
+unfoldable pub with_file : SymbolMap → Name → Result SymbolMap SymCause
 with_file map name = if has_room map name then Ok (record map { files = map.files ++ name ∷ [] }) else Err BadSymbolUse

@@ -2,10 +2,10 @@
 use Rattle.std.specs.Prelude.{ℕ, zero, suc, ◌+◌, Bool, true, false, List, [], length, Option, None, Some, Result, Ok, Err, slice_get}
 use Rattle.asm_expr.specs.Forms.{Form}
 use Rattle.asm_symbols.specs.declared.entries.Symbol.{Symbol}
-use Rattle.asm_symbols.specs.declared.faults.SymFault.{SymFault}
-use Rattle.asm_symbols.specs.declared.faults.SymFault.TheVariants.{BadSymbolUse}
+use Rattle.asm_symbols.specs.declared.faults.SymCause.{SymCause}
+use Rattle.asm_symbols.specs.declared.faults.SymCause.TheVariants.{BadSymbolUse}
 use Rattle.asm_symbols.specs.SymbolMap.{SymbolMap, names}
-use Rattle.asm_symbols.specs.Assigning.{refusal_at, form_at, with_form}
+use Rattle.asm_symbols.specs.Assigning.{form_fault_at, form_at, with_form}
 use Rattle.asm_symbols.specs.Searching.{seen_with, seen_behind}
 
 -- the search goes on with the symbols that are seen now; where they are none, the symbol that is looked for was named
@@ -27,12 +27,12 @@ searched (suc fuel) symbols target seen at = searched_next (slice_get seen at) s
 unfoldable pub leads_back : List Symbol → Form → ℕ → Bool
 leads_back symbols form target = searched_on (seen_with (names symbols) target form.terms []) (λ seen. searched (length symbols) symbols target seen 0)
 
--- what a refusal, and whether the form leads back, make of a map
-abbrev pub assigned_by : Option SymFault → Bool → SymbolMap → Result SymbolMap SymFault
+-- what the fault for which the symbol takes no form, and whether the form leads back, make of a map
+abbrev pub assigned_by : Option SymCause → Bool → SymbolMap → Result SymbolMap SymCause
 assigned_by (Some fault) back made = Err fault
 assigned_by None true made = Err BadSymbolUse
 assigned_by None false made = Ok made
 
 -- the map where the symbol stands for the form; with `once` only if it is undefined
-unfoldable pub assigned : SymbolMap → ℕ → Form → Bool → Result SymbolMap SymFault
-assigned map index form once = assigned_by (refusal_at map index once) (leads_back map.symbols form index) (with_form map index form)
+unfoldable pub assigned : SymbolMap → ℕ → Form → Bool → Result SymbolMap SymCause
+assigned map index form once = assigned_by (form_fault_at map index once) (leads_back map.symbols form index) (with_form map index form)

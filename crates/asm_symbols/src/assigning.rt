@@ -1,10 +1,10 @@
 //! How a symbol is assigned a form that does not lead back to it.
 
 ghost use Rattle.std.specs.Prelude.{◌≡◌};
-ghost use Rattle.asm_symbols.specs.Assigning.{is_dot, refusal_of};
+ghost use Rattle.asm_symbols.specs.Assigning.{is_dot, form_fault_of};
 
 use crate::entries::Meaning;
-use crate::faults::SymFault;
+use crate::faults::{SymCause, SymFault};
 use crate::ids::SymId;
 use crate::symbol_map::Symbols;
 use asm_expr::{Linear, Name, Term};
@@ -22,37 +22,37 @@ fn is_dot(name: &Name) -> bool
 }
 
 /// Why a symbol that is this takes no form.
-fn refusal_of(meaning: &Meaning, once: bool) -> Option<SymFault>
-    ensures { result ≡ refusal_of meaning.now once }
+fn form_fault_of(meaning: &Meaning, once: bool) -> Option<SymCause>
+    ensures { result ≡ form_fault_of meaning.now once }
 {
     match (meaning, once) {
         (Meaning::Undefined, _) | (Meaning::Assigned(_), false) => None,
-        (Meaning::Common { .. }, false) => Some(SymFault::BadSymbolUse),
-        _ => Some(SymFault::SymbolAlreadyDefined),
+        (Meaning::Common { .. }, false) => Some(SymCause::BadSymbolUse),
+        _ => Some(SymCause::SymbolAlreadyDefined),
     }
 }
 
 impl Symbols {
     ghost use Rattle.std.specs.Prelude.{◌≡◌, ◌<◌, false, [], length, OnErr, IfOk, IfErr};
     ghost use Rattle.asm_symbols.specs.SymbolMap.{names, with_symbol, with_meaning};
-    ghost use Rattle.asm_symbols.specs.Assigning.{refusal_at, form_at, TellsLeads, Assigns};
-    ghost use Rattle.asm_symbols.specs.Answering.{GivesUnlessFull};
+    ghost use Rattle.asm_symbols.specs.Assigning.{form_fault_at, form_at, TellsLeads, Assigns};
+    ghost use Rattle.asm_base.specs.Refusals.{Gives};
     ghost use Rattle.asm_symbols.specs.Searching.{seen_unless, seen_with, seen_behind};
     ghost use Rattle.asm_symbols.specs.LeadsBack.{leads_back, assigned};
     ghost use Rattle.asm_symbols.specs.Sound.{is_label_at};
-    ghost use Rattle.asm_symbols.specs.declared.faults.SymFault.TheVariants.{NoMemory};
+    ghost use Rattle.asm_base.specs.declared.refusals.Refusal.TheVariants.{NoMemory};
 
     /// Why the symbol takes no form.
-    #[tactic(auto, unfolding(crate::specs::Assigning::refusal_at))]
-    fn refusal_at(&self, id: SymId, once: bool) -> Option<SymFault>
+    #[tactic(auto, unfolding(crate::specs::Assigning::form_fault_at))]
+    fn form_fault_at(&self, id: SymId, once: bool) -> Option<SymCause>
         requires { id < length self.now.symbols }
-        ensures { result ≡ refusal_at self.now id once }
+        ensures { result ≡ form_fault_at self.now id once }
     {
         let symbol = self.symbol(id);
         if is_dot(&symbol.name) {
-            return Some(SymFault::BadSymbolUse);
+            return Some(SymCause::BadSymbolUse);
         }
-        refusal_of(&symbol.meaning, once)
+        form_fault_of(&symbol.meaning, once)
     }
 
     /// Adds the symbols that the terms name to those that were seen. Answers whether the terms
@@ -138,19 +138,19 @@ impl Symbols {
     }
 
     /// The symbol stands for the form from now on; with `once` only if it is undefined.
-    #[tactic(auto, unfolding(crate::specs::Assigning::refusal_at, crate::specs::LeadsBack::assigned))]
+    #[tactic(auto, unfolding(crate::specs::Assigning::form_fault_at, crate::specs::LeadsBack::assigned))]
     pub fn assign(&mut self, id: SymId, form: Linear, once: bool) -> Result<(), SymFault>
         requires { id < length self.old.symbols }
-        ensures cause { Assigns self.old self.new id form (refusal_at self.old id once) result }
-        ensures value { GivesUnlessFull self.new result (assigned self.old id form once) }
+        ensures cause { Assigns self.old self.new id form (form_fault_at self.old id once) result }
+        ensures value { Gives self.new result (assigned self.old id form once) }
         ensures unchanged { OnErr result (self.new ≡ self.old) }
         ensures kept { length self.new.symbols ≡ length self.old.symbols }
     {
-        if let Some(fault) = self.refusal_at(id, once) {
-            return Err(fault);
+        if let Some(fault) = self.form_fault_at(id, once) {
+            return Err(SymFault::Fault(fault));
         }
         if self.leads_back(&form, id)? {
-            return Err(SymFault::BadSymbolUse);
+            return Err(SymFault::Fault(SymCause::BadSymbolUse));
         }
         self.redefine(id, Meaning::Assigned(form));
         Ok(())

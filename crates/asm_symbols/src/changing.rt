@@ -4,19 +4,19 @@ ghost use Rattle.std.specs.Prelude.{◌≡◌};
 ghost use Rattle.asm_symbols.specs.Attributes.{rebound, bound_as, with_size};
 
 use crate::entries::{Binding, Kind, Meaning, Symbol, Visibility};
-use crate::faults::SymFault;
+use crate::faults::{SymCause, SymFault};
 use crate::ids::SymId;
 use crate::symbol_map::Symbols;
 use asm_expr::Linear;
 
 /// The binding of a symbol that may have one already.
-fn rebound(before: Option<Binding>, binding: Binding) -> Result<Binding, SymFault>
+fn rebound(before: Option<Binding>, binding: Binding) -> Result<Binding, SymCause>
     ensures { result ≡ rebound before binding }
 {
     match (before, binding) {
         (None, _) => Ok(binding),
         (Some(Binding::Local), Binding::Local) => Ok(Binding::Local),
-        (Some(Binding::Local), _) | (Some(_), Binding::Local) => Err(SymFault::BadSymbolUse),
+        (Some(Binding::Local), _) | (Some(_), Binding::Local) => Err(SymCause::BadSymbolUse),
         (Some(Binding::Weak), _) => Ok(Binding::Weak),
         (Some(Binding::Global), _) => Ok(binding),
     }
@@ -27,11 +27,11 @@ fn bound_as(
     meaning: &Meaning,
     before: Option<Binding>,
     binding: Binding,
-) -> Result<Binding, SymFault>
+) -> Result<Binding, SymCause>
     ensures { result ≡ bound_as meaning.now before binding }
 {
     match (meaning, binding) {
-        (Meaning::Common { .. }, Binding::Local) => Err(SymFault::BadSymbolUse),
+        (Meaning::Common { .. }, Binding::Local) => Err(SymCause::BadSymbolUse),
         _ => rebound(before, binding),
     }
 }
@@ -47,7 +47,7 @@ fn set_size(symbol: &mut Symbol, size: Linear, number: u64)
 impl Symbols {
     ghost use Rattle.std.specs.Prelude.{◌≡◌, ◌<◌, length, Ok, OnErr};
     ghost use Rattle.asm_symbols.specs.SymbolMap.{with_symbol};
-    ghost use Rattle.asm_symbols.specs.Answering.{Gives, GivesAlways};
+    ghost use Rattle.asm_symbols.specs.Answering.{GivesFaultFirst, GivesAlways};
     ghost use Rattle.asm_symbols.specs.Attributes.{with_binding, with_kind, with_next_size, with_visibility, bound};
 
     /// The symbol has this binding from now on.
@@ -76,7 +76,7 @@ impl Symbols {
     /// The symbol has this size from now on, the last that was said.
     pub fn size(&mut self, id: SymId, size: Linear) -> Result<(), SymFault>
         requires { id < length self.old.symbols }
-        ensures value { Gives self.new result (Ok (with_next_size size self.old id)) }
+        ensures value { GivesFaultFirst self.new result (Ok (with_next_size size self.old id)) }
         ensures unchanged { OnErr result (self.new ≡ self.old) }
         ensures kept { length self.new.symbols ≡ length self.old.symbols }
     {
@@ -110,7 +110,7 @@ impl Symbols {
         ensures kept { length self.new.symbols ≡ length self.old.symbols }
     {
         let symbol = self.symbol(id);
-        let made = bound_as(&symbol.meaning, symbol.binding, binding)?;
+        let made = bound_as(&symbol.meaning, symbol.binding, binding).map_err(SymFault::Fault)?;
         self.rebind(id, made);
         Ok(())
     }

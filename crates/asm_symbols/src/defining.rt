@@ -3,10 +3,10 @@
 ghost use Rattle.std.specs.Prelude.{◌≡◌, OnOk, OnErr, IfErr};
 ghost use Rattle.asm_symbols.specs.Counting.{counts_after};
 ghost use Rattle.asm_symbols.specs.Defining.{meant, redefined};
-ghost use Rattle.asm_symbols.specs.declared.faults.SymFault.TheVariants.{NoMemory};
+ghost use Rattle.asm_base.specs.declared.refusals.Refusal.TheVariants.{NoMemory};
 
 use crate::entries::{Definition, Meaning};
-use crate::faults::SymFault;
+use crate::faults::{SymCause, SymFault};
 use crate::ids::SymId;
 use crate::symbol_map::Symbols;
 use asm_expr::Name;
@@ -24,15 +24,15 @@ fn meant(what: Definition) -> Meaning
 }
 
 /// What the definition makes of a symbol that is this already.
-fn redefined(meaning: &Meaning, what: Definition) -> Result<Meaning, SymFault>
+fn redefined(meaning: &Meaning, what: Definition) -> Result<Meaning, SymCause>
     ensures { result ≡ redefined meaning.now what }
 {
     match (meaning, what) {
         (Meaning::Undefined, _) => Ok(meant(what)),
-        (Meaning::Label(_) | Meaning::Space(_), _) => Err(SymFault::SymbolAlreadyDefined),
-        (Meaning::Common { .. }, _) => Err(SymFault::BadSymbolUse),
-        (Meaning::Assigned(_), Definition::Label(_)) => Err(SymFault::SymbolAlreadyDefined),
-        (Meaning::Assigned(_), _) => Err(SymFault::BadSymbolUse),
+        (Meaning::Label(_) | Meaning::Space(_), _) => Err(SymCause::SymbolAlreadyDefined),
+        (Meaning::Common { .. }, _) => Err(SymCause::BadSymbolUse),
+        (Meaning::Assigned(_), Definition::Label(_)) => Err(SymCause::SymbolAlreadyDefined),
+        (Meaning::Assigned(_), _) => Err(SymCause::BadSymbolUse),
     }
 }
 
@@ -57,19 +57,19 @@ fn raise(counts: &mut IndexMap<u64, u32>, name: &Name, what: Definition) -> Resu
 
 impl Symbols {
     ghost use Rattle.std.specs.Prelude.{◌≡◌, ◌<◌, length, OnErr};
-    ghost use Rattle.asm_symbols.specs.Answering.{Gives};
+    ghost use Rattle.asm_symbols.specs.Answering.{GivesFaultFirst};
     ghost use Rattle.asm_symbols.specs.Defining.{defined};
 
     /// The symbol is defined so.
     #[tactic(auto, unfolding(crate::specs::Defining::defined))]
     pub fn define(&mut self, id: SymId, what: Definition) -> Result<(), SymFault>
         requires { id < length self.old.symbols }
-        ensures value { Gives self.new result (defined self.old id what) }
+        ensures value { GivesFaultFirst self.new result (defined self.old id what) }
         ensures unchanged { OnErr result (self.new ≡ self.old) }
         ensures kept { length self.new.symbols ≡ length self.old.symbols }
     {
         let at = id.index() as usize;
-        let made = redefined(&self.symbols[at].meaning, what)?;
+        let made = redefined(&self.symbols[at].meaning, what).map_err(SymFault::Fault)?;
         raise(&mut self.counts, &self.symbols[at].name, what)?;
         let symbol = &mut self.symbols[at];
         symbol.meaning = made;

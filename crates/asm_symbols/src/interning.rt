@@ -5,7 +5,7 @@ ghost use Rattle.asm_symbols.specs.Interning.{size_within, undefined};
 
 use crate::copies::copied_name;
 use crate::entries::{Meaning, Symbol};
-use crate::faults::SymFault;
+use crate::faults::{SymCause, SymFault};
 use crate::ids::SymId;
 use crate::symbol_map::Symbols;
 use asm_expr::Name;
@@ -51,7 +51,7 @@ fn undefined(name: Name) -> Symbol
 impl Symbols {
     ghost use Rattle.std.specs.Prelude.{◌≡◌, ◌<◌, ◌≤◌, length, None, OnErr, IfOk};
     ghost use Rattle.asm_symbols.specs.SymbolMap.{names, index_of};
-    ghost use Rattle.asm_symbols.specs.Answering.{Gives, GivesSymbol};
+    ghost use Rattle.asm_symbols.specs.Answering.{GivesFaultFirst, GivesSymbolFaultFirst};
     ghost use Rattle.asm_symbols.specs.Interning.{room_for, added, named, with_file};
     ghost use Rattle.asm_symbols.specs.Counting.{next_named};
 
@@ -69,11 +69,11 @@ impl Symbols {
     /// A symbol more, of which nothing is known.
     fn add(&mut self, name: &Name) -> Result<SymId, SymFault>
         requires { index_of name.now (names self.old.symbols) ≡ None }
-        ensures value { GivesSymbol self.new result (added self.old name.now) }
+        ensures value { GivesSymbolFaultFirst self.new result (added self.old name.now) }
         ensures unchanged { OnErr result (self.new ≡ self.old) }
     {
         let Some(size) = self.room(name) else {
-            return Err(SymFault::BadSymbolUse);
+            return Err(SymFault::Fault(SymCause::BadSymbolUse));
         };
         let place = self.symbols.len() as u32;
         self.symbols.reserve(1)?;
@@ -87,7 +87,7 @@ impl Symbols {
     /// The symbol of the name, which is put last if it is not there.
     #[tactic(auto, unfolding(crate::specs::Interning::named))]
     pub fn name_of(&mut self, name: &Name) -> Result<SymId, SymFault>
-        ensures value { GivesSymbol self.new result (named self.old name.now) }
+        ensures value { GivesSymbolFaultFirst self.new result (named self.old name.now) }
         ensures within { IfOk result (λ id. id < length self.new.symbols) }
         ensures kept { length self.old.symbols ≤ length self.new.symbols }
         ensures unchanged { OnErr result (self.new ≡ self.old) }
@@ -101,12 +101,12 @@ impl Symbols {
     /// The name of a file more.
     #[tactic(auto, unfolding(crate::specs::Interning::with_file))]
     pub fn file(&mut self, name: &Name) -> Result<(), SymFault>
-        ensures value { Gives self.new result (with_file self.old name.now) }
+        ensures value { GivesFaultFirst self.new result (with_file self.old name.now) }
         ensures kept { length self.new.symbols ≡ length self.old.symbols }
         ensures unchanged { OnErr result (self.new ≡ self.old) }
     {
         let Some(size) = self.room(name) else {
-            return Err(SymFault::BadSymbolUse);
+            return Err(SymFault::Fault(SymCause::BadSymbolUse));
         };
         self.files.push(copied_name(self.alloc, name)?)?;
         self.bytes += size;
@@ -116,7 +116,7 @@ impl Symbols {
     /// The symbol of the instance of a numeric label that is defined next.
     #[tactic(auto, unfolding(crate::specs::Counting::next_named))]
     pub fn numeric_next(&mut self, number: u64) -> Result<SymId, SymFault>
-        ensures value { GivesSymbol self.new result (next_named self.old number) }
+        ensures value { GivesSymbolFaultFirst self.new result (next_named self.old number) }
         ensures within { IfOk result (λ id. id < length self.new.symbols) }
         ensures kept { length self.old.symbols ≤ length self.new.symbols }
         ensures unchanged { OnErr result (self.new ≡ self.old) }

@@ -17,7 +17,7 @@ mod name_index;
 mod symbol_map;
 
 pub use entries::{Binding, Definition, Kind, Meaning, Spot, Symbol, Visibility};
-pub use faults::SymFault;
+pub use faults::{SymCause, SymFault};
 pub use ids::SymId;
 pub use laws::{
     counted_are_labels, leads_is_decided, names_are_apart, names_are_few, order_is_kept, weak_wins,

@@ -35,7 +35,7 @@ impl Model for NameIndex {
 
 impl NameIndex {
     ghost use Rattle.std.specs.Prelude.{◌≡◌, OnOk, OnErr, IfErr};
-    ghost use Rattle.asm_symbols.specs.declared.faults.SymFault.TheVariants.{NoMemory};
+    ghost use Rattle.asm_base.specs.declared.refusals.Refusal.TheVariants.{NoMemory};
     ghost use Rattle.asm_symbols.specs.NameIndex.{no_names, place_of, with_place};
 
     /// No names.

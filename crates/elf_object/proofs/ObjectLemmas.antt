@@ -1,40 +1,14 @@
--- What is written before a failure, and which fault there is.
-use Rattle.std.proofs.Common.{◌≡◌, ℕ, suc, ◌+◌, ◌<◌, ◌≤◌, List, [], ◌∷◌, ◌++◌, length, take, drop, get_or, Option, None, Some, Err, refl, sym, subst, ap, ◌∙◌, arith, append_assoc, length-append, option_map}
+-- What is written before a failure.
+use Rattle.std.proofs.Common.{◌≡◌, ℕ, suc, ◌+◌, ◌<◌, ◌≤◌, List, [], ◌∷◌, ◌++◌, length, take, drop, get_or, Option, refl, sym, subst, ap, ◌∙◌, arith, append_assoc, length-append, option_map}
 use Rattle.std.proofs.lemmas.List.{take-append-drop, take-append-le, take_all, drop_more}
 use Rattle.std.specs.Global.{Vec}
 use Rattle.asm_base.specs.Output.{Made, after_write}
-use Rattle.asm_relax.specs.Faults.{or_later}
-use Rattle.asm_relax.specs.Settling.{unless}
-use Rattle.elf_object.specs.declared.faults.ObjectFault.{ObjectFault}
-use Rattle.elf_object.specs.declared.faults.ObjectFault.TheVariants.{UndefinedLocalSymbol, NoRelocation, SizeNotKnown, NoMemory}
-use Rattle.elf_object.specs.Faults.{IsDue}
-use Rattle.elf_object.specs.Objects.{Makes}
 use Rattle.elf_object.specs.Views.{flat}
 use Rattle.elf_object.proofs.Writing.{written-append}
 
 flat_append : (these those : List (Vec ℕ)) → flat (these ++ those) ≡ flat these ++ flat those
 flat_append [] those = refl
 flat_append (first ∷ these) those = ap (λ (xs : List ℕ). first.items ++ xs) (flat_append these those) ∙ sym (append_assoc first.items (flat these) (flat those))
-
--- a fault that is due is answered
-pub due_made : (fault : ObjectFault) (due : Option ObjectFault) (object : List ℕ) → IsDue fault due → Makes (Err fault) (unless due object)
-due_made (UndefinedLocalSymbol symbol) due object e = ap (λ (d : Option ObjectFault). unless d object) e
-due_made (NoRelocation pos) due object e = ap (λ (d : Option ObjectFault). unless d object) e
-due_made (SizeNotKnown symbol) due object e = ap (λ (d : Option ObjectFault). unless d object) e
-due_made NoMemory due object e = tt
-
-pub found_due : (fault : ObjectFault) (due : Option ObjectFault) → due ≡ Some fault → IsDue fault due
-found_due (UndefinedLocalSymbol symbol) due e = e
-found_due (NoRelocation pos) due e = e
-found_due (SizeNotKnown symbol) due e = e
-found_due NoMemory due e = tt
-
--- behind none, a fault that is due comes first
-pub later_due : (fault : ObjectFault) (before due later : Option ObjectFault) → before ≡ None → IsDue fault due → IsDue fault (or_later before (or_later due later))
-later_due (UndefinedLocalSymbol symbol) before due later none e = rw (none, e) refl
-later_due (NoRelocation pos) before due later none e = rw (none, e) refl
-later_due (SizeNotKnown symbol) before due later none e = rw (none, e) refl
-later_due NoMemory before due later none e = tt
 
 flat_cut : (pieces : List (Vec ℕ)) (i : ℕ) (piece : Vec ℕ) → i < length pieces → piece ≡ get_or pieces i piece
     → flat pieces ≡ flat (take i pieces) ++ (piece.items ++ flat (drop (i + 1) pieces))

@@ -2,6 +2,8 @@
 use Rattle.std.specs.Prelude.{◌≡◌, ℕ, ◌+◌, ◌&&◌, Bool, true, false, List, [], ◌∷◌, length, nat_le, nat_lt, find, is_none, Option, None, Some, option_map, if◌then◌else◌}
 use Rattle.std.specs.List.{position_or_len}
 use Rattle.asm_base.specs.declared.positions.Pos.{Pos}
+use Rattle.asm_base.specs.declared.refusals.Refusal.{Refusal}
+use Rattle.asm_base.specs.declared.refusals.Refusal.TheVariants.{Fault, NoMemory}
 use Rattle.asm_expr.specs.Forms.{Form}
 use Rattle.asm_frags.specs.SectionOf.{SectionOf}
 use Rattle.asm_symbols.specs.declared.entries.Symbol.{Symbol}
@@ -11,9 +13,9 @@ use Rattle.asm_symbols.specs.SymbolMap.{SymbolMap}
 use Rattle.asm_relax.specs.Faults.{or_later}
 use Rattle.asm_relax.specs.Final.{field_value}
 use Rattle.asm_relax.specs.Settling.{LaidItem, LaidSections}
-use Rattle.elf_object.specs.declared.faults.ObjectFault.{ObjectFault}
+use Rattle.elf_object.specs.declared.faults.ObjectCause.{ObjectCause}
 use Rattle.elf_object.specs.declared.searching.UnknownSize.{UnknownSize}
-use Rattle.elf_object.specs.declared.faults.ObjectFault.TheVariants.{UndefinedLocalSymbol, NoRelocation, SizeNotKnown, NoMemory}
+use Rattle.elf_object.specs.declared.faults.ObjectCause.TheVariants.{UndefinedLocalSymbol, NoRelocation, SizeNotKnown}
 use Rattle.elf_object.specs.FileLocals.{is_file_local}
 use Rattle.elf_object.specs.Contents.{filed_items, has_lost}
 
@@ -35,23 +37,23 @@ unknown_size map sections None = false
 unknown_size map sections (Some form) = is_none (field_value map sections form)
 
 -- the fault of the first symbol that is so, by its index
-abbrev pub symbol_fault : (Symbol → Bool) → (ℕ → ObjectFault) → List Symbol → Option ObjectFault
+abbrev pub symbol_fault : (Symbol → Bool) → (ℕ → ObjectCause) → List Symbol → Option ObjectCause
 symbol_fault is_so fault symbols = if nat_lt (position_or_len is_so symbols) (length symbols) then Some (fault (position_or_len is_so symbols)) else None
 
 -- the fault of the first symbol that must be defined in this file and is not
-abbrev pub undefined_fault : SymbolMap → Option ObjectFault
+abbrev pub undefined_fault : SymbolMap → Option ObjectCause
 undefined_fault map = symbol_fault is_undefined_local UndefinedLocalSymbol map.symbols
 
 -- the first item with a field that has neither a value nor a relocation
-unfoldable pub items_fault : SymbolMap → LaidSections → ℕ → List LaidItem → Option ObjectFault
+unfoldable pub items_fault : SymbolMap → LaidSections → ℕ → List LaidItem → Option ObjectCause
 items_fault map sections number items = option_map (λ item. NoRelocation item.pos) (find (has_lost map sections number) items)
 
 -- the fault of the first item of the section with a field that has neither a value nor a relocation
-abbrev pub section_fault : SymbolMap → LaidSections → ℕ → SectionOf LaidItem → Option ObjectFault
+abbrev pub section_fault : SymbolMap → LaidSections → ℕ → SectionOf LaidItem → Option ObjectCause
 section_fault map sections number section = items_fault map sections number (filed_items section)
 
 -- the first of these sections with such an item; they have the numbers from this one on
-abbrev pub field_fault_from : SymbolMap → LaidSections → ℕ → List (SectionOf LaidItem) → Option ObjectFault
+abbrev pub field_fault_from : SymbolMap → LaidSections → ℕ → List (SectionOf LaidItem) → Option ObjectCause
 field_fault_from map sections number [] = None
 field_fault_from map sections number (section ∷ more) = or_later (section_fault map sections number section) (field_fault_from map sections (number + 1) more)
 
@@ -73,24 +75,20 @@ first_unknown map sections index (symbol ∷ symbols) =
     earlier (unknown_at map sections index symbol) (first_unknown map sections (index + 1) symbols)
 
 -- sizes without a value are told in the order of the `.size` statements that count
-abbrev pub size_fault : SymbolMap → LaidSections → Option ObjectFault
+abbrev pub size_fault : SymbolMap → LaidSections → Option ObjectCause
 size_fault map sections = option_map (λ found. SizeNotKnown found.symbol) (first_unknown map sections 0 map.symbols)
 
 -- the first fault: symbols in the order in which they are first named, then fields in the order of sections and items, then sizes in
 -- the order of their statements
-unfoldable pub object_fault : SymbolMap → LaidSections → Option ObjectFault
+unfoldable pub object_fault : SymbolMap → LaidSections → Option ObjectCause
 object_fault map sections = or_later (undefined_fault map) (or_later (field_fault_from map sections 0 sections) (size_fault map sections))
 
--- this fault is the one that is due; memory may run out at any time
-abbrev pub IsDue : ObjectFault → Option ObjectFault → Type 0
-IsDue (UndefinedLocalSymbol symbol) due = due ≡ Some (UndefinedLocalSymbol symbol)
-IsDue (NoRelocation pos) due = due ≡ Some (NoRelocation pos)
-IsDue (SizeNotKnown symbol) due = due ≡ Some (SizeNotKnown symbol)
+-- a fault is the one that is due; want of memory may come at any point
+abbrev pub IsDue : Refusal ObjectCause → Option ObjectCause → Type 0
+IsDue (Fault fault) due = due ≡ Some fault
 IsDue NoMemory due = Unit {0}
 
--- the fault is that of an item of this statement, which has a field that is lost
-abbrev pub IsLostAt : Pos → Bool → ObjectFault → Type 0
-IsLostAt pos lost (NoRelocation found) = (found ≡ pos) × (lost ≡ true)
-IsLostAt pos lost (UndefinedLocalSymbol symbol) = ⊥
-IsLostAt pos lost (SizeNotKnown symbol) = ⊥
+-- a fault is that of an item of this statement, which has a field that is lost; want of memory may come at any point
+abbrev pub IsLostAt : Pos → Bool → Refusal ObjectCause → Type 0
+IsLostAt pos lost (Fault fault) = (fault ≡ NoRelocation pos) × (lost ≡ true)
 IsLostAt pos lost NoMemory = Unit {0}

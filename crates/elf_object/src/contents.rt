@@ -11,7 +11,7 @@ ghost use Rattle.elf_object.specs.Relocations.{field_relocation};
 ghost use Rattle.elf_object.specs.Sections.{source_section};
 ghost use Rattle.elf_object.specs.Views.{held_entry, relocations_in};
 
-use crate::faults::ObjectFault;
+use crate::faults::{ObjectCause, ObjectFault};
 use crate::references::field_relocation;
 use crate::relocations::Relocation;
 use crate::sections::Body;
@@ -73,7 +73,7 @@ fn put_field(
             out.relocations.push(found)?;
             Ok(put_low(&mut out.bytes, field.size, 0)?)
         }
-        None => Err(ObjectFault::NoRelocation(here.pos)),
+        None => Err(ObjectFault::Fault(ObjectCause::NoRelocation(here.pos))),
     }
 }
 
@@ -114,23 +114,23 @@ fn put_data(
     alloc: Global,
     at: Placement,
     here: ItemPlace,
-    data: &Data,
+    item_data: &Data,
     out: &mut Filed,
 ) -> Result<(), ObjectFault>
     ensures bytes { OnOk result (out.new.bytes.items
         ≡ out.old.bytes.items
-        ++ spec.filled at.entry.symbols.now at.entry.sections.now data.now.bytes 0
-        data.now.fields) }
+        ++ spec.filled at.entry.symbols.now at.entry.sections.now item_data.now.bytes
+        0 item_data.now.fields) }
     ensures relocations { OnOk result (out.new.relocations.items ≡ out.old.relocations.items
         ++ filter_map (field_relocation at.entry.symbols.now at.entry.sections.now here.section
-        here.address) data.now.fields) }
+        here.address) item_data.now.fields) }
     ensures whole { OnOk result (list_any (spec.is_lost at.entry.symbols.now at.entry.sections.now
-        here.section here.address) data.now.fields ≡ false) }
+        here.section here.address) item_data.now.fields ≡ false) }
     ensures fault { IfErr result (λ fault.
         IsLostAt here.pos (list_any (spec.is_lost at.entry.symbols.now at.entry.sections.now
-        here.section here.address) data.now.fields) fault) }
+        here.section here.address) item_data.now.fields) fault) }
 {
-    put_between(alloc, at, here, data.bytes(), data.fields(), out)
+    put_between(alloc, at, here, item_data.bytes(), item_data.fields(), out)
 }
 
 /// Appends what an item of the section of this number holds, at its address.

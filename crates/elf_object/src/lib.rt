@@ -22,7 +22,7 @@ mod string_table;
 mod symbol_table;
 mod symbol_values;
 
-pub use faults::ObjectFault;
+pub use faults::{ObjectCause, ObjectFault};
 pub use laws::{items_stand, locals_first, names_stand, sections_stand, targets_stand};
 pub use object::Object;
 pub use reader::{

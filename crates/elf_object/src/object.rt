@@ -3,8 +3,9 @@
 ghost use Rattle.std.specs.Prelude.{◌≡◌, ℕ, ◌≤◌, ◌++◌, length, map, take, IfOk, OnOk, option_map};
 ghost use Rattle.asm_base.specs.Counts.{HasCause};
 ghost use Rattle.asm_base.specs.Output.{after_write};
+ghost use Rattle.asm_base.specs.Refusals.{Returns};
 ghost use Rattle.elf_object.specs.Image.{image_with};
-ghost use Rattle.elf_object.specs.Objects.{Makes, object_of};
+ghost use Rattle.elf_object.specs.Objects.{object_of};
 ghost use Rattle.elf_object.specs.Sections.{source_section};
 ghost use Rattle.elf_object.specs.Views.{flat, held_entry, relocations_in};
 
@@ -91,14 +92,14 @@ fn write_pieces<O: Output>(obj: &mut O, header: &[u8], pieces: &[Vec<u8>]) -> Re
 /// The object of sections and symbols, or the first fault.
 #[tactic(auto, unfolding(crate::specs::Faults::object_fault, crate::specs::Image::image_of))]
 fn made(alloc: Global, at: Placement) -> Result<Object, ObjectFault>
-    ensures { Makes result (object_of at.entry.symbols.now at.entry.sections.now) }
+    ensures { Returns result (object_of at.entry.symbols.now at.entry.sections.now) }
 {
     if let Some(fault) = undefined_fault(at) {
-        return Err(fault);
+        return Err(ObjectFault::Fault(fault));
     }
     let held = held_sections(alloc, at)?;
     if let Some(fault) = size_fault(alloc, at)? {
-        return Err(fault);
+        return Err(ObjectFault::Fault(fault));
     }
     let File { header, pieces } = image(alloc, at, held)?;
     Ok(Object { header, pieces })
@@ -108,7 +109,8 @@ impl Object {
     ghost use Rattle.std.specs.Prelude.{◌≡◌, ℕ, ◌≤◌, length, take, OnOk, option_map};
     ghost use Rattle.asm_base.specs.Counts.{HasCause};
     ghost use Rattle.asm_base.specs.Output.{after_write};
-    ghost use Rattle.elf_object.specs.Objects.{Makes, object_of};
+    ghost use Rattle.asm_base.specs.Refusals.{Returns};
+    ghost use Rattle.elf_object.specs.Objects.{object_of};
 
     /// The object of sections that are laid out and of their symbols, or the first fault.
     pub fn new(
@@ -116,7 +118,7 @@ impl Object {
         sections: Sections<Laid>,
         symbols: &Symbols,
     ) -> Result<Object, ObjectFault>
-        ensures { Makes result (object_of symbols.now sections) }
+        ensures { Returns result (object_of symbols.now sections) }
     {
         let at = Placement {
             symbols,

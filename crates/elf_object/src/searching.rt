@@ -4,7 +4,7 @@ ghost use Rattle.std.specs.Prelude.{◌≡◌, ◌≤◌, length, IfOk};
 ghost use Rattle.std.specs.List.{position_or_len};
 ghost use Rattle.elf_object.specs.Faults as spec;
 
-use crate::faults::ObjectFault;
+use crate::faults::ObjectCause;
 use crate::symbol_values::{Placement, is_file_local};
 use asm_base::NoMemory;
 use asm_expr::Linear;
@@ -33,13 +33,13 @@ fn undefined_index(symbols: &[Symbol]) -> usize
 }
 
 /// The fault of the first symbol that must be defined and is not.
-pub(crate) fn undefined_fault(at: Placement) -> Option<ObjectFault>
+pub(crate) fn undefined_fault(at: Placement) -> Option<ObjectCause>
     ensures { result ≡ spec.undefined_fault at.entry.symbols.now }
 {
     let symbols = at.symbols.as_slice();
     let index = undefined_index(symbols);
     if index < symbols.len() {
-        Some(ObjectFault::UndefinedLocalSymbol(index))
+        Some(ObjectCause::UndefinedLocalSymbol(index))
     } else {
         None
     }
@@ -113,12 +113,12 @@ fn first_unknown(
 }
 
 /// The fault of the first `.size` statement without a value.
-pub(crate) fn size_fault(alloc: Global, at: Placement) -> Result<Option<ObjectFault>, NoMemory>
+pub(crate) fn size_fault(alloc: Global, at: Placement) -> Result<Option<ObjectCause>, NoMemory>
     ensures { IfOk result (λ fault. fault
         ≡ spec.size_fault at.entry.symbols.now at.entry.sections.now) }
 {
     match first_unknown(alloc, at, at.symbols.as_slice())? {
-        Some(found) => Ok(Some(ObjectFault::SizeNotKnown(found.symbol))),
+        Some(found) => Ok(Some(ObjectCause::SizeNotKnown(found.symbol))),
         None => Ok(None),
     }
 }

@@ -16,5 +16,5 @@ pub returns-in-Err : goal.returns-in-Err
 returns-in-Err c =
     let first : Names = record { alloc = c.args.alloc; names = c.new.result } in
     let gathers = folds_gather (λ (visitor : Names). visitor.names.items) (tree_of c.args.expr.now) first c.fold.result c.fold.new.visitor c.fold.ensures in
-    let memory = only_memory c.new.result.items c.fold.result c.fold.new.visitor.names.items (names_of (tree_of c.args.expr.now)) c.in-Err.fault c.in-Err.is gathers in
+    let memory = only_memory c.new.result.items c.fold.result c.fold.new.visitor.names.items (names_of (tree_of c.args.expr.now)) c.in-Err.refusal c.in-Err.is gathers in
     rw memory tt

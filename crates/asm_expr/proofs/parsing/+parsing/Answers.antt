@@ -3,14 +3,15 @@ use Rattle.std.proofs.Common.{◌+◌, get_or, Ok, refl, sym, ap, ◌∙◌, ari
 use Rattle.std.proofs.lemmas.Result.{err_from_is_err_and}
 use Rattle.asm_base.specs.Tokens.{spelled}
 use Rattle.asm_expr.specs.Trees.{tree_of, unary, binary}
-use Rattle.asm_expr.specs.Gives.{◌>>=◌}
+use Rattle.asm_base.specs.Refusals.{◌>>=◌}
 use Rattle.asm_expr.specs.Operators.{level_of}
 use Rattle.asm_expr.specs.Leaves.{leaf_of}
 use Rattle.asm_expr.specs.Reading.{Read, read, whole, closed, reading, reading_more}
 use Rattle.asm_expr.specs.Found.{spelled_from, operand_in}
 use Rattle.asm_expr.proofs.Fuel.{right_of}
 use Rattle.asm_expr.proofs.LeafLemmas.{leaf_height}
-use Rattle.asm_expr.proofs.ParsingLemmas.{fails_after, node_fails, node_done, reading_is, more_end, more_at, operand_end, opened_at, opened_deep, prefix_at, prefix_deep, leaf_at, finds_after, finds_node}
+use Rattle.asm_expr.proofs.RefusedSteps.{fails_after}
+use Rattle.asm_expr.proofs.ParsingLemmas.{node_fails, node_done, reading_is, more_end, more_at, operand_end, opened_at, opened_deep, prefix_at, prefix_deep, leaf_at, finds_after, finds_node}
 use Rattle.asm_expr.proofs.parsing.+parsing.Goals as goal
 
 pub read_at-returns-in_err-left : goal.read_at-returns-in_err-left

@@ -17,4 +17,4 @@ pub returns-in-Err : goal.returns-in-Err
 returns-in-Err c =
     let first : Shown = record { alloc = c.args.alloc } in
     let gives = folds_shown (tree_of c.args.expr.now) first c.fold.result c.fold.new.visitor c.fold.ensures in
-    text_fails c.fold.result (piece_of (tree_of c.args.expr.now)) c.in-Err.fault _ c.in-Err.is gives
+    text_fails c.fold.result (piece_of (tree_of c.args.expr.now)) c.in-Err.refusal _ c.in-Err.is gives

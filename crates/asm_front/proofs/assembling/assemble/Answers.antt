@@ -1,5 +1,6 @@
 -- What was read is assembled, or is too large.
 use Rattle.std.proofs.Common.{subst, Err, string_bytes}
+use Rattle.asm_base.specs.declared.refusals.Refusal.TheVariants.{Fault}
 use Rattle.asm_base.specs.WholeFile.{ReadsName}
 use Rattle.asm_front.specs.Answering.{IsAnswered}
 use Rattle.asm_front.specs.Outcome.{Assembles, flags_of}
@@ -19,7 +20,7 @@ returns-in-Err-TooLarge-clause-outcome g c =
     (text_too_large (flags_of c.args.options.now) (g.I.Inputs.contents c.args.ins.now) c.as_str-name.result.now (g.I.Inputs.rest c.read_text.new.ins) c.too_large.result c.answered-in-Err-TooLarge.result
     (subst (λ fault. ReadsName (g.I.Inputs.contents c.args.ins.now) c.as_str-name.result.now (Err fault) (g.I.Inputs.rest c.read_text.new.ins)) c.in-Err-TooLarge.field-0-is c.in-Err-TooLarge.ensures.text)
     c.too_large.ensures
-    (subst (λ notes. IsAnswered c.as_str-name.result.now notes (Err c.too_large.result) c.answered-in-Err-TooLarge.result) c.new.ensures c.answered-in-Err-TooLarge.ensures))
+    (subst (λ notes. IsAnswered c.as_str-name.result.now notes (Err (Fault c.too_large.result)) c.answered-in-Err-TooLarge.result) c.new.ensures c.answered-in-Err-TooLarge.ensures))
 
 pub returns-in-Ok-assemble_text-clause-reads_back : goal.returns-in-Ok-assemble_text-clause-reads_back
 returns-in-Ok-assemble_text-clause-reads_back g c = answer_reads_back (flags_of c.args.options.now) (g.I.Inputs.contents c.args.ins.now) (string_bytes c.args.options.now.file) c.answered.result (returns-in-Ok-assemble_text-clause-outcome g c)

@@ -2,6 +2,7 @@
 use Rattle.std.proofs.Common.{◌≡◌, ◌++◌, Some, None, Ok, Err, map, sym, ap, ◌∙◌, refl}
 use Rattle.std.proofs.lemmas.List.{map-append, append-nil}
 use Rattle.std.specs.List.{filter_map}
+use Rattle.asm_base.specs.declared.refusals.Refusal.TheVariants.{Fault}
 use Rattle.asm_base.specs.Dividing.{pieces_of}
 use Rattle.asm_lines.specs.Intervals.{intervals_of}
 use Rattle.asm_lines.specs.Faults.{earlier}
@@ -10,7 +11,7 @@ use Rattle.asm_lines.specs.LineNumbers.{line_of}
 use Rattle.asm_lines.specs.Seen.{seen}
 use Rattle.asm_lines.specs.Scan.{first_interval, found_by_scan, interval_found, pieces_at, statement_by_span}
 use Rattle.asm_lines.proofs.Scans.{scanned_fault, scanned_statement}
-use Rattle.asm_lines.proofs.Steps.{answer_err, answer_ok, by_grammar, fails_with, found_stop, long_end, long_step, no_found, open_end, open_step, statements_end, statements_step}
+use Rattle.asm_lines.proofs.Steps.{answer_err, answer_ok, by_grammar, found_stop, long_end, long_step, no_found, open_end, open_step, statements_end, statements_step}
 use Rattle.asm_lines.proofs.reading.read_statements.Goals as goal
 
 pub loop-at-init : goal.loop-at-init
@@ -26,8 +27,8 @@ returns-in-Some c =
     let fault : interval_found source interval ≡ Some c.in-Some.found = sym (scanned_fault source interval) ∙ ap found_by_scan (sym c.first_interval-interval.ensures.scan) ∙ sym c.in-Some.ensures in
     let whole = found_stop source c.loop-at.at c.in-Some.found _ _ fault c.loop-at.invariant.unclosed c.loop-at.invariant.long in
     let first = ap (λ nul. earlier nul (Some c.in-Some.found)) (sym c.nul_found-nul.ensures) ∙ sym c.earlier.ensures in
-    let value = fails_with c.earlier.result.fault _ (ap (statements_of c.args.file) (sym c.as_bytes-source.ensures) ∙ answer_err c.args.file source c.earlier.result (Some c.in-Some.found) whole first) in
-    record { grammar = by_grammar c.args.file c.args.text.now (Err c.earlier.result.fault) c.one_division.ensures.only value; value = value }
+    let value = ap (statements_of c.args.file) (sym c.as_bytes-source.ensures) ∙ answer_err c.args.file source c.earlier.result (Some c.in-Some.found) whole first in
+    record { grammar = by_grammar c.args.file c.args.text.now (Err (Fault c.earlier.result.fault)) c.one_division.ensures.only value; value = value }
 
 pub loop-at-preserved-in_ok-push : goal.loop-at-preserved-in_ok-push
 loop-at-preserved-in_ok-push c =
@@ -62,8 +63,8 @@ returns-in-Some-nul c =
     let source = c.as_bytes-source.result.now in
     let none = no_found _ _ (open_end source c.loop-at.at _ c.loop-at-test.false c.loop-at.invariant.unclosed) (long_end source c.loop-at.at _ c.loop-at-test.false c.loop-at.invariant.long) in
     let first = ap (λ nul. earlier nul None) (sym c.nul_found-nul.ensures ∙ c.in-Some-nul.is) in
-    let value = fails_with c.in-Some-nul.found.fault _ (ap (statements_of c.args.file) (sym c.as_bytes-source.ensures) ∙ answer_err c.args.file source c.in-Some-nul.found None none first) in
-    record { grammar = by_grammar c.args.file c.args.text.now (Err c.in-Some-nul.found.fault) c.one_division.ensures.only value; value = value }
+    let value = ap (statements_of c.args.file) (sym c.as_bytes-source.ensures) ∙ answer_err c.args.file source c.in-Some-nul.found None none first in
+    record { grammar = by_grammar c.args.file c.args.text.now (Err (Fault c.in-Some-nul.found.fault)) c.one_division.ensures.only value; value = value }
 
 pub returns : goal.returns
 returns c =

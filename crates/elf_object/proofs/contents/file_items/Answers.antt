@@ -1,6 +1,6 @@
 -- One more item.
 use Rattle.std.proofs.Common.{option_map}
-use Rattle.elf_object.specs.declared.faults.ObjectFault.TheVariants.{NoRelocation}
+use Rattle.elf_object.specs.declared.faults.ObjectCause.TheVariants.{NoRelocation}
 use Rattle.elf_object.specs.Contents.{item_bytes, item_relocations, has_lost, items_bytes, items_relocations}
 use Rattle.elf_object.specs.Faults.{items_fault}
 use Rattle.elf_object.proofs.LoopSteps.{flat_step, find_step}

@@ -3,7 +3,7 @@ use Rattle.std.proofs.Common.{◌≡◌, ◌+◌, ◌-◌, ◌≤◌, true, fals
 use Rattle.std.proofs.lemmas.Result.{err_from_is_err_and}
 use Rattle.std.proofs.lemmas.List.{take_rest}
 use Rattle.asm_base.specs.Tokens.{spelled}
-use Rattle.asm_place.specs.Answers.{Gives}
+use Rattle.asm_base.specs.Refusals.{Gives}
 use Rattle.asm_place.specs.PlacedBy.{placed_by}
 use Rattle.asm_place.specs.Placing.{begins_with_label, place_unlabelled, place_labelled}
 use Rattle.asm_place.proofs.LabelLemmas.{unlabelled, label_step, label_fails, room}

@@ -1,0 +1,130 @@
+//! A line of the stored input: a call by its word, and what it is called with.
+
+use crate::contents::{write_align, write_data, write_fill};
+use crate::expressions::{
+    write_folded, write_form, write_names, write_parsed, write_settled, write_shown, write_value,
+};
+use crate::faults::write_faults;
+use crate::layouts::write_layout;
+use crate::symbols::{write_assigned, write_instances};
+use crate::texts::{write_messages, write_tokens};
+use asm_frags::FieldSize;
+use std::alloc::Global;
+use std::io::{self, Write};
+
+/// Whether it is a line that the input explains itself by.
+fn is_comment(line: &str) -> bool {
+    line.is_empty() || line.starts_with("#")
+}
+
+/// The number in front of the first blank, and what stands behind that.
+fn number_and_rest(text: &str) -> Option<(u64, &str)> {
+    let (number, rest) = text.split_once(' ')?;
+    Some((number.parse::<u64>().ok()?, rest))
+}
+
+/// `parse INDEX TEXT`
+fn call_parse(alloc: Global, text: &str, out: &mut Vec<u8>) -> io::Result<()> {
+    match number_and_rest(text) {
+        Some((at, text)) if at < 100 => write_parsed(alloc, at as usize, text, out),
+        _ => writeln!(out, "no such call"),
+    }
+}
+
+/// `settled FIRST SECOND`
+fn call_settled(alloc: Global, text: &str, out: &mut Vec<u8>) -> io::Result<()> {
+    let Some((first, rest)) = number_and_rest(text) else {
+        return writeln!(out, "no such call");
+    };
+    match rest.parse::<u64>() {
+        Ok(second) => write_settled(alloc, first, second, out),
+        Err(_) => writeln!(out, "no such call"),
+    }
+}
+
+/// Three numbers that blanks part.
+fn three_numbers(text: &str) -> Option<(u64, u64, u64)> {
+    let (first, rest) = number_and_rest(text)?;
+    let (second, third) = number_and_rest(rest)?;
+    Some((first, second, third.parse::<u64>().ok()?))
+}
+
+/// `fill COUNT SIZE VALUE`
+fn call_fill(alloc: Global, text: &str, out: &mut Vec<u8>) -> io::Result<()> {
+    match three_numbers(text) {
+        Some((count, size, value)) => write_fill(alloc, count, size, value, out),
+        None => writeln!(out, "no such call"),
+    }
+}
+
+/// `align LOG`
+fn call_align(alloc: Global, text: &str, out: &mut Vec<u8>) -> io::Result<()> {
+    match text.parse::<u8>() {
+        Ok(log) => write_align(alloc, log, out),
+        Err(_) => writeln!(out, "no such call"),
+    }
+}
+
+/// The field of so many bytes.
+fn field_size(bytes: u64) -> Option<FieldSize> {
+    match bytes {
+        1 => Some(FieldSize::One),
+        2 => Some(FieldSize::Two),
+        4 => Some(FieldSize::Four),
+        8 => Some(FieldSize::Eight),
+        _ => None,
+    }
+}
+
+/// `layout BYTES VALUE MORE`
+fn call_layout(alloc: Global, text: &str, out: &mut Vec<u8>) -> io::Result<()> {
+    let Some((bytes, value, more)) = three_numbers(text) else {
+        return writeln!(out, "no such call");
+    };
+    match field_size(bytes) {
+        Some(size) => write_layout(alloc, size, value, more, out),
+        None => writeln!(out, "no such call"),
+    }
+}
+
+/// A call of what stands below expressions and beside them.
+fn make_other_call(alloc: Global, call: &str, text: &str, out: &mut Vec<u8>) -> io::Result<()> {
+    match call {
+        "messages" => write_messages(alloc, out),
+        "faults" => write_faults(out),
+        "instances" => write_instances(alloc, out),
+        "assigned" => write_assigned(alloc, out),
+        "data" => write_data(alloc, out),
+        "fill" => call_fill(alloc, text, out),
+        "align" => call_align(alloc, text, out),
+        "layout" => call_layout(alloc, text, out),
+        _ => writeln!(out, "no such call"),
+    }
+}
+
+/// Makes the call of this word with the text, and writes what it answers.
+fn make_call(alloc: Global, call: &str, text: &str, out: &mut Vec<u8>) -> io::Result<()> {
+    match call {
+        "tokens" => write_tokens(alloc, text, out),
+        "value" => write_value(alloc, text, out),
+        "fold" => write_folded(alloc, text, out),
+        "parse" => call_parse(alloc, text, out),
+        "names" => write_names(alloc, text, out),
+        "shown" => write_shown(alloc, text, out),
+        "form" => write_form(alloc, text, out),
+        "settled" => call_settled(alloc, text, out),
+        _ => make_other_call(alloc, call, text, out),
+    }
+}
+
+/// Writes the line, and what its call answers.
+pub fn write_line(alloc: Global, line: &str, out: &mut Vec<u8>) -> io::Result<()> {
+    if is_comment(line) {
+        return Ok(());
+    }
+    writeln!(out, "$ {line}")?;
+    match line.split_once(' ') {
+        Some((call, text)) => make_call(alloc, call, text, out),
+        None => make_call(alloc, line, "", out),
+    }
+}
