@@ -6,7 +6,7 @@ use Rattle.std.specs.Global.{Vec}
 use Rattle.std.proofs.lemmas.List.{length-map, map-append}
 use Rattle.std.proofs.Math.Seq.{map-set_same}
 use Rattle.std.proofs.lemmas.List.Elements.{All-append}
-use Rattle.asm_frags.specs.SectionOf.{SectionOf, is_section_named, number_of}
+use Rattle.asm_frags.specs.SectionOf.{SectionOf, is_section_named, section_number}
 use Rattle.asm_frags.specs.Sound.{AreNamed, plain_names}
 
 prefix_len-map : {X Y : Type 0} (p : Y → Bool) (f : X → Y) (xs : List X) → prefix_len p (map f xs) ≡ prefix_len (λ x. p (f x)) xs
@@ -24,7 +24,7 @@ list_any-map p f [] = refl
 list_any-map p f (x ∷ xs) = rw (list_any-map p f xs) refl
 
 module _ {Item : Type 0} (keys : List (Vec ℕ)) (sections : List (SectionOf Item)) (sound : AreNamed (plain_names keys) sections) where
-  pub number_same : (name : List ℕ) → position (λ (key : Vec ℕ). bytes_eq name key.items) keys ≡ number_of name sections
+  pub number_same : (name : List ℕ) → position (λ (key : Vec ℕ). bytes_eq name key.items) keys ≡ section_number name sections
   unfolding plain_names
   number_same name =
       sym (position-map (bytes_eq name) (λ (key : Vec ℕ). key.items) keys) ∙ ap (position (bytes_eq name)) sound.named

@@ -8,8 +8,8 @@ use Rattle.asm_frags.specs.declared.contents.Content.{Content}
 use Rattle.asm_frags.specs.declared.contents.Content.TheVariants.{Bytes, Fill, Align}
 use Rattle.asm_frags.specs.Contents.{unit_of, repeated, size_at, bytes_at, is_known_zeros}
 use Rattle.asm_frags.specs.Alignments.{alignment_of_all}
-use Rattle.asm_frags.specs.SectionOf.{SectionOf, new_section, with_item}
-use Rattle.asm_frags.specs.Sections.{flags_of, first_sections, entered, pushed}
+use Rattle.asm_frags.specs.SectionOf.{SectionOf, new_section, with_last_item}
+use Rattle.asm_frags.specs.Sections.{section_flags, first_sections, entered, pushed}
 
 fill : ℕ → ℕ → ℕ → Content
 fill count size value = Fill (record { count = count; size = size; value = value })
@@ -65,23 +65,23 @@ greatest = refl
 first : List (SectionOf (Frag Loose (Unit {0})))
 first = first_sections
 
-there : entered first (codes ".data") (flags_of 3) 1 0 ≡ Ok (1, first)
+there : entered first (codes ".data") (section_flags 3) 1 0 ≡ Ok (1, first)
 unfolding first first_sections
 there = refl
 
-one_more : entered first (codes "foo") (flags_of 2) 1 0 ≡ Ok (3, first ++ new_section (codes "foo") (flags_of 2) 1 0 ∷ [])
+one_more : entered first (codes "foo") (section_flags 2) 1 0 ≡ Ok (3, first ++ new_section (codes "foo") (section_flags 2) 1 0 ∷ [])
 unfolding first first_sections
 one_more = refl
 
-other_flags : entered first (codes ".data") (flags_of 2) 1 0 ≡ Err BadSection
+other_flags : entered first (codes ".data") (section_flags 2) 1 0 ≡ Err BadSection
 unfolding first first_sections
 other_flags = refl
 
-other_kind : entered first (codes ".bss") (flags_of 3) 1 0 ≡ Err BadSection
+other_kind : entered first (codes ".bss") (section_flags 3) 1 0 ≡ Err BadSection
 unfolding first first_sections
 other_kind = refl
 
-other_entry_size : entered first (codes ".text") (flags_of 6) 1 4 ≡ Err BadSection
+other_entry_size : entered first (codes ".text") (section_flags 6) 1 4 ≡ Err BadSection
 unfolding first first_sections
 other_entry_size = refl
 
@@ -90,8 +90,8 @@ unfolding first first_sections item plain
 bytes_in_bss = refl
 
 zeros_in_bss : pushed first 2 (item (plain (0 ∷ []))) ≡ Ok (
-    new_section (codes ".text") (flags_of 6) 1 0
-    ∷ new_section (codes ".data") (flags_of 3) 1 0
-    ∷ with_item (new_section (codes ".bss") (flags_of 3) 8 0) (item (plain (0 ∷ []))) ∷ [])
+    new_section (codes ".text") (section_flags 6) 1 0
+    ∷ new_section (codes ".data") (section_flags 3) 1 0
+    ∷ with_last_item (new_section (codes ".bss") (section_flags 3) 8 0) (item (plain (0 ∷ []))) ∷ [])
 unfolding first first_sections item plain
 zeros_in_bss = refl

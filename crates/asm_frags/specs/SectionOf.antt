@@ -16,8 +16,8 @@ abbrev pub new_section : {Item : Type 0} → List ℕ → SectionFlags → ℕ �
 new_section name flags kind entry_size = record { name = name; flags = flags; kind = kind; entry_size = entry_size; items = [] }
 
 -- the section with the item last
-abbrev pub with_item : {Item : Type 0} → SectionOf Item → Item → SectionOf Item
-with_item section item = record section { items = section.items ++ item ∷ [] }
+abbrev pub with_last_item : {Item : Type 0} → SectionOf Item → Item → SectionOf Item
+with_last_item section item = record section { items = section.items ++ item ∷ [] }
 
 -- the section has these flags, this type and this entry size
 abbrev pub is_alike : {Item : Type 0} → SectionOf Item → SectionFlags → ℕ → ℕ → Bool
@@ -28,5 +28,5 @@ abbrev pub is_section_named : {Item : Type 0} → List ℕ → SectionOf Item �
 is_section_named name section = bytes_eq name section.name
 
 -- the number of the first section of this name
-abbrev pub number_of : {Item : Type 0} → List ℕ → List (SectionOf Item) → Option ℕ
-number_of name sections = position (is_section_named name) sections
+abbrev pub section_number : {Item : Type 0} → List ℕ → List (SectionOf Item) → Option ℕ
+section_number name sections = position (is_section_named name) sections

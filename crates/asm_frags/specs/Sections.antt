@@ -6,19 +6,19 @@ use Rattle.asm_frags.specs.declared.faults.FragCause.{FragCause}
 use Rattle.asm_frags.specs.declared.faults.FragCause.TheVariants.{BadSection}
 use Rattle.asm_frags.specs.declared.flags.SectionFlags.{SectionFlags}
 use Rattle.asm_frags.specs.declared.items.Frag.{Frag}
-use Rattle.asm_frags.specs.SectionOf.{SectionOf, new_section, is_alike, number_of}
-use Rattle.asm_frags.specs.Answers.{with_item_or_fault}
+use Rattle.asm_frags.specs.SectionOf.{SectionOf, new_section, is_alike, section_number}
+use Rattle.asm_frags.specs.Answers.{with_last_item_or_fault}
 
 -- the flags with these bits
-abbrev pub flags_of : ℕ → SectionFlags
-flags_of bits = record { 0 = bits }
+abbrev pub section_flags : ℕ → SectionFlags
+section_flags bits = record { 0 = bits }
 
 -- the sections of an empty source: `.text`, `.data` and `.bss` (GNU as manual, "Ld Sections")
 unfoldable pub first_sections : {Item : Type 0} → List (SectionOf Item)
 first_sections =
-    new_section (codes ".text") (flags_of 6) 1 0
-    ∷ new_section (codes ".data") (flags_of 3) 1 0
-    ∷ new_section (codes ".bss") (flags_of 3) 8 0 ∷ []
+    new_section (codes ".text") (section_flags 6) 1 0
+    ∷ new_section (codes ".data") (section_flags 3) 1 0
+    ∷ new_section (codes ".bss") (section_flags 3) 8 0 ∷ []
 
 -- the section last, whose number is how many there were; a source makes at most 30,000 beside the first three
 abbrev pub new_last : {Item : Type 0} → List (SectionOf Item) → SectionOf Item → Result (ℕ × List (SectionOf Item)) FragCause
@@ -36,7 +36,7 @@ entered_by sections (Some number) name flags kind entry_size = entered_there sec
 
 -- the number of the section of this name, and the sections with it, or the fault (GNU as manual, ".section")
 abbrev pub entered : {Item : Type 0} → List (SectionOf Item) → List ℕ → SectionFlags → ℕ → ℕ → Result (ℕ × List (SectionOf Item)) FragCause
-entered sections name flags kind entry_size = entered_by sections (number_of name sections) name flags kind entry_size
+entered sections name flags kind entry_size = entered_by sections (section_number name sections) name flags kind entry_size
 
 -- the call made the due value and answers the due number, or is refused as `Changes` says
 abbrev pub Enters : {Value : Type 0} → Value → Value → Result ℕ (Refusal FragCause) → Result (ℕ × Value) FragCause → Type 0
@@ -44,14 +44,14 @@ Enters old new (Ok number) due = due ≡ Ok (number, new)
 Enters old new (Err refusal) due = FailsLast refusal due × (new ≡ old)
 
 -- the sections with the section of this number replaced, or the fault
-abbrev pub replaced : {P Address : Type 0} → List (SectionOf (Frag P Address)) → ℕ → Result (SectionOf (Frag P Address)) FragCause → Result (List (SectionOf (Frag P Address))) FragCause
-replaced sections number (Ok section) = Ok (slice_set sections number section)
-replaced sections number (Err fault) = Err fault
+abbrev pub with_section_or_fault : {P Address : Type 0} → List (SectionOf (Frag P Address)) → ℕ → Result (SectionOf (Frag P Address)) FragCause → Result (List (SectionOf (Frag P Address))) FragCause
+with_section_or_fault sections number (Ok section) = Ok (slice_set sections number section)
+with_section_or_fault sections number (Err fault) = Err fault
 
 -- the same, by the section that there is of this number
 abbrev pub pushed_into : {P Address : Type 0} → List (SectionOf (Frag P Address)) → ℕ → Option (SectionOf (Frag P Address)) → Frag P Address → Result (List (SectionOf (Frag P Address))) FragCause
 pushed_into sections number None item = Err BadSection
-pushed_into sections number (Some section) item = replaced sections number (with_item_or_fault section item)
+pushed_into sections number (Some section) item = with_section_or_fault sections number (with_last_item_or_fault section item)
 
 -- the sections with the item last in the one of this number, or the fault
 abbrev pub pushed : {P Address : Type 0} → List (SectionOf (Frag P Address)) → ℕ → Frag P Address → Result (List (SectionOf (Frag P Address))) FragCause

@@ -54,7 +54,7 @@ impl<P: Phase> Section<P> {
     ghost use Rattle.asm_frags.specs.Alignments.{alignment_of_all};
     ghost use Rattle.asm_frags.specs.KnownExtents.{extent_of};
     ghost use Rattle.asm_frags.specs.SectionOf.{new_section, is_alike};
-    ghost use Rattle.asm_frags.specs.Answers.{Changes, with_item_or_fault};
+    ghost use Rattle.asm_frags.specs.Answers.{Changes, with_last_item_or_fault};
 
     /// A section without items.
     pub fn new(
@@ -142,7 +142,7 @@ impl<P: Phase> Section<P> {
     /// Puts the item last. `BadSection` comes exactly where the section has the type `SHT_NOBITS` and the item is not known
     /// to be zeros. A section has at most 2^28 items; one more is refused as want of memory.
     pub fn put(&mut self, item: Frag<P>) -> Result<(), FragFault>
-        ensures { Changes self.old self.new result (with_item_or_fault self.old item) }
+        ensures { Changes self.old self.new result (with_last_item_or_fault self.old item) }
     {
         if self.kind == SHT_NOBITS && !is_known_zeros(&item.content) {
             return Err(FragFault::Fault(FragCause::BadSection));

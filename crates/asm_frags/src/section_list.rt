@@ -42,7 +42,7 @@ impl<P: Phase> Model for Sections<P> {
 }
 
 impl<P: Phase> Sections<P> {
-    ghost use Rattle.asm_frags.specs.SectionOf.{is_section_named, number_of};
+    ghost use Rattle.asm_frags.specs.SectionOf.{is_section_named, section_number};
 
     /// How many sections there are.
     pub fn len(&self) -> usize
@@ -69,7 +69,7 @@ impl<P: Phase> Sections<P> {
 
     /// The number of the section of this name.
     pub fn find(&self, name: &[u8]) -> Option<u32>
-        ensures number { result ≡ number_of name.now self.now }
+        ensures number { result ≡ section_number name.now self.now }
         ensures within { IfSome result (λ number. number < length self.now) }
         ensures presence { is_some result ≡ list_any (is_section_named name.now) self.now }
     {
@@ -91,7 +91,7 @@ impl<P: Phase> Sections<P> {
 
 impl Sections<Loose> {
     ghost use Rattle.asm_frags.specs.Sections.{first_sections, entered, Enters, pushed, new_last};
-    ghost use Rattle.asm_frags.specs.SectionOf.{new_section, is_section_named, number_of};
+    ghost use Rattle.asm_frags.specs.SectionOf.{new_section, is_section_named, section_number};
     ghost use Rattle.asm_frags.specs.Answers.{Changes};
 
     /// Adds one of the first three sections.

@@ -11,7 +11,7 @@ use Rattle.asm_frags.specs.declared.fields.FieldSize.{FieldSize}
 use Rattle.asm_frags.specs.declared.fields.FieldSize.TheVariants.{Four, Eight}
 use Rattle.asm_frags.specs.Fields.{low_bytes}
 use Rattle.asm_frags.specs.SectionOf.{SectionOf}
-use Rattle.asm_frags.specs.Sections.{flags_of}
+use Rattle.asm_frags.specs.Sections.{section_flags}
 use Rattle.asm_symbols.specs.declared.entries.Symbol.{Symbol}
 use Rattle.asm_symbols.specs.declared.entries.Kind.TheVariants.{Object}
 use Rattle.asm_symbols.specs.declared.entries.Meaning.{Meaning}
@@ -74,7 +74,7 @@ item address count size terms constant = record {
 }
 
 section : List ℕ → ℕ → ℕ → List LaidItem → SectionOf LaidItem
-section name flags kind items = record { name = name; flags = flags_of flags; kind = kind; entry_size = 0; items = items }
+section name flags kind items = record { name = name; flags = section_flags flags; kind = kind; entry_size = 0; items = items }
 
 -- in `.data`, `.quad x+8` and `.long y-.`
 sections : LaidSections

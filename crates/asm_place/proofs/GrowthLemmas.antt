@@ -2,7 +2,7 @@
 use Rattle.std.proofs.Common.{◌≡◌, ◌≢◌, ℕ, zero, suc, ◌⊎◌, inl, inr, List, [], ◌∷◌, ◌++◌, Some, set, slice_get, refl, sym, ap, ◌∙◌, arith, append-nil}
 use mathlib.Core.List.{append_assoc}
 use Rattle.std.proofs.lemmas.Option.{none-some, same_Some}
-use Rattle.asm_frags.specs.SectionOf.{with_item}
+use Rattle.asm_frags.specs.SectionOf.{with_last_item}
 use Rattle.asm_place.specs.Places.{Item, LooseSection}
 use Rattle.asm_place.specs.Instructions.{Grows}
 
@@ -56,16 +56,16 @@ grows_on before between after first later = record {
 
 -- an item more in one section
 pub grows_by_item : (before : List LooseSection) (number : ℕ) (section : LooseSection) (item : Item)
-    → slice_get before number ≡ Some section → Grows before (set before number (with_item section item))
+    → slice_get before number ≡ Some section → Grows before (set before number (with_last_item section item))
 grows_by_item before number section item there = record {
   kept = λ other found at. elim (same_or_not number other) [
     | inl same ↦
         let is : section ≡ found = same_Some section found (sym there ∙ (ap (slice_get before) (sym same) ∙ at)) in (
           item ∷ [],
-          ap (slice_get (set before number (with_item section item))) same
-              ∙ (get_set before number section (with_item section item) there ∙ ap (λ (s : LooseSection). Some (with_item s item)) is),
+          ap (slice_get (set before number (with_last_item section item))) same
+              ∙ (get_set before number section (with_last_item section item) there ∙ ap (λ (s : LooseSection). Some (with_last_item s item)) is),
         )
-    | inr apart ↦ ([], get_set_other before number other (with_item section item) apart ∙ (at ∙ ap Some (same_items found)))
+    | inr apart ↦ ([], get_set_other before number other (with_last_item section item) apart ∙ (at ∙ ap Some (same_items found)))
   ];
 }
 

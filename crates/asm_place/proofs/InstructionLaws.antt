@@ -13,11 +13,11 @@ use Rattle.asm_base.specs.Tokens.{SpelledToken, tokens_of}
 use Rattle.asm_lines.specs.Statements.{StatementAt}
 use Rattle.asm_frags.specs.declared.contents.Content.{Content}
 use Rattle.asm_frags.specs.declared.faults.FragCause.TheVariants as frag
-use Rattle.asm_frags.specs.SectionOf.{with_item}
+use Rattle.asm_frags.specs.SectionOf.{with_last_item}
 use Rattle.asm_frags.specs.DataOf.{is_zero}
 use Rattle.asm_frags.specs.Contents.{is_known_zeros}
 use Rattle.asm_frags.specs.Answers.{refuses}
-use Rattle.asm_frags.specs.Sections.{replaced, pushed_into}
+use Rattle.asm_frags.specs.Sections.{with_section_or_fault, pushed_into}
 use Rattle.asm_place.specs.declared.instructions.Row.{Row}
 use Rattle.asm_base.specs.Refusals.{◌>>=◌}
 use Rattle.asm_place.specs.Rows.{the_rows, has_name, bytes_of}
@@ -72,7 +72,7 @@ left_false false b is not_b = refl
 
 module _ (pos : Pos) (number : ℕ) (item : Content) (known : is_known_zeros item ≡ false) where
   put_test : (sections : List LooseSection) (section : LooseSection) (test : Bool) (new : List LooseSection) → slice_get sections number ≡ Some section → refuses section (item_of pos item) ≡ test
-      → of_sections (replaced sections number (cond test (Err frag.BadSection) (Ok (with_item section (item_of pos item))))) ≡ Ok new → IsPut sections new number (item_of pos item)
+      → of_sections (with_section_or_fault sections number (cond test (Err frag.BadSection) (Ok (with_last_item section (item_of pos item))))) ≡ Ok new → IsPut sections new number (item_of pos item)
   put_test sections section true new there test is = err-ok _ new is
   put_test sections section false new there test is = record {
     section = section;
@@ -193,9 +193,9 @@ put_stands : (before next whole : List LooseSection) (number : ℕ) (pos : Pos) 
     → StandsAt whole number (items_in before number) bytes
 put_stands before next whole number pos bytes put grows =
     let item : Item = item_of pos (plain_item bytes) in
-    let there : slice_get next number ≡ Some (with_item put.section item) =
-    ap (λ sections. slice_get sections number) put.put ∙ get_set before number put.section (with_item put.section item) put.there in
-    let later = grows.kept number (with_item put.section item) there in
+    let there : slice_get next number ≡ Some (with_last_item put.section item) =
+    ap (λ sections. slice_get sections number) put.put ∙ get_set before number put.section (with_last_item put.section item) put.there in
+    let later = grows.kept number (with_last_item put.section item) there in
     record {
       section = record put.section { items = (put.section.items ++ item ∷ []) ++ later.0 };
       found = later.1;

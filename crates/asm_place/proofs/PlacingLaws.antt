@@ -16,9 +16,9 @@ use Rattle.asm_frags.specs.declared.contents.Content.{Content}
 use Rattle.asm_frags.specs.declared.contents.Content.TheVariants as content
 use Rattle.asm_frags.specs.declared.fields.FieldSize.{FieldSize}
 use Rattle.asm_frags.specs.declared.faults.FragCause.TheVariants as frag
-use Rattle.asm_frags.specs.SectionOf.{new_section, is_alike, number_of, with_item}
+use Rattle.asm_frags.specs.SectionOf.{new_section, is_alike, section_number, with_last_item}
 use Rattle.asm_frags.specs.Answers.{refuses}
-use Rattle.asm_frags.specs.Sections.{flags_of, entered_there, entered_by, replaced, pushed_into}
+use Rattle.asm_frags.specs.Sections.{section_flags, entered_there, entered_by, with_section_or_fault, pushed_into}
 use Rattle.asm_symbols.specs.declared.entries.Definition.TheVariants.{Label, Space, Common}
 use Rattle.asm_symbols.specs.Defining.{defined}
 use Rattle.asm_symbols.specs.LeadsBack.{assigned}
@@ -52,7 +52,7 @@ use Rattle.asm_place.specs.Spaces.{space_of, units_of, unit_size, log_of}
 
 -- an item in a section
 put_grows : (sections : List LooseSection) (number : ℕ) (section : LooseSection) (item : Item) (test : Bool) → slice_get sections number ≡ Some section
-    → Fine (Grows sections) (of_sections (replaced sections number (cond test (Err frag.BadSection) (Ok (with_item section item)))))
+    → Fine (Grows sections) (of_sections (with_section_or_fault sections number (cond test (Err frag.BadSection) (Ok (with_last_item section item)))))
 put_grows sections number section item true there = refused _
 put_grows sections number section item false there = made _ (grows_by_item sections number section item there)
 
@@ -78,18 +78,18 @@ alike_grows sections number true = made _ (grows_not sections)
 alike_grows sections number false = refused _
 
 known_grows : (sections : List LooseSection) (number : ℕ) (found : Option LooseSection) (header : Header)
-    → Fine (λ pair. Grows sections pair.0) (numbered (entered_there sections number found (flags_of header.flags) header.kind header.entry_size))
+    → Fine (λ pair. Grows sections pair.0) (numbered (entered_there sections number found (section_flags header.flags) header.kind header.entry_size))
 known_grows sections number None header = refused _
-known_grows sections number (Some section) header = alike_grows sections number (is_alike section (flags_of header.flags) header.kind header.entry_size)
+known_grows sections number (Some section) header = alike_grows sections number (is_alike section (section_flags header.flags) header.kind header.entry_size)
 
 by_grows : (sections : List LooseSection) (number : Option ℕ) (name : List ℕ) (header : Header)
-    → Fine (λ pair. Grows sections pair.0) (numbered (entered_by sections number name (flags_of header.flags) header.kind header.entry_size))
-by_grows sections None name header = new_grows sections (new_section name (flags_of header.flags) header.kind header.entry_size) (nat_lt (length sections) 30003)
+    → Fine (λ pair. Grows sections pair.0) (numbered (entered_by sections number name (section_flags header.flags) header.kind header.entry_size))
+by_grows sections None name header = new_grows sections (new_section name (section_flags header.flags) header.kind header.entry_size) (nat_lt (length sections) 30003)
 by_grows sections (Some number) name header = known_grows sections number (slice_get sections number) header
 
 entered_grows : (sections : List LooseSection) (name : List ℕ) (header : Header) → Fine (λ pair. Grows sections pair.0) (entered_as sections name header)
 unfolding entered_as
-entered_grows sections name header = either (nat_lt (2 ^ 16) (length name)) (refused BadSection) (by_grows sections (number_of name sections) name header)
+entered_grows sections name header = either (nat_lt (2 ^ 16) (length name)) (refused BadSection) (by_grows sections (section_number name sections) name header)
 
 enter_steps : (pos : Pos) (words : SectionWords) (placed : Placed) → Steps placed (enter_words pos words placed)
 unfolding enter_words

@@ -2,7 +2,7 @@
 use Rattle.std.specs.Prelude.{◌≡◌, ℕ, ◌==◌, ◌&&◌, ◌++◌, false, not, List, [], ◌∷◌, find, if◌then◌else◌, Option, None, Some, slice_get, slice_set}
 use Rattle.asm_base.specs.Tokens.{SpelledToken, tokens_of}
 use Rattle.asm_lines.specs.Statements.{StatementAt}
-use Rattle.asm_frags.specs.SectionOf.{with_item}
+use Rattle.asm_frags.specs.SectionOf.{with_last_item}
 use Rattle.asm_place.specs.declared.instructions.Row.{Row}
 use Rattle.asm_place.specs.Rows.{the_rows, has_name}
 use Rattle.asm_place.specs.Operands.{is_name}
@@ -42,7 +42,7 @@ pub record IsPut (before after : List LooseSection) (number : ℕ) (item : Item)
   pub section : LooseSection
   pub there : slice_get before number ≡ Some section
   pub takes_bytes : (section.kind == 8) ≡ false
-  pub put : after ≡ slice_set before number (with_item section item)
+  pub put : after ≡ slice_set before number (with_last_item section item)
 
 -- an item of these bytes alone stands at this index of the section of this number, which takes bytes
 pub record StandsAt (sections : List LooseSection) (number index : ℕ) (bytes : List ℕ) : Type 0 where

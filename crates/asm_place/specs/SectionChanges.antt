@@ -7,8 +7,8 @@ use Rattle.asm_base.specs.Tokens.{SpelledToken}
 use Rattle.asm_expr.specs.Knowledge.{Knowledge}
 use Rattle.asm_expr.specs.Trees.{Tree}
 use Rattle.asm_frags.specs.declared.faults.FragCause.{FragCause}
-use Rattle.asm_frags.specs.SectionOf.{number_of}
-use Rattle.asm_frags.specs.Sections.{flags_of, entered}
+use Rattle.asm_frags.specs.SectionOf.{section_number}
+use Rattle.asm_frags.specs.Sections.{section_flags, entered}
 use Rattle.asm_place.specs.declared.stacks.Entered.{Entered}
 use Rattle.asm_place.specs.declared.section_changes.Header.{Header}
 use Rattle.asm_base.specs.Refusals.{◌>>=◌}
@@ -29,7 +29,7 @@ with_current number placed = record placed { current = number; previous = placed
 
 -- the section of this name, where there is one
 abbrev pub section_named : List LooseSection → List ℕ → Option LooseSection
-section_named sections name = option_and_then (λ number. slice_get sections number) (number_of name sections)
+section_named sections name = option_and_then (λ number. slice_get sections number) (section_number name sections)
 
 -- flags that are not said are those of the section that is there, or else those of its name
 abbrev pub flags_by : Option ℕ → Option LooseSection → List ℕ → ℕ
@@ -79,7 +79,7 @@ numbered (Err fault) = Err (section_fault fault)
 
 -- the number of the section of this name and header, which is made if it is not there
 abbrev pub entered_short : List LooseSection → List ℕ → Header → Result (List LooseSection × ℕ) PlaceCause
-entered_short sections name header = numbered (entered sections name (flags_of header.flags) header.kind header.entry_size)
+entered_short sections name header = numbered (entered sections name (section_flags header.flags) header.kind header.entry_size)
 
 -- the same; a name has at most as many bytes as a statement
 unfoldable pub entered_as : List LooseSection → List ℕ → Header → Result (List LooseSection × ℕ) PlaceCause
