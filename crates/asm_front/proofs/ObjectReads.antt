@@ -17,7 +17,7 @@ use Rattle.asm_relax.specs.Final.{address_in, address_of}
 use Rattle.asm_relax.specs.Expanding.{expanded}
 use Rattle.asm_relax.specs.Settling.{LaidItem, LaidSections, unless, layout_of}
 use Rattle.asm_relax.specs.declared.faults.LayoutFault.{LayoutFault}
-use Rattle.asm_relax.specs.Placing.{placed_from, placed_section, behind}
+use Rattle.asm_relax.specs.Placing.{placed_from, placed_section, address_behind}
 use Rattle.asm_place.specs.declared.instructions.Row.{Row}
 use Rattle.asm_place.specs.Rows.{the_rows, has_name, bytes_of}
 use Rattle.asm_place.specs.Reads.{Reads}
@@ -50,7 +50,7 @@ abbrev kept_section : SymbolMap → LooseSection → SectionOf LaidItem
 kept_section symbols section = placed_section (laid_section (expanded symbols) section)
 
 abbrev kept_item : SymbolMap → LooseSection → ℕ → Item → LaidItem
-kept_item symbols section index item = item_with_address (behind index 0 (items_of symbols section)) (laid_item (expanded symbols) item)
+kept_item symbols section index item = item_with_address (address_behind index 0 (items_of symbols section)) (laid_item (expanded symbols) item)
 
 section_kept : (symbols : SymbolMap) (sections : List LooseSection) (laid : LaidSections) (n : ℕ) (section : LooseSection) → layout_of symbols sections ≡ Ok laid
     → slice_get sections n ≡ Some section → slice_get laid n ≡ Some (kept_section symbols section)
@@ -69,7 +69,7 @@ item_kept symbols section i item at = placed_get (items_of symbols section) i 0 
 
 -- the address of an item is where those before it end
 address_is : (symbols : SymbolMap) (laid : LaidSections) (n i : ℕ) (section : LooseSection) (item : Item) → slice_get laid n ≡ Some (kept_section symbols section)
-    → slice_get section.items i ≡ Some item → address_of laid n i ≡ behind i 0 (items_of symbols section)
+    → slice_get section.items i ≡ Some item → address_of laid n i ≡ address_behind i 0 (items_of symbols section)
 unfolding address_of address_in
 address_is symbols laid n i section item there at = rw (there, item_kept symbols section i item at) refl
 

@@ -17,8 +17,8 @@ use Rattle.asm_symbols.specs.declared.entries.Kind.TheVariants.{Object}
 use Rattle.asm_symbols.specs.declared.entries.Meaning.{Meaning}
 use Rattle.asm_symbols.specs.declared.entries.Meaning.TheVariants as meaning
 use Rattle.asm_symbols.specs.SymbolMap.{SymbolMap}
-use Rattle.asm_relax.specs.Final.{size_of, address_in, address_of, final_told, laid_value, final_form}
-use Rattle.asm_relax.specs.Expanding.{assigned, plus_terms, expanded_within, expanded}
+use Rattle.asm_relax.specs.Final.{items_size, address_in, address_of, final_told, laid_value, final_form}
+use Rattle.asm_relax.specs.Expanding.{assigned_form, plus_terms, expanded_within, expanded}
 use Rattle.asm_relax.specs.Settling.{LaidItem, LaidSections}
 use Rattle.elf_object.specs.declared.faults.ObjectCause.{ObjectCause}
 use Rattle.elf_object.specs.Fields.{half, word, xword}
@@ -99,18 +99,18 @@ row : (length (bytes_of (object_of symbols sections)) ≡ 800)
     × (take 64 (drop 64 (bytes_of (object_of symbols sections))) ≡ replicate 24 0 ++ (1 ∷ 0 ∷ 0 ∷ 0 ∷ 1 ∷ []) ++ replicate 3 0 ++ (8 ∷ []) ++ replicate 7 0
     ++ (8 ∷ []) ++ replicate 7 0 ++ (2 ∷ 0 ∷ 0 ∷ 0 ∷ 3 ∷ []) ++ replicate 11 0)
     × (take 4 (drop 652 (bytes_of (object_of symbols sections))) ≡ 3 ∷ 0 ∷ 0 ∷ 0 ∷ [])
-unfolding symbol label x y symbols item section sections bytes_of put_all settled low_bytes size_of address_in address_of final_told laid_value final_form assigned plus_terms expanded_within expanded half word xword string_table_of name_offsets name_reference field_relocation filled item_bytes item_relocations has_lost items_bytes items_relocations items_fault object_fault named_of listed kind_of said_size said_along table_of section_names null_header header_table elf_header file_of symbol_names symbol_table_of before_names all_names with_names file_with image_with image_of
+unfolding symbol label x y symbols item section sections bytes_of put_all settled low_bytes items_size address_in address_of final_told laid_value final_form assigned_form plus_terms expanded_within expanded half word xword string_table_of name_offsets name_reference field_relocation filled item_bytes item_relocations has_lost items_bytes items_relocations items_fault object_fault named_of listed kind_of said_size said_along table_of section_names null_header header_table elf_header file_of symbol_names symbol_table_of before_names all_names with_names file_with image_with image_of
 row = (refl, refl, refl)
 
 -- the length of the file; its symbol 1; `sh_info` of the symbol table
 row_file : (length (bytes_of (object_of one_file no_sections)) ≡ 616)
     × (take 24 (drop 88 (bytes_of (object_of one_file no_sections))) ≡ (1 ∷ 0 ∷ 0 ∷ 0 ∷ 4 ∷ 0 ∷ 0xf1 ∷ 0xff ∷ []) ++ replicate 16 0)
     × (take 4 (drop 468 (bytes_of (object_of one_file no_sections))) ≡ 2 ∷ 0 ∷ 0 ∷ 0 ∷ [])
-unfolding symbol label one_file thread_local no_sections thread_sections item section bytes_of put_all settled low_bytes size_of address_in address_of final_told laid_value final_form assigned plus_terms expanded_within expanded half word xword string_table_of name_offsets name_reference field_relocation filled item_bytes item_relocations has_lost items_bytes items_relocations items_fault object_fault named_of listed kind_of said_size said_along table_of section_names null_header header_table elf_header file_of symbol_names symbol_table_of before_names all_names with_names file_with image_with image_of
+unfolding symbol label one_file thread_local no_sections thread_sections item section bytes_of put_all settled low_bytes items_size address_in address_of final_told laid_value final_form assigned_form plus_terms expanded_within expanded half word xword string_table_of name_offsets name_reference field_relocation filled item_bytes item_relocations has_lost items_bytes items_relocations items_fault object_fault named_of listed kind_of said_size said_along table_of section_names null_header header_table elf_header file_of symbol_names symbol_table_of before_names all_names with_names file_with image_with image_of
 row_file = (refl, refl, refl)
 
 -- the length of the file, and its symbol 1, which is of type TLS
 row_thread : (length (bytes_of (object_of thread_local thread_sections)) ≡ 688)
     × (take 8 (drop 96 (bytes_of (object_of thread_local thread_sections))) ≡ 1 ∷ 0 ∷ 0 ∷ 0 ∷ 6 ∷ 0 ∷ 4 ∷ 0 ∷ [])
-unfolding symbol label one_file thread_local no_sections thread_sections item section bytes_of put_all settled low_bytes size_of address_in address_of final_told laid_value final_form assigned plus_terms expanded_within expanded half word xword string_table_of name_offsets name_reference field_relocation filled item_bytes item_relocations has_lost items_bytes items_relocations items_fault object_fault named_of listed kind_of said_size said_along table_of section_names null_header header_table elf_header file_of symbol_names symbol_table_of before_names all_names with_names file_with image_with image_of
+unfolding symbol label one_file thread_local no_sections thread_sections item section bytes_of put_all settled low_bytes items_size address_in address_of final_told laid_value final_form assigned_form plus_terms expanded_within expanded half word xword string_table_of name_offsets name_reference field_relocation filled item_bytes item_relocations has_lost items_bytes items_relocations items_fault object_fault named_of listed kind_of said_size said_along table_of section_names null_header header_table elf_header file_of symbol_names symbol_table_of before_names all_names with_names file_with image_with image_of
 row_thread = (refl, refl)

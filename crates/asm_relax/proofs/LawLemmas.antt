@@ -6,16 +6,16 @@ use Rattle.asm_frags.specs.declared.items.Frag.{Frag}
 use Rattle.asm_frags.specs.Contents.{size_at}
 use Rattle.asm_frags.specs.SectionOf.{SectionOf}
 use Rattle.asm_frags.specs.Addresses.{item_with_address}
-use Rattle.asm_relax.specs.Final.{size_of}
+use Rattle.asm_relax.specs.Final.{items_size}
 use Rattle.asm_relax.specs.Layout.{size_with, laid_from, laid_out, without_addresses, IsInRow}
-use Rattle.asm_relax.specs.Placing.{placed_from, behind}
+use Rattle.asm_relax.specs.Placing.{placed_from, address_behind}
 use Rattle.asm_relax.proofs.PlacingLemmas.{behind_next, item_there}
 
 some_is : {X : Type 0} (x y : X) → Some x ≡ Some y → x ≡ y
 some_is x y is = cc
 
 -- an item stands behind the sizes of those before it
-pub placed_get : {P : Type 0} (index at : ℕ) (items : List (Frag P ℕ)) → slice_get (placed_from at items) index ≡ option_map (item_with_address (behind index at items)) (slice_get items index)
+pub placed_get : {P : Type 0} (index at : ℕ) (items : List (Frag P ℕ)) → slice_get (placed_from at items) index ≡ option_map (item_with_address (address_behind index at items)) (slice_get items index)
 unfolding placed_from
 placed_get index at [] = refl
 placed_get zero at (item ∷ items) = refl
@@ -26,20 +26,20 @@ unfolding placed_from
 placed_length at [] = refl
 placed_length at (item ∷ items) = ap suc (placed_length (at + size_at item.content at) items)
 
-none_placed : (P : Type 0) → size_of {P = P} (placed_from 0 []) ≡ 0
-unfolding size_of placed_from
+none_placed : (P : Type 0) → items_size {P = P} (placed_from 0 []) ≡ 0
+unfolding items_size placed_from
 none_placed P = refl
 
 -- a section ends behind the sizes of all its items
-pub placed_size : {P : Type 0} (items : List (Frag P ℕ)) → size_of (placed_from 0 items) ≡ wrapped (behind (length items) 0 items)
-unfolding size_of
+pub placed_size : {P : Type 0} (items : List (Frag P ℕ)) → items_size (placed_from 0 items) ≡ wrapped (address_behind (length items) 0 items)
+unfolding items_size
 placed_size {P} [] = none_placed P
 placed_size {P} (item ∷ items) =
     let all = item ∷ items in
     let long = placed_length 0 all in
     let last = item_there all (length items) (omega arith) in
     let one : suc (length items) - 1 ≡ length items = omega arith in
-    let there : slice_get (placed_from 0 all) (length items) ≡ Some (item_with_address (behind (length items) 0 all) last.0) = placed_get (length items) 0 all ∙ (rw last.1) in
+    let there : slice_get (placed_from 0 all) (length items) ≡ Some (item_with_address (address_behind (length items) 0 all) last.0) = placed_get (length items) 0 all ∙ (rw last.1) in
     let more = behind_next (length items) 0 all last.0 last.1 in
     rw (long, one, there, more)
 

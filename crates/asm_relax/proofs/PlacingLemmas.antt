@@ -6,7 +6,7 @@ use Rattle.asm_frags.specs.declared.items.Frag.{Frag}
 use Rattle.asm_frags.specs.Contents.{size_at}
 use Rattle.asm_frags.specs.SectionOf.{SectionOf}
 use Rattle.asm_frags.specs.Addresses.{item_with_address, section_with_address, changed_at, with_address, HasItem}
-use Rattle.asm_relax.specs.Placing.{placed_from, placed_section, behind, size_there}
+use Rattle.asm_relax.specs.Placing.{placed_from, placed_section, address_behind, size_there}
 use Rattle.asm_relax.proofs.Changes.{changed_more, changed_twice, changed_alike, changed_get, changed_none}
 
 -- the items with the first n of them placed
@@ -15,11 +15,11 @@ part zero at xs = xs
 part (suc n) at [] = []
 part (suc n) at (x ∷ xs) = item_with_address at x ∷ part n (at + size_at x.content at) xs
 
-part_next : {P : Type 0} (n at : ℕ) (xs : List (Frag P ℕ)) → n < length xs → changed_at (item_with_address (behind n at xs)) (part n at xs) n ≡ part (suc n) at xs
+part_next : {P : Type 0} (n at : ℕ) (xs : List (Frag P ℕ)) → n < length xs → changed_at (item_with_address (address_behind n at xs)) (part n at xs) n ≡ part (suc n) at xs
 part_next n at [] inside = absurd (omega arith)
 part_next zero at (x ∷ xs) inside = refl
 part_next {P} (suc n) at (x ∷ xs) inside =
-    changed_more (item_with_address (behind n (at + size_at x.content at) xs)) (item_with_address at x) (part n (at + size_at x.content at) xs) n
+    changed_more (item_with_address (address_behind n (at + size_at x.content at) xs)) (item_with_address at x) (part n (at + size_at x.content at) xs) n
     ∙ ap (λ (all : List (Frag P ℕ)). item_with_address at x ∷ all) (part_next n (at + size_at x.content at) xs (omega arith))
 
 part_get : {P : Type 0} (n at : ℕ) (xs : List (Frag P ℕ)) → slice_get (part n at xs) n ≡ slice_get xs n
@@ -39,7 +39,7 @@ part_all zero at (x ∷ xs) all = absurd (omega arith)
 part_all (suc n) at [] all = refl
 part_all {P} (suc n) at (x ∷ xs) all = ap (λ (ys : List (Frag P ℕ)). item_with_address at x ∷ ys) (part_all n (at + size_at x.content at) xs (omega arith))
 
-pub behind_next : {P : Type 0} (n at : ℕ) (xs : List (Frag P ℕ)) (x : Frag P ℕ) → slice_get xs n ≡ Some x → behind n at xs + size_at x.content (behind n at xs) ≡ behind (suc n) at xs
+pub behind_next : {P : Type 0} (n at : ℕ) (xs : List (Frag P ℕ)) (x : Frag P ℕ) → slice_get xs n ≡ Some x → address_behind n at xs + size_at x.content (address_behind n at xs) ≡ address_behind (suc n) at xs
 behind_next n at [] x is = absurd cc
 behind_next zero at (y ∷ ys) x is = let same : y ≡ x = cc in rw same
 behind_next (suc n) at (y ∷ ys) x is = behind_next n (at + size_at y.content at) ys x is
@@ -48,7 +48,7 @@ abbrev pub section_part : {P : Type 0} → ℕ → SectionOf (Frag P ℕ) → Se
 section_part n section = record section { items = part n 0 section.items }
 
 abbrev pub behind_in : {P : Type 0} → List (SectionOf (Frag P ℕ)) → ℕ → ℕ → ℕ
-behind_in sections number n = option_map_or (λ section. behind n 0 section.items) (slice_get sections number) 0
+behind_in sections number n = option_map_or (λ section. address_behind n 0 section.items) (slice_get sections number) 0
 
 pub place_start : {P : Type 0} (sections : List (SectionOf (Frag P ℕ))) (number : ℕ) → sections ≡ changed_at (section_part 0) sections number
 place_start sections number = changed_none (section_part 0) sections number (λ section. refl)
@@ -70,7 +70,7 @@ pub place_step : {P : Type 0} (sections now new : List (SectionOf (Frag P ℕ)))
     → n < length section.items → now ≡ changed_at (section_part n) sections number → at ≡ behind_in sections number n → new ≡ with_address now number n at
     → new ≡ changed_at (section_part (n + 1)) sections number
 place_step {P} sections now new number n at section is inside before starts grown =
-    let here : at ≡ behind n 0 section.items = rw is at starts in
+    let here : at ≡ address_behind n 0 section.items = rw is at starts in
     let one : suc n ≡ n + 1 = omega arith in
     let items = part_next n 0 section.items inside in
     grown ∙ ap (λ (all : List (SectionOf (Frag P ℕ))). with_address all number n at) before
@@ -87,7 +87,7 @@ pub behind_step : {P : Type 0} (sections now : List (SectionOf (Frag P ℕ))) (n
     → next ≡ behind_in sections number (n + 1)
 unfolding size_there
 behind_step sections now number n at next section is inside before starts further =
-    let here : at ≡ behind n 0 section.items = rw is at starts in
+    let here : at ≡ address_behind n 0 section.items = rw is at starts in
     let there : slice_get now number ≡ Some (section_part n section) = rw before (changed_get (section_part n) sections number section is) in
     let one : suc n ≡ n + 1 = omega arith in
     let found = item_there section.items n inside in

@@ -9,7 +9,7 @@ use Rattle.asm_frags.specs.Contents.{size_at}
 use Rattle.asm_frags.specs.SectionOf.{SectionOf}
 use Rattle.asm_frags.specs.Addresses.{item_with_address}
 use Rattle.asm_relax.specs.Ranks.{Ranks, greatest, numbers_at, levels_taken, IsLayout}
-use Rattle.asm_relax.specs.Layout.{top, size_with, all_items, tops, lowest_levels, laid_from, laid_out, needed}
+use Rattle.asm_relax.specs.Layout.{top, size_with, all_items, tops, lowest_levels, laid_from, laid_out, levels_needed}
 use Rattle.asm_relax.specs.Placing.{placed_from, placed_section}
 use Rattle.asm_relax.specs.Settling.{LaidSections, settled_sections, IsLaidOut}
 
@@ -70,7 +70,7 @@ none_greatest : {X : Type 0} (items : List X) → greatest (none_ranked items) �
 none_greatest [] = refl
 none_greatest (item ∷ items) = let later = none_greatest items in rw later
 
-lowest_layout : (map : SymbolMap) (sections : LaidSections) → IsLayout (needed map sections) (tops sections) (lowest_levels sections) 1
+lowest_layout : (map : SymbolMap) (sections : LaidSections) → IsLayout (levels_needed map sections) (tops sections) (lowest_levels sections) 1
 lowest_layout map sections = record {
   ranks = none_ranked (all_items sections);
   ranking = record {

@@ -14,8 +14,8 @@ assigned_at symbols None = None
 assigned_at symbols (Some index) = form_at symbols index
 
 -- the last form that the name was assigned
-unfoldable pub assigned : SymbolMap → Name → Option Form
-assigned map name = assigned_at map.symbols (index_of name (names map.symbols))
+unfoldable pub assigned_form : SymbolMap → Name → Option Form
+assigned_form map name = assigned_at map.symbols (index_of name (names map.symbols))
 
 -- the form of an assigned symbol, or else the name itself
 abbrev pub replaced_by : Name → Option Form → Form
@@ -24,7 +24,7 @@ replaced_by name (Some form) = form
 
 -- the form that replaces a name
 abbrev pub replacement : SymbolMap → Name → Form
-replacement map name = replaced_by name (assigned map name)
+replacement map name = replaced_by name (assigned_form map name)
 
 -- the form plus the term, with its name replaced
 abbrev pub plus_term : SymbolMap → Form → Term → Form
@@ -41,7 +41,7 @@ expanded_once map made = plus_terms map (constant_form made.constant) made.terms
 
 -- the term names an assigned symbol
 abbrev pub is_assigned : SymbolMap → Term → Bool
-is_assigned map term = is_some (assigned map term.name)
+is_assigned map term = is_some (assigned_form map term.name)
 
 -- the form names an assigned symbol
 abbrev pub names_assigned : SymbolMap → Form → Bool

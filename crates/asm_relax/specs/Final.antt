@@ -19,12 +19,12 @@ abbrev pub item_end : {P : Type 0} → Frag P ℕ → ℕ
 item_end item = wrapped (item.address + size_at item.content item.address)
 
 -- `sh_size`: the address behind the last item
-unfoldable pub size_of : {P : Type 0} → List (Frag P ℕ) → ℕ
-size_of items = option_map_or item_end (slice_get items (length items - 1)) 0
+unfoldable pub items_size : {P : Type 0} → List (Frag P ℕ) → ℕ
+items_size items = option_map_or item_end (slice_get items (length items - 1)) 0
 
 -- the address of the item at this index; behind the last item stands the section's end
 unfoldable pub address_in : {P : Type 0} → List (Frag P ℕ) → ℕ → ℕ
-address_in items index = option_map_or (λ item. item.address) (slice_get items index) (size_of items)
+address_in items index = option_map_or (λ item. item.address) (slice_get items index) (items_size items)
 
 -- the address of the item at this index of a section, and 0 where there is no such section
 unfoldable pub address_of : {P : Type 0} → List (SectionOf (Frag P ℕ)) → ℕ → ℕ → ℕ

@@ -55,8 +55,8 @@ laid_out levels [] = []
 laid_out levels (section ∷ sections) = laid_out_section levels section ∷ laid_out (drop (length section.items) levels) sections
 
 -- the level that each item needs in the layout by these levels
-unfoldable pub needed : {P : Type 0} → SymbolMap → List (SectionOf (Frag P ℕ)) → List ℕ → List ℕ
-needed {P} map sections levels = needed_levels (all_items (laid_out levels sections))
+unfoldable pub levels_needed : {P : Type 0} → SymbolMap → List (SectionOf (Frag P ℕ)) → List ℕ → List ℕ
+levels_needed {P} map sections levels = needed_levels (all_items (laid_out levels sections))
   where
     needed_levels : List (Frag P ℕ) → List ℕ
     needed_levels [] = []

@@ -16,10 +16,10 @@ abbrev pub placed_section : {P : Type 0} → SectionOf (Frag P ℕ) → SectionO
 placed_section section = record section { items = placed_from 0 section.items }
 
 -- the address behind the first items, as many as the number says: the sum of their sizes, each at its address
-abbrev pub behind : {P : Type 0} → ℕ → ℕ → List (Frag P ℕ) → ℕ
-behind zero at items = at
-behind (suc count) at [] = at
-behind (suc count) at (item ∷ items) = behind count (at + size_at item.content at) items
+abbrev pub address_behind : {P : Type 0} → ℕ → ℕ → List (Frag P ℕ) → ℕ
+address_behind zero at items = at
+address_behind (suc count) at [] = at
+address_behind (suc count) at (item ∷ items) = address_behind count (at + size_at item.content at) items
 
 -- the size at an address of the item at this index, and 0 where there is none
 abbrev pub size_in : {P : Type 0} → List (Frag P ℕ) → ℕ → ℕ → ℕ

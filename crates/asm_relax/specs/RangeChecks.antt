@@ -11,7 +11,7 @@ use Rattle.asm_frags.specs.Contents.{fields_of}
 use Rattle.asm_frags.specs.SectionOf.{SectionOf}
 use Rattle.asm_relax.specs.declared.faults.LayoutFault.{LayoutFault}
 use Rattle.asm_relax.specs.declared.faults.LayoutFault.TheVariants.{SectionTooLarge, DistanceOutOfRange}
-use Rattle.asm_relax.specs.Final.{item_end, size_of, laid_value}
+use Rattle.asm_relax.specs.Final.{item_end, items_size, laid_value}
 use Rattle.asm_relax.specs.Faults.{or_later, first_of}
 
 -- a section that ends at this address is too large: it has more than 2^30 bytes
@@ -25,7 +25,7 @@ ends_large item = is_large (item_end item)
 -- the fault of a section that is too large, at the first item that ends past the most bytes
 abbrev pub large_section : {P : Type 0} → SectionOf (Frag P ℕ) → Option LayoutFault
 large_section section =
-    if is_large (size_of section.items) then option_map (λ item. SectionTooLarge item.pos (size_of section.items)) (find ends_large section.items) else None
+    if is_large (items_size section.items) then option_map (λ item. SectionTooLarge item.pos (items_size section.items)) (find ends_large section.items) else None
 
 -- the fault of a field that does not hold its value; a field without a value is left to the linker
 abbrev pub misfit : Pos → FieldSize → Option ℕ → Option LayoutFault

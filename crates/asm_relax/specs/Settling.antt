@@ -9,7 +9,7 @@ use Rattle.asm_frags.specs.Substituting.{laid_sections}
 use Rattle.asm_relax.specs.declared.faults.LayoutFault.{LayoutFault}
 use Rattle.asm_relax.specs.Expanding.{expanded}
 use Rattle.asm_relax.specs.Ranks.{IsLayout}
-use Rattle.asm_relax.specs.Layout.{tops, needed, lowest_levels, laid_out}
+use Rattle.asm_relax.specs.Layout.{tops, levels_needed, lowest_levels, laid_out}
 use Rattle.asm_relax.specs.RangeChecks.{first_fault}
 
 -- the sections of a source
@@ -57,7 +57,7 @@ layout_of map sections = settled_plan map (planned map sections)
 -- the sections are laid out by the levels of the one ranking, which are reached in this number of rounds
 pub record IsLaidOut (map : SymbolMap) (sections laid : LaidSections) (rounds : ℕ) : Type 0 where
   pub levels : List ℕ
-  pub layout : IsLayout (needed map sections) (tops sections) levels rounds
+  pub layout : IsLayout (levels_needed map sections) (tops sections) levels rounds
   pub placed : laid ≡ laid_out levels sections
 
 -- the answer is that of the definition, and where there is no fault, so are the sections

@@ -2,7 +2,7 @@
 
 ghost use Rattle.std.specs.Prelude.{◌≡◌, IfOk, option_map};
 ghost use Rattle.asm_symbols.specs.Assigning.{form_of};
-ghost use Rattle.asm_relax.specs.Expanding.{assigned, plus_term, expanded_once, names_assigned, expanded};
+ghost use Rattle.asm_relax.specs.Expanding.{assigned_form, plus_term, expanded_once, names_assigned, expanded};
 
 use asm_base::NoMemory;
 use asm_expr::{
@@ -22,9 +22,9 @@ fn form_of(meaning: &Meaning) -> Option<&Linear>
 }
 
 /// The last form that the name was assigned.
-#[tactic(auto, unfolding(crate::specs::Expanding::assigned))]
-fn assigned<'a>(symbols: &'a Symbols, name: &Name) -> Option<&'a Linear>
-    ensures { option_map (λ form. form.now) result ≡ assigned symbols.now name.now }
+#[tactic(auto, unfolding(crate::specs::Expanding::assigned_form))]
+fn assigned_form<'a>(symbols: &'a Symbols, name: &Name) -> Option<&'a Linear>
+    ensures { option_map (λ form. form.now) result ≡ assigned_form symbols.now name.now }
 {
     match symbols.find(name) {
         Some(id) => form_of(&symbols.symbol(id).meaning),
@@ -41,7 +41,7 @@ fn plus_term(
 ) -> Result<Linear, NoMemory>
     ensures { IfOk result (λ form. form ≡ plus_term symbols.now made term.now) }
 {
-    match assigned(symbols, &term.name) {
+    match assigned_form(symbols, &term.name) {
         Some(form) => plus_times(alloc, made, term.coefficient, form),
         None => {
             let own = name_form(alloc, copied_name(alloc, &term.name)?)?;
@@ -68,7 +68,7 @@ fn names_assigned(symbols: &Symbols, form: &Linear) -> bool
 {
     form.terms()
         .iter()
-        .any(|term| assigned(symbols, &term.name).is_some())
+        .any(|term| assigned_form(symbols, &term.name).is_some())
 }
 
 /// The form expanded until it names no assigned symbol: no chain of them is longer than the number of symbols. A form

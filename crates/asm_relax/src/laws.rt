@@ -3,10 +3,10 @@
 ghost use Rattle.std.specs.Prelude.{◌≡◌, ℕ, List, length, map, option_map, slice_get};
 ghost use Rattle.asm_expr.specs.Forms.{wrapped};
 ghost use Rattle.asm_frags.specs.Addresses.{item_with_address};
-ghost use Rattle.asm_relax.specs.Final.{size_of};
+ghost use Rattle.asm_relax.specs.Final.{items_size};
 ghost use Rattle.asm_relax.specs.Layout.{laid_from, laid_out, without_addresses, IsInRow};
 ghost use Rattle.asm_relax.specs.Ranks.{Ranks, IsRanking};
-ghost use Rattle.asm_relax.specs.Placing.{placed_from, placed_section, behind};
+ghost use Rattle.asm_relax.specs.Placing.{placed_from, placed_section, address_behind};
 ghost use Rattle.asm_relax.specs.Settling.{LaidItem, LaidSections, settled_sections};
 
 /// The items of a section stand one behind the other, from address 0 on.
@@ -33,10 +33,10 @@ pub fn settled_is_placed()
 #[tactic(auto, using(crate::proofs::LawLemmas::placed_get, crate::proofs::LawLemmas::placed_length, crate::proofs::LawLemmas::placed_size))]
 pub fn sizes_add_up()
     ensures item { (items : List LaidItem) (index : ℕ) → slice_get (placed_from 0 items) index
-        ≡ option_map (item_with_address (behind index 0 items)) (slice_get items index) }
+        ≡ option_map (item_with_address (address_behind index 0 items)) (slice_get items index) }
     ensures length { (items : List LaidItem) → length (placed_from 0 items) ≡ length items }
     ensures size { (items : List LaidItem)
-        → size_of (placed_from 0 items) ≡ wrapped (behind (length items) 0 items) }
+        → items_size (placed_from 0 items) ≡ wrapped (address_behind (length items) 0 items) }
 {}
 
 /// There is only one ranking: which items grow, and in which rounds, follows from what they need.

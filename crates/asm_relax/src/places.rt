@@ -1,7 +1,7 @@
 //! The addresses of items, and the sizes of sections.
 
 ghost use Rattle.std.specs.Prelude.{◌≡◌};
-ghost use Rattle.asm_relax.specs.Final.{item_end, size_of, address_in, address_of};
+ghost use Rattle.asm_relax.specs.Final.{item_end, items_size, address_in, address_of};
 
 use asm_frags::{Frag, Laid, Section, Sections, size};
 
@@ -13,9 +13,9 @@ pub(crate) fn item_end(item: &Frag<Laid>) -> u64
 }
 
 /// `sh_size`: the address behind the last item.
-#[tactic(auto, unfolding(crate::specs::Final::size_of))]
+#[tactic(auto, unfolding(crate::specs::Final::items_size))]
 pub fn section_size(section: &Section<Laid>) -> u64
-    ensures { result ≡ size_of section.now.items }
+    ensures { result ≡ items_size section.now.items }
 {
     match section.items() {
         [] => 0,

@@ -6,7 +6,7 @@ use Rattle.asm_frags.specs.declared.items.Frag.{Frag}
 use Rattle.asm_frags.specs.declared.phases.Laid.{Laid}
 use Rattle.asm_frags.specs.Contents.{size_at}
 use Rattle.asm_frags.specs.Addresses.{item_with_address}
-use Rattle.asm_relax.specs.Placing.{placed_from, behind}
+use Rattle.asm_relax.specs.Placing.{placed_from, address_behind}
 use Rattle.elf_object.specs.Sections.{SectionEntry, file_bytes}
 use Rattle.elf_object.specs.Image.{next_multiple, gap, body_from, bodies_from}
 use Rattle.elf_object.specs.Places.{PieceAt, body_offset}
@@ -37,7 +37,7 @@ behind_front bytes front piece rest at e long = record { front = front; rest = r
 -- the bytes of an item stand at its address, where each item has as many as its size
 pub item_stands : (bytes_of : Frag Laid ℕ → List ℕ) → ((item : Frag Laid ℕ) → length (bytes_of item) ≡ size_at item.content item.address)
     → (items : List (Frag Laid ℕ)) (i at : ℕ) (x : Frag Laid ℕ) (front bytes : List ℕ) → slice_get items i ≡ Some x → length front ≡ at
-    → bytes ≡ front ++ flat_map bytes_of (placed_from at items) → PieceAt bytes (behind i at items) (bytes_of (item_with_address (behind i at items) x))
+    → bytes ≡ front ++ flat_map bytes_of (placed_from at items) → PieceAt bytes (address_behind i at items) (bytes_of (item_with_address (address_behind i at items) x))
 unfolding placed_from
 item_stands bytes_of sized [] i at x front bytes is long e = absurd cc
 item_stands bytes_of sized (y ∷ ys) zero at x front bytes is long e =
@@ -77,7 +77,7 @@ body_stands (t ∷ ts) more (suc n) position s front rest bytes is long e =
 
 -- the item of this index stands behind those before it
 pub placed_get : {P : Type 0} (xs : List (Frag P ℕ)) (i at : ℕ) (x : Frag P ℕ) → slice_get xs i ≡ Some x
-    → slice_get (placed_from at xs) i ≡ Some (item_with_address (behind i at xs) x)
+    → slice_get (placed_from at xs) i ≡ Some (item_with_address (address_behind i at xs) x)
 unfolding placed_from
 placed_get [] i at x is = absurd cc
 placed_get (y ∷ ys) zero at x is = let same : y ≡ x = cc in rw same

@@ -6,7 +6,7 @@ use Rattle.std.specs.Prelude.{slice_get, slice_index_or, option_map, flat_map, c
 use Rattle.asm_frags.specs.SectionOf.{SectionOf}
 use Rattle.asm_frags.specs.Addresses.{item_with_address}
 use Rattle.asm_symbols.specs.SymbolMap.{SymbolMap}
-use Rattle.asm_relax.specs.Placing.{placed_from, behind}
+use Rattle.asm_relax.specs.Placing.{placed_from, address_behind}
 use Rattle.asm_relax.specs.Settling.{LaidItem, LaidSections}
 use Rattle.elf_object.specs.declared.relocations.Relocation.{Relocation}
 use Rattle.elf_object.specs.Fields.{half, word, xword}
@@ -116,7 +116,7 @@ item_there : (symbols : SymbolMap) (sections : LaidSections) (items : List LaidI
     → slice_get items index ≡ Some item → PieceAt (items_bytes symbols sections items) item.address (item_bytes symbols sections item)
 unfolding items_bytes
 item_there symbols sections items index item row at =
-    let placed : item_with_address (behind index 0 items) item ≡ item = some_same _ _ (sym (placed_get items index 0 item at) ∙ ap (λ (xs : List LaidItem). slice_get xs index) row ∙ at) in
+    let placed : item_with_address (address_behind index 0 items) item ≡ item = some_same _ _ (sym (placed_get items index 0 item at) ∙ ap (λ (xs : List LaidItem). slice_get xs index) row ∙ at) in
     let stands = item_stands (item_bytes symbols sections) (item_length symbols sections) items index 0 item [] (flat_map (item_bytes symbols sections) items) at refl
     (ap (flat_map (item_bytes symbols sections)) (sym row)) in
     subst (λ (it : LaidItem). PieceAt (flat_map (item_bytes symbols sections) items) it.address (item_bytes symbols sections it)) placed stands
