@@ -101,7 +101,7 @@ fn begun(piece: PieceAt) -> Span
 /// The span with one piece more.
 fn extended(span: Span, piece: PieceAt) -> Span
     requires within { span.passed ≤ piece.start }
-    requires room { piece.start + piece.length ≤ usize.MAX }
+    requires piece { piece.start + piece.length ≤ usize.MAX }
     ensures { result ≡ spec.extended span piece }
 {
     let passed = span.passed + own_by(piece);
@@ -120,7 +120,7 @@ fn extended(span: Span, piece: PieceAt) -> Span
 /// The span, if a statement began, with one piece more.
 fn with_piece(span: Option<Span>, piece: PieceAt) -> Option<Span>
     requires within { EndsBy piece.start span }
-    requires room { piece.start + piece.length ≤ usize.MAX }
+    requires piece { piece.start + piece.length ≤ usize.MAX }
     ensures { result ≡ spec.with_piece span piece }
 {
     match span {
@@ -134,7 +134,7 @@ impl Scan {
     /// What is known with one piece more.
     fn with(self, piece: PieceAt) -> Scan
         requires within { EndsBy piece.start self.span }
-        requires room { piece.start + piece.length ≤ usize.MAX }
+        requires piece { piece.start + piece.length ≤ usize.MAX }
         ensures value { result ≡ spec.scanned self piece }
         ensures within { EndsBy (piece.start + piece.length) result.span }
     {
@@ -180,11 +180,11 @@ pub(crate) fn first_interval(source: &[u8], from: usize, line: u32) -> Interval
     requires line { line ≡ line_of source.now from }
     ensures scan { result.scan
         ≡ scan_of source.now nothing_scanned (spec.first_interval (pieces_at source.now from)) }
-    ensures rest { pieces_at source.now result.next
+    ensures pieces { pieces_at source.now result.next
         ≡ spec.later_pieces (pieces_at source.now from) }
     ensures line { result.line ≡ line_of source.now result.next }
     ensures span { EndsBy result.next result.scan.span }
-    ensures progress { from < result.next }
+    ensures next { from < result.next }
     ensures within { result.next ≤ length source.now }
 {
     let mut scan = Scan {

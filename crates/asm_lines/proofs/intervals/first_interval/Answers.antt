@@ -20,8 +20,8 @@ returns-then-ends_statement-clause-scan c =
     let piece = c.first_piece-piece.ensures in
     scan_ends source _ _ _ _ _ _ _ front piece.length piece.progress piece.kind (sym c.ends_statement.ensures ∙ c.if-ends_statement.true) c.loop-first.invariant.scan
 
-pub returns-then-ends_statement-clause-rest : goal.returns-then-ends_statement-clause-rest
-returns-then-ends_statement-clause-rest c =
+pub returns-then-ends_statement-clause-pieces : goal.returns-then-ends_statement-clause-pieces
+returns-then-ends_statement-clause-pieces c =
     let source = c.args.source.now in
     let front : drop c.loop-first.at source ≡ c.in-Some.first.now ∷ c.in-Some.rest.now = sym (take_rest source c.loop-first.at) ∙ c.in-Some.ensures.cases.0 in
     let piece = c.first_piece-piece.ensures in
@@ -68,8 +68,8 @@ returns-clause-scan c =
     let nothing : length (drop c.loop-first.at source) ≡ 0 = rw take_rest at c.in_default.ensures.cases in
     scan_at_end source c.loop-first.at _ _ (omega (arith, length-drop c.loop-first.at source)) c.loop-first.invariant.scan
 
-pub returns-clause-rest : goal.returns-clause-rest
-returns-clause-rest c =
+pub returns-clause-pieces : goal.returns-clause-pieces
+returns-clause-pieces c =
     let source = c.args.source.now in
     let nothing : length (drop c.loop-first.at source) ≡ 0 = rw take_rest at c.in_default.ensures.cases in
     later_at_end source c.loop-first.at _ (omega (arith, length-drop c.loop-first.at source)) c.loop-first.invariant.later

@@ -39,9 +39,9 @@ loop-at-preserved-in_ok-push c =
     let statement = c.in-Some-statement_by_span.ensures ∙ ap (λ scan. statement_by_span c.args.file source scan.span) read.scan ∙ scanned_statement c.args.file source interval in
     record {
       line = read.line;
-      unclosed = open_step source c.loop-at.at c.first_interval-interval.result.next _ read.rest none c.loop-at.invariant.unclosed;
-      long = long_step source c.loop-at.at c.first_interval-interval.result.next _ read.rest none c.loop-at.invariant.long;
-      statements = statements_step c.args.file source c.loop-at.at c.first_interval-interval.result.next (map seen c.loop-at.items.items) _ _ (Some (seen c.in-Some-statement_by_span.statement)) read.rest statement (ap (map seen) c.in_ok-push.ensures.items ∙ map-append seen c.loop-at.items.items _) c.loop-at.invariant.statements;
+      unclosed = open_step source c.loop-at.at c.first_interval-interval.result.next _ read.pieces none c.loop-at.invariant.unclosed;
+      long = long_step source c.loop-at.at c.first_interval-interval.result.next _ read.pieces none c.loop-at.invariant.long;
+      statements = statements_step c.args.file source c.loop-at.at c.first_interval-interval.result.next (map seen c.loop-at.items.items) _ _ (Some (seen c.in-Some-statement_by_span.statement)) read.pieces statement (ap (map seen) c.in_ok-push.ensures.items ∙ map-append seen c.loop-at.items.items _) c.loop-at.invariant.statements;
     }
 
 pub loop-at-preserved : goal.loop-at-preserved
@@ -53,9 +53,9 @@ loop-at-preserved c =
     let statement = c.in_default-statement_by_span.ensures ∙ ap (λ scan. statement_by_span c.args.file source scan.span) read.scan ∙ scanned_statement c.args.file source interval in
     record {
       line = read.line;
-      unclosed = open_step source c.loop-at.at c.first_interval-interval.result.next _ read.rest none c.loop-at.invariant.unclosed;
-      long = long_step source c.loop-at.at c.first_interval-interval.result.next _ read.rest none c.loop-at.invariant.long;
-      statements = statements_step c.args.file source c.loop-at.at c.first_interval-interval.result.next (map seen c.loop-at.items.items) (map seen c.loop-at.items.items) _ None read.rest statement (sym (append-nil (map seen c.loop-at.items.items))) c.loop-at.invariant.statements;
+      unclosed = open_step source c.loop-at.at c.first_interval-interval.result.next _ read.pieces none c.loop-at.invariant.unclosed;
+      long = long_step source c.loop-at.at c.first_interval-interval.result.next _ read.pieces none c.loop-at.invariant.long;
+      statements = statements_step c.args.file source c.loop-at.at c.first_interval-interval.result.next (map seen c.loop-at.items.items) (map seen c.loop-at.items.items) _ None read.pieces statement (sym (append-nil (map seen c.loop-at.items.items))) c.loop-at.invariant.statements;
     }
 
 pub returns-in-Some-nul : goal.returns-in-Some-nul
