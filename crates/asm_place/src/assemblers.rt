@@ -146,7 +146,7 @@ impl Assembler {
         content: Content,
     ) -> Result<(), PlaceFault>
         ensures placed { PlacesBy (push_into pos number content) self.old self.new result }
-        ensures notes { self.new.notes ≡ self.old.notes }
+        ensures kept { self.new.notes ≡ self.old.notes }
     {
         push(&mut self.sections, number, Frag::new(pos, content)).map_err(FragFault::raise)
     }
@@ -154,7 +154,7 @@ impl Assembler {
     /// Puts an item last in the current section.
     pub(crate) fn push_item(&mut self, pos: Pos, content: Content) -> Result<(), PlaceFault>
         ensures placed { PlacesBy (push_item pos content) self.old self.new result }
-        ensures notes { self.new.notes ≡ self.old.notes }
+        ensures kept { self.new.notes ≡ self.old.notes }
     {
         self.push_into(pos, self.current, content)
     }

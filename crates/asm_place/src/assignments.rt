@@ -22,7 +22,7 @@ impl Assembler {
     fn assign_words(&mut self, pos: Pos, once: bool, words: &NamedExpr) -> Result<(), PlaceFault>
         ensures placed { PlacesBy (assign_words pos once (named_tree_in words.now))
             self.old self.new result }
-        ensures notes { self.new.notes ≡ self.old.notes }
+        ensures kept { self.new.notes ≡ self.old.notes }
     {
         let form = form_in(self.alloc, self.view(), &words.expr)?;
         let spot = self.here();
@@ -43,7 +43,7 @@ impl Assembler {
     ) -> Result<(), PlaceFault>
         ensures placed { PlacesBy (place_set pos once (map spelled tokens.now))
             self.old self.new result }
-        ensures notes { self.new.notes ≡ self.old.notes }
+        ensures kept { self.new.notes ≡ self.old.notes }
     {
         let words = named_tree(self.alloc, &mut Operands::new(tokens))?;
         self.assign_words(pos, once, &words)
@@ -60,7 +60,7 @@ impl Assembler {
         ensures placed { PlacesBy
             (place_assignment pos (spelled token.now) (map spelled tokens.now))
             self.old self.new result }
-        ensures notes { self.new.notes ≡ self.old.notes }
+        ensures kept { self.new.notes ≡ self.old.notes }
     {
         let name = Name::Plain(Text::new(symbol_name(self.alloc, token)?));
         let expr = expression_of(self.alloc, tokens)?;

@@ -121,7 +121,7 @@ impl Assembler {
         requires { log ≤ 30 }
         ensures placed { PlacesBy (with_space pos name.now (map tree_of exprs.now) size log)
             self.old self.new result }
-        ensures notes { self.new.notes ≡ self.old.notes }
+        ensures kept { self.new.notes ≡ self.old.notes }
     {
         let space = space_of(size, 0)?;
         self.push_into(pos, BSS, Content::Align(Align::new(log)))?;
@@ -143,7 +143,7 @@ impl Assembler {
         requires { log ≤ 30 }
         ensures placed { PlacesBy (with_common pos name.now (map tree_of exprs.now) size log)
             self.old self.new result }
-        ensures notes { self.new.notes ≡ self.old.notes }
+        ensures kept { self.new.notes ≡ self.old.notes }
     {
         let what = Definition::Common {
             size,
@@ -166,7 +166,7 @@ impl Assembler {
         requires { log ≤ 30 }
         ensures placed { PlacesBy (place_space own pos name.now (map tree_of exprs.now) size log)
             self.old self.new result }
-        ensures notes { self.new.notes ≡ self.old.notes }
+        ensures kept { self.new.notes ≡ self.old.notes }
     {
         if own {
             self.with_space(pos, name, exprs, size, log)
@@ -180,7 +180,7 @@ impl Assembler {
     pub(crate) fn place_comm(&mut self, pos: Pos, tokens: &[Token]) -> Result<(), PlaceFault>
         ensures placed { PlacesBy (place_comm pos (map spelled tokens.now))
             self.old self.new result }
-        ensures notes { self.new.notes ≡ self.old.notes }
+        ensures kept { self.new.notes ≡ self.old.notes }
     {
         let words = space_words(self.alloc, self.view(), 2, tokens)?;
         let size = space_size(words.given.values.first)?;
@@ -195,7 +195,7 @@ impl Assembler {
     pub(crate) fn place_lcomm(&mut self, pos: Pos, tokens: &[Token]) -> Result<(), PlaceFault>
         ensures placed { PlacesBy (place_lcomm pos (map spelled tokens.now))
             self.old self.new result }
-        ensures notes { self.new.notes ≡ self.old.notes }
+        ensures kept { self.new.notes ≡ self.old.notes }
     {
         let words = space_words(self.alloc, self.view(), 1, tokens)?;
         let size = space_size(words.given.values.first)?;

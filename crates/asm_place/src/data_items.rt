@@ -90,7 +90,7 @@ impl Assembler {
     fn put_data(&mut self, pos: Pos, size: FieldSize, words: DataWords) -> Result<(), PlaceFault>
         ensures placed { PlacesBy (put_data pos size (data_words_in words))
             self.old self.new result }
-        ensures notes { KeepsNotes result self.old.notes self.new.notes }
+        ensures kept { KeepsNotes result self.old.notes self.new.notes }
     {
         let DataWords { exprs, forms } = words;
         let spot = self.here();
@@ -113,7 +113,7 @@ impl Assembler {
     ) -> Result<(), PlaceFault>
         ensures placed { PlacesBy (place_data pos size (map spelled tokens.now))
             self.old self.new result }
-        ensures notes { KeepsNotes result self.old.notes self.new.notes }
+        ensures kept { KeepsNotes result self.old.notes self.new.notes }
     {
         let words = data_words(self.alloc, self.view(), tokens)?;
         self.put_data(pos, size, words)

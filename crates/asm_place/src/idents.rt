@@ -85,7 +85,7 @@ impl Assembler {
     pub(crate) fn place_ident(&mut self, pos: Pos, tokens: &[Token]) -> Result<(), PlaceFault>
         ensures placed { PlacesBy (place_ident pos (map spelled tokens.now))
             self.old self.new result }
-        ensures notes { self.new.notes ≡ self.old.notes }
+        ensures kept { self.new.notes ≡ self.old.notes }
     {
         let text = one_string(self.alloc, tokens)?;
         let header = Header {
@@ -103,7 +103,7 @@ impl Assembler {
     #[tactic(auto, unfolding(crate::specs::Idents::place_file))]
     pub(crate) fn place_file(&mut self, tokens: &[Token]) -> Result<(), PlaceFault>
         ensures placed { PlacesBy (place_file (map spelled tokens.now)) self.old self.new result }
-        ensures notes { self.new.notes ≡ self.old.notes }
+        ensures kept { self.new.notes ≡ self.old.notes }
     {
         let name = file_name(one_string(self.alloc, tokens)?)?;
         self.table.file(&Name::Plain(Text::new(name)))

@@ -176,8 +176,8 @@ pub(crate) fn is_number(token: &Token) -> bool
 
 /// Whether a name, quoted or not, or a number, and a colon stand in front.
 pub(crate) fn begins_with_label(tokens: &[Token]) -> bool
-    ensures label { result ≡ begins_with_label (map spelled tokens.now) }
-    ensures two { IsTrue result → 2 ≤ length tokens.now }
+    ensures value { result ≡ begins_with_label (map spelled tokens.now) }
+    ensures within { IsTrue result → 2 ≤ length tokens.now }
 {
     match tokens {
         [first, second, ..] => (names_symbol(first) || is_number(first)) && is_mark(second, b':'),

@@ -60,9 +60,9 @@ impl SymbolUses {
     /// The symbol of a label, by its token: that of the next instance of a number.
     #[tactic(auto, unfolding(crate::specs::Placing::label_symbol))]
     fn label_symbol(&mut self, alloc: Global, pos: Pos, token: &Token) -> Result<SymId, PlaceFault>
-        ensures gives { GivesBy (λ id. (self.new, id)) result
+        ensures value { GivesBy (λ id. (self.new, id)) result
             (label_symbol pos (spelled token.now) self.old) }
-        ensures there { IfOk result (λ id. id < length self.new.symbols.symbols) }
+        ensures within { IfOk result (λ id. id < length self.new.symbols.symbols) }
     {
         if token.kind == TokenKind::Digits {
             match decimal_number(token.bytes) {
@@ -93,7 +93,7 @@ impl Assembler {
         ensures placed { PlacesBy
             (λ placed. bare (map spelled tokens.now) (Ok (with_current number placed)))
             self.old self.new result }
-        ensures notes { self.new.notes ≡ self.old.notes }
+        ensures kept { self.new.notes ≡ self.old.notes }
     {
         if !tokens.is_empty() {
             return Err(PlaceFault::Fault(PlaceCause::BadOperand));
@@ -106,7 +106,7 @@ impl Assembler {
     fn place_popped(&mut self, tokens: &[Token]) -> Result<(), PlaceFault>
         ensures placed { PlacesBy (λ placed. bare (map spelled tokens.now) (popped placed))
             self.old self.new result }
-        ensures notes { self.new.notes ≡ self.old.notes }
+        ensures kept { self.new.notes ≡ self.old.notes }
     {
         if !tokens.is_empty() {
             return Err(PlaceFault::Fault(PlaceCause::BadOperand));
@@ -124,7 +124,7 @@ impl Assembler {
     ) -> Result<(), PlaceFault>
         ensures placed { PlacesBy (place_by directive pos (map spelled tokens.now))
             self.old self.new result }
-        ensures notes { KeepsNotes result self.old.notes self.new.notes }
+        ensures kept { KeepsNotes result self.old.notes self.new.notes }
     {
         match directive {
             Directive::Data(size) => self.place_data(pos, size, tokens),
@@ -153,7 +153,7 @@ impl Assembler {
     fn place_directive(&mut self, pos: Pos, name: &[u8], tokens: &[Token]) -> Result<(), PlaceFault>
         ensures placed { PlacesBy (place_directive pos name.now (map spelled tokens.now))
             self.old self.new result }
-        ensures notes { KeepsNotes result self.old.notes self.new.notes }
+        ensures kept { KeepsNotes result self.old.notes self.new.notes }
     {
         match directive_of(name) {
             Some(directive) => self.place_by(directive, pos, tokens),
@@ -165,7 +165,7 @@ impl Assembler {
     fn put_row(&mut self, pos: Pos, row: &Row) -> Result<(), PlaceFault>
         ensures placed { PlacesBy (push_item pos (plain_item (bytes_of row.now)))
             self.old self.new result }
-        ensures notes { self.new.notes ≡ self.old.notes }
+        ensures kept { self.new.notes ≡ self.old.notes }
     {
         let mut bytes = Vec::new(self.alloc);
         put_instruction(&mut bytes, row)?;
@@ -183,7 +183,7 @@ impl Assembler {
     ) -> Result<(), PlaceFault>
         ensures placed { PlacesBy (place_instruction pos name.now (map spelled operands.now))
             self.old self.new result }
-        ensures notes { self.new.notes ≡ self.old.notes }
+        ensures kept { self.new.notes ≡ self.old.notes }
     {
         match find_row(name) {
             None => Err(PlaceFault::Fault(PlaceCause::UnknownMnemonic)),
@@ -201,7 +201,7 @@ impl Assembler {
     fn place_body(&mut self, pos: Pos, first: &Token, rest: &[Token]) -> Result<(), PlaceFault>
         ensures placed { PlacesBy (place_body pos (spelled first.now) (map spelled rest.now))
             self.old self.new result }
-        ensures notes { KeepsNotes result self.old.notes self.new.notes }
+        ensures kept { KeepsNotes result self.old.notes self.new.notes }
     {
         if names_symbol(first) && begins_assignment(rest) {
             self.place_assignment(pos, first, &rest[1..])
@@ -218,7 +218,7 @@ impl Assembler {
     #[tactic(auto, unfolding(crate::specs::Placing::place_label))]
     fn place_label(&mut self, pos: Pos, token: &Token) -> Result<(), PlaceFault>
         ensures placed { PlacesBy (place_label pos (spelled token.now)) self.old self.new result }
-        ensures notes { self.new.notes ≡ self.old.notes }
+        ensures kept { self.new.notes ≡ self.old.notes }
     {
         let spot = self.here();
         let id = self.table.label_symbol(self.alloc, pos, token)?;
@@ -231,7 +231,7 @@ impl Assembler {
     fn place_unlabelled(&mut self, pos: Pos, tokens: &[Token]) -> Result<(), PlaceFault>
         ensures placed { PlacesBy (place_unlabelled pos (map spelled tokens.now))
             self.old self.new result }
-        ensures notes { KeepsNotes result self.old.notes self.new.notes }
+        ensures kept { KeepsNotes result self.old.notes self.new.notes }
     {
         match tokens.split_first() {
             None => Ok(()),
@@ -243,7 +243,7 @@ impl Assembler {
     fn place_labelled(&mut self, pos: Pos, tokens: &[Token]) -> Result<(), PlaceFault>
         ensures placed { PlacesBy (place_labelled pos (map spelled tokens.now))
             self.old self.new result }
-        ensures notes { KeepsNotes result self.old.notes self.new.notes }
+        ensures kept { KeepsNotes result self.old.notes self.new.notes }
     {
         let mut at = 0;
         'labels: while begins_with_label(&tokens[at..]) {
@@ -258,7 +258,7 @@ impl Assembler {
     pub(crate) fn place_tokens(&mut self, pos: Pos, tokens: &[Token]) -> Result<(), PlaceFault>
         ensures placed { PlacesBy (place_tokens pos (map spelled tokens.now))
             self.old self.new result }
-        ensures notes { KeepsNotes result self.old.notes self.new.notes }
+        ensures kept { KeepsNotes result self.old.notes self.new.notes }
     {
         if has_wide_label(tokens) {
             return Err(PlaceFault::Fault(PlaceCause::NumberTooWide));

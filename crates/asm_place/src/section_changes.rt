@@ -214,7 +214,7 @@ impl Assembler {
     /// Items go into the section of this number from now on.
     pub(crate) fn set_current(&mut self, number: u32)
         ensures placed { placed_by self.new ≡ with_current number (placed_by self.old) }
-        ensures notes { self.new.notes ≡ self.old.notes }
+        ensures kept { self.new.notes ≡ self.old.notes }
     {
         self.previous = self.current;
         self.current = number;
@@ -224,7 +224,7 @@ impl Assembler {
     #[tactic(auto, unfolding(crate::specs::SectionChanges::enter_words))]
     fn enter_words(&mut self, pos: Pos, words: SectionWords) -> Result<(), PlaceFault>
         ensures placed { PlacesBy (enter_words pos (words_in words)) self.old self.new result }
-        ensures notes { self.new.notes ≡ self.old.notes }
+        ensures kept { self.new.notes ≡ self.old.notes }
     {
         let size = entry_size_in(self.alloc, self.view(), &words.entry_size)?;
         let header = header_of(&self.sections, &words, size)?;
@@ -240,7 +240,7 @@ impl Assembler {
     pub(crate) fn place_section(&mut self, pos: Pos, tokens: &[Token]) -> Result<(), PlaceFault>
         ensures placed { PlacesBy (place_section pos (map spelled tokens.now))
             self.old self.new result }
-        ensures notes { self.new.notes ≡ self.old.notes }
+        ensures kept { self.new.notes ≡ self.old.notes }
     {
         let words = section_words(self.alloc, &mut Operands::new(tokens))?;
         self.enter_words(pos, words)
@@ -251,7 +251,7 @@ impl Assembler {
     pub(crate) fn place_pushed(&mut self, pos: Pos, tokens: &[Token]) -> Result<(), PlaceFault>
         ensures placed { PlacesBy (place_pushed pos (map spelled tokens.now))
             self.old self.new result }
-        ensures notes { self.new.notes ≡ self.old.notes }
+        ensures kept { self.new.notes ≡ self.old.notes }
     {
         let entered = Entered {
             current: self.current,
@@ -266,7 +266,7 @@ impl Assembler {
     #[tactic(auto, unfolding(crate::specs::SectionChanges::popped))]
     pub(crate) fn pop_section(&mut self) -> Result<(), PlaceFault>
         ensures placed { PlacesBy popped self.old self.new result }
-        ensures notes { self.new.notes ≡ self.old.notes }
+        ensures kept { self.new.notes ≡ self.old.notes }
     {
         match self.stack.pop() {
             Some(entered) => {

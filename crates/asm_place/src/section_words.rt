@@ -243,8 +243,8 @@ fn is_flag_letter(byte: u8) -> bool
 
 /// The flag that a letter asks for, if the letters have it.
 fn flag_if(letter: u8, flag: u64, letters: &[u8]) -> u64
-    ensures flag { result ≡ spec.flag_if letter flag letters.now }
-    ensures small { result ≤ flag }
+    ensures value { result ≡ spec.flag_if letter flag letters.now }
+    ensures within { result ≤ flag }
 {
     if has_letter(letter, letters) { flag } else { 0 }
 }

@@ -54,8 +54,8 @@ fn units_of(count: u64, size: u64, value: u64) -> Result<Content, PlaceFault>
 /// The size of a unit, in bytes: 1 where it is not said, and at most 8.
 #[tactic(auto, unfolding(crate::specs::Spaces::unit_size))]
 fn unit_size(size: Option<u64>) -> Result<u64, PlaceFault>
-    ensures size { GivesBy (λ size. size) result (unit_size size) }
-    ensures small { IfOk result (λ size. size ≤ 8) }
+    ensures value { GivesBy (λ size. size) result (unit_size size) }
+    ensures within { IfOk result (λ size. size ≤ 8) }
 {
     match size {
         None => Ok(1),
@@ -72,8 +72,8 @@ fn unit_size(size: Option<u64>) -> Result<u64, PlaceFault>
 /// The power of two of an alignment that is not said.
 #[tactic(auto, unfolding(crate::specs::Spaces::default_log))]
 fn default_log(size: u64) -> u8
-    ensures log { result ≡ default_log size }
-    ensures small { result ≤ 4 }
+    ensures value { result ≡ default_log size }
+    ensures within { result ≤ 4 }
 {
     match size {
         0..2 => 0,
@@ -87,8 +87,8 @@ fn default_log(size: u64) -> u8
 /// The power of two of an alignment that is said.
 #[tactic(auto, unfolding(crate::specs::Spaces::said_log))]
 fn said_log(alignment: u64) -> Result<u8, PlaceFault>
-    ensures log { GivesBy (λ log. log) result (said_log alignment) }
-    ensures small { IfOk result (λ log. log ≤ 30) }
+    ensures value { GivesBy (λ log. log) result (said_log alignment) }
+    ensures within { IfOk result (λ log. log ≤ 30) }
 {
     if alignment == 0 {
         return Ok(0);
@@ -103,8 +103,8 @@ fn said_log(alignment: u64) -> Result<u8, PlaceFault>
 
 /// The power of two of an alignment that may be said.
 pub(crate) fn log_of(alignment: Option<u64>, size: u64) -> Result<u8, PlaceFault>
-    ensures log { GivesBy (λ log. log) result (log_of alignment size) }
-    ensures small { IfOk result (λ log. log ≤ 30) }
+    ensures value { GivesBy (λ log. log) result (log_of alignment size) }
+    ensures within { IfOk result (λ log. log ≤ 30) }
 {
     match alignment {
         None => Ok(default_log(size)),
@@ -124,7 +124,7 @@ impl Assembler {
     fn put_space(&mut self, pos: Pos, exprs: &[Expr], item: Content) -> Result<(), PlaceFault>
         ensures placed { PlacesBy (with_item pos (map tree_of exprs.now) item)
             self.old self.new result }
-        ensures notes { self.new.notes ≡ self.old.notes }
+        ensures kept { self.new.notes ≡ self.old.notes }
     {
         self.push_item(pos, item)?;
         self.table.name_trees(self.alloc, pos, exprs)
@@ -135,7 +135,7 @@ impl Assembler {
     pub(crate) fn place_zero(&mut self, pos: Pos, tokens: &[Token]) -> Result<(), PlaceFault>
         ensures placed { PlacesBy (place_zero pos (map spelled tokens.now))
             self.old self.new result }
-        ensures notes { self.new.notes ≡ self.old.notes }
+        ensures kept { self.new.notes ≡ self.old.notes }
     {
         let given = known_operands(self.alloc, self.view(), 1, &mut Operands::new(tokens))?;
         let item = space_of(given.values.first, 0)?;
@@ -147,7 +147,7 @@ impl Assembler {
     pub(crate) fn place_skip(&mut self, pos: Pos, tokens: &[Token]) -> Result<(), PlaceFault>
         ensures placed { PlacesBy (place_skip pos (map spelled tokens.now))
             self.old self.new result }
-        ensures notes { self.new.notes ≡ self.old.notes }
+        ensures kept { self.new.notes ≡ self.old.notes }
     {
         let given = known_operands(self.alloc, self.view(), 2, &mut Operands::new(tokens))?;
         let item = space_of(given.values.first, given.values.second.unwrap_or(0))?;
@@ -159,7 +159,7 @@ impl Assembler {
     pub(crate) fn place_fill(&mut self, pos: Pos, tokens: &[Token]) -> Result<(), PlaceFault>
         ensures placed { PlacesBy (place_fill pos (map spelled tokens.now))
             self.old self.new result }
-        ensures notes { self.new.notes ≡ self.old.notes }
+        ensures kept { self.new.notes ≡ self.old.notes }
     {
         let given = known_operands(self.alloc, self.view(), 3, &mut Operands::new(tokens))?;
         let size = unit_size(given.values.second)?;

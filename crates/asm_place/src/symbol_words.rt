@@ -172,7 +172,7 @@ impl Assembler {
     ) -> Result<(), PlaceFault>
         ensures placed { PlacesBy (place_said pos attribute (map spelled tokens.now))
             self.old self.new result }
-        ensures notes { self.new.notes ≡ self.old.notes }
+        ensures kept { self.new.notes ≡ self.old.notes }
     {
         if tokens.is_empty() {
             return Err(PlaceFault::Fault(PlaceCause::BadOperand));
@@ -187,7 +187,7 @@ impl Assembler {
     pub(crate) fn place_type(&mut self, pos: Pos, tokens: &[Token]) -> Result<(), PlaceFault>
         ensures placed { PlacesBy (place_type pos (map spelled tokens.now))
             self.old self.new result }
-        ensures notes { self.new.notes ≡ self.old.notes }
+        ensures kept { self.new.notes ≡ self.old.notes }
     {
         let mut operands = Operands::new(tokens);
         let name = needed_name(self.alloc, &mut operands)?;
@@ -203,7 +203,7 @@ impl Assembler {
     pub(crate) fn place_size(&mut self, pos: Pos, tokens: &[Token]) -> Result<(), PlaceFault>
         ensures placed { PlacesBy (place_size pos (map spelled tokens.now))
             self.old self.new result }
-        ensures notes { self.new.notes ≡ self.old.notes }
+        ensures kept { self.new.notes ≡ self.old.notes }
     {
         let words = named_tree(self.alloc, &mut Operands::new(tokens))?;
         let form = form_in(self.alloc, self.view(), &words.expr)?;

@@ -76,9 +76,9 @@ impl SymbolUses {
     /// The symbol of the name, which is put last if it is new.
     #[tactic(auto, unfolding(crate::specs::Tables::symbol_of))]
     pub(crate) fn symbol_of(&mut self, pos: Pos, name: &Name) -> Result<SymId, PlaceFault>
-        ensures gives { GivesBy (λ id. (self.new, id)) result
+        ensures value { GivesBy (λ id. (self.new, id)) result
             (symbol_of pos name.now self.old) }
-        ensures there { IfOk result (λ id. id < length self.new.symbols.symbols) }
+        ensures within { IfOk result (λ id. id < length self.new.symbols.symbols) }
     {
         let before = self.symbols.len();
         let id = self.symbols.name_of(name).map_err(SymFault::raise)?;
@@ -91,9 +91,9 @@ impl SymbolUses {
     /// The symbol of the next instance of a numeric label.
     #[tactic(auto, unfolding(crate::specs::Tables::next_symbol))]
     pub(crate) fn next_symbol(&mut self, pos: Pos, number: u64) -> Result<SymId, PlaceFault>
-        ensures gives { GivesBy (λ id. (self.new, id)) result
+        ensures value { GivesBy (λ id. (self.new, id)) result
             (next_symbol pos number self.old) }
-        ensures there { IfOk result (λ id. id < length self.new.symbols.symbols) }
+        ensures within { IfOk result (λ id. id < length self.new.symbols.symbols) }
     {
         let before = self.symbols.len();
         let id = self.symbols.numeric_next(number).map_err(SymFault::raise)?;
@@ -106,9 +106,9 @@ impl SymbolUses {
     /// The symbol is defined so.
     pub(crate) fn define(&mut self, id: SymId, what: Definition) -> Result<(), PlaceFault>
         requires { id < length self.old.symbols.symbols }
-        ensures gives { Gives self.new result
+        ensures value { Gives self.new result
             (changed_by (λ map index. defined map index what) (self.old, id)) }
-        ensures length { length self.new.symbols.symbols ≡ length self.old.symbols.symbols }
+        ensures kept { length self.new.symbols.symbols ≡ length self.old.symbols.symbols }
     {
         self.symbols.define(id, what).map_err(SymFault::raise)
     }
@@ -134,8 +134,8 @@ impl SymbolUses {
     /// The symbol is of this kind.
     pub(crate) fn set_kind(&mut self, id: SymId, kind: Kind) -> Result<(), PlaceFault>
         requires { id < length self.old.symbols.symbols }
-        ensures gives { Gives self.new result (changed_by (kind_said kind) (self.old, id)) }
-        ensures length { length self.new.symbols.symbols ≡ length self.old.symbols.symbols }
+        ensures value { Gives self.new result (changed_by (kind_said kind) (self.old, id)) }
+        ensures kept { length self.new.symbols.symbols ≡ length self.old.symbols.symbols }
     {
         self.symbols.kind(id, kind).map_err(SymFault::raise)
     }
@@ -187,7 +187,7 @@ impl SymbolUses {
     /// A name of an expression becomes a symbol.
     #[tactic(auto, unfolding(crate::specs::Tables::name_written))]
     pub(crate) fn name_written(&mut self, pos: Pos, written: &Written) -> Result<(), PlaceFault>
-        ensures gives { Gives self.new result (name_written pos written.now self.old) }
+        ensures { Gives self.new result (name_written pos written.now self.old) }
     {
         match written {
             Written::Plain(text) => {

@@ -61,7 +61,7 @@ impl Assembler {
     ) -> Result<(), PlaceFault>
         ensures placed { PlacesBy (place_strings pos ended (map spelled tokens.now))
             self.old self.new result }
-        ensures notes { self.new.notes ≡ self.old.notes }
+        ensures kept { self.new.notes ≡ self.old.notes }
     {
         let bytes = joined_strings(self.alloc, ended, Operands::new(tokens))?;
         let item = plain_item(self.alloc, &bytes)?;

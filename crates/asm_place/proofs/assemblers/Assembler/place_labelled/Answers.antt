@@ -12,18 +12,18 @@ use Rattle.asm_place.proofs.assemblers.Assembler.place_labelled.Goals as goal
 pub labels-preserved : goal.labels-preserved
 labels-preserved c =
     let here = take_rest c.args.tokens.now c.labels.at in
-    let labelled : begins_with_label (map spelled (drop c.labels.at c.args.tokens.now)) ≡ true = sym (c.labels-test.ensures.label ∙ ap (λ ts. begins_with_label (map spelled ts)) here) in
+    let labelled : begins_with_label (map spelled (drop c.labels.at c.args.tokens.now)) ≡ true = sym (c.labels-test.ensures.value ∙ ap (λ ts. begins_with_label (map spelled ts)) here) in
     let inside : c.labels.at + 2 ≤ length c.args.tokens.now = room c.args.tokens.now c.labels.at labelled in
     record {
       inside = inside;
-      notes = c.in_ok-place_label.ensures.notes ∙ c.labels.invariant.notes;
+      notes = c.in_ok-place_label.ensures.kept ∙ c.labels.invariant.notes;
       left = label_step c.args.pos c.args.tokens.now c.labels.at _ _ _ _ inside labelled c.in_ok-place_label.ensures.placed c.labels.invariant.left;
     }
 
 pub returns-in_err-place_label-clause-placed : goal.returns-in_err-place_label-clause-placed
 returns-in_err-place_label-clause-placed c =
     let here = take_rest c.args.tokens.now c.labels.at in
-    let labelled : begins_with_label (map spelled (drop c.labels.at c.args.tokens.now)) ≡ true = sym (c.labels-test.ensures.label ∙ ap (λ ts. begins_with_label (map spelled ts)) here) in
+    let labelled : begins_with_label (map spelled (drop c.labels.at c.args.tokens.now)) ≡ true = sym (c.labels-test.ensures.value ∙ ap (λ ts. begins_with_label (map spelled ts)) here) in
     let inside : c.labels.at + 2 ≤ length c.args.tokens.now = room c.args.tokens.now c.labels.at labelled in
     let p = err_from_is_err_and c.from_residual.result c.from_residual.ensures.1 in
     rw (p.1, p.2) (label_fails c.args.pos c.args.tokens.now c.labels.at _ _ _ _ inside labelled c.in_err-place_label.ensures.placed c.labels.invariant.left)
@@ -31,7 +31,7 @@ returns-in_err-place_label-clause-placed c =
 pub returns-clause-placed : goal.returns-clause-placed
 returns-clause-placed c =
     let here = take_rest c.args.tokens.now c.labels.at in
-    let plain : begins_with_label (map spelled (drop c.labels.at c.args.tokens.now)) ≡ false = sym (c.labels-test.ensures.label ∙ ap (λ ts. begins_with_label (map spelled ts)) here) in
+    let plain : begins_with_label (map spelled (drop c.labels.at c.args.tokens.now)) ≡ false = sym (c.labels-test.ensures.value ∙ ap (λ ts. begins_with_label (map spelled ts)) here) in
     let all : place_unlabelled c.args.pos (map spelled (take (length c.args.tokens.now - c.labels.at) (drop c.labels.at c.args.tokens.now))) (placed_by c.labels.self) ≡ place_labelled c.args.pos (map spelled c.args.tokens.now) (placed_by c.args.self.now) =
     ap (λ ts. place_unlabelled c.args.pos (map spelled ts) (placed_by c.labels.self)) here ∙ sym (unlabelled c.args.pos (map spelled (drop c.labels.at c.args.tokens.now)) (placed_by c.labels.self) plain) ∙ c.labels.invariant.left in
     subst (λ answer. Gives (placed_by c.place_unlabelled.new.self) c.place_unlabelled.result answer) all c.place_unlabelled.ensures.placed
