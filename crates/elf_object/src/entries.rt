@@ -9,17 +9,16 @@ use crate::fields::{put_half, put_word, put_xword};
 use crate::offsets::{ST_INFO, ST_NAME, ST_OTHER, ST_SHNDX, ST_SIZE, ST_VALUE};
 use crate::symbol_values::{
     Placement, SymbolSection, SymbolValue, binding_of, is_file_local, is_local, is_thread_local,
-    symbol_value_of,
+    size_value, symbol_value_of,
 };
 use asm_base::NoMemory;
 use asm_expr::{Linear, Name};
 use asm_frags::{Laid, Sections};
-use asm_relax::{expand_assigned, laid_value};
 use asm_symbols::{Binding, Kind, Symbol, Visibility};
 use std::alloc::Global;
 
 /// What a symbol stands for (`STT_`).
-#[derive(Clone, Copy, PartialEq, Eq, Debug)]
+#[derive(Clone, Copy)]
 pub enum SymbolType {
     NoType,
     Object,
@@ -144,10 +143,7 @@ fn size_of(alloc: Global, at: Placement, size: Option<&Linear>) -> Result<u64, N
 {
     match size {
         None => Ok(0),
-        Some(form) => {
-            let made = expand_assigned(alloc, at.symbols, form)?;
-            Ok(laid_value(at.symbols, at.sections, &made).unwrap_or(0))
-        }
+        Some(form) => Ok(size_value(alloc, at, form)?.unwrap_or(0)),
     }
 }
 

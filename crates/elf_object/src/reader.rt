@@ -13,7 +13,7 @@ use crate::offsets::{
 };
 
 /// Where the header table stands (`e_shoff`, `e_shnum` and `e_shstrndx` of `Elf64_Ehdr`).
-#[derive(Clone, Copy, PartialEq, Eq, Debug)]
+#[derive(Clone, Copy)]
 pub struct HeaderTable {
     pub offset: u64,
     pub count: u16,
@@ -21,7 +21,7 @@ pub struct HeaderTable {
 }
 
 /// The header of a section (`Elf64_Shdr`).
-#[derive(Clone, Copy, PartialEq, Eq, Debug)]
+#[derive(Clone, Copy)]
 pub struct SectionHeader {
     pub name: u32,
     pub kind: u32,
@@ -36,7 +36,7 @@ pub struct SectionHeader {
 }
 
 /// An entry of the symbol table (`Elf64_Sym`).
-#[derive(Clone, Copy, PartialEq, Eq, Debug)]
+#[derive(Clone, Copy)]
 pub struct SymbolRecord {
     pub name: u32,
     pub info: u8,
@@ -47,7 +47,7 @@ pub struct SymbolRecord {
 }
 
 /// A relocation with an addend (`Elf64_Rela`); `kind` and `symbol` are the halves of `r_info`.
-#[derive(Clone, Copy, PartialEq, Eq, Debug)]
+#[derive(Clone, Copy)]
 pub struct RelocationRecord {
     pub offset: u64,
     pub kind: u32,

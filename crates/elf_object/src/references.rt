@@ -16,14 +16,14 @@ use asm_symbols::{Meaning, Spot, Symbol};
 use std::alloc::{AllocError, Global};
 
 /// What a relocation names for a symbol, and what that lacks of the symbol's address.
-#[derive(Clone, Copy, PartialEq, Eq, Debug)]
+#[derive(Clone, Copy)]
 pub struct SymbolReference {
     pub target: Target,
     pub addend: u64,
 }
 
 /// S + A, or, where it is relative, S + A - P.
-#[derive(Clone, Copy, PartialEq, Eq, Debug)]
+#[derive(Clone, Copy)]
 pub struct Reference {
     pub target: Target,
     pub relative: bool,

@@ -8,7 +8,7 @@ use crate::offsets::{R_ADDEND, R_OFFSET, R_SYM, R_TYPE};
 use asm_frags::FieldSize;
 
 /// How the linker works a field out (`R_X86_64_`): from S + A, or S + A - P where the name begins with `Pc`.
-#[derive(Clone, Copy, PartialEq, Eq, Debug)]
+#[derive(Clone, Copy)]
 pub enum RelocationKind {
     Direct64,
     Pc32,
@@ -60,7 +60,7 @@ pub(crate) fn kind_for(relative: bool, size: FieldSize) -> RelocationKind
 }
 
 /// What a relocation names.
-#[derive(Clone, Copy, PartialEq, Eq, Debug)]
+#[derive(Clone, Copy)]
 pub enum Target {
     /// The section of this number, by the symbol that stands for it.
     OfSection(usize),
@@ -69,7 +69,7 @@ pub enum Target {
 }
 
 /// A relocation of a field.
-#[derive(Clone, Copy, PartialEq, Eq, Debug)]
+#[derive(Clone, Copy)]
 pub struct Relocation {
     /// Where the field begins in its section, in bytes.
     pub offset: u64,

@@ -5,10 +5,9 @@ ghost use Rattle.std.specs.List.{position_or_len};
 ghost use Rattle.elf_object.specs.Faults as spec;
 
 use crate::faults::ObjectCause;
-use crate::symbol_values::{Placement, is_file_local};
+use crate::symbol_values::{Placement, is_file_local, size_value};
 use asm_base::NoMemory;
 use asm_expr::Linear;
-use asm_relax::{expand_assigned, laid_value};
 use asm_symbols::{Meaning, Symbol};
 use std::alloc::Global;
 
@@ -52,15 +51,12 @@ fn unknown_size(alloc: Global, at: Placement, size: &Option<Linear>) -> Result<b
 {
     match size {
         None => Ok(false),
-        Some(form) => {
-            let made = expand_assigned(alloc, at.symbols, form)?;
-            Ok(laid_value(at.symbols, at.sections, &made).is_none())
-        }
+        Some(form) => Ok(size_value(alloc, at, form)?.is_none()),
     }
 }
 
 /// A symbol whose size has no value, and the number of the `.size` statement that counts for it.
-#[derive(Clone, Copy, PartialEq, Eq, Debug)]
+#[derive(Clone, Copy)]
 pub struct UnknownSize {
     pub symbol: usize,
     pub statement: u64,

@@ -2,13 +2,14 @@
 
 ghost use Rattle.std.specs.Prelude.{◌≡◌, IfOk};
 ghost use Rattle.asm_expr.specs.Knowledge.{told_by};
+ghost use Rattle.asm_relax.specs.Final.{field_value};
 ghost use Rattle.elf_object.specs.FileLocals.{is_file_local};
 ghost use Rattle.elf_object.specs.SymbolValues as spec;
 
 use asm_base::NoMemory;
 use asm_expr::{Known, Linear, Look, Name};
 use asm_frags::{Laid, Section, SectionFlags, Sections};
-use asm_relax::{FinalView, address_of, final_form};
+use asm_relax::{FinalView, address_of, expand_assigned, final_form, laid_value};
 use asm_symbols::{Binding, Meaning, Spot, Symbols};
 use bitflags::Flags;
 use std::alloc::Global;
@@ -21,7 +22,7 @@ pub(crate) struct Placement<'a> {
 }
 
 /// What a symbol's value counts from.
-#[derive(Clone, Copy, PartialEq, Eq, Debug)]
+#[derive(Clone, Copy)]
 pub enum SymbolSection {
     /// Another object defines it.
     Undefined,
@@ -34,7 +35,7 @@ pub enum SymbolSection {
 }
 
 /// Where a symbol stands: `st_shndx` and `st_value`.
-#[derive(Clone, Copy, PartialEq, Eq, Debug)]
+#[derive(Clone, Copy)]
 pub struct SymbolValue {
     pub section: SymbolSection,
     pub value: u64,
@@ -107,6 +108,19 @@ pub(crate) fn symbol_value_of(
             Ok(final_value(at, &made))
         }
     }
+}
+
+/// The value of a size, if it has one.
+pub(crate) fn size_value(
+    alloc: Global,
+    at: Placement,
+    size: &Linear,
+) -> Result<Option<u64>, NoMemory>
+    ensures { IfOk result (λ value. value
+        ≡ field_value at.entry.symbols.now at.entry.sections.now size.now) }
+{
+    let made = expand_assigned(alloc, at.symbols, size)?;
+    Ok(laid_value(at.symbols, at.sections, &made))
 }
 
 /// A symbol for which the linker finds a place is weak where that is said, and else global.
