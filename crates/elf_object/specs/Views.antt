@@ -22,7 +22,7 @@ content_view (Bytes bytes) = stored bytes.items
 content_view (NoBits size) = nobits size
 
 -- a section of the file
-abbrev pub section_view : FileSection → SectionEntry
+unfoldable pub section_view : FileSection → SectionEntry
 section_view s = record {
   name = s.prefix.now ++ s.name.now;
   kind = s.kind;
@@ -35,7 +35,7 @@ section_view s = record {
 }
 
 -- a section of the source
-abbrev pub held_entry : HeldSection → SectionEntry
+unfoldable pub held_entry : HeldSection → SectionEntry
 held_entry held = record {
   name = held.source.now.name;
   kind = held.source.now.kind;
@@ -52,7 +52,7 @@ abbrev pub relocations_in : HeldSection → List Relocation
 relocations_in held = held.relocations.items
 
 -- a symbol of the table
-abbrev pub symbol_view : TableSymbol → SymbolEntry
+unfoldable pub symbol_view : TableSymbol → SymbolEntry
 symbol_view s = record {
   name = s.name.now;
   binding = s.binding;

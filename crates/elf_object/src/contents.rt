@@ -204,7 +204,7 @@ pub(crate) struct HeldSection<'a> {
 }
 
 /// The section of this number with what it holds; one that takes no bytes in the file has a size alone.
-#[tactic(auto, unfolding(crate::specs::Contents::items_relocations, crate::specs::Faults::items_fault))]
+#[tactic(auto, unfolding(crate::specs::Contents::items_relocations, crate::specs::Faults::items_fault, crate::specs::Views::held_entry))]
 fn held_section<'a>(
     alloc: Global,
     at: Placement,

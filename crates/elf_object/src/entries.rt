@@ -77,6 +77,7 @@ pub(crate) struct TableSymbol<'a> {
 }
 
 /// Whether the symbol is local.
+#[tactic(auto, unfolding(crate::specs::Views::symbol_view))]
 pub(crate) fn is_local_entry(symbol: &TableSymbol) -> bool
     ensures { result ≡ spec.is_local_entry (symbol_view symbol.now) }
 {
@@ -96,7 +97,7 @@ fn section_index_of(headers: &[usize], section: SymbolSection) -> usize
 }
 
 /// The entry of a symbol whose name stands at this offset (`Elf64_Sym`); sections have these header indices.
-#[tactic(auto, unfolding(crate::specs::Fields::half, crate::specs::Fields::word, crate::specs::Fields::xword))]
+#[tactic(auto, unfolding(crate::specs::Fields::half, crate::specs::Fields::word, crate::specs::Fields::xword, crate::specs::Views::symbol_view))]
 pub(crate) fn symbol_bytes(headers: &[usize], name: usize, symbol: &TableSymbol) -> [u8; 24]
     ensures { result ≡ spec.symbol_bytes headers.now name (symbol_view symbol.now) }
 {
@@ -158,6 +159,7 @@ fn text_of(name: &Name) -> &[u8]
 }
 
 /// The entry of a symbol that stands there.
+#[tactic(auto, unfolding(crate::specs::Views::symbol_view))]
 fn entry_at<'a>(
     alloc: Global,
     at: Placement,
@@ -209,6 +211,7 @@ pub(crate) fn listed<'a>(
 }
 
 /// The entry of a source file's name.
+#[tactic(auto, unfolding(crate::specs::Views::symbol_view))]
 pub(crate) fn file_entry(name: &Name) -> TableSymbol<'_>
     ensures { symbol_view result ≡ spec.file_entry name.now }
 {
@@ -224,6 +227,7 @@ pub(crate) fn file_entry(name: &Name) -> TableSymbol<'_>
 }
 
 /// The entry that stands for the section of this number.
+#[tactic(auto, unfolding(crate::specs::Views::symbol_view))]
 pub(crate) fn section_entry<'a>(number: usize) -> TableSymbol<'a>
     ensures { symbol_view result ≡ spec.section_entry number }
 {

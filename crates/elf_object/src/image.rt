@@ -21,13 +21,8 @@ fn elf_header(offset: usize, count: usize) -> [u8; 64]
     ensures { result ≡ spec.elf_header offset count }
 {
     let mut header = [0; 64];
-    header[0] = 0x7f; // e_ident: the magic bytes, 64 bits, low byte first, version 1
-    header[1] = b'E';
-    header[2] = b'L';
-    header[3] = b'F';
-    header[4] = 2;
-    header[5] = 1;
-    header[6] = 1;
+    // e_ident: the magic bytes, 64 bits, low byte first, version 1
+    header[..7].copy_from_slice(b"\x7fELF\x02\x01\x01");
     put_half(&mut header[E_TYPE..], 1); // ET_REL
     put_half(&mut header[E_MACHINE..], 62); // EM_X86_64
     put_word(&mut header[E_VERSION..], 1);
@@ -112,6 +107,7 @@ impl Laid {
     }
 
     /// Appends the body and the header of a section, whose name stands at this offset.
+    #[tactic(auto, unfolding(crate::specs::Views::section_view))]
     fn put(&mut self, alloc: Global, name: usize, section: FileSection) -> Result<(), AllocError>
         requires { ends_at self.old.end self.old.pieces.items }
         ensures pieces { OnOk result (flat self.new.pieces.items
@@ -161,7 +157,7 @@ struct NameTable {
 }
 
 /// The names of the sections, and last that of their table.
-#[tactic(auto, unfolding(crate::specs::Image::all_names, crate::specs::Sections::section_names, crate::specs::StringTable::string_table_of, crate::specs::StringTable::name_offsets))]
+#[tactic(auto, unfolding(crate::specs::Image::all_names, crate::specs::Sections::section_names, crate::specs::StringTable::string_table_of, crate::specs::StringTable::name_offsets, crate::specs::Views::section_view))]
 fn name_table(alloc: Global, sections: &[FileSection]) -> Result<NameTable, AllocError>
     ensures bytes { IfOk result (λ t. t.bytes.items
         ≡ string_table_of (spec.all_names (map section_view sections.now))) }

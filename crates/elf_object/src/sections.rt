@@ -76,7 +76,7 @@ pub(crate) struct FileSection<'a> {
 }
 
 /// The header of a section whose name and bytes stand at these offsets (`Elf64_Shdr`).
-#[tactic(auto, unfolding(crate::specs::Fields::word, crate::specs::Fields::xword))]
+#[tactic(auto, unfolding(crate::specs::Fields::word, crate::specs::Fields::xword, crate::specs::Views::section_view))]
 pub(crate) fn section_header(name: usize, offset: u64, section: &FileSection) -> [u8; 64]
     ensures { result ≡ spec.section_header name offset (section_view section.now) }
 {
@@ -111,6 +111,7 @@ fn relocation_bytes(
 }
 
 /// The section of the relocations of the section of this name and index, with the index of the symbol table.
+#[tactic(auto, unfolding(crate::specs::Views::section_view))]
 fn relocation_section(symbols: usize, index: usize, name: &[u8], bytes: Vec<u8>) -> FileSection<'_>
     ensures { section_view result ≡ spec.relocation_section symbols index name.now bytes.items }
 {
@@ -128,6 +129,7 @@ fn relocation_section(symbols: usize, index: usize, name: &[u8], bytes: Vec<u8>)
 }
 
 /// The section of the symbol table, with the indices of its string table and of the first symbol that is not local.
+#[tactic(auto, unfolding(crate::specs::Views::section_view))]
 pub(crate) fn symbol_section<'a>(strings: usize, first: usize, bytes: Vec<u8>) -> FileSection<'a>
     ensures { section_view result ≡ spec.symbol_section strings first bytes.items }
 {
@@ -145,6 +147,7 @@ pub(crate) fn symbol_section<'a>(strings: usize, first: usize, bytes: Vec<u8>) -
 }
 
 /// The section of a string table.
+#[tactic(auto, unfolding(crate::specs::Views::section_view))]
 pub(crate) fn string_section<'a>(name: &'static [u8], bytes: Vec<u8>) -> FileSection<'a>
     ensures { section_view result ≡ spec.string_section name.now bytes.items }
 {
@@ -162,6 +165,7 @@ pub(crate) fn string_section<'a>(name: &'static [u8], bytes: Vec<u8>) -> FileSec
 }
 
 /// A section of the source.
+#[tactic(auto, unfolding(crate::specs::Views::section_view, crate::specs::Views::held_entry))]
 fn plain_section<'a>(held: HeldSection<'a>) -> FileSection<'a>
     ensures { section_view result ≡ held_entry held.entry }
 {
@@ -180,6 +184,7 @@ fn plain_section<'a>(held: HeldSection<'a>) -> FileSection<'a>
 }
 
 /// Appends a section of the source, and its relocations behind it, where it has any; its header has this index.
+#[tactic(auto, unfolding(crate::specs::Views::held_entry))]
 fn put_section<'a>(
     alloc: Global,
     out: &mut Vec<FileSection<'a>>,

@@ -33,7 +33,7 @@ impl SymbolTable {
 }
 
 /// The table of these symbols, which begins with the null symbol; sections have these header indices.
-#[tactic(auto, unfolding(crate::specs::Image::symbol_table_of, crate::specs::Image::symbol_names, crate::specs::StringTable::string_table_of, crate::specs::StringTable::name_offsets))]
+#[tactic(auto, unfolding(crate::specs::Image::symbol_table_of, crate::specs::Image::symbol_names, crate::specs::StringTable::string_table_of, crate::specs::StringTable::name_offsets, crate::specs::Views::symbol_view))]
 pub(crate) fn symbol_table(
     alloc: Global,
     headers: &[usize],
