@@ -27,7 +27,7 @@ use Rattle.elf_object.specs.Relocations.{name_reference, field_relocation}
 use Rattle.elf_object.specs.Contents.{filled, item_bytes, item_relocations, has_lost, items_bytes, items_relocations}
 use Rattle.elf_object.specs.Faults.{items_fault, object_fault}
 use Rattle.elf_object.specs.Naming.{named_of}
-use Rattle.elf_object.specs.Aliases.{said_along, kind_of, said_size}
+use Rattle.elf_object.specs.Aliases.{said_along, symbol_kind, symbol_size}
 use Rattle.elf_object.specs.SymbolTable.{listed, table_of}
 use Rattle.elf_object.specs.Sections.{section_names}
 use Rattle.elf_object.specs.Image.{null_header, header_table, elf_header, file_of, symbol_names, symbol_table_of, before_names, all_names, with_names, file_with, image_with, image_of}
@@ -99,18 +99,18 @@ row : (length (bytes_of (object_of symbols sections)) ≡ 800)
     × (take 64 (drop 64 (bytes_of (object_of symbols sections))) ≡ replicate 24 0 ++ (1 ∷ 0 ∷ 0 ∷ 0 ∷ 1 ∷ []) ++ replicate 3 0 ++ (8 ∷ []) ++ replicate 7 0
     ++ (8 ∷ []) ++ replicate 7 0 ++ (2 ∷ 0 ∷ 0 ∷ 0 ∷ 3 ∷ []) ++ replicate 11 0)
     × (take 4 (drop 652 (bytes_of (object_of symbols sections))) ≡ 3 ∷ 0 ∷ 0 ∷ 0 ∷ [])
-unfolding symbol label x y symbols item section sections bytes_of put_all settled low_bytes items_size address_in address_of final_told laid_value final_form assigned_form plus_terms expanded_within expanded half word xword string_table_of name_offsets name_reference field_relocation filled item_bytes item_relocations has_lost items_bytes items_relocations items_fault object_fault named_of listed kind_of said_size said_along table_of section_names null_header header_table elf_header file_of symbol_names symbol_table_of before_names all_names with_names file_with image_with image_of
+unfolding symbol label x y symbols item section sections bytes_of put_all settled low_bytes items_size address_in address_of final_told laid_value final_form assigned_form plus_terms expanded_within expanded half word xword string_table_of name_offsets name_reference field_relocation filled item_bytes item_relocations has_lost items_bytes items_relocations items_fault object_fault named_of listed symbol_kind symbol_size said_along table_of section_names null_header header_table elf_header file_of symbol_names symbol_table_of before_names all_names with_names file_with image_with image_of
 row = (refl, refl, refl)
 
 -- the length of the file; its symbol 1; `sh_info` of the symbol table
 row_file : (length (bytes_of (object_of one_file no_sections)) ≡ 616)
     × (take 24 (drop 88 (bytes_of (object_of one_file no_sections))) ≡ (1 ∷ 0 ∷ 0 ∷ 0 ∷ 4 ∷ 0 ∷ 0xf1 ∷ 0xff ∷ []) ++ replicate 16 0)
     × (take 4 (drop 468 (bytes_of (object_of one_file no_sections))) ≡ 2 ∷ 0 ∷ 0 ∷ 0 ∷ [])
-unfolding symbol label one_file thread_local no_sections thread_sections item section bytes_of put_all settled low_bytes items_size address_in address_of final_told laid_value final_form assigned_form plus_terms expanded_within expanded half word xword string_table_of name_offsets name_reference field_relocation filled item_bytes item_relocations has_lost items_bytes items_relocations items_fault object_fault named_of listed kind_of said_size said_along table_of section_names null_header header_table elf_header file_of symbol_names symbol_table_of before_names all_names with_names file_with image_with image_of
+unfolding symbol label one_file thread_local no_sections thread_sections item section bytes_of put_all settled low_bytes items_size address_in address_of final_told laid_value final_form assigned_form plus_terms expanded_within expanded half word xword string_table_of name_offsets name_reference field_relocation filled item_bytes item_relocations has_lost items_bytes items_relocations items_fault object_fault named_of listed symbol_kind symbol_size said_along table_of section_names null_header header_table elf_header file_of symbol_names symbol_table_of before_names all_names with_names file_with image_with image_of
 row_file = (refl, refl, refl)
 
 -- the length of the file, and its symbol 1, which is of type TLS
 row_thread : (length (bytes_of (object_of thread_local thread_sections)) ≡ 688)
     × (take 8 (drop 96 (bytes_of (object_of thread_local thread_sections))) ≡ 1 ∷ 0 ∷ 0 ∷ 0 ∷ 6 ∷ 0 ∷ 4 ∷ 0 ∷ [])
-unfolding symbol label one_file thread_local no_sections thread_sections item section bytes_of put_all settled low_bytes items_size address_in address_of final_told laid_value final_form assigned_form plus_terms expanded_within expanded half word xword string_table_of name_offsets name_reference field_relocation filled item_bytes item_relocations has_lost items_bytes items_relocations items_fault object_fault named_of listed kind_of said_size said_along table_of section_names null_header header_table elf_header file_of symbol_names symbol_table_of before_names all_names with_names file_with image_with image_of
+unfolding symbol label one_file thread_local no_sections thread_sections item section bytes_of put_all settled low_bytes items_size address_in address_of final_told laid_value final_form assigned_form plus_terms expanded_within expanded half word xword string_table_of name_offsets name_reference field_relocation filled item_bytes item_relocations has_lost items_bytes items_relocations items_fault object_fault named_of listed symbol_kind symbol_size said_along table_of section_names null_header header_table elf_header file_of symbol_names symbol_table_of before_names all_names with_names file_with image_with image_of
 row_thread = (refl, refl)

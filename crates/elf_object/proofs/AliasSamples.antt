@@ -9,7 +9,7 @@ use Rattle.asm_symbols.specs.declared.entries.Meaning.{Meaning}
 use Rattle.asm_symbols.specs.declared.entries.Meaning.TheVariants.{Label, Assigned}
 use Rattle.asm_symbols.specs.declared.entries.Symbol.{Symbol}
 use Rattle.asm_symbols.specs.SymbolMap.{SymbolMap}
-use Rattle.elf_object.specs.Aliases.{said_along, kind_of, said_size}
+use Rattle.elf_object.specs.Aliases.{said_along, symbol_kind, symbol_size}
 
 base : Name
 base = Plain (codes "base")
@@ -44,21 +44,21 @@ alias : Form → Symbol
 alias form = symbol (Plain (codes "al")) (Assigned form) None None
 
 -- `.set al,base`
-straight : (kind_of symbols (alias (name_form base)) ≡ Some Object)
-    × (said_size symbols (alias (name_form base)) ≡ Some (constant_form 4))
-unfolding base middle symbol labelled between symbols alias said_along kind_of said_size
+straight : (symbol_kind symbols (alias (name_form base)) ≡ Some Object)
+    × (symbol_size symbols (alias (name_form base)) ≡ Some (constant_form 4))
+unfolding base middle symbol labelled between symbols alias said_along symbol_kind symbol_size
 straight = (refl, refl)
 
 -- `.set al,middle`: the type of `middle`, and the size of `base`
-chain : (kind_of symbols (alias (name_form middle)) ≡ Some Function)
-    × (said_size symbols (alias (name_form middle)) ≡ Some (constant_form 4))
-unfolding base middle symbol labelled between symbols alias said_along kind_of said_size
+chain : (symbol_kind symbols (alias (name_form middle)) ≡ Some Function)
+    × (symbol_size symbols (alias (name_form middle)) ≡ Some (constant_form 4))
+unfolding base middle symbol labelled between symbols alias said_along symbol_kind symbol_size
 chain = (refl, refl)
 
 -- `.set al,base+1` is no alias
 moved : Form
 moved = record (name_form base) { constant = 1 }
 
-no_alias : (kind_of symbols (alias moved) ≡ None) × (said_size symbols (alias moved) ≡ None)
-unfolding base middle symbol labelled between symbols alias moved said_along kind_of said_size
+no_alias : (symbol_kind symbols (alias moved) ≡ None) × (symbol_size symbols (alias moved) ≡ None)
+unfolding base middle symbol labelled between symbols alias moved said_along symbol_kind symbol_size
 no_alias = (refl, refl)

@@ -7,7 +7,7 @@ use Rattle.elf_object.specs.FileLaws.{SectionStands, SectionsStand}
 use Rattle.elf_object.specs.Image.{next_multiple, body_from, bodies_from, header_from, headers_from, header_end, null_header, header_table, elf_header, file_of, all_names, with_names, file_with}
 use Rattle.elf_object.specs.Places.{PieceAt, body_offset}
 use Rattle.elf_object.specs.Sections.{SectionEntry, section_header, section_names, string_section}
-use Rattle.elf_object.specs.StringTable.{string_of, name_offsets_after, name_offsets, string_table_of}
+use Rattle.elf_object.specs.StringTable.{ended_name, name_offsets_after, name_offsets, string_table_of}
 use Rattle.elf_object.proofs.FilePlaces.{stands_in, behind_front, body_stands}
 use Rattle.elf_object.proofs.ItemPlaces.{header_length}
 
@@ -17,7 +17,7 @@ section_header_length name offset s = refl
 
 offsets_long : (before : ℕ) (names : List (List ℕ)) → length (name_offsets_after before names) ≡ length names
 offsets_long before [] = refl
-offsets_long before (name ∷ names) = ap suc (offsets_long (before + length (string_of name)) names)
+offsets_long before (name ∷ names) = ap suc (offsets_long (before + length (ended_name name)) names)
 
 -- a header, and the offset that it says
 record HeaderIn (headers : List ℕ) (at offset : ℕ) (s : SectionEntry) : Type 0 where

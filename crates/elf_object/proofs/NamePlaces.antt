@@ -4,7 +4,7 @@ use Rattle.std.proofs.lemmas.List.{drop_at}
 use Rattle.std.specs.Prelude.{slice_get, slice_index_or}
 use Rattle.std.specs.List.{list_all, prefix_len}
 use Rattle.elf_object.specs.FileLaws.{NamesStand}
-use Rattle.elf_object.specs.StringTable.{is_no_end, string_at, string_of, strings, string_table_of, name_offset_after, name_offsets_after, name_offsets}
+use Rattle.elf_object.specs.StringTable.{is_no_end, string_at, ended_name, strings, string_table_of, name_offset_after, name_offsets_after, name_offsets}
 
 -- what stands before the first zero byte
 cut_here : (name rest : List ℕ) → list_all is_no_end name ≡ true → take (prefix_len is_no_end (name ++ 0 ∷ rest)) (name ++ 0 ∷ rest) ≡ name
@@ -39,10 +39,10 @@ names_read before (n ∷ names) zero name is all =
     let same : n ≡ name = cc in
     rw (← same) (name_read before n names (ap (list_all is_no_end) same ∙ all))
 names_read before (n ∷ names) (suc index) name is all =
-    let next = before ++ string_of n in
-    let long : suc (length before) + length (string_of n) ≡ suc (length next) = omega (arith, length-append before (string_of n)) in
-    let row : 0 ∷ (before ++ (string_of n ++ strings names)) ≡ 0 ∷ (next ++ strings names) = ap (λ (xs : List ℕ). 0 ∷ xs) (sym (append_assoc before (string_of n) (strings names))) in
-    ap (λ m. string_at (slice_index_or (name_offsets_after m names) index 0) (0 ∷ (before ++ (string_of n ++ strings names)))) long
+    let next = before ++ ended_name n in
+    let long : suc (length before) + length (ended_name n) ≡ suc (length next) = omega (arith, length-append before (ended_name n)) in
+    let row : 0 ∷ (before ++ (ended_name n ++ strings names)) ≡ 0 ∷ (next ++ strings names) = ap (λ (xs : List ℕ). 0 ∷ xs) (sym (append_assoc before (ended_name n) (strings names))) in
+    ap (λ m. string_at (slice_index_or (name_offsets_after m names) index 0) (0 ∷ (before ++ (ended_name n ++ strings names)))) long
     ∙ ap (string_at (slice_index_or (name_offsets_after (suc (length next)) names) index 0)) row ∙ names_read next names index name is all
 
 pub names_stand : NamesStand

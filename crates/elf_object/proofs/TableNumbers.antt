@@ -16,7 +16,7 @@ use Rattle.elf_object.specs.Naming.{same_target, is_named_by, is_named, marks_fr
 use Rattle.elf_object.specs.Numbers.{section_numbers, symbol_numbers, first_section_symbol, first_local, first_other, numbers_of, target_number}
 use Rattle.elf_object.specs.SymbolValues.{symbol_value_of}
 use Rattle.elf_object.specs.SymbolTable.{SymbolEntry, is_local_entry, part, file_entry, section_entry, section_entries, entry_at, needs_naming, listed_if, listed, listed_by, listed_all, table_of}
-use Rattle.elf_object.specs.TableLaws.{named_in, IsEntryOf, TargetsStand}
+use Rattle.elf_object.specs.TableLaws.{named_targets, IsEntryOf, TargetsStand}
 use Rattle.elf_object.proofs.ItemPlaces.{get_front, found_long}
 use Rattle.elf_object.proofs.Targets.{Sits, got_inside, all_sit}
 
@@ -148,7 +148,7 @@ listed_there map sections symbol there is =
     kept false entry = refl
 
 section_stands : (symbols : SymbolMap) (sections : LaidSections) (n : ℕ) → n < length sections → is_named (relocations_of symbols sections) (OfSection n) ≡ true
-    → IsEntryOf symbols sections (target_number (numbers_of symbols sections (named_in symbols sections)) (OfSection n)) (OfSection n)
+    → IsEntryOf symbols sections (target_number (numbers_of symbols sections (named_targets symbols sections)) (OfSection n)) (OfSection n)
 unfolding table_of named_of
 section_stands symbols sections n inside named =
     let found = relocations_of symbols sections in
@@ -162,17 +162,17 @@ section_stands symbols sections n inside named =
     let at = subst (λ m. IsAt (section_entries 0 marks) (first_section_symbol symbols) (slice_index_or (section_numbers (first_section_symbol symbols) marks) n 0) (section_entry m))
     zero_plus (sections_at marks (first_section_symbol symbols) 0 n mark) in
     let base : first_section_symbol symbols ≡ 1 + length files = ap (λ m. 1 + m) (sym (length-map symbols.files file_entry)) in
-    let all = listed_all symbols sections (named_in symbols sections) in
+    let all = listed_all symbols sections (named_targets symbols sections) in
     let (some, there) = behind_front files (section_entries 0 marks) (part true all) (first_section_symbol symbols) _ (section_entry n) base at in
     (some, get_front ((files ++ section_entries 0 marks) ++ part true all) (part false all) _ (section_entry n) there)
 
 -- the numbers of local symbols, and of the others
 symbol_number : (symbols : SymbolMap) (sections : LaidSections) (i : ℕ) (entry : SymbolEntry) (bound : Bool) → is_local_entry entry ≡ bound
-    → slice_get (listed_all symbols sections (named_in symbols sections)) i ≡ Some (Some entry)
-    → IsEntryOf symbols sections (target_number (numbers_of symbols sections (named_in symbols sections)) (OfSymbol i)) (OfSymbol i)
+    → slice_get (listed_all symbols sections (named_targets symbols sections)) i ≡ Some (Some entry)
+    → IsEntryOf symbols sections (target_number (numbers_of symbols sections (named_targets symbols sections)) (OfSymbol i)) (OfSymbol i)
 unfolding table_of
 symbol_number symbols sections i entry true so there =
-    let named = named_in symbols sections in
+    let named = named_targets symbols sections in
     let all = listed_all symbols sections named in
     let front = map file_entry symbols.files ++ section_entries 0 named.sections in
     let base : first_local symbols named ≡ 1 + length front =
@@ -181,7 +181,7 @@ symbol_number symbols sections i entry true so there =
     let (some, stands) = behind_front front (part true all) (part false all) (first_local symbols named) _ entry base at in
     (entry, there, some, stands)
 symbol_number symbols sections i entry false so there =
-    let named = named_in symbols sections in
+    let named = named_targets symbols sections in
     let all = listed_all symbols sections named in
     let front = (map file_entry symbols.files ++ section_entries 0 named.sections) ++ part true all in
     let base : first_other symbols sections named ≡ 1 + length front =
@@ -197,7 +197,7 @@ symbol_number symbols sections i entry false so there =
     (entry, there, some, sym (ap (λ (xs : List SymbolEntry). slice_get xs (number - 1)) (append-nil (front ++ part false all))) ∙ stands)
 
 symbol_stands : (symbols : SymbolMap) (sections : LaidSections) (i : ℕ) → Sits symbols sections (OfSymbol i) → is_named (relocations_of symbols sections) (OfSymbol i) ≡ true
-    → IsEntryOf symbols sections (target_number (numbers_of symbols sections (named_in symbols sections)) (OfSymbol i)) (OfSymbol i)
+    → IsEntryOf symbols sections (target_number (numbers_of symbols sections (named_targets symbols sections)) (OfSymbol i)) (OfSymbol i)
 unfolding named_of
 symbol_stands symbols sections i (symbol, there, got, stands) named =
     let found = relocations_of symbols sections in
@@ -211,7 +211,7 @@ symbol_stands symbols sections i (symbol, there, got, stands) named =
     (listed_get symbols sections marks symbols.symbols i true symbol mark got ∙ ap Some (listed_there symbols sections symbol there stands))
 
 target_stands : (symbols : SymbolMap) (sections : LaidSections) (target : Target) → Sits symbols sections target → is_named (relocations_of symbols sections) target ≡ true
-    → IsEntryOf symbols sections (target_number (numbers_of symbols sections (named_in symbols sections)) target) target
+    → IsEntryOf symbols sections (target_number (numbers_of symbols sections (named_targets symbols sections)) target) target
 target_stands symbols sections (OfSection n) sits named = section_stands symbols sections n sits named
 target_stands symbols sections (OfSymbol i) sits named = symbol_stands symbols sections i sits named
 

@@ -4,7 +4,7 @@ use Rattle.std.proofs.lemmas.List.{length-map, drop_at, take-append-le, take_all
 use Rattle.std.specs.List.{list_all}
 use Rattle.asm_expr.specs.declared.naming.Name.{Name}
 use Rattle.elf_object.specs.SymbolTable.{SymbolEntry, is_local_entry, is_bound, part, file_entry, section_entries, listed_all, table_of}
-use Rattle.elf_object.specs.TableLaws.{LocalsFirst, named_in, info_in}
+use Rattle.elf_object.specs.TableLaws.{LocalsFirst, named_targets, info_in}
 
 all_append : (p : SymbolEntry → Bool) (these those : List SymbolEntry) → list_all p these ≡ true → list_all p those ≡ true → list_all p (these ++ those) ≡ true
 all_append p [] those first second = second
@@ -58,7 +58,7 @@ ordered files own locals others n is first second third fourth =
 pub locals_first : LocalsFirst
 unfolding table_of
 locals_first symbols sections =
-    let named = named_in symbols sections in
+    let named = named_targets symbols sections in
     let all = listed_all symbols sections named in
     let files = map file_entry symbols.files in
     let own = section_entries 0 named.sections in

@@ -34,9 +34,9 @@ abbrev pub said_of : {T : Type 0} → (Symbol → Option T) → SymbolMap → Sy
 said_of said map symbol = option_or (said symbol) (said_along said map (length map.symbols) (alias_of map symbol.meaning))
 
 -- an alias has its symbol's type where it has no `.type` of its own
-unfoldable pub kind_of : SymbolMap → Symbol → Option Kind
-kind_of map symbol = said_of (λ s. s.kind) map symbol
+unfoldable pub symbol_kind : SymbolMap → Symbol → Option Kind
+symbol_kind map symbol = said_of (λ s. s.kind) map symbol
 
 -- an alias has its symbol's size where it has no `.size` of its own
-unfoldable pub said_size : SymbolMap → Symbol → Option Form
-said_size map symbol = said_of (λ s. s.size) map symbol
+unfoldable pub symbol_size : SymbolMap → Symbol → Option Form
+symbol_size map symbol = said_of (λ s. s.size) map symbol

@@ -37,25 +37,25 @@ unknown_size map sections None = false
 unknown_size map sections (Some form) = is_none (field_value map sections form)
 
 -- the fault of the first symbol that is so, by its index
-abbrev pub symbol_fault : (Symbol → Bool) → (ℕ → ObjectCause) → List Symbol → Option ObjectCause
-symbol_fault is_so fault symbols = if nat_lt (position_or_len is_so symbols) (length symbols) then Some (fault (position_or_len is_so symbols)) else None
+abbrev pub fault_of_first : (Symbol → Bool) → (ℕ → ObjectCause) → List Symbol → Option ObjectCause
+fault_of_first is_so fault symbols = if nat_lt (position_or_len is_so symbols) (length symbols) then Some (fault (position_or_len is_so symbols)) else None
 
 -- the fault of the first symbol that must be defined in this file and is not
 abbrev pub undefined_fault : SymbolMap → Option ObjectCause
-undefined_fault map = symbol_fault is_undefined_local UndefinedLocalSymbol map.symbols
+undefined_fault map = fault_of_first is_undefined_local UndefinedLocalSymbol map.symbols
 
 -- the first item with a field that has neither a value nor a relocation
 unfoldable pub items_fault : SymbolMap → LaidSections → ℕ → List LaidItem → Option ObjectCause
 items_fault map sections number items = option_map (λ item. NoRelocation item.pos) (find (has_lost map sections number) items)
 
 -- the fault of the first item of the section with a field that has neither a value nor a relocation
-abbrev pub section_fault : SymbolMap → LaidSections → ℕ → SectionOf LaidItem → Option ObjectCause
-section_fault map sections number section = items_fault map sections number (filed_items section)
+abbrev pub field_fault_in : SymbolMap → LaidSections → ℕ → SectionOf LaidItem → Option ObjectCause
+field_fault_in map sections number section = items_fault map sections number (filed_items section)
 
 -- the first of these sections with such an item; they have the numbers from this one on
 abbrev pub field_fault_from : SymbolMap → LaidSections → ℕ → List (SectionOf LaidItem) → Option ObjectCause
 field_fault_from map sections number [] = None
-field_fault_from map sections number (section ∷ more) = or_later (section_fault map sections number section) (field_fault_from map sections (number + 1) more)
+field_fault_from map sections number (section ∷ more) = or_later (field_fault_in map sections number section) (field_fault_from map sections (number + 1) more)
 
 -- the symbol at this index, if its size has no value
 abbrev pub unknown_at : SymbolMap → LaidSections → ℕ → Symbol → Option UnknownSize

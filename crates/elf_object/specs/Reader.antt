@@ -25,8 +25,8 @@ abbrev pub has_file_header : List ℕ → Bool
 has_file_header file = nat_le EHDR_SIZE (length file) && starts_with nat_eq file magic
 
 -- e_shoff, e_shnum and e_shstrndx of an ELF header (Elf64_Ehdr)
-abbrev pub table_in : List ℕ → HeaderTable
-table_in header = record {
+abbrev pub header_table_in : List ℕ → HeaderTable
+header_table_in header = record {
   offset = xword_at header E_SHOFF;
   count = half_at header E_SHNUM;
   names = half_at header E_SHSTRNDX;
@@ -34,7 +34,7 @@ table_in header = record {
 
 -- where the header table of a file stands, if it is an ELF file
 unfoldable pub header_table_of : List ℕ → Option HeaderTable
-header_table_of file = if has_file_header file then Some (table_in file) else None
+header_table_of file = if has_file_header file then Some (header_table_in file) else None
 
 -- the fields of a section header (Elf64_Shdr)
 unfoldable pub header_in : List ℕ → SectionHeader
@@ -52,14 +52,14 @@ header_in entry = record {
 }
 
 -- the entry of this index in the header table, if there are more than that
-abbrev pub header_by : List ℕ → ℕ → HeaderTable → Option SectionHeader
-header_by file index table =
+abbrev pub header_at : List ℕ → ℕ → HeaderTable → Option SectionHeader
+header_at file index table =
     if nat_lt index table.count
     then option_map header_in (table_entry (drop table.offset file) SHDR_SIZE index) else None
 
 -- the header of the section of this index
 unfoldable pub section_header_of : List ℕ → ℕ → Option SectionHeader
-section_header_of file index = option_and_then (header_by file index) (header_table_of file)
+section_header_of file index = option_and_then (header_at file index) (header_table_of file)
 
 -- the bytes of a section; one of type SHT_NOBITS has none in the file
 unfoldable pub section_content : List ℕ → SectionHeader → Option (List ℕ)
@@ -90,14 +90,14 @@ unfoldable pub section_name_of : List ℕ → ℕ → Option (List ℕ)
 section_name_of file index = option_and_then (header_name file) (section_header_of file index)
 
 -- the name is there, and is this one
-abbrev pub is_name : List ℕ → Option (List ℕ) → Bool
-is_name name None = false
-is_name name (Some found) = bytes_eq found name
+abbrev pub is_same_name : List ℕ → Option (List ℕ) → Bool
+is_same_name name None = false
+is_same_name name (Some found) = bytes_eq found name
 
 -- the first of so many sections that has this name
 abbrev pub first_named : List ℕ → List ℕ → ℕ → Option ℕ
 first_named file name count =
-    find (λ index. is_name name (section_name_of file index)) (range_with_len 0 count)
+    find (λ index. is_same_name name (section_name_of file index)) (range_with_len 0 count)
 
 -- the index of the first section of this name
 unfoldable pub named_section : List ℕ → List ℕ → Option ℕ

@@ -3,14 +3,14 @@ use Rattle.std.specs.Prelude.{ℕ, ◌+◌, ◌==◌, Bool, not, List, [], ◌�
 use Rattle.std.specs.List.{prefix_len}
 
 -- a name with the zero byte that ends it; the empty name takes no bytes
-abbrev pub string_of : List ℕ → List ℕ
-string_of [] = []
-string_of (c ∷ cs) = (c ∷ cs) ++ 0 ∷ []
+abbrev pub ended_name : List ℕ → List ℕ
+ended_name [] = []
+ended_name (c ∷ cs) = (c ∷ cs) ++ 0 ∷ []
 
 -- the names, one after the other
 abbrev pub strings : List (List ℕ) → List ℕ
 strings [] = []
-strings (name ∷ names) = string_of name ++ strings names
+strings (name ∷ names) = ended_name name ++ strings names
 
 -- the table of the names, which begins with a zero byte
 unfoldable pub string_table_of : List (List ℕ) → List ℕ
@@ -25,7 +25,7 @@ name_offset_after before (c ∷ cs) = before
 abbrev pub name_offsets_after : ℕ → List (List ℕ) → List ℕ
 name_offsets_after before [] = []
 name_offsets_after before (name ∷ names) =
-    name_offset_after before name ∷ name_offsets_after (before + length (string_of name)) names
+    name_offset_after before name ∷ name_offsets_after (before + length (ended_name name)) names
 
 -- where each of the names stands in their table
 unfoldable pub name_offsets : List (List ℕ) → List ℕ

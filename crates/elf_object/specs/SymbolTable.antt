@@ -21,7 +21,7 @@ use Rattle.elf_object.specs.declared.entries.SymbolType.TheVariants as type
 use Rattle.elf_object.specs.Fields.{half, word, xword}
 use Rattle.elf_object.specs.FileLocals.{is_file_local}
 use Rattle.elf_object.specs.Naming.{NamedOf}
-use Rattle.elf_object.specs.Aliases.{kind_of, said_size}
+use Rattle.elf_object.specs.Aliases.{symbol_kind, symbol_size}
 use Rattle.elf_object.specs.SymbolValues.{symbol_value_of, binding_of, is_local, is_thread_local}
 
 -- a symbol, as the table tells it
@@ -110,11 +110,11 @@ abbrev pub entry_at : SymbolMap → LaidSections → Symbol → SymbolValue → 
 entry_at map sections symbol there = record {
   name = text_of symbol.name;
   binding = binding_of symbol.meaning symbol.binding;
-  kind = type_of sections there.section (kind_of map symbol);
+  kind = type_of sections there.section (symbol_kind map symbol);
   visibility = symbol.visibility;
   section = there.section;
   value = there.value;
-  size = size_of map sections (said_size map symbol);
+  size = size_of map sections (symbol_size map symbol);
 }
 
 -- the symbol has section SHN_UNDEF

@@ -12,16 +12,16 @@ use Rattle.elf_object.specs.Numbers.{first_other, numbers_of, target_number}
 use Rattle.elf_object.specs.SymbolTable.{SymbolEntry, is_local_entry, section_entry, listed_all, table_of}
 
 -- what the relocations of the sections name
-abbrev pub named_in : SymbolMap → LaidSections → NamedOf
-named_in symbols sections = named_of (relocations_of symbols sections) (length symbols.symbols)
+abbrev pub named_targets : SymbolMap → LaidSections → NamedOf
+named_targets symbols sections = named_of (relocations_of symbols sections) (length symbols.symbols)
 
 -- the entries of the symbol table behind the null symbol
 abbrev pub table_in : SymbolMap → LaidSections → List SymbolEntry
-table_in symbols sections = table_of symbols sections (named_in symbols sections)
+table_in symbols sections = table_of symbols sections (named_targets symbols sections)
 
 -- sh_info counts the null symbol and the local ones
 abbrev pub info_in : SymbolMap → LaidSections → ℕ
-info_in symbols sections = first_other symbols sections (named_in symbols sections)
+info_in symbols sections = first_other symbols sections (named_targets symbols sections)
 
 -- the local symbols stand first, and sh_info is the number of the first that is not local (gABI, chapter 4, "Sections", sh_info)
 abbrev pub LocalsFirst : Type 0
@@ -33,11 +33,11 @@ LocalsFirst = (symbols : SymbolMap) (sections : LaidSections)
 abbrev pub IsEntryOf : SymbolMap → LaidSections → ℕ → Target → Type 0
 IsEntryOf symbols sections number (OfSection section) = (0 < number) × (slice_get (table_in symbols sections) (number - 1) ≡ Some (section_entry section))
 IsEntryOf symbols sections number (OfSymbol index) =
-    (entry : SymbolEntry) × (slice_get (listed_all symbols sections (named_in symbols sections)) index ≡ Some (Some entry))
+    (entry : SymbolEntry) × (slice_get (listed_all symbols sections (named_targets symbols sections)) index ≡ Some (Some entry))
     × (0 < number) × (slice_get (table_in symbols sections) (number - 1) ≡ Some entry)
 
 -- each relocation names a symbol that is there: the one that it means
 abbrev pub TargetsStand : Type 0
 TargetsStand = (symbols : SymbolMap) (sections : LaidSections) (number index : ℕ) (own : List Relocation) (r : Relocation)
     → slice_get (relocations_of symbols sections) number ≡ Some own → slice_get own index ≡ Some r
-    → IsEntryOf symbols sections (target_number (numbers_of symbols sections (named_in symbols sections)) r.target) r.target
+    → IsEntryOf symbols sections (target_number (numbers_of symbols sections (named_targets symbols sections)) r.target) r.target

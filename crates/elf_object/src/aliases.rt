@@ -32,9 +32,9 @@ fn alias_of(symbols: &Symbols, meaning: &Meaning) -> Option<SymId>
 }
 
 /// The kind of a symbol: its own, or else that of the symbol that it is an alias of.
-#[tactic(auto, unfolding(crate::specs::Aliases::kind_of))]
-pub(crate) fn kind_of(symbols: &Symbols, symbol: &Symbol) -> Option<Kind>
-    ensures { result ≡ spec.kind_of symbols.now symbol.now }
+#[tactic(auto, unfolding(crate::specs::Aliases::symbol_kind))]
+pub(crate) fn symbol_kind(symbols: &Symbols, symbol: &Symbol) -> Option<Kind>
+    ensures { result ≡ spec.symbol_kind symbols.now symbol.now }
 {
     if let Some(kind) = symbol.kind {
         return Some(kind);
@@ -56,9 +56,9 @@ pub(crate) fn kind_of(symbols: &Symbols, symbol: &Symbol) -> Option<Kind>
 }
 
 /// The size of a symbol: its own, or else that of the symbol that it is an alias of.
-#[tactic(auto, unfolding(crate::specs::Aliases::said_size))]
-pub(crate) fn said_size<'a>(symbols: &'a Symbols, symbol: &'a Symbol) -> Option<&'a Linear>
-    ensures { option_map (λ size. size.now) result ≡ spec.said_size symbols.now symbol.now }
+#[tactic(auto, unfolding(crate::specs::Aliases::symbol_size))]
+pub(crate) fn symbol_size<'a>(symbols: &'a Symbols, symbol: &'a Symbol) -> Option<&'a Linear>
+    ensures { option_map (λ size. size.now) result ≡ spec.symbol_size symbols.now symbol.now }
 {
     if let Some(size) = &symbol.size {
         return Some(size);

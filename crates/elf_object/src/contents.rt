@@ -6,7 +6,7 @@ ghost use Rattle.std.specs.Option.{option_to_list};
 ghost use Rattle.asm_frags.specs.DataOf.{FieldsStand};
 ghost use Rattle.asm_frags.specs.Fields.{low_bytes};
 ghost use Rattle.elf_object.specs.Contents as spec;
-ghost use Rattle.elf_object.specs.Faults.{IsDue, IsLostAt, items_fault, section_fault, field_fault_from};
+ghost use Rattle.elf_object.specs.Faults.{IsDue, IsLostAt, items_fault, field_fault_in, field_fault_from};
 ghost use Rattle.elf_object.specs.Relocations.{field_relocation};
 ghost use Rattle.elf_object.specs.Sections.{source_section};
 ghost use Rattle.elf_object.specs.Views.{held_entry, relocations_in};
@@ -61,7 +61,7 @@ fn put_field(
         here.section here.address field.now)) }
     ensures whole { OnOk result (spec.is_lost at.entry.symbols.now at.entry.sections.now
         here.section here.address field.now ≡ false) }
-    ensures fault { IfErr result
+    ensures err { IfErr result
         (λ fault. IsLostAt here.pos (spec.is_lost at.entry.symbols.now at.entry.sections.now
         here.section here.address field.now) fault) }
 {
@@ -95,7 +95,7 @@ fn put_between(
         here.address) fields.now) }
     ensures whole { OnOk result (list_any (spec.is_lost at.entry.symbols.now at.entry.sections.now
         here.section here.address) fields.now ≡ false) }
-    ensures fault { IfErr result (λ fault.
+    ensures err { IfErr result (λ fault.
         IsLostAt here.pos (list_any (spec.is_lost at.entry.symbols.now at.entry.sections.now
         here.section here.address) fields.now) fault) }
 {
@@ -126,7 +126,7 @@ fn put_data(
         here.address) item_data.now.fields) }
     ensures whole { OnOk result (list_any (spec.is_lost at.entry.symbols.now at.entry.sections.now
         here.section here.address) item_data.now.fields ≡ false) }
-    ensures fault { IfErr result (λ fault.
+    ensures err { IfErr result (λ fault.
         IsLostAt here.pos (list_any (spec.is_lost at.entry.symbols.now at.entry.sections.now
         here.section here.address) item_data.now.fields) fault) }
 {
@@ -149,7 +149,7 @@ fn put_item(
         ++ spec.item_relocations at.entry.symbols.now at.entry.sections.now section item.now) }
     ensures whole { OnOk result (spec.has_lost at.entry.symbols.now at.entry.sections.now section
         item.now ≡ false) }
-    ensures fault { IfErr result
+    ensures err { IfErr result
         (λ fault. IsLostAt item.now.pos (spec.has_lost at.entry.symbols.now at.entry.sections.now
         section item.now) fault) }
 {
@@ -181,7 +181,7 @@ fn file_items(
         ≡ spec.items_relocations at.entry.symbols.now at.entry.sections.now section items.now) }
     ensures whole { OnOk result (items_fault at.entry.symbols.now at.entry.sections.now section
         items.now ≡ None) }
-    ensures fault { IfErr result
+    ensures err { IfErr result
         (λ fault. IsDue fault (items_fault at.entry.symbols.now at.entry.sections.now section
         items.now)) }
 {
@@ -215,10 +215,10 @@ fn held_section<'a>(
         ≡ source_section at.entry.symbols.now at.entry.sections.now section.now) }
     ensures relocations { IfOk result (λ held. relocations_in held
         ≡ spec.section_relocations at.entry.symbols.now at.entry.sections.now number section.now) }
-    ensures whole { OnOk result (section_fault at.entry.symbols.now at.entry.sections.now number
+    ensures whole { OnOk result (field_fault_in at.entry.symbols.now at.entry.sections.now number
         section.now ≡ None) }
-    ensures fault { IfErr result
-        (λ fault. IsDue fault (section_fault at.entry.symbols.now at.entry.sections.now number
+    ensures err { IfErr result
+        (λ fault. IsDue fault (field_fault_in at.entry.symbols.now at.entry.sections.now number
         section.now)) }
 {
     let size = section_size(section);
@@ -254,7 +254,7 @@ pub(crate) fn held_sections<'a>(
         ≡ spec.relocations_of at.entry.symbols.now at.entry.sections.now) }
     ensures whole { OnOk result (field_fault_from at.entry.symbols.now at.entry.sections.now 0
         at.entry.sections.now ≡ None) }
-    ensures fault { IfErr result
+    ensures err { IfErr result
         (λ fault. IsDue fault (field_fault_from at.entry.symbols.now at.entry.sections.now 0
         at.entry.sections.now)) }
 {

@@ -4,7 +4,7 @@ ghost use Rattle.std.specs.Prelude.{◌≡◌, ◌<◌, IfOk, option_map};
 ghost use Rattle.elf_object.specs.SymbolTable as spec;
 ghost use Rattle.elf_object.specs.Views.{symbol_view};
 
-use crate::aliases::{kind_of, said_size};
+use crate::aliases::{symbol_kind, symbol_size};
 use crate::fields::{put_half, put_word, put_xword};
 use crate::offsets::{ST_INFO, ST_NAME, ST_OTHER, ST_SHNDX, ST_SIZE, ST_VALUE};
 use crate::symbol_values::{
@@ -33,7 +33,7 @@ impl SymbolType {
     /// `STT_NOTYPE` and the others.
     fn number(self) -> u8
         ensures value { result ≡ spec.type_number self }
-        ensures small { result < 7 }
+        ensures within { result < 7 }
     {
         self as u8
     }
@@ -42,7 +42,7 @@ impl SymbolType {
 /// `STB_LOCAL` and the others.
 fn binding_number(binding: Binding) -> u8
     ensures value { result ≡ spec.binding_number binding }
-    ensures small { result < 3 }
+    ensures within { result < 3 }
 {
     match binding {
         Binding::Local => 0,
@@ -172,11 +172,11 @@ fn entry_at<'a>(
     Ok(TableSymbol {
         name: text_of(&symbol.name),
         binding: binding_of(&symbol.meaning, symbol.binding),
-        kind: type_of(at.sections, there.section, kind_of(at.symbols, symbol)),
+        kind: type_of(at.sections, there.section, symbol_kind(at.symbols, symbol)),
         visibility: symbol.visibility,
         section: there.section,
         value: there.value,
-        size: size_of(alloc, at, said_size(at.symbols, symbol))?,
+        size: size_of(alloc, at, symbol_size(at.symbols, symbol))?,
     })
 }
 

@@ -174,7 +174,7 @@ pub fn section_name<'a>(file: &'a [u8], index: usize) -> Option<&'a [u8]>
 
 /// Whether the section of this index has this name.
 fn has_name(file: &[u8], index: usize, name: &[u8]) -> bool
-    ensures { result ≡ spec.is_name name.now (spec.section_name_of file.now index) }
+    ensures { result ≡ spec.is_same_name name.now (spec.section_name_of file.now index) }
 {
     match section_name(file, index) {
         Some(found) => found == name,

@@ -1,13 +1,13 @@
 //! String tables (gABI, chapter 4, "String Table").
 
 ghost use Rattle.std.specs.Prelude.{◌≡◌, ◌++◌, length, IfOk, OnOk};
-ghost use Rattle.elf_object.specs.StringTable.{string_of, name_offset_after};
+ghost use Rattle.elf_object.specs.StringTable.{ended_name, name_offset_after};
 
 use std::alloc::AllocError;
 
 /// Appends the name to the table, and answers where it stands, in bytes. The empty name takes none.
 pub(crate) fn put_name(bytes: &mut Vec<u8>, name: &[u8]) -> Result<usize, AllocError>
-    ensures bytes { OnOk result (bytes.new.items ≡ bytes.old.items ++ string_of name.now) }
+    ensures bytes { OnOk result (bytes.new.items ≡ bytes.old.items ++ ended_name name.now) }
     ensures offset { IfOk result (λ n. n ≡ name_offset_after (length bytes.old.items) name.now) }
 {
     if name.is_empty() {
@@ -26,7 +26,7 @@ pub(crate) fn put_joined(
     name: &[u8],
 ) -> Result<usize, AllocError>
     ensures bytes { OnOk result (bytes.new.items
-        ≡ bytes.old.items ++ string_of (prefix.now ++ name.now)) }
+        ≡ bytes.old.items ++ ended_name (prefix.now ++ name.now)) }
     ensures offset { IfOk result (λ n. n
         ≡ name_offset_after (length bytes.old.items) (prefix.now ++ name.now)) }
 {

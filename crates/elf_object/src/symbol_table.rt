@@ -2,7 +2,7 @@
 
 ghost use Rattle.std.specs.Prelude.{◌≡◌, ◌++◌, map, length, OnOk, IfOk};
 ghost use Rattle.elf_object.specs.Image.{symbol_names, symbol_table_of};
-ghost use Rattle.elf_object.specs.StringTable.{string_table_of, string_of, name_offset_after};
+ghost use Rattle.elf_object.specs.StringTable.{string_table_of, ended_name, name_offset_after};
 ghost use Rattle.elf_object.specs.SymbolTable.{symbol_bytes};
 ghost use Rattle.elf_object.specs.Views.{symbol_view};
 
@@ -24,7 +24,7 @@ impl SymbolTable {
             ++ symbol_bytes headers.now (name_offset_after (length self.old.strings.items)
             symbol.now.name.now) (symbol_view symbol.now)) }
         ensures strings { OnOk result (self.new.strings.items
-            ≡ self.old.strings.items ++ string_of symbol.now.name.now) }
+            ≡ self.old.strings.items ++ ended_name symbol.now.name.now) }
     {
         let name = put_name(&mut self.strings, symbol.name)?;
         self.entries

@@ -1,9 +1,9 @@
 -- A name and the byte that ends it.
 use Rattle.std.proofs.Common.{◌≡◌, ◌==◌, ℕ, false, List, [], ◌∷◌, ◌++◌, length, sym, ap, ◌∙◌, append_assoc}
-use Rattle.elf_object.specs.StringTable.{string_of}
+use Rattle.elf_object.specs.StringTable.{ended_name}
 use Rattle.elf_object.proofs.string_table.put_name.Goals as goal
 
-named : (old name middle new : List ℕ) → (length name == 0) ≡ false → middle ≡ old ++ name → new ≡ middle ++ 0 ∷ [] → new ≡ old ++ string_of name
+named : (old name middle new : List ℕ) → (length name == 0) ≡ false → middle ≡ old ++ name → new ≡ middle ++ 0 ∷ [] → new ≡ old ++ ended_name name
 named old [] middle new some first last = absurd cc
 named old (c ∷ cs) middle new some first last = last ∙ ap (λ xs. xs ++ 0 ∷ []) first ∙ append_assoc old (c ∷ cs) (0 ∷ [])
 

@@ -1,11 +1,11 @@
 -- What is said first along the rest of the chain is said of the symbol.
 use Rattle.std.proofs.Common.{◌≡◌, ◌<◌, length, IfSome}
-use Rattle.elf_object.specs.Aliases.{said_along, kind_of}
-use Rattle.elf_object.proofs.aliases.kind_of.Given as goal
+use Rattle.elf_object.specs.Aliases.{said_along, symbol_kind}
+use Rattle.elf_object.proofs.aliases.symbol_kind.Given as goal
 
 abbrev pub invariant-loop-left : goal.invariant-loop-left
 invariant-loop-left l = record {
-  same : said_along (λ s. s.kind) l.symbols l.left l.next ≡ kind_of l.symbols l.symbol;
+  same : said_along (λ s. s.kind) l.symbols l.left l.next ≡ symbol_kind l.symbols l.symbol;
   within : IfSome l.next (λ id. id < length l.symbols.symbols);
 }
 
