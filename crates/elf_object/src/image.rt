@@ -36,8 +36,8 @@ fn elf_header(offset: usize, count: usize) -> [u8; 64]
 
 /// The least multiple of the alignment that is not below the position, if there is one below 2^64.
 fn next_multiple(position: usize, alignment: u64) -> Option<usize>
-    ensures multiple { IfSome result (λ end. end ≡ spec.next_multiple alignment position) }
-    ensures behind { IfSome result (λ end. position ≤ end) }
+    ensures value { IfSome result (λ end. end ≡ spec.next_multiple alignment position) }
+    ensures within { IfSome result (λ end. position ≤ end) }
 {
     position.checked_next_multiple_of(alignment.max(1) as usize)
 }
@@ -82,7 +82,7 @@ impl Laid {
             ≡ flat self.old.pieces.items ++ spec.gap alignment self.old.end) }
         ensures end { OnOk result (self.new.end ≡ spec.next_multiple alignment self.old.end) }
         ensures ends { OnOk result (ends_at self.new.end self.new.pieces.items) }
-        ensures headers { self.new.headers.items ≡ self.old.headers.items }
+        ensures kept { self.new.headers.items ≡ self.old.headers.items }
     {
         // A file of 2^64 bytes can't be held.
         let end = next_multiple(self.end, alignment).ok_or(AllocError)?;
@@ -98,7 +98,7 @@ impl Laid {
         ensures pieces { OnOk result (flat self.new.pieces.items
             ≡ flat self.old.pieces.items ++ bytes.items) }
         ensures ends { OnOk result (ends_at self.new.end self.new.pieces.items) }
-        ensures headers { self.new.headers.items ≡ self.old.headers.items }
+        ensures kept { self.new.headers.items ≡ self.old.headers.items }
     {
         let end = self.end.checked_add(bytes.len()).ok_or(AllocError)?;
         put_piece(&mut self.pieces, bytes)?;
@@ -163,7 +163,7 @@ fn name_table(alloc: Global, sections: &[FileSection]) -> Result<NameTable, Allo
         ≡ string_table_of (spec.all_names (map section_view sections.now))) }
     ensures offsets { IfOk result (λ t. t.offsets.items
         ≡ name_offsets (spec.all_names (map section_view sections.now))) }
-    ensures len { IfOk result (λ t. vec_len t.offsets ≡ length sections.now + 1) }
+    ensures count { IfOk result (λ t. vec_len t.offsets ≡ length sections.now + 1) }
 {
     let mut bytes = vec![in alloc; 0; 1]?;
     let mut offsets = Vec::with_capacity(alloc, sections.len())?;

@@ -43,7 +43,7 @@ impl Model for Object {
 /// The file of the sections with what they hold, and the symbols.
 #[tactic(auto, unfolding(crate::specs::Image::before_names, crate::specs::Image::image_with))]
 fn image<'a>(alloc: Global, at: Placement<'a>, held: Vec<HeldSection<'a>>) -> Result<File, NoMemory>
-    requires entries { map held_entry held.items
+    requires { map held_entry held.items
         ≡ map (source_section at.symbols.now at.sections.now) at.sections.now }
     ensures { IfOk result (λ f. f.header ++ flat f.pieces.items
         ≡ image_with at.entry.symbols.now at.entry.sections.now (map relocations_in

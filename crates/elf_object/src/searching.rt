@@ -20,7 +20,7 @@ fn is_undefined_local(symbol: &Symbol) -> bool
 
 /// Where the first such symbol stands among them, or how many there are.
 fn undefined_index(symbols: &[Symbol]) -> usize
-    ensures index { result ≡ position_or_len spec.is_undefined_local symbols.now }
+    ensures value { result ≡ position_or_len spec.is_undefined_local symbols.now }
     ensures within { result ≤ length symbols.now }
 {
     for (index, symbol) in symbols.iter().enumerate() {

@@ -225,7 +225,7 @@ pub(crate) fn headers_of(alloc: Global, held: &[HeldSection]) -> Result<Headers,
     ensures indices { IfOk result (λ h. h.indices.items
         ≡ spec.header_indices (map relocations_in held.now)) }
     ensures next { IfOk result (λ h. h.next ≡ spec.next_header 1 (map relocations_in held.now)) }
-    ensures below { IfOk result (λ h. h.next ≤ 1 + 2 * length held.now) }
+    ensures within { IfOk result (λ h. h.next ≤ 1 + 2 * length held.now) }
 {
     let mut indices = Vec::with_capacity(alloc, held.len())?;
     let mut next = 1;
