@@ -36,13 +36,6 @@ stays_by told (first ∷ second ∷ others) total is = cc
 pub stays : (told : Name → Told) (made : Form) → cannot_cancel made.terms ≡ true → made ≡ settled told made
 stays told made some = stays_by told made.terms made.constant some
 
--- while there are labels left there are terms
-pub some_left : (told : Name → Told) (spots : List (Option Spot)) (at : ℕ) (terms : List Term) → map (spot_of told) terms ≡ drop at spots → at < length spots → 0 < length terms
-some_left told spots at [] left inside =
-    let front = drop-cons spots at None inside in
-    absurd cc
-some_left told spots at (term ∷ terms) left inside = omega arith
-
 both : (a b : Bool) → (a && b) ≡ true → (a ≡ true) × (b ≡ true)
 both true true is = (refl, refl)
 both true false is = cc
@@ -73,11 +66,6 @@ put_done told spots at [] made whole left all is = is
 put_done told spots at (term ∷ terms) made whole left all is =
     let none : drop at spots ≡ [] = nil_from_length (drop at spots) (omega (arith, length-drop at spots)) in
     absurd cc
-
-pub all_put : (told : Name → Told) (spots : List (Option Spot)) (start whole : Form) → spots ≡ map (spot_of told) whole.terms → start ≡ constant_form whole.constant
-    → put_all spots told start whole.terms ≡ settled told whole
-unfolding settled
-all_put told spots start whole is begins = rw (is, begins)
 
 put_more : (told : Name → Told) (spots : List (Option Spot)) (made : Form) (term : Term) (terms : List Term)
     → put_all spots told made (term ∷ terms) ≡ put_all spots told (put_one made term (cancelled_number spots (spot_of told term))) terms

@@ -1,9 +1,10 @@
 //! Labels that cancel: those of one stretch whose coefficients sum to 0.
 
 ghost use Rattle.std.specs.Prelude.{◌≡◌, ◌<◌, length, map, Ok, IfOk, IsTrue};
+ghost use Rattle.std.specs.List.{list_all};
 ghost use Rattle.asm_base.specs.Refusals.{Returns};
-ghost use Rattle.asm_expr.specs.Settled.{spot_of, counted_in, stretch_sum, cancelled_number, put_one, cannot_cancel, settled, constant_left};
-ghost use Rattle.asm_expr.specs.Forms.{wrapped, is_kept};
+ghost use Rattle.asm_expr.specs.Settled.{spot_of, counted_in, stretch_sum, cancelled_number, put_one, put_all, cannot_cancel, settled, constant_left};
+ghost use Rattle.asm_expr.specs.Forms.{wrapped, is_kept, constant_form};
 
 use crate::faults::ExprFault;
 use crate::forms::{Linear, Term, constant_form};
@@ -108,17 +109,17 @@ fn cannot_cancel(terms: &[Term]) -> bool
     }
 }
 
-/// The form where the labels of each stretch that cancel are replaced by their numbers.
-pub fn settled<K: Known>(alloc: Global, known: &K, form: Linear) -> Result<Linear, ExprFault>
-    ensures { Returns result (Ok (settled (K.told known.now) form)) }
+/// The form of the terms and the constant, where numbers stand for the labels that cancel.
+fn put_all<K: Known>(
+    alloc: Global,
+    known: &K,
+    mut terms: SmallVec<Term, 2>,
+    constant: u64,
+) -> Result<Linear, ExprFault>
+    requires { IsTrue (list_all is_kept terms.items) }
+    ensures { let told = K.told known.now in let spots = map (spot_of told) terms.items in
+        Returns result (Ok (put_all spots told (constant_form constant) terms.items)) }
 {
-    if cannot_cancel(form.terms.as_slice()) {
-        return Ok(form);
-    }
-    let Linear {
-        mut terms,
-        constant,
-    } = form;
     let spots = spots_of(alloc, known, terms.as_slice())?;
     let mut made = constant_form(alloc, constant);
     for spot in spots.as_slice() {
@@ -126,6 +127,18 @@ pub fn settled<K: Known>(alloc: Global, known: &K, form: Linear) -> Result<Linea
         made = put_one(made, term, cancelled_number(spots.as_slice(), *spot))?;
     }
     Ok(made)
+}
+
+/// The form where the labels of each stretch that cancel are replaced by their numbers.
+#[tactic(auto, unfolding(crate::specs::Settled::settled))]
+pub fn settled<K: Known>(alloc: Global, known: &K, form: Linear) -> Result<Linear, ExprFault>
+    ensures { Returns result (Ok (settled (K.told known.now) form)) }
+{
+    if cannot_cancel(form.terms.as_slice()) {
+        return Ok(form);
+    }
+    let Linear { terms, constant } = form;
+    put_all(alloc, known, terms, constant)
 }
 
 /// How often the labels of a stretch count in the terms.

@@ -3,7 +3,7 @@ use Rattle.std.proofs.Common.{◌≡◌, true, drop, map}
 use Rattle.std.specs.List.{list_all}
 use Rattle.asm_expr.specs.Forms.{is_kept}
 use Rattle.asm_expr.specs.Settled.{spot_of, put_all}
-use Rattle.asm_expr.proofs.settling.settled.Given as goal
+use Rattle.asm_expr.proofs.settling.put_all.Given as goal
 
 abbrev pub invariant-loop-spot : goal.invariant-loop-spot
 invariant-loop-spot g l = record {
