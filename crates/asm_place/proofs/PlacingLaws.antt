@@ -37,7 +37,7 @@ use Rattle.asm_place.specs.State.{Placed, with_table, with_notes, here, known_he
 use Rattle.asm_place.specs.DataItems.{data_of, is_cut, cut_notes}
 use Rattle.asm_place.specs.SectionWords.{SectionWords, needed, section_words}
 use Rattle.asm_place.specs.SectionChanges.{with_current, option_trees, numbered, entered_as, enter_words, place_section, entered_now, place_pushed, back_to, popped, entry_size_in, header_by}
-use Rattle.asm_place.specs.SymbolWords.{plain_of, kind_said, kind_of, place_said, place_type, sized, place_size, NamedTree, say_all, named_tree, name_rest}
+use Rattle.asm_place.specs.SymbolWords.{plain_of, kind_said, place_said, named_kind, place_type, sized, size_words, place_size, NamedTree, say_all, named_tree, name_rest}
 use Rattle.asm_place.specs.Assignments.{assign_words, place_set, place_assignment}
 use Rattle.asm_place.specs.Commons.{bss, with_space, with_common, is_said_local, place_space, place_comm, place_lcomm, space_size, space_words, define_space}
 use Rattle.asm_place.specs.Idents.{plain_item, items_in, comment_bytes, comment_header, place_ident, place_file, one_string, file_name}
@@ -167,16 +167,20 @@ said_steps pos attribute (token ∷ rest) placed =
 type_steps : (pos : Pos) (tokens : List SpelledToken) (placed : Placed) → Steps placed (place_type pos tokens placed)
 unfolding place_type
 type_steps pos tokens placed =
-    after (needed name_of (operands_of tokens)) (λ name. after (needed kind_of name.1)
-    (λ kind. after (no_more kind.1 kind.0) (λ said. after (change_named pos (kind_said said) (naming.Plain name.0) placed.table)
-    (λ table. dot_steps (begins_with_place tokens) placed (with_table placed table) (still placed)))))
+    after (named_kind (operands_of tokens)) (λ words. after (change_named pos (kind_said words.kind) words.name placed.table)
+    (λ table. dot_steps (begins_with_place tokens) placed (with_table placed table) (still placed)))
+
+size_words_steps : (pos : Pos) (words : NamedTree) (placed : Placed) → Steps placed (size_words pos words placed)
+unfolding size_words
+size_words_steps pos words placed =
+    after (form_in (known_here placed) words.tree) (λ form. after (symbol_of pos words.name placed.table)
+    (λ found. after (name_rest pos (here placed) words form (sized pos form found)) (λ table. made (with_table placed table) (still placed))))
 
 size_steps : (pos : Pos) (tokens : List SpelledToken) (placed : Placed) → Steps placed (place_size pos tokens placed)
 unfolding place_size
 size_steps pos tokens placed =
-    after (named_tree (operands_of tokens)) (λ words. after (form_in (known_here placed) words.tree)
-    (λ form. after (symbol_of pos words.name placed.table) (λ found. after (name_rest pos (here placed) words form (sized pos form found))
-    (λ table. dot_steps (begins_with_place tokens) placed (with_table placed table) (still placed)))))
+    after (named_tree (operands_of tokens)) (λ words. grown placed (size_words_steps pos words placed)
+    (λ sized. dot_steps (begins_with_place tokens) sized sized (still sized)))
 
 assign_steps : (pos : Pos) (once : Bool) (words : NamedTree) (placed : Placed) → Steps placed (assign_words pos once words placed)
 unfolding assign_words

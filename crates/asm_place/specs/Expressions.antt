@@ -68,9 +68,17 @@ up_to_three_trees most operands =
     first_tree operands >>= λ one. next_tree_if (nat_le 2 most) one.1 >>= λ two. next_tree_if (nat_le 3 most) two.1 >>= λ three.
     no_more three.1 (record { first = one.0; second = two.0; third = three.0 })
 
+-- their forms
+unfoldable pub up_to_three_forms : Knowledge → UpToThree Tree → Result (UpToThree Form) PlaceCause
+up_to_three_forms known trees = each_up_to_three (form_in known) trees
+
+-- the values of forms, each of which has to be known
+unfoldable pub up_to_three_constants : UpToThree Form → Result (UpToThree ℕ) PlaceCause
+up_to_three_constants forms = each_up_to_three constant_in forms
+
 -- their values: first the forms of all are made, and then each value has to be known
 unfoldable pub up_to_three_values : Knowledge → UpToThree Tree → Result (UpToThree ℕ) PlaceCause
-up_to_three_values known trees = each_up_to_three (form_in known) trees >>= each_up_to_three constant_in
+up_to_three_values known trees = up_to_three_forms known trees >>= up_to_three_constants
 
 -- the expressions of a directive, and their values
 pub record KnownOperands : Type 0 where

@@ -17,6 +17,7 @@ use Rattle.asm_symbols.specs.declared.entries.Kind.TheVariants.{NoType, Object, 
 use Rattle.asm_symbols.specs.declared.faults.SymCause.{SymCause}
 use Rattle.asm_symbols.specs.SymbolMap.{SymbolMap, with_symbol}
 use Rattle.asm_symbols.specs.Attributes.{bound, with_kind, with_next_size, with_visibility}
+use Rattle.asm_place.specs.declared.symbol_words.NamedKind.{NamedKind}
 use Rattle.asm_place.specs.declared.directives.SymbolAttribute.{SymbolAttribute}
 use Rattle.asm_place.specs.declared.directives.SymbolAttribute.TheVariants.{Bind, See}
 use Rattle.asm_base.specs.Refusals.{◌>>=◌}
@@ -71,11 +72,16 @@ kind_of _ = Err BadOperand
 abbrev pub kind_said : Kind → SymbolMap → ℕ → Result SymbolMap SymCause
 kind_said kind map index = Ok (with_symbol (with_kind kind) map index)
 
+-- the operands of `.type`: a name and a kind
+unfoldable pub named_kind : List (List SpelledToken) → Result NamedKind PlaceCause
+named_kind operands =
+    needed name_of operands >>= λ name. needed kind_of name.1 >>= λ kind.
+    no_more kind.1 (record { name = naming.Plain name.0; kind = kind.0 })
+
 -- `.type`
 unfoldable pub place_type : Pos → List SpelledToken → Placed → Result Placed PlaceCause
 place_type pos tokens placed =
-    needed name_of (operands_of tokens) >>= λ name. needed kind_of name.1 >>= λ kind. no_more kind.1 kind.0 >>= λ made.
-    change_named pos (kind_said made) (naming.Plain name.0) placed.table >>= λ table.
+    named_kind (operands_of tokens) >>= λ words. change_named pos (kind_said words.kind) words.name placed.table >>= λ table.
     unless_dot (begins_with_place tokens) (with_table placed table)
 
 -- a name and an expression
@@ -100,9 +106,13 @@ name_rest pos spot words form table = name_part pos spot (uses_dot spot form) wo
 abbrev pub sized : Pos → Form → Table × ℕ → Table
 sized pos form found = record (with_map found.0 (with_next_size form found.0.symbols found.1)) { sized = insert_entry nat_eq found.0.sized found.1 pos }
 
+-- the expression is the size of the symbol of the name
+unfoldable pub size_words : Pos → NamedTree → Placed → Result Placed PlaceCause
+size_words pos words placed =
+    form_in (known_here placed) words.tree >>= λ form. symbol_of pos words.name placed.table >>= λ found.
+    name_rest pos (here placed) words form (sized pos form found) >>= λ table. Ok (with_table placed table)
+
 -- `.size`
 unfoldable pub place_size : Pos → List SpelledToken → Placed → Result Placed PlaceCause
 place_size pos tokens placed =
-    named_tree (operands_of tokens) >>= λ words. form_in (known_here placed) words.tree >>= λ form.
-    symbol_of pos words.name placed.table >>= λ found. name_rest pos (here placed) words form (sized pos form found) >>= λ table.
-    unless_dot (begins_with_place tokens) (with_table placed table)
+    named_tree (operands_of tokens) >>= λ words. size_words pos words placed >>= unless_dot (begins_with_place tokens)

@@ -1,7 +1,6 @@
 //! Texts for `.comment`, and names of source files (GNU as manual, ".ident", ".file").
 
-ghost use Rattle.std.specs.Prelude.{◌≡◌, ◌==◌, map, IfOk};
-ghost use Rattle.std.specs.List.{list_any};
+ghost use Rattle.std.specs.Prelude.{◌≡◌, map, IfOk};
 ghost use Rattle.asm_base.specs.Tokens.{spelled};
 ghost use Rattle.asm_base.specs.Refusals.{GivesBy};
 ghost use Rattle.asm_place.specs.Idents as spec;
@@ -55,18 +54,11 @@ fn comment_bytes(alloc: Global, items: usize, text: &[u8]) -> Result<Vec<u8>, Al
     Ok(bytes)
 }
 
-/// Whether a byte 0 is among them.
-fn has_zero(bytes: &[u8]) -> bool
-    ensures { result ≡ list_any (λ byte. byte == 0) bytes.now }
-{
-    bytes.iter().any(|byte| *byte == 0)
-}
-
 /// The name, if a string table can hold it.
 fn file_name(name: Vec<u8>) -> Result<Vec<u8>, PlaceFault>
     ensures { GivesBy (λ name. name.items) result (spec.file_name name.items) }
 {
-    if has_zero(&name) {
+    if name.contains(&0) {
         Err(PlaceFault::Fault(PlaceCause::BadOperand))
     } else {
         Ok(name)

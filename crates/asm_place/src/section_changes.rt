@@ -192,15 +192,10 @@ pub(crate) fn enter(
 }
 
 /// The expressions of an operand that may be missing.
-fn option_exprs(alloc: Global, expr: Option<Expr>) -> Result<Vec<Expr>, PlaceFault>
-    ensures { GivesBy (λ list. map tree_of list.items) result
-        (Ok (spec.option_trees (option_map tree_of expr))) }
+fn option_exprs(expr: &Option<Expr>) -> &[Expr]
+    ensures { map tree_of result.now ≡ spec.option_trees (option_map tree_of expr.now) }
 {
-    let mut list = Vec::new(alloc);
-    if let Some(expr) = expr {
-        list.push(expr)?;
-    }
-    Ok(list)
+    expr.as_slice()
 }
 
 impl Assembler {
@@ -229,8 +224,8 @@ impl Assembler {
         let size = entry_size_in(self.alloc, self.view(), &words.entry_size)?;
         let header = header_of(&self.sections, &words, size)?;
         let number = enter(self.alloc, &mut self.sections, &words.name, header)?;
-        let exprs = option_exprs(self.alloc, words.entry_size)?;
-        self.table.name_trees(self.alloc, pos, &exprs)?;
+        let exprs = option_exprs(&words.entry_size);
+        self.table.name_trees(self.alloc, pos, exprs)?;
         self.set_current(number);
         Ok(())
     }

@@ -63,6 +63,50 @@ fn header(flags: u64, kind: u32) -> DefaultHeader
     DefaultHeader { flags, kind }
 }
 
+/// The flags and the type of a section of notes, or of one whose name says nothing.
+#[tactic(auto, unfolding(crate::specs::SectionDefaults::note_header))]
+fn note_header(name: &[u8]) -> DefaultHeader
+    ensures { result ≡ spec.note_header name.now }
+{
+    if name == b".note.GNU-stack".as_slice() {
+        header(0, SHT_PROGBITS)
+    } else if name.starts_with(b".note") {
+        header(0, SHT_NOTE)
+    } else {
+        header(0, SHT_PROGBITS)
+    }
+}
+
+/// The flags and the type of a section of addresses of functions, or of one of the names before.
+#[tactic(auto, unfolding(crate::specs::SectionDefaults::array_header))]
+fn array_header(name: &[u8]) -> DefaultHeader
+    ensures { result ≡ spec.array_header name.now }
+{
+    if is_under(b".init_array", name) {
+        header(DATA, SHT_INIT_ARRAY)
+    } else if is_under(b".fini_array", name) {
+        header(DATA, SHT_FINI_ARRAY)
+    } else if is_under(b".preinit_array", name) {
+        header(DATA, SHT_PREINIT_ARRAY)
+    } else {
+        note_header(name)
+    }
+}
+
+/// The flags and the type of a section of data of each thread, or of one of the names before.
+#[tactic(auto, unfolding(crate::specs::SectionDefaults::thread_header))]
+fn thread_header(name: &[u8]) -> DefaultHeader
+    ensures { result ≡ spec.thread_header name.now }
+{
+    if is_under(b".tdata", name) {
+        header(THREAD_DATA, SHT_PROGBITS)
+    } else if is_under(b".tbss", name) {
+        header(THREAD_DATA, SHT_NOBITS)
+    } else {
+        array_header(name)
+    }
+}
+
 /// The flags and the type of a section of this name.
 #[tactic(auto, unfolding(crate::specs::SectionDefaults::default_header))]
 pub(crate) fn default_header(name: &[u8]) -> DefaultHeader
@@ -76,21 +120,7 @@ pub(crate) fn default_header(name: &[u8]) -> DefaultHeader
         header(DATA, SHT_NOBITS)
     } else if is_constant(name) {
         header(CONSTANT, SHT_PROGBITS)
-    } else if is_under(b".tdata", name) {
-        header(THREAD_DATA, SHT_PROGBITS)
-    } else if is_under(b".tbss", name) {
-        header(THREAD_DATA, SHT_NOBITS)
-    } else if is_under(b".init_array", name) {
-        header(DATA, SHT_INIT_ARRAY)
-    } else if is_under(b".fini_array", name) {
-        header(DATA, SHT_FINI_ARRAY)
-    } else if is_under(b".preinit_array", name) {
-        header(DATA, SHT_PREINIT_ARRAY)
-    } else if name == b".note.GNU-stack".as_slice() {
-        header(0, SHT_PROGBITS)
-    } else if name.starts_with(b".note") {
-        header(0, SHT_NOTE)
     } else {
-        header(0, SHT_PROGBITS)
+        thread_header(name)
     }
 }

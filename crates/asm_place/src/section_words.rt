@@ -198,7 +198,7 @@ fn expression_if(
 fn has_letter(letter: u8, letters: &[u8]) -> bool
     ensures { result ≡ spec.has_letter letter letters.now }
 {
-    letters.iter().any(|byte| *byte == letter)
+    letters.contains(&letter)
 }
 
 /// Whether the letters say that the section may be merged.

@@ -3,7 +3,7 @@
 ghost use Rattle.std.specs.Prelude.{◌≡◌, map, Ok};
 ghost use Rattle.asm_base.specs.Tokens.{spelled};
 ghost use Rattle.asm_expr.specs.Trees.{tree_of};
-ghost use Rattle.asm_base.specs.Refusals.{GivesBy};
+ghost use Rattle.asm_base.specs.Refusals.{GivesBy, Returns};
 ghost use Rattle.asm_place.specs.OperandParts.{operands_left, Takes};
 ghost use Rattle.asm_place.specs.Operands.{name_of, each};
 ghost use Rattle.asm_place.specs.SectionWords.{needed};
@@ -86,6 +86,29 @@ fn needed_kind(operands: &mut Operands) -> Result<Kind, PlaceFault>
     }
 }
 
+/// A name and a kind.
+#[derive(Drop)]
+struct NamedKind {
+    name: Name,
+    kind: Kind,
+}
+
+/// Operands that have to be a name and a kind.
+#[tactic(auto, unfolding(crate::specs::SymbolWords::named_kind))]
+fn named_kind(alloc: Global, operands: &mut Operands) -> Result<NamedKind, PlaceFault>
+    ensures { Returns result (spec.named_kind (operands_left operands.old)) }
+{
+    let name = needed_name(alloc, operands)?;
+    let kind = needed_kind(operands)?;
+    no_more(
+        operands,
+        NamedKind {
+            name: Name::Plain(Text::new(name)),
+            kind,
+        },
+    )
+}
+
 /// A name and an expression.
 #[derive(Drop)]
 pub(crate) struct NamedExpr {
@@ -159,7 +182,8 @@ impl Assembler {
     ghost use Rattle.std.specs.Prelude.{◌≡◌, map};
     ghost use Rattle.asm_base.specs.Tokens.{spelled};
     ghost use Rattle.asm_base.specs.Refusals.{Gives};
-    ghost use Rattle.asm_place.specs.SymbolWords.{place_said, place_type, place_size};
+    ghost use Rattle.asm_place.specs.SymbolWords.{place_said, place_type, size_words, place_size};
+    ghost use Rattle.asm_place.specs.NamedTrees.{named_tree_in};
     ghost use Rattle.asm_place.specs.PlacedBy.{placed_by, PlacesBy};
 
     /// `.globl` and the others, with a name at least.
@@ -189,13 +213,26 @@ impl Assembler {
             self.old self.new result }
         ensures kept { self.new.notes ≡ self.old.notes }
     {
-        let mut operands = Operands::new(tokens);
-        let name = needed_name(self.alloc, &mut operands)?;
-        let kind = needed_kind(&mut operands)?;
-        let kind = no_more(&mut operands, kind)?;
-        let id = self.table.symbol_of(pos, &Name::Plain(Text::new(name)))?;
-        self.table.set_kind(id, kind)?;
+        let words = named_kind(self.alloc, &mut Operands::new(tokens))?;
+        let id = self.table.symbol_of(pos, &words.name)?;
+        self.table.set_kind(id, words.kind)?;
         self.unless_dot(begins_with_place(tokens))
+    }
+
+    /// The expression is the size of the symbol of the name.
+    #[tactic(auto, unfolding(crate::specs::SymbolWords::size_words))]
+    fn size_words(&mut self, pos: Pos, words: &NamedExpr) -> Result<(), PlaceFault>
+        ensures placed { PlacesBy (size_words pos (named_tree_in words.now))
+            self.old self.new result }
+        ensures kept { self.new.notes ≡ self.old.notes }
+    {
+        let form = form_in(self.alloc, self.view(), &words.expr)?;
+        let spot = self.here();
+        let keeps = uses_dot(spot, &form);
+        let id = self.table.symbol_of(pos, &words.name)?;
+        self.table.set_size(pos, id, form)?;
+        self.table
+            .name_part(self.alloc, pos, spot, keeps, &words.expr)
     }
 
     /// `.size`
@@ -206,13 +243,7 @@ impl Assembler {
         ensures kept { self.new.notes ≡ self.old.notes }
     {
         let words = named_tree(self.alloc, &mut Operands::new(tokens))?;
-        let form = form_in(self.alloc, self.view(), &words.expr)?;
-        let spot = self.here();
-        let keeps = uses_dot(spot, &form);
-        let id = self.table.symbol_of(pos, &words.name)?;
-        self.table.set_size(pos, id, form)?;
-        self.table
-            .name_part(self.alloc, pos, spot, keeps, &words.expr)?;
+        self.size_words(pos, &words)?;
         self.unless_dot(begins_with_place(tokens))
     }
 }

@@ -3,11 +3,11 @@
 ghost use Rattle.std.specs.Prelude.{◌≡◌, map, option_map, nat_le, IfOk, Ok};
 ghost use Rattle.asm_base.specs.Tokens.{spelled};
 ghost use Rattle.asm_expr.specs.Trees.{tree_of};
-ghost use Rattle.asm_base.specs.Refusals.{GivesBy};
+ghost use Rattle.asm_base.specs.Refusals.{GivesBy, Returns};
 ghost use Rattle.asm_place.specs.Results.{if_some};
 ghost use Rattle.asm_place.specs.OperandParts.{operands_left, Takes};
 ghost use Rattle.asm_place.specs.KnownIn.{known_in};
-ghost use Rattle.asm_place.specs.Expressions.{form_in, constant_in, each_up_to_three, first_tree, next_tree, next_tree_if, no_more, up_to_three_trees, up_to_three_values, known_operands};
+ghost use Rattle.asm_place.specs.Expressions.{form_in, constant_in, first_tree, next_tree, next_tree_if, no_more, up_to_three_trees, up_to_three_forms, up_to_three_constants, up_to_three_values, known_operands};
 ghost use Rattle.asm_place.specs.UpToThreeTrees.{trees_in, trees_listed, known_operands_in};
 
 use crate::expressions::{constant_in, expression_of, form_in};
@@ -126,6 +126,40 @@ pub(crate) fn constant_if(form: &Option<Linear>) -> Result<Option<u64>, PlaceFau
     }
 }
 
+/// The forms of expressions.
+#[tactic(auto, unfolding(crate::specs::Expressions::up_to_three_forms))]
+fn up_to_three_forms(
+    alloc: Global,
+    view: View,
+    exprs: &UpToThree<Expr>,
+) -> Result<UpToThree<Linear>, PlaceFault>
+    ensures { Returns result (up_to_three_forms (known_in view.entry) (trees_in exprs.now)) }
+{
+    let first = form_in(alloc, view, &exprs.first)?;
+    let second = form_if(alloc, view, &exprs.second)?;
+    let third = form_if(alloc, view, &exprs.third)?;
+    Ok(UpToThree {
+        first,
+        second,
+        third,
+    })
+}
+
+/// The values of forms, each of which has to be known.
+#[tactic(auto, unfolding(crate::specs::Expressions::up_to_three_constants))]
+fn up_to_three_constants(forms: &UpToThree<Linear>) -> Result<UpToThree<u64>, PlaceFault>
+    ensures { Returns result (up_to_three_constants forms.now) }
+{
+    let first = constant_in(&forms.first)?;
+    let second = constant_if(&forms.second)?;
+    let third = constant_if(&forms.third)?;
+    Ok(UpToThree {
+        first,
+        second,
+        third,
+    })
+}
+
 /// The values of expressions: first the forms of all are made, and then each value has to be known.
 #[tactic(auto, unfolding(crate::specs::Expressions::up_to_three_values))]
 fn up_to_three_values(
@@ -133,17 +167,10 @@ fn up_to_three_values(
     view: View,
     exprs: &UpToThree<Expr>,
 ) -> Result<UpToThree<u64>, PlaceFault>
-    ensures { GivesBy (λ values. values) result
-        (up_to_three_values (known_in view.entry) (trees_in exprs.now)) }
+    ensures { Returns result (up_to_three_values (known_in view.entry) (trees_in exprs.now)) }
 {
-    let first = form_in(alloc, view, &exprs.first)?;
-    let second = form_if(alloc, view, &exprs.second)?;
-    let third = form_if(alloc, view, &exprs.third)?;
-    Ok(UpToThree {
-        first: constant_in(&first)?,
-        second: constant_if(&second)?,
-        third: constant_if(&third)?,
-    })
+    let forms = up_to_three_forms(alloc, view, exprs)?;
+    up_to_three_constants(&forms)
 }
 
 /// The expressions in a list.
