@@ -1,9 +1,10 @@
 -- The fields of a symbol map stay sound where a symbol is defined.
-use Rattle.std.proofs.Common.{◌≡◌, ℕ, zero, suc, ◌+◌, ◌==◌, Bool, true, false, cond, ◌||◌, List, [], ◌∷◌, nat_eq, Some, refl, sym, ◌∙◌, ◌<◌, length, get_or, set, Ok, slice_get}
+use Rattle.std.proofs.Common.{◌≡◌, ℕ, zero, suc, ◌+◌, ◌==◌, Bool, true, false, cond, ◌||◌, List, [], ◌∷◌, nat_eq, Some, refl, sym, ◌∙◌, ◌<◌, length, get_or, set, Result, Ok, Err, ap, slice_get}
 use Rattle.std.proofs.lemmas.Bool.{eqb-true}
 use Rattle.std.proofs.lemmas.Option.{slice_get_read, same_Some}
 use Rattle.std.specs.List.{list_any}
 use Rattle.indexmap.specs.IndexMap.{insert_entry}
+use Rattle.std.specs.Result.{MatchResult}
 use Rattle.asm_expr.specs.declared.naming.Name.{Name}
 use Rattle.asm_expr.specs.declared.naming.Name.TheVariants as naming
 use Rattle.asm_symbols.specs.declared.entries.Symbol.{Symbol}
@@ -60,6 +61,15 @@ module _ (symbols : List Symbol) (at : ℕ) (old : Symbol) (there : slice_get sy
 -- what is read twice at one place is one
 same_read : (symbols : List Symbol) (at : ℕ) (a b : Symbol) → at < length symbols → a ≡ get_or symbols at a → b ≡ get_or symbols at b → a ≡ b
 same_read symbols at a b there one other = same_Some a b (sym (slice_get_read symbols (length symbols) at a refl there one) ∙ slice_get_read symbols (length symbols) at b refl there other)
+
+-- a value, where only faults are mapped
+abbrev passed : {T : Type 0} (D : Type 0) → T → Result T D
+passed D value = Ok value
+
+-- a value that is there after faults were mapped was there before
+pub there_before : {T E : Type 0} (D : Type 0) (before : Result T E) (value : T) → MatchResult before (λ there. passed D value ≡ Ok there) (λ _. ⊥) → before ≡ Ok value
+there_before D (Ok there) value same = let is : value ≡ there = cc in ap Ok (sym is)
+there_before D (Err fault) value same = absurd same
 
 -- only what is no label is defined, as the definition says
 redefined_then : (meaning : Meaning) (what : Definition) (made : Meaning) → redefined meaning what ≡ Ok made → (made ≡ meant what) × (means_label meaning ≡ false)
