@@ -7,10 +7,10 @@ ghost use Rattle.asm_relax.specs.Final.{final_told};
 ghost use Rattle.elf_object.specs.Relocations as spec;
 
 use crate::relocations::{Relocation, Target, kind_for};
-use crate::symbol_values::{Placement, binding_of, is_local, is_merged};
+use crate::symbol_values::{Placement, binding_of, has_flag, is_local};
 use asm_base::NoMemory;
 use asm_expr::{Known, Linear, Look, Name, Term, copied_form, settled};
-use asm_frags::Field;
+use asm_frags::{Field, SectionFlags};
 use asm_relax::{FinalView, address_of};
 use asm_symbols::{Meaning, Spot, Symbol};
 use std::alloc::{AllocError, Global};
@@ -36,7 +36,7 @@ fn label_reference(at: Placement, index: usize, local: bool, spot: Spot) -> Opti
 {
     match at.sections.as_slice().get(spot.section as usize) {
         Some(section) => {
-            if local && !is_merged(section) {
+            if local && !has_flag(section, SectionFlags::MERGE) {
                 Some(SymbolReference {
                     target: Target::OfSection(spot.section as usize),
                     addend: address_of(at.sections, spot.section, spot.item),

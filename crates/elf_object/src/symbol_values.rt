@@ -151,18 +151,11 @@ pub(crate) fn is_local(binding: Binding) -> bool
     matches!(binding, Binding::Local)
 }
 
-/// Whether the linker may move what stands in the section.
-pub(crate) fn is_merged(section: &Section<Laid>) -> bool
-    ensures { result ≡ spec.has_flag 0x10 section.now }
+/// Whether the section has the flag.
+pub(crate) fn has_flag(section: &Section<Laid>, flag: SectionFlags) -> bool
+    ensures { result ≡ spec.has_flag flag.0 section.now }
 {
-    section.flags().contains(SectionFlags::MERGE)
-}
-
-/// Whether each thread has the section for itself.
-fn is_thread_local_section(section: &Section<Laid>) -> bool
-    ensures { result ≡ spec.has_flag 0x400 section.now }
-{
-    section.flags().contains(SectionFlags::TLS)
+    section.flags().contains(flag)
 }
 
 /// Whether a symbol that stands there is each thread's own.
@@ -171,7 +164,7 @@ pub(crate) fn is_thread_local(sections: &Sections<Laid>, section: SymbolSection)
 {
     match section {
         SymbolSection::InSection(number) => match sections.as_slice().get(number as usize) {
-            Some(section) => is_thread_local_section(section),
+            Some(section) => has_flag(section, SectionFlags::TLS),
             None => false,
         },
         _ => false,
