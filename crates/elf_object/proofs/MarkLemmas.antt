@@ -1,10 +1,14 @@
 -- Marks, one for each number.
-use Rattle.std.proofs.Common.{◌≡◌, ℕ, zero, suc, ◌+◌, ◌<◌, ◌≤◌, ◌||◌, Bool, true, false, List, [], ◌∷◌, length, drop, refl, sym, ap, ◌∙◌, arith}
+use Rattle.std.proofs.Common.{◌≡◌, ℕ, zero, suc, ◌+◌, ◌<◌, ◌≤◌, ◌||◌, Bool, true, false, List, [], ◌∷◌, length, get_or, drop, map, refl, sym, ap, ◌∙◌, arith}
 use Rattle.std.proofs.lemmas.List.{at_drop_all}
+use Rattle.elf_object.specs.declared.contents.HeldSection.{HeldSection}
 use Rattle.elf_object.specs.declared.relocations.Relocation.{Relocation}
+use Rattle.elf_object.specs.declared.relocations.Target.{Target}
 use Rattle.elf_object.specs.declared.relocations.Target.TheVariants.{OfSymbol}
-use Rattle.elf_object.specs.Naming.{is_named, marks_from, NamedOf, named_of}
+use Rattle.elf_object.specs.Naming.{is_named, is_named_by, marks_from, NamedOf, named_of}
 use Rattle.elf_object.specs.Marking.{mark_at}
+use Rattle.elf_object.specs.Views.{relocations_in}
+use Rattle.elf_object.proofs.LoopSteps.{next_is}
 
 or_false : (b : Bool) → (b || false) ≡ b
 or_false true = refl
@@ -13,6 +17,10 @@ or_false false = refl
 pub length-marks : (is_so : ℕ → Bool) (from count : ℕ) → length (marks_from is_so from count) ≡ count
 length-marks is_so from zero = refl
 length-marks is_so from (suc count) = ap suc (length-marks is_so (from + 1) count)
+
+or_assoc : (a b c : Bool) → ((a || b) || c) ≡ (a || (b || c))
+or_assoc true b c = refl
+or_assoc false b c = refl
 
 both_same : (a b : Bool) (more others : List Bool) → a ≡ b → more ≡ others → a ∷ more ≡ b ∷ others
 both_same a b more others e es = rw (e, es) refl
@@ -43,3 +51,12 @@ named_are named sections symbols first second = rw (← first, ← second) refl
 pub named_long : (named : NamedOf) (found : List (List Relocation)) (count : ℕ) → named ≡ named_of found count → length named.symbols ≡ count
 unfolding named_of
 named_long named found count is = ap (λ (n : NamedOf). length n.symbols) is ∙ length-marks (λ i. is_named found (OfSymbol i)) 0 count
+
+-- the marks of one more section are set
+pub mark_step : (held : List HeldSection) (i : ℕ) (section : HeldSection) (found : List Relocation) (target : Target) (before after whole : Bool) → i < length held
+    → section ≡ get_or held i section → found ≡ section.relocations.items → after ≡ (before || is_named_by target found)
+    → (before || is_named (map relocations_in (drop i held)) target) ≡ whole → (after || is_named (map relocations_in (drop (i + 1) held)) target) ≡ whole
+mark_step held i section found target before after whole inside is own put so_far =
+    let rest = is_named (map relocations_in (drop (i + 1) held)) target in
+    ap (λ b. b || rest) (put ∙ ap (λ rs. before || is_named_by target rs) own) ∙ or_assoc before (is_named_by target section.relocations.items) rest
+    ∙ ap (λ b. before || b) (sym (next_is (λ (hs : List HeldSection). is_named (map relocations_in hs) target) held i section inside is)) ∙ so_far

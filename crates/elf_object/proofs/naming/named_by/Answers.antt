@@ -1,12 +1,28 @@
--- At the end nothing is left to mark.
+-- The marks of one more section, and at the end nothing is left to mark.
 use Rattle.std.proofs.Common.{◌≡◌, ◌<◌, List, length, map, refl, sym, subst, ◌∙◌}
 use Rattle.std.proofs.lemmas.List.{length-map}
 use Rattle.elf_object.specs.declared.contents.HeldSection.{HeldSection}
 use Rattle.elf_object.specs.declared.relocations.Target.TheVariants.{OfSection, OfSymbol}
+use Rattle.elf_object.specs.Marking.{mark_at}
 use Rattle.elf_object.specs.Naming.{is_named, named_of}
 use Rattle.elf_object.specs.Views.{relocations_in, named_view}
-use Rattle.elf_object.proofs.MarkLemmas.{all_marked, named_are}
+use Rattle.elf_object.proofs.MarkLemmas.{all_marked, mark_step, named_are}
 use Rattle.elf_object.proofs.naming.named_by.Goals as goal
+
+pub loop-section-preserved : goal.loop-section-preserved
+loop-section-preserved c =
+    let marks = c.loop-section.named in
+    let new = c.mark_all.new.named in
+    let found = c.deref.result.now in
+    let step = mark_step c.args.held.now c.loop-section.section-index c.section-item.result found in
+    record {
+      all_sections = c.mark_all.ensures.same_sections ∙ c.loop-section.invariant.all_sections;
+      all_symbols = c.mark_all.ensures.same_symbols ∙ c.loop-section.invariant.all_symbols;
+      sections = λ n low. step (OfSection n) (mark_at marks.sections.items n) (mark_at new.sections.items n) _ c.loop-section-test.true c.section-item.is c.deref.ensures.value
+          (c.mark_all.ensures.sections n (subst (λ m. n < m) (sym c.loop-section.invariant.all_sections) low)) (c.loop-section.invariant.sections n low);
+      symbols = λ i low. step (OfSymbol i) (mark_at marks.symbols.items i) (mark_at new.symbols.items i) _ c.loop-section-test.true c.section-item.is c.deref.ensures.value
+          (c.mark_all.ensures.symbols i (subst (λ m. i < m) (sym c.loop-section.invariant.all_symbols) low)) (c.loop-section.invariant.symbols i low);
+    }
 
 pub returns : goal.returns
 unfolding named_of
