@@ -1,16 +1,14 @@
 //! What the statements so far have placed, and the two steps of all: an item more, and a warning more.
 
 ghost use Rattle.std.specs.Prelude.{◌≡◌, ◌++◌, OnOk};
-ghost use Rattle.asm_frags.specs.Answers.{Changes};
 ghost use Rattle.asm_place.specs.DataItems.{cut_notes};
-ghost use Rattle.asm_frags.specs.Sections.{pushed};
 
 use crate::place_faults::{PlaceCause, PlaceFault};
 use crate::places::{View, spot_at};
 use crate::stacks::Entered;
 use crate::tables::SymbolUses;
 use asm_base::{Note, Noted, Notes, Pos};
-use asm_frags::{Content, Frag, FragCause, FragFault, Loose, Sections};
+use asm_frags::{Content, Frag, FragFault, Sections};
 use asm_symbols::Spot;
 use std::alloc::{AllocError, Global};
 
@@ -37,17 +35,6 @@ pub struct Placed {
     pub sections: Sections,
     pub table: SymbolUses,
     pub notes: Notes,
-}
-
-/// Puts the item last in the section of this number. `BadSection` comes where there is none, too.
-fn push(sections: &mut Sections, number: u32, item: Frag<Loose>) -> Result<(), FragFault>
-    ensures { Changes sections.old sections.new result (pushed sections.old number item) }
-{
-    if (number as usize) < sections.len() {
-        sections.push(number, item)
-    } else {
-        Err(FragFault::Fault(FragCause::BadSection))
-    }
 }
 
 /// Adds the note of a value that is cut so many times.
@@ -137,7 +124,7 @@ impl Assembler {
         }
     }
 
-    /// Puts an item last in the section of this number.
+    /// Puts an item last in the section of this number. `BadSection` comes where there is none, too.
     #[tactic(auto, unfolding(crate::specs::State::push_into))]
     pub(crate) fn push_into(
         &mut self,
@@ -148,7 +135,13 @@ impl Assembler {
         ensures placed { PlacesBy (push_into pos number content) self.old self.new result }
         ensures kept { self.new.notes ≡ self.old.notes }
     {
-        push(&mut self.sections, number, Frag::new(pos, content)).map_err(FragFault::raise)
+        if (number as usize) < self.sections.len() {
+            self.sections
+                .push(number, Frag::new(pos, content))
+                .map_err(FragFault::raise)
+        } else {
+            Err(PlaceFault::Fault(PlaceCause::BadSection))
+        }
     }
 
     /// Puts an item last in the current section.

@@ -81,7 +81,7 @@ impl Assembler {
     ghost use Rattle.asm_base.specs.Tokens.{spelled};
     ghost use Rattle.asm_base.specs.Refusals.{Gives};
     ghost use Rattle.asm_place.specs.Answers.{KeepsNotes};
-    ghost use Rattle.asm_place.specs.SectionChanges.{with_current, popped};
+    ghost use Rattle.asm_place.specs.SectionChanges.{with_current};
     ghost use Rattle.asm_place.specs.State.{push_item};
     ghost use Rattle.asm_place.specs.Idents.{plain_item};
     ghost use Rattle.asm_place.specs.Rows.{bytes_of};
@@ -100,18 +100,6 @@ impl Assembler {
         }
         self.set_current(number);
         Ok(())
-    }
-
-    /// `.popsection`
-    fn place_popped(&mut self, tokens: &[Token]) -> Result<(), PlaceFault>
-        ensures placed { PlacesBy (λ placed. bare (map spelled tokens.now) (popped placed))
-            self.old self.new result }
-        ensures kept { self.new.notes ≡ self.old.notes }
-    {
-        if !tokens.is_empty() {
-            return Err(PlaceFault::Fault(PlaceCause::BadOperand));
-        }
-        self.pop_section()
     }
 
     /// A directive, by what it is.

@@ -161,18 +161,6 @@ fn header_of(
     })
 }
 
-/// The number of the section of this name, which is short, and header.
-fn enter_short(sections: &mut Sections, name: Text, header: Header) -> Result<u32, PlaceFault>
-    requires { length name ≤ 2 ^ 16 }
-    ensures { GivesBy (λ number. (sections.new, number)) result
-        (spec.entered_short sections.old name header) }
-{
-    let flags = SectionFlags::from_bits_retain(header.flags);
-    sections
-        .enter(name, flags, header.kind, header.entry_size)
-        .map_err(FragFault::raise)
-}
-
 /// The number of the section of this name and header, which is made if it is not there.
 #[tactic(auto, unfolding(crate::specs::SectionChanges::entered_as))]
 pub(crate) fn enter(
@@ -188,7 +176,10 @@ pub(crate) fn enter(
         return Err(PlaceFault::Fault(PlaceCause::BadSection));
     }
     let text = Text::new(Vec::from_slice(alloc, name)?);
-    enter_short(sections, text, header)
+    let flags = SectionFlags::from_bits_retain(header.flags);
+    sections
+        .enter(text, flags, header.kind, header.entry_size)
+        .map_err(FragFault::raise)
 }
 
 /// The expressions of an operand that may be missing.
@@ -203,6 +194,7 @@ impl Assembler {
     ghost use Rattle.asm_base.specs.Tokens.{spelled};
     ghost use Rattle.asm_base.specs.Refusals.{Gives};
     ghost use Rattle.asm_place.specs.SaidWords.{words_in};
+    ghost use Rattle.asm_place.specs.Placing.{bare};
     ghost use Rattle.asm_place.specs.SectionChanges.{with_current, enter_words, place_section, place_pushed, popped};
     ghost use Rattle.asm_place.specs.PlacedBy.{placed_by, PlacesBy};
 
@@ -259,10 +251,14 @@ impl Assembler {
 
     /// `.popsection`
     #[tactic(auto, unfolding(crate::specs::SectionChanges::popped))]
-    pub(crate) fn pop_section(&mut self) -> Result<(), PlaceFault>
-        ensures placed { PlacesBy popped self.old self.new result }
+    pub(crate) fn place_popped(&mut self, tokens: &[Token]) -> Result<(), PlaceFault>
+        ensures placed { PlacesBy (λ placed. bare (map spelled tokens.now) (popped placed))
+            self.old self.new result }
         ensures kept { self.new.notes ≡ self.old.notes }
     {
+        if !tokens.is_empty() {
+            return Err(PlaceFault::Fault(PlaceCause::BadOperand));
+        }
         match self.stack.pop() {
             Some(entered) => {
                 self.current = entered.current;

@@ -194,19 +194,12 @@ fn expression_if(
     }
 }
 
-/// Whether the letters have this one.
-fn has_letter(letter: u8, letters: &[u8]) -> bool
-    ensures { result ≡ spec.has_letter letter letters.now }
-{
-    letters.contains(&letter)
-}
-
 /// Whether the letters say that the section may be merged.
 pub(crate) fn says_merge(letters: &Option<Vec<u8>>) -> bool
     ensures { result ≡ spec.says_merge (option_map (λ letters. letters.items) letters.now) }
 {
     match letters {
-        Some(letters) => has_letter(b'M', letters),
+        Some(letters) => letters.contains(&b'M'),
         None => false,
     }
 }
@@ -246,7 +239,7 @@ fn flag_if(letter: u8, flag: u64, letters: &[u8]) -> u64
     ensures value { result ≡ spec.flag_if letter flag letters.now }
     ensures within { result ≤ flag }
 {
-    if has_letter(letter, letters) { flag } else { 0 }
+    if letters.contains(&letter) { flag } else { 0 }
 }
 
 /// The flags that the letters ask for (gABI, chapter 4, `sh_flags`).

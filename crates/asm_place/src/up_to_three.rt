@@ -7,7 +7,7 @@ ghost use Rattle.asm_base.specs.Refusals.{GivesBy, Returns};
 ghost use Rattle.asm_place.specs.Results.{if_some};
 ghost use Rattle.asm_place.specs.OperandParts.{operands_left, Takes};
 ghost use Rattle.asm_place.specs.KnownIn.{known_in};
-ghost use Rattle.asm_place.specs.Expressions.{form_in, constant_in, first_tree, next_tree, next_tree_if, no_more, up_to_three_trees, up_to_three_forms, up_to_three_constants, up_to_three_values, known_operands};
+ghost use Rattle.asm_place.specs.Expressions.{form_in, constant_in, first_tree, next_tree_if, no_more, up_to_three_trees, up_to_three_forms, up_to_three_constants, up_to_three_values, known_operands};
 ghost use Rattle.asm_place.specs.UpToThreeTrees.{trees_in, trees_listed, known_operands_in};
 
 use crate::expressions::{constant_in, expression_of, form_in};
@@ -43,18 +43,8 @@ fn first_tree(alloc: Global, operands: &mut Operands) -> Result<Expr, PlaceFault
     }
 }
 
-/// The next operand, which may be missing, or empty.
+/// The next operand, which may be missing, or empty, where one may be there.
 #[tactic(auto, unfolding(crate::specs::Expressions::next_tree))]
-fn next_tree(alloc: Global, operands: &mut Operands) -> Result<Option<Expr>, PlaceFault>
-    ensures { Takes (option_map tree_of) next_tree operands.old operands.new result }
-{
-    match operands.next() {
-        None | Some([]) => Ok(None),
-        Some(operand) => Ok(Some(expression_of(alloc, operand)?)),
-    }
-}
-
-/// The same, where one may be there.
 fn next_tree_if(
     alloc: Global,
     may: bool,
@@ -62,10 +52,12 @@ fn next_tree_if(
 ) -> Result<Option<Expr>, PlaceFault>
     ensures { Takes (option_map tree_of) (next_tree_if may) operands.old operands.new result }
 {
-    if may {
-        next_tree(alloc, operands)
-    } else {
-        Ok(None)
+    if !may {
+        return Ok(None);
+    }
+    match operands.next() {
+        None | Some([]) => Ok(None),
+        Some(operand) => Ok(Some(expression_of(alloc, operand)?)),
     }
 }
 
