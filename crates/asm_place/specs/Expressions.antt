@@ -76,17 +76,13 @@ up_to_three_forms known trees = each_up_to_three (form_in known) trees
 unfoldable pub up_to_three_constants : UpToThree Form → Result (UpToThree ℕ) PlaceCause
 up_to_three_constants forms = each_up_to_three constant_in forms
 
--- their values: first the forms of all are made, and then each value has to be known
-unfoldable pub up_to_three_values : Knowledge → UpToThree Tree → Result (UpToThree ℕ) PlaceCause
-up_to_three_values known trees = up_to_three_forms known trees >>= up_to_three_constants
-
 -- the expressions of a directive, and their values
 pub record KnownOperands : Type 0 where
   pub trees : List Tree
   pub values : UpToThree ℕ
 
--- operands whose values have to be known: all are read before a value is asked for
+-- operands whose values have to be known: all are read and the forms of all are made before a value is asked for
 unfoldable pub known_operands : Knowledge → ℕ → List (List SpelledToken) → Result KnownOperands PlaceCause
 known_operands known most operands =
-    up_to_three_trees most operands >>= λ trees. up_to_three_values known trees >>= λ values.
+    up_to_three_trees most operands >>= λ trees. up_to_three_forms known trees >>= λ forms. up_to_three_constants forms >>= λ values.
     Ok (record { trees = up_to_three_listed trees; values = values })

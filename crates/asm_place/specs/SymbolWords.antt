@@ -4,7 +4,7 @@ use Rattle.indexmap.specs.IndexMap.{insert_entry}
 use Rattle.std.specs.List.{list_any}
 use Rattle.std.specs.Str.{bytes_eq}
 use Rattle.asm_place.specs.declared.place_faults.PlaceCause.{PlaceCause}
-use Rattle.asm_place.specs.declared.place_faults.PlaceCause.TheVariants.{BadExpression, BadOperand}
+use Rattle.asm_place.specs.declared.place_faults.PlaceCause.TheVariants.{BadOperand}
 use Rattle.asm_base.specs.declared.positions.Pos.{Pos}
 use Rattle.asm_base.specs.Tokens.{SpelledToken}
 use Rattle.asm_expr.specs.declared.naming.Name.{Name}
@@ -26,7 +26,7 @@ use Rattle.asm_place.specs.Tables.{Table, symbol_of, change_named, with_map}
 use Rattle.asm_place.specs.Places.{uses_dot, name_part}
 use Rattle.asm_place.specs.State.{Placed, with_table, unless_dot, here, known_here}
 use Rattle.asm_place.specs.Operands.{is_name, is_dot, begins_with_place, name_of, operands_of, each}
-use Rattle.asm_place.specs.Expressions.{expression_of, form_in, no_more}
+use Rattle.asm_place.specs.Expressions.{form_in, first_tree, no_more}
 use Rattle.asm_place.specs.SectionWords.{needed, begins_type}
 
 -- a binding or a visibility is said of a symbol
@@ -89,14 +89,10 @@ pub record NamedTree : Type 0 where
   pub name : Name
   pub tree : Tree
 
--- an expression has to follow, and nothing else
-abbrev pub last_tree : List (List SpelledToken) → Result Tree PlaceCause
-last_tree [] = Err BadExpression
-last_tree (operand ∷ operands) = expression_of operand >>= λ tree. no_more operands tree
-
 -- the operands of `.size` and `.set`: a name and an expression
 unfoldable pub named_tree : List (List SpelledToken) → Result NamedTree PlaceCause
-named_tree operands = needed name_of operands >>= λ name. last_tree name.1 >>= λ tree. Ok (record { name = naming.Plain name.0; tree = tree })
+named_tree operands =
+    needed name_of operands >>= λ name. first_tree name.1 >>= λ tree. no_more tree.1 (record { name = naming.Plain name.0; tree = tree.0 })
 
 -- the names of the expression, behind the symbol that the statement is of
 abbrev pub name_rest : Pos → Spot → NamedTree → Form → Table → Result Table PlaceCause

@@ -123,20 +123,13 @@ fn directives() -> &'static [DirectiveRow]
     &DIRECTIVES
 }
 
-/// The row's name, without the spaces after it.
+/// Whether the row has the name: what stands before the spaces.
 #[tactic(auto, using(std::proofs::lemmas::List::take_min))]
-fn directive_name(row: &DirectiveRow) -> &[u8]
-    ensures { result.now ≡ spec.directive_name row.now }
-{
-    let padded = row.name.as_slice();
-    &padded[..row.length.min(padded.len())]
-}
-
-/// Whether the row has the name.
 fn is_directive(name: &[u8], row: &DirectiveRow) -> bool
     ensures { result ≡ spec.is_directive name.now row.now }
 {
-    directive_name(row) == name
+    let padded = row.name.as_slice();
+    &padded[..row.length.min(padded.len())] == name
 }
 
 /// The directive of the name.

@@ -90,16 +90,6 @@ fn entry_size_by(
     }
 }
 
-/// A size of entries that is said.
-fn said_size(size: Option<u64>) -> Result<Option<u64>, PlaceFault>
-    ensures { GivesBy (λ size. size) result (spec.said_size size) }
-{
-    match size {
-        Some(number) if is_negative(number) => { Err(PlaceFault::Fault(PlaceCause::OutOfRange)) }
-        _ => Ok(size),
-    }
-}
-
 /// The value of the expression of the size of entries, where there is one.
 #[tactic(auto, unfolding(crate::specs::SectionChanges::entry_size_in))]
 fn entry_size_in(alloc: Global, view: View, expr: &Option<Expr>) -> Result<Option<u64>, PlaceFault>
@@ -107,7 +97,10 @@ fn entry_size_in(alloc: Global, view: View, expr: &Option<Expr>) -> Result<Optio
         (spec.entry_size_in (known_in view.entry) (option_map tree_of expr.now)) }
 {
     let form = form_if(alloc, view, expr)?;
-    said_size(constant_if(&form)?)
+    match constant_if(&form)? {
+        Some(number) if is_negative(number) => Err(PlaceFault::Fault(PlaceCause::OutOfRange)),
+        size => Ok(size),
+    }
 }
 
 /// The flags that are said, if any are.

@@ -12,13 +12,13 @@ ghost use Rattle.asm_place.specs.NamedTrees.{named_tree_in};
 
 use crate::assemblers::Assembler;
 use crate::directives::SymbolAttribute;
-use crate::expressions::{expression_of, form_in};
+use crate::expressions::form_in;
 use crate::operands::{Operands, begins_with_place, has_dot, is_name, name_of};
 use crate::place_faults::{PlaceCause, PlaceFault};
 use crate::places::uses_dot;
 use crate::section_words::{begins_type, needed_name};
 use crate::tables::SymbolUses;
-use crate::up_to_three::no_more;
+use crate::up_to_three::{first_tree, no_more};
 use asm_base::{Pos, Text, Token};
 use asm_expr::{Expr, Name};
 use asm_symbols::Kind;
@@ -116,30 +116,20 @@ pub(crate) struct NamedExpr {
     pub(crate) expr: Expr,
 }
 
-/// The last operand, which has to be an expression.
-fn last_tree(alloc: Global, operands: &mut Operands) -> Result<Expr, PlaceFault>
-    ensures { GivesBy tree_of result (spec.last_tree (operands_left operands.old)) }
-{
-    match operands.next() {
-        Some(operand) => {
-            let expr = expression_of(alloc, operand)?;
-            no_more(operands, expr)
-        }
-        None => Err(PlaceFault::Fault(PlaceCause::BadExpression)),
-    }
-}
-
 /// Operands that have to be a name and an expression.
 #[tactic(auto, unfolding(crate::specs::SymbolWords::named_tree))]
 pub(crate) fn named_tree(alloc: Global, operands: &mut Operands) -> Result<NamedExpr, PlaceFault>
     ensures { GivesBy named_tree_in result (spec.named_tree (operands_left operands.old)) }
 {
     let name = needed_name(alloc, operands)?;
-    let expr = last_tree(alloc, operands)?;
-    Ok(NamedExpr {
-        name: Name::Plain(Text::new(name)),
-        expr,
-    })
+    let expr = first_tree(alloc, operands)?;
+    no_more(
+        operands,
+        NamedExpr {
+            name: Name::Plain(Text::new(name)),
+            expr,
+        },
+    )
 }
 
 impl SymbolUses {

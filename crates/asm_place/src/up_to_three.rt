@@ -7,7 +7,7 @@ ghost use Rattle.asm_base.specs.Refusals.{GivesBy, Returns};
 ghost use Rattle.asm_place.specs.Results.{if_some};
 ghost use Rattle.asm_place.specs.OperandParts.{operands_left, Takes};
 ghost use Rattle.asm_place.specs.KnownIn.{known_in};
-ghost use Rattle.asm_place.specs.Expressions.{form_in, constant_in, first_tree, next_tree_if, no_more, up_to_three_trees, up_to_three_forms, up_to_three_constants, up_to_three_values, known_operands};
+ghost use Rattle.asm_place.specs.Expressions.{form_in, constant_in, first_tree, next_tree_if, no_more, up_to_three_trees, up_to_three_forms, up_to_three_constants, known_operands};
 ghost use Rattle.asm_place.specs.UpToThreeTrees.{trees_in, trees_listed, known_operands_in};
 
 use crate::expressions::{constant_in, expression_of, form_in};
@@ -34,7 +34,7 @@ pub(crate) struct KnownOperands {
 
 /// The next operand, which has to be there.
 #[tactic(auto, unfolding(crate::specs::Expressions::first_tree))]
-fn first_tree(alloc: Global, operands: &mut Operands) -> Result<Expr, PlaceFault>
+pub(crate) fn first_tree(alloc: Global, operands: &mut Operands) -> Result<Expr, PlaceFault>
     ensures { Takes tree_of first_tree operands.old operands.new result }
 {
     match operands.next() {
@@ -152,19 +152,6 @@ fn up_to_three_constants(forms: &UpToThree<Linear>) -> Result<UpToThree<u64>, Pl
     })
 }
 
-/// The values of expressions: first the forms of all are made, and then each value has to be known.
-#[tactic(auto, unfolding(crate::specs::Expressions::up_to_three_values))]
-fn up_to_three_values(
-    alloc: Global,
-    view: View,
-    exprs: &UpToThree<Expr>,
-) -> Result<UpToThree<u64>, PlaceFault>
-    ensures { Returns result (up_to_three_values (known_in view.entry) (trees_in exprs.now)) }
-{
-    let forms = up_to_three_forms(alloc, view, exprs)?;
-    up_to_three_constants(&forms)
-}
-
 /// The expressions in a list.
 fn listed(alloc: Global, exprs: UpToThree<Expr>) -> Result<Vec<Expr>, PlaceFault>
     ensures { GivesBy (λ list. map tree_of list.items) result (Ok (trees_listed exprs)) }
@@ -185,7 +172,7 @@ fn listed(alloc: Global, exprs: UpToThree<Expr>) -> Result<Vec<Expr>, PlaceFault
     Ok(list)
 }
 
-/// Operands whose values have to be known: all are read before a value is asked for.
+/// Operands whose values have to be known: all are read and the forms of all are made before a value is asked for.
 #[tactic(auto, unfolding(crate::specs::Expressions::known_operands))]
 pub(crate) fn known_operands(
     alloc: Global,
@@ -197,7 +184,8 @@ pub(crate) fn known_operands(
         (known_operands (known_in view.entry) most (operands_left operands.old)) }
 {
     let exprs = up_to_three_trees(alloc, most, operands)?;
-    let values = up_to_three_values(alloc, view, &exprs)?;
+    let forms = up_to_three_forms(alloc, view, &exprs)?;
+    let values = up_to_three_constants(&forms)?;
     Ok(KnownOperands {
         exprs: listed(alloc, exprs)?,
         values,
