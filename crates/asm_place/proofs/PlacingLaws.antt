@@ -30,12 +30,12 @@ use Rattle.asm_place.specs.declared.section_changes.Header.{Header}
 use Rattle.asm_place.specs.declared.stacks.Entered.{Entered}
 use Rattle.asm_base.specs.Refusals.{◌>>=◌}
 use Rattle.asm_place.specs.LayerFaults.{of_sections}
-use Rattle.asm_place.specs.Operands.{is_name, names_symbol, operands_of, is_dot, begins_with_place, symbol_name, each, joined_strings, name_of}
-use Rattle.asm_place.specs.Expressions.{expression_of, form_in, known_operands, no_more}
+use Rattle.asm_place.specs.Operands.{is_name, names_symbol, operands_of, is_dot, begins_with_place, symbol_name, each, joined_strings}
+use Rattle.asm_place.specs.Expressions.{expression_of, form_in, known_operands}
 use Rattle.asm_place.specs.Places.{Item, LooseSection, uses_dot, spot_at, name_parts}
 use Rattle.asm_place.specs.State.{Placed, with_table, with_notes, here, known_here, item_of, push_into, unless_dot}
 use Rattle.asm_place.specs.DataItems.{data_of, is_cut, cut_notes}
-use Rattle.asm_place.specs.SectionWords.{SectionWords, needed, section_words}
+use Rattle.asm_place.specs.SectionWords.{SectionWords, section_words}
 use Rattle.asm_place.specs.SectionChanges.{with_current, option_trees, numbered, entered_as, enter_words, place_section, entered_now, place_pushed, back_to, popped, entry_size_in, header_by}
 use Rattle.asm_place.specs.SymbolWords.{plain_of, kind_said, place_said, named_kind, place_type, sized, size_words, place_size, NamedTree, say_all, named_tree, name_rest}
 use Rattle.asm_place.specs.Assignments.{assign_words, place_set, place_assignment}

@@ -1,5 +1,5 @@
 -- Steps for each of a list, and for one where it is given.
-use Rattle.std.specs.Prelude.{List, [], ◌∷◌, Option, None, Some, Result, Ok, Err}
+use Rattle.std.specs.Prelude.{List, [], ◌∷◌, Option, None, Some, Result, Ok}
 use Rattle.asm_base.specs.Refusals.{◌>>=◌}
 
 -- a step for each of a list, one after the other
