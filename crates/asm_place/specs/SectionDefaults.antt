@@ -25,14 +25,14 @@ is_code name = is_under (codes ".text") name || is_under (codes ".init") name ||
 abbrev pub is_constant : List ℕ → Bool
 is_constant name = is_under (codes ".rodata") name || is_under (codes ".eh_frame") name
 
--- the header of a section of notes, or of one whose name says nothing
+-- the header of a section of notes, and of one whose name says nothing
 unfoldable pub note_header : List ℕ → DefaultHeader
 note_header name =
     if bytes_eq name (codes ".note.GNU-stack") then header 0 1
     else (if starts_with nat_eq name (codes ".note") then header 0 7
     else header 0 1)
 
--- the header of a section of addresses of functions, or of one of the names before
+-- the header of a section of addresses of functions; another may be one of notes
 unfoldable pub array_header : List ℕ → DefaultHeader
 array_header name =
     if is_under (codes ".init_array") name then header 3 14
@@ -40,7 +40,7 @@ array_header name =
     else (if is_under (codes ".preinit_array") name then header 3 16
     else note_header name))
 
--- the header of a section of data of each thread, or of one of the names before
+-- the header of a section of data of each thread; another may be one of addresses
 unfoldable pub thread_header : List ℕ → DefaultHeader
 thread_header name =
     if is_under (codes ".tdata") name then header 1027 1

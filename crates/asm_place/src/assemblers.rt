@@ -124,7 +124,7 @@ impl Assembler {
         }
     }
 
-    /// Puts an item last in the section of this number. `BadSection` comes where there is none, too.
+    /// Puts an item last in the section of this number. `BadSection` comes where there is none too.
     #[tactic(auto, unfolding(crate::specs::State::push_into))]
     pub(crate) fn push_into(
         &mut self,

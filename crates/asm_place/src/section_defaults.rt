@@ -63,7 +63,7 @@ fn header(flags: u64, kind: u32) -> DefaultHeader
     DefaultHeader { flags, kind }
 }
 
-/// The flags and the type of a section of notes, or of one whose name says nothing.
+/// The flags and the type of a section of notes, and of one whose name says nothing.
 #[tactic(auto, unfolding(crate::specs::SectionDefaults::note_header))]
 fn note_header(name: &[u8]) -> DefaultHeader
     ensures { result ≡ spec.note_header name.now }
@@ -77,7 +77,7 @@ fn note_header(name: &[u8]) -> DefaultHeader
     }
 }
 
-/// The flags and the type of a section of addresses of functions, or of one of the names before.
+/// The flags and the type of a section of addresses of functions; another may be one of notes.
 #[tactic(auto, unfolding(crate::specs::SectionDefaults::array_header))]
 fn array_header(name: &[u8]) -> DefaultHeader
     ensures { result ≡ spec.array_header name.now }
@@ -93,7 +93,7 @@ fn array_header(name: &[u8]) -> DefaultHeader
     }
 }
 
-/// The flags and the type of a section of data of each thread, or of one of the names before.
+/// The flags and the type of a section of data of each thread; another may be one of addresses.
 #[tactic(auto, unfolding(crate::specs::SectionDefaults::thread_header))]
 fn thread_header(name: &[u8]) -> DefaultHeader
     ensures { result ≡ spec.thread_header name.now }

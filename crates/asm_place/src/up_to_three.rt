@@ -172,7 +172,8 @@ fn listed(alloc: Global, exprs: UpToThree<Expr>) -> Result<Vec<Expr>, PlaceFault
     Ok(list)
 }
 
-/// Operands whose values have to be known: all are read and the forms of all are made before a value is asked for.
+/// Operands whose values have to be known: all are read, and the forms of all are made, before a
+/// value is asked for.
 #[tactic(auto, unfolding(crate::specs::Expressions::known_operands))]
 pub(crate) fn known_operands(
     alloc: Global,
