@@ -6,4 +6,5 @@ pub mod Order
 pub mod Steps
 pub mod RunLaws
 pub mod Runs
+pub mod ClassTable
 mod Samples

@@ -6,3 +6,4 @@ pub mod Statements
 pub mod Seen
 pub mod Scan
 pub mod Laws
+pub mod Classes

@@ -1,6 +1,7 @@
 //! From the bytes of a source to its statements, each with its file and line (GNU as manual, chapter 3).
 #![tactic(auto)]
 
+mod classes;
 mod faults;
 mod intervals;
 mod laws;
@@ -8,6 +9,7 @@ mod line_numbers;
 mod reading;
 mod statements;
 
+pub use classes::every_byte_has_its_class;
 pub use faults::{LineCause, LineFault};
 pub use laws::{lines_never_fall, no_statement_has_nul, statements_are_whole};
 pub use reading::read_statements;
