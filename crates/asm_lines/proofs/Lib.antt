@@ -7,4 +7,5 @@ pub mod Steps
 pub mod RunLaws
 pub mod Runs
 pub mod ClassTable
+pub mod Lexing
 mod Samples

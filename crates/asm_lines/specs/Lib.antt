@@ -7,3 +7,4 @@ pub mod Seen
 pub mod Scan
 pub mod Laws
 pub mod Classes
+pub mod Lexemes

@@ -5,6 +5,7 @@ mod classes;
 mod faults;
 mod intervals;
 mod laws;
+mod lexemes;
 mod line_numbers;
 mod reading;
 mod statements;

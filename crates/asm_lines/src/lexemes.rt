@@ -1,0 +1,124 @@
+//! What stands in front of a text: a space, a token, or the end of a statement.
+
+ghost use Rattle.std.specs.Prelude.{◌≡◌, ◌+◌, ◌≤◌, length, false, if◌then◌else◌};
+ghost use Rattle.std.specs.List.{prefix_len};
+ghost use Rattle.std.specs.Char.{is_ascii_digit};
+ghost use Rattle.asm_base.specs.ByteClasses.{is_name_start, is_name_byte, is_operator_byte};
+ghost use Rattle.asm_base.specs.Tokens.{is_long_operator};
+ghost use Rattle.asm_lines.specs.Classes.{begins_long_operator};
+ghost use Rattle.asm_lines.specs.Lexemes.{StandsInFront, FitsIn};
+
+use crate::classes::{ByteClass, class_of, is_name_byte};
+use asm_base::{PieceKind, TokenKind, first_piece};
+
+/// What stands in front, with its length where that is not 1.
+#[derive(Clone, Copy, Debug)]
+pub(crate) enum Lexeme {
+    /// A line feed.
+    LineEnd,
+    /// A `;`.
+    StatementEnd,
+    /// A space or a tab, or a carriage return before a line feed.
+    Blank,
+    /// A comment to the end of its line.
+    LineComment(usize),
+    /// A block comment.
+    BlockComment(usize),
+    /// A token.
+    Token(TokenKind, usize),
+    /// A string or a comment that does not close.
+    Unclosed,
+}
+
+/// How many bytes of a name go on at the front.
+#[inline(always)]
+fn name_length(bytes: &[u8]) -> usize
+    ensures value { result ≡ prefix_len is_name_byte bytes.now }
+    ensures within { result ≤ length bytes.now }
+{
+    bytes.iter().take_while(|byte| is_name_byte(**byte)).count()
+}
+
+/// The operators of two bytes.
+const LONG_OPERATORS: [[u8; 2]; 9] = [
+    *b"<<", *b">>", *b"==", *b"<>", *b"!=", *b">=", *b"<=", *b"&&", *b"||",
+];
+
+/// Whether the byte and the one after it are one operator.
+#[tactic(auto, unfolding(asm_base::specs::Tokens::is_long_operator))]
+fn is_long_operator(first: u8, rest: &[u8]) -> bool
+    ensures { result ≡ is_long_operator first rest.now }
+{
+    match rest {
+        [] => false,
+        [second, ..] => LONG_OPERATORS.contains(&[first, *second]),
+    }
+}
+
+/// Whether the byte is an operator or begins one.
+#[tactic(auto, unfolding(asm_base::specs::ByteClasses::is_operator_byte))]
+fn is_operator_byte(byte: u8) -> bool
+    ensures { result ≡ is_operator_byte byte }
+{
+    byte.is_ascii_punctuation() && !b"\"'#;".contains(&byte)
+}
+
+/// The class of a token of one byte that begins no name and is no digit.
+fn mark_kind(byte: u8) -> TokenKind
+    ensures { result ≡ (if is_operator_byte byte then TokenKind.Operator else TokenKind.Other) }
+{
+    if is_operator_byte(byte) {
+        TokenKind::Operator
+    } else {
+        TokenKind::Other
+    }
+}
+
+/// What stands in front where only the whole piece says it.
+#[inline(never)]
+fn by_piece(first: u8, rest: &[u8]) -> Lexeme
+    requires start { is_name_start first ≡ false }
+    requires digit { is_ascii_digit first ≡ false }
+    requires short { begins_long_operator first ≡ false }
+    ensures stands { StandsInFront first rest.now result }
+    ensures fits { FitsIn (1 + length rest.now) result }
+{
+    let piece = first_piece(first, rest);
+    match piece.kind {
+        PieceKind::LineFeed => Lexeme::LineEnd,
+        PieceKind::Semicolon => Lexeme::StatementEnd,
+        PieceKind::Blank => Lexeme::Blank,
+        PieceKind::LineComment => Lexeme::LineComment(piece.length),
+        PieceKind::BlockComment => Lexeme::BlockComment(piece.length),
+        PieceKind::OpenComment | PieceKind::OpenString => Lexeme::Unclosed,
+        PieceKind::Character => Lexeme::Token(TokenKind::Character, piece.length),
+        PieceKind::String => Lexeme::Token(TokenKind::String, piece.length),
+        PieceKind::Other => { Lexeme::Token(mark_kind(first), 1) }
+    }
+}
+
+/// What stands in front.
+#[inline(always)]
+pub(crate) fn first_lexeme(first: u8, rest: &[u8]) -> Lexeme
+    ensures stands { StandsInFront first rest.now result }
+    ensures fits { FitsIn (1 + length rest.now) result }
+{
+    match class_of(first) {
+        ByteClass::LineFeed => Lexeme::LineEnd,
+        ByteClass::Semicolon => Lexeme::StatementEnd,
+        ByteClass::Blank => Lexeme::Blank,
+        ByteClass::NameStart => Lexeme::Token(TokenKind::Name, 1 + name_length(rest)),
+        ByteClass::Digit => Lexeme::Token(TokenKind::Digits, 1 + name_length(rest)),
+        ByteClass::Dollar | ByteClass::Operator => Lexeme::Token(TokenKind::Operator, 1),
+        ByteClass::LongOperator => {
+            let length = if is_long_operator(first, rest) { 2 } else { 1 };
+            Lexeme::Token(TokenKind::Operator, length)
+        }
+        ByteClass::Other => Lexeme::Token(TokenKind::Other, 1),
+        ByteClass::CarriageReturn
+        | ByteClass::Hash
+        | ByteClass::Slash
+        | ByteClass::Quote
+        | ByteClass::DoubleQuote => { by_piece(first, rest) }
+    }
+}
