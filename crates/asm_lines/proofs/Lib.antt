@@ -8,4 +8,8 @@ pub mod RunLaws
 pub mod Runs
 pub mod ClassTable
 pub mod Lexing
+pub mod TokenPieces
+pub mod Moves
+pub mod LineFeeds
+pub mod TokenSteps
 mod Samples

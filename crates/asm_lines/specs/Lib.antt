@@ -8,3 +8,4 @@ pub mod Scan
 pub mod Laws
 pub mod Classes
 pub mod Lexemes
+pub mod StatementTokens

@@ -8,6 +8,7 @@ mod laws;
 mod lexemes;
 mod line_numbers;
 mod reading;
+mod statement_tokens;
 mod statements;
 
 pub use classes::every_byte_has_its_class;

@@ -23,6 +23,13 @@ pub(crate) fn line_behind(line: u32, bytes: &[u8]) -> u32
     lines.min(u64::from(u32::MAX)) as u32
 }
 
+/// The line behind a line feed.
+pub(crate) fn line_after(line: u32) -> u32
+    ensures { result ≡ min (line + 1) last_line }
+{
+    line.saturating_add(1)
+}
+
 /// The line of an offset, counted from 1.
 #[tactic(auto, unfolding(crate::specs::LineNumbers::line_of))]
 pub(crate) fn line_of(source: &[u8], offset: usize) -> u32

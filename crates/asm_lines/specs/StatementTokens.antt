@@ -1,0 +1,46 @@
+-- The tokens of the statement that begins a text, found in one pass over its bytes.
+use Rattle.std.specs.Prelude.{◌≡◌, ℕ, zero, suc, ◌+◌, ◌-◌, ◌<◌, ◌≤◌, Bool, true, false, not, ◌&&◌, List, [], ◌∷◌, length, drop, map, if◌then◌else◌}
+use Rattle.asm_base.specs.Pieces.{Piece, is_space, ends_statement}
+use Rattle.asm_base.specs.Dividing.{piece_kind, piece_length}
+use Rattle.asm_base.specs.Tokens.{SpelledToken, spelled, token_kind, token_length, first_token}
+use Rattle.asm_base.specs.declared.tokens.Token.{Token}
+use Rattle.asm_lines.specs.Intervals.{without_space_after, own_length}
+use Rattle.asm_lines.specs.LineNumbers.{line_of}
+use Rattle.asm_lines.specs.Scan.{pieces_at, first_interval, later_pieces}
+use Rattle.asm_lines.specs.declared.statement_tokens.ReadStatement.{ReadStatement}
+use Rattle.asm_lines.specs.declared.statement_tokens.ReadStatement.TheVariants.{Whole, Unclosed}
+use Rattle.asm_lines.specs.Lexemes.{is_unclosed}
+
+-- the tokens up to the end of the statement, of the bytes from this offset on, the first few of which are left out
+unfoldable pub first_tokens_from : ℕ → ℕ → List ℕ → List SpelledToken
+first_tokens_from left_out offset [] = []
+first_tokens_from (suc left_out) offset (byte ∷ rest) = first_tokens_from left_out (suc offset) rest
+first_tokens_from zero offset (byte ∷ rest) =
+    if ends_statement (piece_kind byte rest) then []
+    else (if is_space (piece_kind byte rest) then first_tokens_from (piece_length (piece_kind byte rest) rest - 1) (suc offset) rest
+    else (first_token offset byte rest ∷ first_tokens_from (token_length (token_kind byte rest) byte rest - 1) (suc offset) rest))
+
+-- each of the pieces closes
+unfoldable pub all_close : List Piece → Bool
+all_close [] = true
+all_close (piece ∷ pieces) = not (is_unclosed piece.kind) && all_close pieces
+
+-- how long a statement is that has these pieces behind those that were passed, or how long it is without any
+unfoldable pub own_behind : ℕ → ℕ → List Piece → ℕ
+own_behind own passed [] = own
+own_behind own passed (piece ∷ pieces) = passed + own_length (piece ∷ pieces)
+
+-- what is known of the statement that begins at this offset, once all of it is read
+pub record IsReadWhole (source : List ℕ) (begin : ℕ) (read : List Token) (next line_there own : ℕ) : Type 0 where
+  pub tokens : map spelled read ≡ first_tokens_from 0 0 (drop begin source)
+  pub later : pieces_at source next ≡ later_pieces (pieces_at source begin)
+  pub closed : all_close (first_interval (pieces_at source begin)) ≡ true
+  pub own_is : own ≡ own_length (without_space_after (first_interval (pieces_at source begin)))
+  pub line : line_there ≡ line_of source next
+  pub within : next ≤ length source
+  pub more : begin < next
+
+-- the statement that begins at this offset is read to these tokens, or has a piece that does not close
+abbrev pub ReadsTokens : List ℕ → ℕ → List Token → ReadStatement → Type 0
+ReadsTokens source begin tokens (Whole next line own) = IsReadWhole source begin tokens next line own
+ReadsTokens source begin tokens Unclosed = all_close (first_interval (pieces_at source begin)) ≡ false
