@@ -11,14 +11,14 @@ pub table_is : the_classes ≡ classes_from 256 0
 unfolding the_classes classes_from class_of plain_class_of begins_long_operator is_blank is_name_start is_operator_byte
 table_is = refl
 
-classes_from-at : (n byte i : ℕ) (other : ByteClass) → i < n → get_or (classes_from n byte) i other ≡ class_of (byte + i)
+classes_from-at : (n byte i : ℕ) (unless : ByteClass) → i < n → get_or (classes_from n byte) i unless ≡ class_of (byte + i)
 unfolding classes_from
-classes_from-at zero byte i other within = absurd (omega arith)
-classes_from-at (suc n) byte zero other within = let e : byte ≡ byte + 0 = omega arith in ap class_of e
-classes_from-at (suc n) byte (suc i) other within = let e : suc byte + i ≡ byte + suc i = omega arith in classes_from-at n (suc byte) i other (omega arith) ∙ ap class_of e
+classes_from-at zero byte i unless within = absurd (omega arith)
+classes_from-at (suc n) byte zero unless within = let e : byte ≡ byte + 0 = omega arith in ap class_of e
+classes_from-at (suc n) byte (suc i) unless within = let e : suc byte + i ≡ byte + suc i = omega arith in classes_from-at n (suc byte) i unless (omega arith) ∙ ap class_of e
 
-pub class_found : (byte : ℕ) (other : ByteClass) → byte < 256 → get_or the_classes byte other ≡ class_of byte
-class_found byte other within = let e : 0 + byte ≡ byte = omega arith in ap (λ l. get_or l byte other) table_is ∙ classes_from-at 256 0 byte other within ∙ ap class_of e
+pub class_found : (byte : ℕ) (unless : ByteClass) → byte < 256 → get_or the_classes byte unless ≡ class_of byte
+class_found byte unless within = let e : 0 + byte ≡ byte = omega arith in ap (λ l. get_or l byte unless) table_is ∙ classes_from-at 256 0 byte unless within ∙ ap class_of e
 
 classes_from-length : (n byte : ℕ) → length (classes_from n byte) ≡ n
 unfolding classes_from

@@ -12,4 +12,7 @@ pub mod TokenPieces
 pub mod Moves
 pub mod LineFeeds
 pub mod TokenSteps
+pub mod Cuts
+pub mod OnePass
+pub mod Skipping
 mod Samples

@@ -70,7 +70,7 @@ long_more source pieces = by_end (split_more pieces)
     by_end (inl same) = ap (first_long source) same
     by_end (inr both) = ap (first_long source) both.0 ∙ sym (ap (λ later. option_or (long_found source (trimmed (first_interval pieces))) (first_long source (intervals_of later))) both.1)
 
-statements_more : (file : ℕ) (source : List ℕ) (pieces : List Piece) → filter_map (statement_in file source) (intervals_of pieces) ≡ cons_option (statement_in file source (first_interval pieces)) (filter_map (statement_in file source) (intervals_of (later_pieces pieces)))
+pub statements_more : (file : ℕ) (source : List ℕ) (pieces : List Piece) → filter_map (statement_in file source) (intervals_of pieces) ≡ cons_option (statement_in file source (first_interval pieces)) (filter_map (statement_in file source) (intervals_of (later_pieces pieces)))
 unfolding trimmed
 statements_more file source pieces = by_end (split_more pieces)
   where

@@ -9,3 +9,5 @@ pub mod Laws
 pub mod Classes
 pub mod Lexemes
 pub mod StatementTokens
+pub mod NextStatements
+pub mod Skips

@@ -10,7 +10,7 @@ use crate::line_numbers::line_behind;
 use asm_base::{PieceKind, first_piece, plain_length};
 
 /// The most bytes that a statement has.
-const LONGEST_STATEMENT: usize = 65536;
+pub(crate) const LONGEST_STATEMENT: usize = 65536;
 
 /// A piece where it stands in a source, or a run of pieces of the class `Other`.
 #[derive(Clone, Copy)]

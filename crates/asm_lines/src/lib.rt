@@ -2,6 +2,7 @@
 #![tactic(auto)]
 
 mod classes;
+mod cursors;
 mod faults;
 mod intervals;
 mod laws;

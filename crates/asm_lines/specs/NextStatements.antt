@@ -1,0 +1,53 @@
+-- What stands next in a source: a statement as its tokens, the end, or a fault of its lines.
+use Rattle.std.specs.Prelude.{◌≡◌, ℕ, ◌<◌, ◌≤◌, List, [], ◌∷◌, length, map, Option, Some, None}
+use Rattle.std.specs.List.{filter_map}
+use Rattle.asm_base.specs.Tokens.{SpelledToken, spelled, tokens_of}
+use Rattle.asm_base.specs.declared.tokens.Token.{Token}
+use Rattle.asm_lines.specs.declared.faults.Found.{Found}
+use Rattle.asm_lines.specs.declared.cursors.NextStatement.{NextStatement}
+use Rattle.asm_lines.specs.declared.cursors.NextStatement.TheVariants.{Statement, End, Faulty}
+use Rattle.asm_lines.specs.Intervals.{intervals_of}
+use Rattle.asm_lines.specs.LineNumbers.{line_of}
+use Rattle.asm_lines.specs.Faults.{earlier, first_long, first_open}
+use Rattle.asm_lines.specs.Statements.{StatementAt, statement_in}
+use Rattle.asm_lines.specs.Scan.{pieces_at}
+
+-- a statement as its tokens, with its file and line
+pub record TokenStatement : Type 0 where
+  pub file : ℕ
+  pub line : ℕ
+  pub tokens : List SpelledToken
+
+-- the statement with its tokens in place of its bytes
+abbrev pub in_tokens : StatementAt → TokenStatement
+in_tokens statement =
+    record { file = statement.file; line = statement.line; tokens = tokens_of statement.bytes }
+
+-- the statements from an offset on
+unfoldable pub statements_left : ℕ → List ℕ → ℕ → List StatementAt
+statements_left file source at =
+    filter_map (statement_in file source) (intervals_of (pieces_at source at))
+
+-- the first fault of the lines from an offset on, but for a byte 0
+unfoldable pub found_left : List ℕ → ℕ → Option Found
+found_left source at =
+    earlier (first_open source (pieces_at source at)) (first_long source (intervals_of (pieces_at source at)))
+
+-- a statement stands next, on this line and with these tokens, and what is left behind it
+pub record IsNext (source : List ℕ) (at : ℕ) (read : List Token) (line next line_there : ℕ) : Type 0 where
+  pub statements : (file : ℕ) → map in_tokens (statements_left file source at) ≡ (let statement : TokenStatement = record { file = file; line = line; tokens = map spelled read } in statement ∷ map in_tokens (statements_left file source next))
+  pub faults : found_left source at ≡ found_left source next
+  pub there : line_there ≡ line_of source next
+  pub within : next ≤ length source
+  pub more : at < next
+
+-- nothing is left
+pub record IsEnd (source : List ℕ) (at : ℕ) : Type 0 where
+  pub statements : (file : ℕ) → statements_left file source at ≡ []
+  pub faults : found_left source at ≡ None
+
+-- what stands next
+abbrev pub StandsNext : List ℕ → ℕ → List Token → NextStatement → Type 0
+StandsNext source at read (Statement line next there) = IsNext source at read line next there
+StandsNext source at read End = IsEnd source at
+StandsNext source at read Faulty = (found : Found) × (found_left source at ≡ Some found)
