@@ -15,4 +15,5 @@ pub mod TokenSteps
 pub mod Cuts
 pub mod OnePass
 pub mod Skipping
+pub mod PlacingSteps
 mod Samples

@@ -11,7 +11,6 @@ use Rattle.asm_base.specs.Dividing.{pieces_of}
 use Rattle.asm_base.specs.declared.refusals.Refusal.{Refusal}
 use Rattle.asm_base.specs.Refusals.{Returns}
 use Rattle.asm_lines.specs.declared.faults.LineCause.{LineCause}
-use Rattle.asm_lines.specs.declared.faults.LineCause.TheVariants.{NulByte, UnclosedString, UnclosedComment, StatementTooLong}
 use Rattle.asm_lines.specs.declared.faults.Found.{Found}
 use Rattle.asm_lines.specs.Intervals.{intervals_of, trimmed}
 use Rattle.asm_base.specs.declared.pieces.PieceKind.{PieceKind}

@@ -11,3 +11,4 @@ pub mod Lexemes
 pub mod StatementTokens
 pub mod NextStatements
 pub mod Skips
+pub mod Placing

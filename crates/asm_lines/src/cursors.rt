@@ -31,7 +31,7 @@ pub(crate) enum NextStatement {
     Faulty,
 }
 
-/// Passes spaces and ends of statements, up to the first token; nothing where something does not close.
+/// Passes spaces and ends of statements, up to the first token; nothing where one does not close.
 fn skip(source: &[u8], from: usize, line: u32) -> Option<Point>
     requires within { from ≤ length source.now }
     requires line { line ≡ line_of source.now from }

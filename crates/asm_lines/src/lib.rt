@@ -8,12 +8,16 @@ mod intervals;
 mod laws;
 mod lexemes;
 mod line_numbers;
+mod placing;
 mod reading;
+mod source_causes;
 mod statement_tokens;
 mod statements;
 
 pub use classes::every_byte_has_its_class;
 pub use faults::{LineCause, LineFault};
 pub use laws::{lines_never_fall, no_statement_has_nul, statements_are_whole};
+pub use placing::{Placer, place_source};
 pub use reading::read_statements;
+pub use source_causes::{SourceCause, SourceFault};
 pub use statements::{Statement, Statements};

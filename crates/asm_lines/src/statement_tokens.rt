@@ -12,7 +12,7 @@ use std::alloc::AllocError;
 /// A statement whose tokens are read.
 #[derive(Clone, Copy, Debug)]
 pub(crate) enum ReadStatement {
-    /// The offset behind its end, the line there, and how many bytes it has, those of comments not counted.
+    /// The offset behind its end, the line there, and how many bytes it has, comments not counted.
     Whole(usize, u32, usize),
     /// A string or a comment in it does not close.
     Unclosed,
