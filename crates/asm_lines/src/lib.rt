@@ -1,4 +1,5 @@
-//! From the bytes of a source to its statements, each with its file and line (GNU as manual, chapter 3).
+//! From the bytes of a source to its statements, each with its file and line (GNU as manual, chapter
+//! 3): a list of all of them, or one at a time as its tokens, which are placed at once.
 #![tactic(auto)]
 
 mod classes;
