@@ -192,7 +192,7 @@ pub record SameToken (first : ℕ) (rest cut : List ℕ) : Type 0 where
 pub local_token : (first : ℕ) (rest : List ℕ) (k : ℕ) → makes_tokens (piece_kind first rest) ≡ true → is_unclosed (piece_kind first rest) ≡ false → is_space (piece_kind first rest) ≡ false
     → SameToken first rest (take (token_length (token_kind first rest) first rest - 1 + k) rest)
 unfolding token_kind
-local_token first rest k word closes no_space = by_class (is_plain first) refl
+local_token first rest k makes closes no_space = by_class (is_plain first) refl
   where
     cut : List ℕ
     cut = take (token_length (token_kind first rest) first rest - 1 + k) rest
@@ -201,20 +201,20 @@ local_token first rest k word closes no_space = by_class (is_plain first) refl
     by_class true plain =
         let same : piece_kind first cut ≡ piece_kind first rest = plain_kind first cut plain ∙ sym (plain_kind first rest plain) in
         let kind : token_kind first cut ≡ token_kind first rest = ap (token_kind_by first) same in
-        record { piece = ap makes_tokens same ∙ word; kind = kind; length = ap (λ t. token_length t first cut) kind ∙ length_cut first rest k (token_kind first rest) plain }
+        record { piece = ap makes_tokens same ∙ makes; kind = kind; length = ap (λ t. token_length t first cut) kind ∙ length_cut first rest k (token_kind first rest) plain }
     by_class false special =
-        let whole = piece_token first rest special word in
+        let whole = piece_token first rest special makes in
         let at_piece : cut ≡ take (piece_length (piece_kind first rest) rest - 1 + k) rest = ap (λ n. take (n - 1 + k) rest) whole in
         let local = local_piece first rest k closes (λ space. absurd (false≢true (sym no_space ∙ space))) in
         let same : piece_kind first cut ≡ piece_kind first rest = ap (piece_kind first) at_piece ∙ local.0 in
         let kind : token_kind first cut ≡ token_kind first rest = ap (token_kind_by first) same in
         let long : piece_length (piece_kind first cut) cut ≡ piece_length (piece_kind first rest) rest = ap (λ t. piece_length t cut) same ∙ ap (piece_length (piece_kind first rest)) at_piece ∙ local.1 in
-        record { piece = ap makes_tokens same ∙ word; kind = kind; length = piece_token first cut special (ap makes_tokens same ∙ word) ∙ long ∙ sym whole }
+        record { piece = ap makes_tokens same ∙ makes; kind = kind; length = piece_token first cut special (ap makes_tokens same ∙ makes) ∙ long ∙ sym whole }
 
 -- a token lies within its text
 pub token_within : (first : ℕ) (rest : List ℕ) → makes_tokens (piece_kind first rest) ≡ true → token_length (token_kind first rest) first rest ≤ 1 + length rest
-token_within first rest word = by_class (is_plain first) refl
+token_within first rest makes = by_class (is_plain first) refl
   where
     by_class : (plain : Bool) → is_plain first ≡ plain → token_length (token_kind first rest) first rest ≤ 1 + length rest
     by_class true plain = omega (arith, plain_token first rest (token_kind first rest) plain, prefix_len-le-length is_plain (first ∷ rest))
-    by_class false special = omega (arith, piece_token first rest special word, piece_within first rest)
+    by_class false special = omega (arith, piece_token first rest special makes, piece_within first rest)

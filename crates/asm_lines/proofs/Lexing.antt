@@ -151,7 +151,7 @@ no_name byte says =
     let more = both (not (is_ascii_digit byte)) _ parts.1 in
     (not-true _ parts.0, not-true _ more.0, not-true _ more.1)
 
--- the two classes of operators of one byte, and those whose bytes are no words
+-- the two classes of operators of one byte, and those whose bytes begin no name, no number and no long operator
 pub one_byte_operator : (here : ByteClass) (byte : ℕ) (rest : List ℕ) → byte < 256 → here ≡ class_of byte → (here ≡ class.Dollar) ⊎ (here ≡ class.Operator) → StandsInFront byte rest (Token Operator 1)
 one_byte_operator here byte rest within is (inl dollar) = operator_stands byte rest (said_of byte here class.Dollar within is dollar)
 one_byte_operator here byte rest within is (inr operator) = operator_stands byte rest (said_of byte here class.Operator within is operator)
@@ -168,7 +168,7 @@ no_names here byte within is (inr (inr (inr (inr e)))) = no_name byte (said_of b
 pub piece_stands : (byte : ℕ) (rest : List ℕ) (here : PieceKind) (kind : TokenKind) → here ≡ piece_kind byte rest → makes_tokens here ≡ true → is_name_start byte ≡ false → is_ascii_digit byte ≡ false → kind ≡ kind_by_piece byte here
     → (makes_tokens (piece_kind byte rest) ≡ true) × (kind ≡ token_kind byte rest)
 unfolding token_kind
-piece_stands byte rest here kind is word start digit kind_is = (ap makes_tokens (sym is) ∙ word, rw (start, digit, ← is) kind_is)
+piece_stands byte rest here kind is makes start digit kind_is = (ap makes_tokens (sym is) ∙ makes, rw (start, digit, ← is) kind_is)
 
 pub character_stands : (byte : ℕ) (rest : List ℕ) (here : PieceKind) (n : ℕ) → here ≡ piece_kind byte rest → n ≡ piece_length here rest → here ≡ piece.Character → is_name_start byte ≡ false → is_ascii_digit byte ≡ false → StandsInFront byte rest (Token Character n)
 unfolding token_length

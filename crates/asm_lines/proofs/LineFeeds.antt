@@ -115,8 +115,8 @@ feed_feeds first rest feed =
 line_stays : (source : List ℕ) (at n line : ℕ) → feeds (take n (drop at source)) ≡ 0 → line ≡ line_of source at → line ≡ line_of source (at + n)
 unfolding line_of
 line_stays source at n line none line_is =
-    let in_tokens : line ≡ min (line + 0) last_line = omega arith in
-    line_more source at n line line line_is (in_tokens ∙ ap (λ k. min (line + k) last_line) (sym none))
+    let stays : line ≡ min (line + 0) last_line = omega arith in
+    line_more source at n line line line_is (stays ∙ ap (λ k. min (line + k) last_line) (sym none))
 
 pub line_over_piece : (source : List ℕ) (at first : ℕ) (rest : List ℕ) (n line : ℕ) → drop at source ≡ first ∷ rest → is_on_line (piece_kind first rest) ≡ true → n ≡ piece_length (piece_kind first rest) rest → line ≡ line_of source at → line ≡ line_of source (at + n)
 line_over_piece source at first rest n line front_is on_line n_is line_is =

@@ -43,89 +43,89 @@ over_space here source at next last own passed off space goes_on closes = record
   owns = rw (off, goes_on) (own_of_space here (without_space_after (first_interval (pieces_at source next))) own passed space);
 }
 
--- words
+-- tokens
 pub token_goes_on : (kind : PieceKind) → makes_tokens kind ≡ true → ends_statement kind ≡ false
-token_goes_on piece.Character word = refl
-token_goes_on piece.String word = refl
-token_goes_on piece.Other word = refl
-token_goes_on piece.LineFeed word = cc
-token_goes_on piece.Semicolon word = cc
-token_goes_on piece.Blank word = refl
-token_goes_on piece.LineComment word = refl
-token_goes_on piece.BlockComment word = refl
-token_goes_on piece.OpenComment word = refl
-token_goes_on piece.OpenString word = refl
+token_goes_on piece.Character makes = refl
+token_goes_on piece.String makes = refl
+token_goes_on piece.Other makes = refl
+token_goes_on piece.LineFeed makes = cc
+token_goes_on piece.Semicolon makes = cc
+token_goes_on piece.Blank makes = refl
+token_goes_on piece.LineComment makes = refl
+token_goes_on piece.BlockComment makes = refl
+token_goes_on piece.OpenComment makes = refl
+token_goes_on piece.OpenString makes = refl
 
 pub token_closes : (kind : PieceKind) → makes_tokens kind ≡ true → is_unclosed kind ≡ false
-token_closes piece.Character word = refl
-token_closes piece.String word = refl
-token_closes piece.Other word = refl
-token_closes piece.LineFeed word = refl
-token_closes piece.Semicolon word = refl
-token_closes piece.Blank word = refl
-token_closes piece.LineComment word = refl
-token_closes piece.BlockComment word = refl
-token_closes piece.OpenComment word = cc
-token_closes piece.OpenString word = cc
+token_closes piece.Character makes = refl
+token_closes piece.String makes = refl
+token_closes piece.Other makes = refl
+token_closes piece.LineFeed makes = refl
+token_closes piece.Semicolon makes = refl
+token_closes piece.Blank makes = refl
+token_closes piece.LineComment makes = refl
+token_closes piece.BlockComment makes = refl
+token_closes piece.OpenComment makes = cc
+token_closes piece.OpenString makes = cc
 
 pub token_no_space : (kind : PieceKind) → makes_tokens kind ≡ true → is_space kind ≡ false
-token_no_space piece.Character word = refl
-token_no_space piece.String word = refl
-token_no_space piece.Other word = refl
-token_no_space piece.LineFeed word = refl
-token_no_space piece.Semicolon word = refl
-token_no_space piece.Blank word = cc
-token_no_space piece.LineComment word = cc
-token_no_space piece.BlockComment word = cc
-token_no_space piece.OpenComment word = cc
-token_no_space piece.OpenString word = refl
+token_no_space piece.Character makes = refl
+token_no_space piece.String makes = refl
+token_no_space piece.Other makes = refl
+token_no_space piece.LineFeed makes = refl
+token_no_space piece.Semicolon makes = refl
+token_no_space piece.Blank makes = cc
+token_no_space piece.LineComment makes = cc
+token_no_space piece.BlockComment makes = cc
+token_no_space piece.OpenComment makes = cc
+token_no_space piece.OpenString makes = refl
 
-later_behind_tokens : (words rest : List Piece) → AllByRecursion MakesTokens words → later_pieces (words ++ rest) ≡ later_pieces rest
+later_behind_tokens : (parts rest : List Piece) → AllByRecursion MakesTokens parts → later_pieces (parts ++ rest) ≡ later_pieces rest
 later_behind_tokens [] rest all = refl
-later_behind_tokens (here ∷ words) rest all = rw (token_goes_on here.kind all.0) (later_behind_tokens words rest all.1)
+later_behind_tokens (here ∷ parts) rest all = rw (token_goes_on here.kind all.0) (later_behind_tokens parts rest all.1)
 
-pub first_with_tokens : (words rest : List Piece) → AllByRecursion MakesTokens words → first_interval (words ++ rest) ≡ words ++ first_interval rest
+pub first_with_tokens : (parts rest : List Piece) → AllByRecursion MakesTokens parts → first_interval (parts ++ rest) ≡ parts ++ first_interval rest
 first_with_tokens [] rest all = refl
-first_with_tokens (here ∷ words) rest all = rw (token_goes_on here.kind all.0) (ap (λ these. here ∷ these) (first_with_tokens words rest all.1))
+first_with_tokens (here ∷ parts) rest all = rw (token_goes_on here.kind all.0) (ap (λ these. here ∷ these) (first_with_tokens parts rest all.1))
 
-close_with_tokens : (words rest : List Piece) → AllByRecursion MakesTokens words → all_close (words ++ rest) ≡ all_close rest
+close_with_tokens : (parts rest : List Piece) → AllByRecursion MakesTokens parts → all_close (parts ++ rest) ≡ all_close rest
 unfolding all_close
 close_with_tokens [] rest all = refl
-close_with_tokens (here ∷ words) rest all = rw (token_closes here.kind all.0) (close_with_tokens words rest all.1)
+close_with_tokens (here ∷ parts) rest all = rw (token_closes here.kind all.0) (close_with_tokens parts rest all.1)
 
 pub kept_first : (here : Piece) (kept : List Piece) → is_space here.kind ≡ false → before_others here kept ≡ here ∷ kept
-kept_first here [] word = rw word refl
-kept_first here (next ∷ others) word = refl
+kept_first here [] makes = rw makes refl
+kept_first here (next ∷ others) makes = refl
 
-pub kept_with_tokens : (words rest : List Piece) → AllByRecursion MakesTokens words → without_space_after (words ++ rest) ≡ words ++ without_space_after rest
+pub kept_with_tokens : (parts rest : List Piece) → AllByRecursion MakesTokens parts → without_space_after (parts ++ rest) ≡ parts ++ without_space_after rest
 kept_with_tokens [] rest all = refl
-kept_with_tokens (here ∷ words) rest all = ap (before_others here) (kept_with_tokens words rest all.1) ∙ kept_first here (words ++ without_space_after rest) (token_no_space here.kind all.0)
+kept_with_tokens (here ∷ parts) rest all = ap (before_others here) (kept_with_tokens parts rest all.1) ∙ kept_first here (parts ++ without_space_after rest) (token_no_space here.kind all.0)
 
 -- a token ends where the last of its pieces does, whatever the end was before
-any_last : (at last : ℕ) (here : Piece) (words kept : List Piece) → end_behind last ((here ∷ words) ++ kept) ≡ end_behind at ((here ∷ words) ++ kept)
+any_last : (at last : ℕ) (here : Piece) (parts kept : List Piece) → end_behind last ((here ∷ parts) ++ kept) ≡ end_behind at ((here ∷ parts) ++ kept)
 unfolding end_behind
-any_last at last here words kept = refl
+any_last at last here parts kept = refl
 
-no_pieces : (source : List ℕ) (at n last : ℕ) (words kept : List Piece) → 0 < n → ((these : List Piece) → end_behind at (words ++ these) ≡ end_behind (at + n) these) → end_behind last (words ++ kept) ≡ end_behind (at + n) kept
+no_pieces : (source : List ℕ) (at n last : ℕ) (parts kept : List Piece) → 0 < n → ((these : List Piece) → end_behind at (parts ++ these) ≡ end_behind (at + n) these) → end_behind last (parts ++ kept) ≡ end_behind (at + n) kept
 unfolding end_behind
 no_pieces source at n last [] kept some ends = let same : at ≡ at + n = ends ([]) in absurd (omega arith)
-no_pieces source at n last (here ∷ words) kept some ends = ends kept
+no_pieces source at n last (here ∷ parts) kept some ends = ends kept
 
-any_own : (n own passed : ℕ) (words kept : List Piece) → 0 < n → ((these : List Piece) → own_behind passed passed (words ++ these) ≡ own_behind (passed + n) (passed + n) these) → own_behind own passed (words ++ kept) ≡ own_behind (passed + n) (passed + n) kept
+any_own : (n own passed : ℕ) (parts kept : List Piece) → 0 < n → ((these : List Piece) → own_behind passed passed (parts ++ these) ≡ own_behind (passed + n) (passed + n) these) → own_behind own passed (parts ++ kept) ≡ own_behind (passed + n) (passed + n) kept
 unfolding own_behind
 any_own n own passed [] kept some owns = let same : passed ≡ passed + n = owns ([]) in absurd (omega arith)
-any_own n own passed (here ∷ words) kept some owns = owns kept
+any_own n own passed (here ∷ parts) kept some owns = owns kept
 
 pub over_token : (source : List ℕ) (at n last own passed : ℕ) → 0 < n → TokenPieces source at n → Moves source at (at + n) last (at + n) own passed (passed + n) (passed + n)
-over_token source at n last own passed some words =
+over_token source at n last own passed some parts =
     let rest = pieces_at source (at + n) in
-    let first = ap first_interval words.stands ∙ first_with_tokens words.pieces rest words.make_tokens in
-    let kept = ap without_space_after first ∙ kept_with_tokens words.pieces (first_interval rest) words.make_tokens in
+    let first = ap first_interval parts.stands ∙ first_with_tokens parts.pieces rest parts.make_tokens in
+    let kept = ap without_space_after first ∙ kept_with_tokens parts.pieces (first_interval rest) parts.make_tokens in
     record {
-      later = ap later_pieces words.stands ∙ later_behind_tokens words.pieces rest words.make_tokens;
-      closed = ap all_close first ∙ close_with_tokens words.pieces (first_interval rest) words.make_tokens;
-      end = ap (end_behind last) kept ∙ no_pieces source at n last words.pieces (without_space_after (first_interval rest)) some words.ends;
-      owns = ap (own_behind own passed) kept ∙ any_own n own passed words.pieces (without_space_after (first_interval rest)) some (words.owns passed);
+      later = ap later_pieces parts.stands ∙ later_behind_tokens parts.pieces rest parts.make_tokens;
+      closed = ap all_close first ∙ close_with_tokens parts.pieces (first_interval rest) parts.make_tokens;
+      end = ap (end_behind last) kept ∙ no_pieces source at n last parts.pieces (without_space_after (first_interval rest)) some parts.ends;
+      owns = ap (own_behind own passed) kept ∙ any_own n own passed parts.pieces (without_space_after (first_interval rest)) some (parts.owns passed);
     }
 
 -- tokens
@@ -154,9 +154,9 @@ tokens_over_space s at offset first rest n front space goes_on n_is =
 pub tokens_over_token : (s : List ℕ) (at offset first : ℕ) (rest : List ℕ) (n : ℕ) → drop at s ≡ first ∷ rest → makes_tokens (piece_kind first rest) ≡ true → n ≡ token_length (token_kind first rest) first rest
     → first_tokens_from 0 offset (drop at s) ≡ (let token : SpelledToken = record { kind = token_kind first rest; bytes = take n (drop at s); start = offset } in token ∷ first_tokens_from 0 (offset + n) (drop (at + n) s))
 unfolding first_tokens_from
-tokens_over_token s at offset first rest n front word n_is =
+tokens_over_token s at offset first rest n front makes n_is =
     let positive : 0 < n = rw n_is (token_length-positive (token_kind first rest) first rest) in
-    rw (← first_skip s at offset first rest n front positive, front, token_goes_on (piece_kind first rest) word, token_no_space (piece_kind first rest) word, ← n_is) refl
+    rw (← first_skip s at offset first rest n front positive, front, token_goes_on (piece_kind first rest) makes, token_no_space (piece_kind first rest) makes, ← n_is) refl
 
 pub no_tokens : (s : List ℕ) (at offset first : ℕ) (rest : List ℕ) → drop at s ≡ first ∷ rest → ends_statement (piece_kind first rest) ≡ true → first_tokens_from 0 offset (drop at s) ≡ []
 unfolding first_tokens_from

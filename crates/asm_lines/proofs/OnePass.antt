@@ -105,10 +105,10 @@ space_tokens first rest k offset closes space some =
 first_token_read : (first : ℕ) (rest : List ℕ) (k offset : ℕ) → makes_tokens (piece_kind first rest) ≡ true
     → tokens_from 0 offset (take (token_length (token_kind first rest) first rest + k) (first ∷ rest)) ≡ first_token offset first rest ∷ tokens_from (token_length (token_kind first rest) first rest - 1) (suc offset) (take (token_length (token_kind first rest) first rest - 1 + k) rest)
 unfolding tokens_from
-first_token_read first rest k offset word =
+first_token_read first rest k offset makes =
     let n = token_length (token_kind first rest) first rest in
     let cut = take (n - 1 + k) rest in
-    let local = local_token first rest k word (token_closes (piece_kind first rest) word) (token_no_space (piece_kind first rest) word) in
+    let local = local_token first rest k makes (token_closes (piece_kind first rest) makes) (token_no_space (piece_kind first rest) makes) in
     let some = token_length-positive (token_kind first rest) first rest in
     let whole = front_cut first rest n k some in
     let bytes : take n (first ∷ cut) ≡ take n (first ∷ rest) = ap (take n) (sym whole) ∙ take_front n k (first ∷ rest) in
@@ -153,15 +153,15 @@ pass_space source at offset first rest n front space goes_on closes n_is ends la
 -- a token is passed
 pass_token : (source : List ℕ) (at offset first : ℕ) (rest : List ℕ) (n : ℕ) → drop at source ≡ first ∷ rest → makes_tokens (piece_kind first rest) ≡ true → n ≡ token_length (token_kind first rest) first rest
     → reach source at ≡ reach source (at + n) → Same source (at + n) (offset + n) → Same source at offset
-pass_token source at offset first rest n front word n_is same later =
+pass_token source at offset first rest n front makes n_is same later =
     let positive : 0 < n = rw n_is (token_length-positive (token_kind first rest) first rest) in
-    let over = tokens_over_token source at offset first rest n front word n_is in
+    let over = tokens_over_token source at offset first rest n front makes n_is in
     let k = reach source (at + n) - (at + n) in
     let behind : at + n ≤ reach source (at + n) = no_earlier (is_kept source (at + n)) in
     let count : reach source at - at ≡ n + k = omega arith in
     let bytes : take (token_length (token_kind first rest) first rest) (first ∷ rest) ≡ take n (drop at source) = ap (λ m. take m (first ∷ rest)) (sym n_is) ∙ ap (take n) (sym front) in
     ap (λ m. tokens_from 0 offset (take m (drop at source))) count ∙ ap (λ these. tokens_from 0 offset (take (n + k) these)) front
-    ∙ ap (λ m. tokens_from 0 offset (take (m + k) (first ∷ rest))) n_is ∙ first_token_read first rest k offset word
+    ∙ ap (λ m. tokens_from 0 offset (take (m + k) (first ∷ rest))) n_is ∙ first_token_read first rest k offset makes
     ∙ ap (λ these. first_token offset first rest ∷ these) (ap (λ m. tokens_from (m - 1) (suc offset) (take (m - 1 + k) rest)) (sym n_is) ∙ rest_tokens source at first rest n k offset front positive ∙ later)
     ∙ ap (λ b. (let token : SpelledToken = record { kind = token_kind first rest; bytes = b; start = offset } in token ∷ first_tokens_from 0 (offset + n) (drop (at + n) source))) bytes ∙ sym over
   where
@@ -235,10 +235,10 @@ same_from (suc fuel) source at offset enough closed = by_front (λ n some closed
         let n = token_length (token_kind first rest) first rest in
         let positive : 0 < n = token_length-positive (token_kind first rest) first rest in
         let closes = closes_at source at first rest front ends_is closed in
-        let word = makes_tokens_by (piece_kind first rest) ends_is space_is closes in
-        let words = pieces_of_token source at first rest n front word refl positive (token_within first rest word) in
-        let move = over_token source at n at 0 0 positive words in
-        pass_token source at offset first rest n front word refl move.end (later n positive (sym move.closed ∙ closed))
+        let makes = makes_tokens_by (piece_kind first rest) ends_is space_is closes in
+        let parts = pieces_of_token source at first rest n front makes refl positive (token_within first rest makes) in
+        let move = over_token source at n at 0 0 positive parts in
+        pass_token source at offset first rest n front makes refl move.end (later n positive (sym move.closed ∙ closed))
 
     by_front : Later → (text : List ℕ) → drop at source ≡ text → Same source at offset
     by_front later [] front = past_end source at offset (omega (arith, length-drop at source, ap length front))

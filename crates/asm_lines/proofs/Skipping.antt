@@ -132,11 +132,11 @@ skip_unclosed source from at first line rest front unclosed before =
 -- the statement that begins with a token
 token_kept : (source : List ℕ) (begin : ℕ) → BeginsToken source begin → trimmed (first_interval (pieces_at source begin)) ≡ kept_at source begin
 unfolding trimmed
-token_kept source begin word =
-    let n = piece_length (piece_kind word.first word.rest) word.rest in
-    let off = one_off source begin word.first word.rest n word.front refl (piece_length-positive (piece_kind word.first word.rest) word.rest) in
-    let goes_on = token_goes_on (piece_kind word.first word.rest) word.makes in
-    let no_space = token_no_space (piece_kind word.first word.rest) word.makes in
+token_kept source begin token =
+    let n = piece_length (piece_kind token.first token.rest) token.rest in
+    let off = one_off source begin token.first token.rest n token.front refl (piece_length-positive (piece_kind token.first token.rest) token.rest) in
+    let goes_on = token_goes_on (piece_kind token.first token.rest) token.makes in
+    let no_space = token_no_space (piece_kind token.first token.rest) token.makes in
     rw (off, goes_on, no_space) refl
 
 record KeptToken (source : List ℕ) (begin : ℕ) : Type 0 where
@@ -146,12 +146,12 @@ record KeptToken (source : List ℕ) (begin : ℕ) : Type 0 where
   start : first.start ≡ begin
 
 kept_begins : (source : List ℕ) (begin : ℕ) → BeginsToken source begin → KeptToken source begin
-kept_begins source begin word =
-    let n = piece_length (piece_kind word.first word.rest) word.rest in
-    let off = one_off source begin word.first word.rest n word.front refl (piece_length-positive (piece_kind word.first word.rest) word.rest) in
-    let goes_on = token_goes_on (piece_kind word.first word.rest) word.makes in
-    let no_space = token_no_space (piece_kind word.first word.rest) word.makes in
-    let here = first_piece begin word.first word.rest in
+kept_begins source begin token =
+    let n = piece_length (piece_kind token.first token.rest) token.rest in
+    let off = one_off source begin token.first token.rest n token.front refl (piece_length-positive (piece_kind token.first token.rest) token.rest) in
+    let goes_on = token_goes_on (piece_kind token.first token.rest) token.makes in
+    let no_space = token_no_space (piece_kind token.first token.rest) token.makes in
+    let here = first_piece begin token.first token.rest in
     record {
       first = here;
       others = without_space_after (first_interval (pieces_at source (begin + n)));
@@ -166,9 +166,9 @@ statement_kept file source begin first others kept start = rw (kept, start) refl
 
 statement_there : (file : ℕ) (source : List ℕ) (begin : ℕ) → BeginsToken source begin
     → (let statement : StatementAt = record { file = file; line = line_of source begin; bytes = bytes_between source begin (reach source begin) } in statement_in file source (first_interval (pieces_at source begin)) ≡ Some statement)
-statement_there file source begin word =
-    let there = kept_begins source begin word in
-    ap (statement_of file source) (token_kept source begin word) ∙ statement_kept file source begin there.first there.others there.kept there.start
+statement_there file source begin token =
+    let there = kept_begins source begin token in
+    ap (statement_of file source) (token_kept source begin token) ∙ statement_kept file source begin there.first there.others there.kept there.start
 
 -- no fault in a statement that closes and is no longer than the limit
 none_open : (source : List ℕ) (pieces : List Piece) → all_close pieces ≡ true → first_open source pieces ≡ None
@@ -204,22 +204,22 @@ some_long source first others kept is long =
 -- what is read is the next statement
 pub next_whole : (source : List ℕ) (from : ℕ) (place : Point) (read : List Token) (next there own : ℕ) → Reaches source from place → place.at < length source → IsReadWhole source place.at read next there own → own ≤ 65536 → IsNext source from read place.line next there
 unfolding statements_left found_left
-next_whole source from place read next there own reached inside known fits = by_word reached.begins
+next_whole source from place read next there own reached inside known fits = by_token reached.begins
   where
-    by_word : (length source ≤ place.at) ⊎ BeginsToken source place.at → IsNext source from read place.line next there
-    by_word (inl past) = absurd (omega arith)
-    by_word (inr word) =
+    by_token : (length source ≤ place.at) ⊎ BeginsToken source place.at → IsNext source from read place.line next there
+    by_token (inl past) = absurd (omega arith)
+    by_token (inr token) =
         let begin = place.at in
         let whole : tokens_of (bytes_between source begin (reach source begin)) ≡ map spelled read = one_pass source begin known.closed ∙ sym known.tokens in
         let none_found : interval_found source (first_interval (pieces_at source begin)) ≡ None =
         ap (λ one. earlier one (long_found source (trimmed (first_interval (pieces_at source begin))))) (none_open source (first_interval (pieces_at source begin)) known.closed)
-        ∙ ap (long_found source) (token_kept source begin word) ∙ none_long source (kept_at source begin) (omega (arith, known.own_is)) in
+        ∙ ap (long_found source) (token_kept source begin token) ∙ none_long source (kept_at source begin) (omega (arith, known.own_is)) in
         record {
           statements = λ file.
               let statement : StatementAt = record { file = file; line = line_of source begin; bytes = bytes_between source begin (reach source begin) } in
               let left = filter_map (statement_in file source) (intervals_of (pieces_at source next)) in
               ap (map in_tokens) (sym (reached.skipped.statements file) ∙ statements_more file source (pieces_at source begin)
-              ∙ ap (λ one. cons_option one (filter_map (statement_in file source) (intervals_of (later_pieces (pieces_at source begin))))) (statement_there file source begin word)
+              ∙ ap (λ one. cons_option one (filter_map (statement_in file source) (intervals_of (later_pieces (pieces_at source begin))))) (statement_there file source begin token)
               ∙ ap (λ these. statement ∷ filter_map (statement_in file source) (intervals_of these)) (sym known.later))
               ∙ ap (λ tokens. (let one : TokenStatement = record { file = file; line = line_of source begin; tokens = tokens } in one ∷ map in_tokens left)) whole
               ∙ ap (λ line. (let one : TokenStatement = record { file = file; line = line; tokens = map spelled read } in one ∷ map in_tokens left)) (sym reached.skipped.line);
@@ -253,15 +253,15 @@ next_unclosed source from place reached unclosed =
 -- a statement that is too long
 pub next_long : (source : List ℕ) (from : ℕ) (place : Point) (own : ℕ) → Reaches source from place → place.at < length source → own ≡ own_length (kept_at source place.at) → 65536 < own → IsSome (found_left source from)
 unfolding found_left
-next_long source from place own reached inside own_is long = by_word reached.begins
+next_long source from place own reached inside own_is long = by_token reached.begins
   where
-    by_word : (length source ≤ place.at) ⊎ BeginsToken source place.at → IsSome (found_left source from)
-    by_word (inl past) = absurd (omega arith)
-    by_word (inr word) =
+    by_token : (length source ≤ place.at) ⊎ BeginsToken source place.at → IsSome (found_left source from)
+    by_token (inl past) = absurd (omega arith)
+    by_token (inr token) =
         let pieces = pieces_at source place.at in
-        let kept = kept_begins source place.at word in
+        let kept = kept_begins source place.at token in
         let here = some_long source kept.first kept.others (kept_at source place.at) kept.kept (omega (arith, own_is)) in
-        let first = some_or (long_found source (trimmed (first_interval pieces))) (first_long source (intervals_of (later_pieces pieces))) (here.0, ap (long_found source) (token_kept source place.at word) ∙ here.1) in
+        let first = some_or (long_found source (trimmed (first_interval pieces))) (first_long source (intervals_of (later_pieces pieces))) (here.0, ap (long_found source) (token_kept source place.at token) ∙ here.1) in
         let whole : IsSome (first_long source (intervals_of pieces)) = (first.0, long_more source pieces ∙ first.1) in
         let some = other_earlier (first_open source pieces) (first_long source (intervals_of pieces)) whole in
         (some.0, sym reached.skipped.faults ∙ some.1)

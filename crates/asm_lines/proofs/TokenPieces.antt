@@ -116,16 +116,16 @@ end_of_one at n here [] long = long
 end_of_one at n here (next ∷ others) long = refl
 
 own_of_token_piece : (kind : PieceKind) (n : ℕ) → makes_tokens kind ≡ true → cond (is_comment kind) 0 n ≡ n
-own_of_token_piece piece.Character n word = refl
-own_of_token_piece piece.String n word = refl
-own_of_token_piece piece.Other n word = refl
-own_of_token_piece piece.LineFeed n word = refl
-own_of_token_piece piece.Semicolon n word = refl
-own_of_token_piece piece.Blank n word = refl
-own_of_token_piece piece.LineComment n word = cc
-own_of_token_piece piece.BlockComment n word = cc
-own_of_token_piece piece.OpenComment n word = cc
-own_of_token_piece piece.OpenString n word = refl
+own_of_token_piece piece.Character n makes = refl
+own_of_token_piece piece.String n makes = refl
+own_of_token_piece piece.Other n makes = refl
+own_of_token_piece piece.LineFeed n makes = refl
+own_of_token_piece piece.Semicolon n makes = refl
+own_of_token_piece piece.Blank n makes = refl
+own_of_token_piece piece.LineComment n makes = cc
+own_of_token_piece piece.BlockComment n makes = cc
+own_of_token_piece piece.OpenComment n makes = cc
+own_of_token_piece piece.OpenString n makes = refl
 
 own_of_one : (n passed : ℕ) (here : Piece) (kept : List Piece) → own_bytes here ≡ n → own_behind passed passed (here ∷ kept) ≡ own_behind (passed + n) (passed + n) kept
 unfolding own_behind
@@ -133,14 +133,14 @@ own_of_one n passed here [] own = omega (arith, own)
 own_of_one n passed here (next ∷ others) own = omega (arith, own)
 
 one_token_piece : (source : List ℕ) (at first : ℕ) (rest : List ℕ) (n : ℕ) → drop at source ≡ first ∷ rest → n ≡ piece_length (piece_kind first rest) rest → 0 < n → n ≤ 1 + length rest → makes_tokens (piece_kind first rest) ≡ true → TokenPieces source at n
-one_token_piece source at first rest n front n_is some within word =
+one_token_piece source at first rest n front n_is some within makes =
     let long : at + length (take (piece_length (piece_kind first rest) rest) (first ∷ rest)) ≡ at + n = omega (arith, length-take (piece_length (piece_kind first rest) rest) (first ∷ rest)) in
     record {
       pieces = first_piece at first rest ∷ [];
       stands = one_off source at first rest n front n_is some;
-      make_tokens = (word, tt);
+      make_tokens = (makes, tt);
       ends = λ kept. end_of_one at n (first_piece at first rest) kept long;
-      owns = λ passed kept. own_of_one n passed (first_piece at first rest) kept (own_of_token_piece (piece_kind first rest) _ word ∙ omega arith);
+      owns = λ passed kept. own_of_one n passed (first_piece at first rest) kept (own_of_token_piece (piece_kind first rest) _ makes ∙ omega arith);
     }
 
 -- a run of plain bytes
@@ -175,44 +175,44 @@ plain_token first rest Other plain = rw (plain_kind first rest plain, plain) (om
 marked : (first : ℕ) (rest : List ℕ) (here : PieceKind) (operator : Bool) → here ≡ piece_kind first rest → makes_tokens here ≡ true → is_long_operator first rest ≡ false → is_operator_byte first ≡ operator
     → token_length (kind_by_piece first here) first rest ≡ piece_length here rest
 unfolding token_length piece_length
-marked first rest piece.Character operator is word short mark = ap (λ k. piece_length k rest) (sym is)
-marked first rest piece.String operator is word short mark = ap (λ k. piece_length k rest) (sym is)
-marked first rest piece.Other true is word short mark = rw (mark, short) refl
-marked first rest piece.Other false is word short mark = rw mark (ap (λ k. piece_length k rest) (sym is))
-marked first rest piece.LineFeed operator is word short mark = cc
-marked first rest piece.Semicolon operator is word short mark = cc
-marked first rest piece.Blank operator is word short mark = cc
-marked first rest piece.LineComment operator is word short mark = cc
-marked first rest piece.BlockComment operator is word short mark = cc
-marked first rest piece.OpenComment operator is word short mark = cc
-marked first rest piece.OpenString operator is word short mark = cc
+marked first rest piece.Character operator is makes short mark = ap (λ k. piece_length k rest) (sym is)
+marked first rest piece.String operator is makes short mark = ap (λ k. piece_length k rest) (sym is)
+marked first rest piece.Other true is makes short mark = rw (mark, short) refl
+marked first rest piece.Other false is makes short mark = rw mark (ap (λ k. piece_length k rest) (sym is))
+marked first rest piece.LineFeed operator is makes short mark = cc
+marked first rest piece.Semicolon operator is makes short mark = cc
+marked first rest piece.Blank operator is makes short mark = cc
+marked first rest piece.LineComment operator is makes short mark = cc
+marked first rest piece.BlockComment operator is makes short mark = cc
+marked first rest piece.OpenComment operator is makes short mark = cc
+marked first rest piece.OpenString operator is makes short mark = cc
 
 pub piece_token : (first : ℕ) (rest : List ℕ) → is_plain first ≡ false → makes_tokens (piece_kind first rest) ≡ true → token_length (token_kind first rest) first rest ≡ piece_length (piece_kind first rest) rest
 unfolding token_kind is_name_start begins_long_operator
-piece_token first rest special_byte word =
+piece_token first rest special_byte makes =
     let start : is_name_start first ≡ false = special (λ b. is_name_start b ≡ false) first special_byte refl refl refl refl refl refl refl refl refl in
     let digit : is_ascii_digit first ≡ false = special (λ b. is_ascii_digit b ≡ false) first special_byte refl refl refl refl refl refl refl refl refl in
     let short : is_long_operator first rest ≡ false = short_long first rest (special (λ b. begins_long_operator b ≡ false) first special_byte refl refl refl refl refl refl refl refl refl) in
     let kind : token_kind_by first (piece_kind first rest) ≡ kind_by_piece first (piece_kind first rest) = rw (start, digit) refl in
-    ap (λ k. token_length k first rest) kind ∙ marked first rest (piece_kind first rest) (is_operator_byte first) refl word short refl
+    ap (λ k. token_length k first rest) kind ∙ marked first rest (piece_kind first rest) (is_operator_byte first) refl makes short refl
 
 -- a token is a run of plain bytes, or one piece
 pub token_run : (source : List ℕ) (at first : ℕ) (rest : List ℕ) (n : ℕ) → drop at source ≡ first ∷ rest → makes_tokens (piece_kind first rest) ≡ true → n ≡ token_length (token_kind first rest) first rest
     → (n ≤ prefix_len is_plain (drop at source)) ⊎ (n ≡ piece_length (piece_kind first rest) rest)
-token_run source at first rest n front word n_is = by_class (is_plain first) refl
+token_run source at first rest n front makes n_is = by_class (is_plain first) refl
   where
     by_class : (plain : Bool) → is_plain first ≡ plain → (n ≤ prefix_len is_plain (drop at source)) ⊎ (n ≡ piece_length (piece_kind first rest) rest)
     by_class true plain =
         let run : n ≤ prefix_len is_plain (first ∷ rest) = omega (arith, n_is, plain_token first rest (token_kind first rest) plain) in
         inl (rw front run)
-    by_class false plain = inr (n_is ∙ piece_token first rest plain word)
+    by_class false plain = inr (n_is ∙ piece_token first rest plain makes)
 
 -- a token is a run of whole pieces
 pub pieces_of_token : (source : List ℕ) (at first : ℕ) (rest : List ℕ) (n : ℕ) → drop at source ≡ first ∷ rest → makes_tokens (piece_kind first rest) ≡ true → n ≡ token_length (token_kind first rest) first rest → 0 < n → n ≤ 1 + length rest → TokenPieces source at n
-pieces_of_token source at first rest n front word n_is some within = by_class (is_plain first) refl
+pieces_of_token source at first rest n front makes n_is some within = by_class (is_plain first) refl
   where
     by_class : (plain : Bool) → is_plain first ≡ plain → TokenPieces source at n
     by_class true plain =
         let run : n ≤ prefix_len is_plain (first ∷ rest) = omega (arith, n_is, plain_token first rest (token_kind first rest) plain) in
         plain_token_pieces n source at (rw front run)
-    by_class false plain = one_token_piece source at first rest n front (n_is ∙ piece_token first rest plain word) some within word
+    by_class false plain = one_token_piece source at first rest n front (n_is ∙ piece_token first rest plain makes) some within makes

@@ -46,24 +46,24 @@ pub one_length : (first : ℕ) (rest : List ℕ) (kind : PieceKind) → piece_ki
 one_length first rest kind is one = one ∙ ap (λ k. piece_length k rest) (sym is)
 
 pub token_on_line : (kind : PieceKind) → makes_tokens kind ≡ true → is_on_line kind ≡ true
-token_on_line piece.LineFeed word = cc
-token_on_line piece.Semicolon word = refl
-token_on_line piece.Blank word = refl
-token_on_line piece.LineComment word = refl
-token_on_line piece.BlockComment word = cc
-token_on_line piece.OpenComment word = cc
-token_on_line piece.Character word = refl
-token_on_line piece.String word = refl
-token_on_line piece.OpenString word = cc
-token_on_line piece.Other word = refl
+token_on_line piece.LineFeed makes = cc
+token_on_line piece.Semicolon makes = refl
+token_on_line piece.Blank makes = refl
+token_on_line piece.LineComment makes = refl
+token_on_line piece.BlockComment makes = cc
+token_on_line piece.OpenComment makes = cc
+token_on_line piece.Character makes = refl
+token_on_line piece.String makes = refl
+token_on_line piece.OpenString makes = cc
+token_on_line piece.Other makes = refl
 
 -- a token is appended to those before it
 pub token_read : (made after : List Token) (whole : List SpelledToken) (s : List ℕ) (at offset first : ℕ) (rest : List ℕ) (n : ℕ) (token : Token) →
     drop at s ≡ first ∷ rest → makes_tokens (piece_kind first rest) ≡ true → n ≡ token_length (token_kind first rest) first rest →
     after ≡ made ++ token ∷ [] → token.kind ≡ token_kind first rest → token.bytes.now ≡ take n (drop at s) → token.start ≡ offset →
     map spelled made ++ first_tokens_from 0 offset (drop at s) ≡ whole → map spelled after ++ first_tokens_from 0 (offset + n) (drop (at + n) s) ≡ whole
-token_read made after whole s at offset first rest n token front word n_is after_is kind_is bytes_is start_is before =
-    let step = tokens_over_token s at offset first rest n front word n_is in
+token_read made after whole s at offset first rest n token front makes n_is after_is kind_is bytes_is start_is before =
+    let step = tokens_over_token s at offset first rest n front makes n_is in
     let grown : map spelled after ≡ map spelled made ++ spelled token ∷ [] = ap (map spelled) after_is ∙ map-append spelled made (token ∷ []) in
     rw (grown, append_assoc, kind_is, bytes_is, start_is, ← step) before
 
@@ -72,9 +72,9 @@ pub token_read_at : (made after : List Token) (whole : List SpelledToken) (s : L
     drop at s ≡ first ∷ rest → makes_tokens (piece_kind first rest) ≡ true → n ≡ token_length (token_kind first rest) first rest →
     after ≡ made ++ token ∷ [] → token.kind ≡ token_kind first rest → token.bytes.now ≡ take n (drop at s) → token.start ≡ at - begin →
     map spelled made ++ first_tokens_from 0 (at - begin) (drop at s) ≡ whole → map spelled after ++ first_tokens_from 0 (at + n - begin) (drop (at + n) s) ≡ whole
-token_read_at made after whole s begin at first rest n token begins front word n_is after_is kind_is bytes_is start_is before =
+token_read_at made after whole s begin at first rest n token begins front makes n_is after_is kind_is bytes_is start_is before =
     let offset : at + n - begin ≡ at - begin + n = omega arith in
-    rw offset (token_read made after whole s at (at - begin) first rest n token front word n_is after_is kind_is bytes_is start_is before)
+    rw offset (token_read made after whole s at (at - begin) first rest n token front makes n_is after_is kind_is bytes_is start_is before)
 
 pub space_read_at : (done whole : List SpelledToken) (s : List ℕ) (begin at first : ℕ) (rest : List ℕ) (n : ℕ) → begin ≤ at →
     drop at s ≡ first ∷ rest → is_space (piece_kind first rest) ≡ true → ends_statement (piece_kind first rest) ≡ false → n ≡ piece_length (piece_kind first rest) rest →
