@@ -45,7 +45,7 @@ both true b e = (refl, e)
 both false b e = cc
 
 -- the test holds of so many bytes from this one on
-pub holds_from : (ℕ → Bool) → ℕ → ℕ → Bool
+unfoldable pub holds_from : (ℕ → Bool) → ℕ → ℕ → Bool
 holds_from test zero byte = true
 holds_from test (suc n) byte = test byte && holds_from test n (suc byte)
 

@@ -16,4 +16,6 @@ pub mod Cuts
 pub mod OnePass
 pub mod Skipping
 pub mod PlacingSteps
+pub mod TokenFronts
+pub mod TokenLists
 mod Samples

@@ -44,7 +44,7 @@ special P byte none p10 p59 p32 p9 p13 p35 p47 p39 p34 =
     (at_byte P byte 13 p13)) (at_byte P byte 35 p35)) (at_byte P byte 47 p47)) (at_byte P byte 39 p39)) (at_byte P byte 34 p34)
 
 -- a byte of a name is plain
-name_is_plain : (byte : ℕ) → is_name_byte byte ≡ true → is_plain byte ≡ true
+pub name_is_plain : (byte : ℕ) → is_name_byte byte ≡ true → is_plain byte ≡ true
 unfolding is_name_byte is_name_start
 name_is_plain byte name = let same = by_class (is_plain byte) refl in same
   where

@@ -12,3 +12,4 @@ pub mod StatementTokens
 pub mod NextStatements
 pub mod Skips
 pub mod Placing
+pub mod TokenGrammar

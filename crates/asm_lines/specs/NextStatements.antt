@@ -23,6 +23,10 @@ abbrev pub in_tokens : StatementAt → TokenStatement
 in_tokens statement =
     record { file = statement.file; line = statement.line; tokens = tokens_of statement.bytes }
 
+-- the statement of this file that was read to these tokens, and begins on this line
+abbrev pub next_in_tokens : ℕ → ℕ → List Token → TokenStatement
+next_in_tokens file line read = record { file = file; line = line; tokens = map spelled read }
+
 -- the statements from an offset on
 unfoldable pub statements_left : ℕ → List ℕ → ℕ → List StatementAt
 statements_left file source at =
@@ -35,7 +39,9 @@ found_left source at =
 
 -- a statement stands next, on this line and with these tokens, and what is left behind it
 pub record IsNext (source : List ℕ) (at : ℕ) (read : List Token) (line next line_there : ℕ) : Type 0 where
-  pub statements : (file : ℕ) → map in_tokens (statements_left file source at) ≡ (let statement : TokenStatement = record { file = file; line = line; tokens = map spelled read } in statement ∷ map in_tokens (statements_left file source next))
+  pub statements : (file : ℕ)
+      → map in_tokens (statements_left file source at)
+      ≡ next_in_tokens file line read ∷ map in_tokens (statements_left file source next)
   pub faults : found_left source at ≡ found_left source next
   pub there : line_there ≡ line_of source next
   pub within : next ≤ length source

@@ -1,8 +1,10 @@
-//! What holds of the statements of every source.
+//! What holds of the statements of every source, and of the tokens of every statement.
 
-ghost use Rattle.std.specs.Prelude.{ℕ, List, All, IfOk};
+ghost use Rattle.std.specs.Prelude.{◌≡◌, ℕ, List, All, IfOk};
 ghost use Rattle.asm_lines.specs.Laws.{IsRun, HasNoNul, LinesNeverFall};
+ghost use Rattle.asm_base.specs.Tokens.{SpelledToken, tokens_of};
 ghost use Rattle.asm_lines.specs.Statements.{statements_of};
+ghost use Rattle.asm_lines.specs.TokenGrammar.{AreTokens};
 
 use asm_base::one_division;
 
@@ -22,4 +24,12 @@ pub fn no_statement_has_nul()
 /// The lines of the statements do not fall.
 pub fn lines_never_fall()
     ensures { (file : ℕ) (source : List ℕ) → IfOk (statements_of file source) LinesNeverFall }
+{}
+
+/// By the grammar of tokens a statement is the tokens of its definition, and no others.
+#[tactic(auto, using(crate::proofs::TokenLists::some_tokens, crate::proofs::TokenLists::only_tokens))]
+pub fn one_list_of_tokens()
+    ensures some { (bytes : List ℕ) → AreTokens 0 bytes (tokens_of bytes) }
+    ensures only { (bytes : List ℕ) (one other : List SpelledToken) → AreTokens 0 bytes one
+        → AreTokens 0 bytes other → one ≡ other }
 {}

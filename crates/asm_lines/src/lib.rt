@@ -1,5 +1,5 @@
-//! From the bytes of a source to its statements, each with its file and line (GNU as manual, chapter
-//! 3): a list of all of them, or one at a time as its tokens, which are placed at once.
+//! From the bytes of a source to its statements, each with its file and line (GNU as manual,
+//! chapter 3): a list of all of them, or one at a time as its tokens, which are placed at once.
 #![tactic(auto)]
 
 mod classes;
@@ -17,7 +17,7 @@ mod statements;
 
 pub use classes::every_byte_has_its_class;
 pub use faults::{LineCause, LineFault};
-pub use laws::{lines_never_fall, no_statement_has_nul, statements_are_whole};
+pub use laws::{lines_never_fall, no_statement_has_nul, one_list_of_tokens, statements_are_whole};
 pub use placing::{Placer, place_source};
 pub use reading::read_statements;
 pub use source_causes::{SourceCause, SourceFault};
