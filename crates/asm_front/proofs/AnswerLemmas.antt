@@ -4,59 +4,50 @@ use Rattle.std.proofs.lemmas.Bool.Decides.{nat_tests}
 use Rattle.asm_base.specs.Inputs.{Contents}
 use Rattle.asm_base.specs.WholeFile.{most_bytes, ReadsFile, ReadsName}
 use Rattle.asm_base.specs.declared.reading.TextFault.TheVariants.{TooLarge}
-use Rattle.asm_base.specs.declared.faults.Fault.TheVariants.{Statement}
-use Rattle.asm_base.specs.declared.faults.StatementFault.TheVariants as statement
-use Rattle.asm_base.specs.declared.notes.Noted.{Noted}
-use Rattle.asm_place.specs.State.{Placed}
-use Rattle.asm_place.specs.Sources.{FaultAt, fault_at, pos_at}
-use Rattle.asm_place.specs.Stops.{Stops}
-use Rattle.asm_front.specs.Ending.{Flags, NotedObject}
-use Rattle.asm_front.specs.Assembly.{unnoted, too_large, placed_end, assembly_of_lines, assembly_of}
-use Rattle.asm_front.specs.Stops.{MakesNoted}
+use Rattle.asm_base.specs.Refusals.{Returns}
+use Rattle.asm_place.specs.Sources.{fault_at}
+use Rattle.asm_place.specs.declared.place_faults.FaultAt.{FaultAt}
+use Rattle.asm_front.specs.Ending.{Flags}
+use Rattle.asm_front.specs.declared.ending.NotedObject.{NotedObject}
+use Rattle.asm_front.specs.Assembly.{too_large, assembly_of_lines, assembly_of}
 use Rattle.asm_front.specs.Answering.{IsAnswered}
 use Rattle.asm_front.specs.Outcome.{main_file, AssemblesAs, AssemblesFile, Assembles}
 use Rattle.asm_base.specs.declared.refusals.Refusal.{Refusal}
 use Rattle.asm_base.specs.declared.refusals.Refusal.TheVariants as refusal
-use Rattle.asm_place.specs.declared.place_faults.LocatedCause.{LocatedCause}
 use Rattle.asm_front.specs.declared.answers.Assembled.{Assembled}
 use Rattle.asm_front.specs.declared.answers.AsmFault.{AsmFault}
 use Rattle.asm_front.specs.declared.answers.AsmFault.TheVariants.{Source, Read, NoMemory}
 
--- what ends the placing ends the assembly
-pub stopped : (fatal : Bool) (end : Refusal LocatedCause) (notes : List Noted) (placed : Result Placed FaultAt) → Stops end notes placed → Stops end notes (placed_end fatal placed)
-stopped fatal (refusal.Fault cause) notes placed is = ap (placed_end fatal) is
-stopped fatal refusal.NoMemory notes placed is = tt
-
 -- what was made by the definition is answered by the definition
-pub answered : (name : List ℕ) (assembly : Result NotedObject FaultAt) (notes : List Noted) (made : Result (List ℕ) (Refusal LocatedCause)) (result : Result Assembled AsmFault)
-    → MakesNoted notes made assembly → IsAnswered name notes made result → AssemblesAs name assembly result
-answered name assembly notes (Ok object) (Ok told) is so =
-    (is ∙ ap (λ o. Ok (record { object = o; notes = notes })) (sym so.0) ∙ ap (λ ns. Ok (record { object = told.object; notes = ns })) (sym so.1), so.2)
-answered name assembly notes (Ok object) (Err (Source fault pos told_notes files)) is so = absurd so
-answered name assembly notes (Ok object) (Err Read) is so = tt
-answered name assembly notes (Ok object) (Err NoMemory) is so = tt
-answered name assembly notes (Err (refusal.Fault cause)) (Ok told) is so = absurd so
-answered name assembly notes (Err (refusal.Fault cause)) (Err (Source told at told_notes files)) is so =
-    (is ∙ ap (λ f. Err (fault_at f cause.pos notes)) (sym so.0) ∙ ap (λ p. Err (fault_at told p notes)) (sym so.1) ∙ ap (λ ns. Err (fault_at told at ns)) (sym so.2), so.3)
-answered name assembly notes (Err (refusal.Fault cause)) (Err Read) is so = tt
-answered name assembly notes (Err (refusal.Fault cause)) (Err NoMemory) is so = tt
-answered name assembly notes (Err refusal.NoMemory) (Ok told) is so = absurd so
-answered name assembly notes (Err refusal.NoMemory) (Err (Source fault pos told_notes files)) is so = absurd so
-answered name assembly notes (Err refusal.NoMemory) (Err Read) is so = tt
-answered name assembly notes (Err refusal.NoMemory) (Err NoMemory) is so = tt
+pub answered : (name : List ℕ) (assembly : Result NotedObject FaultAt) (made : Result NotedObject (Refusal FaultAt)) (result : Result Assembled AsmFault)
+    → Returns made assembly → IsAnswered name made result → AssemblesAs name assembly result
+answered name assembly (Ok noted) (Ok told) is so =
+    (is ∙ ap (λ o. Ok (record { object = o; notes = noted.notes })) (sym so.0) ∙ ap (λ ns. Ok (record { object = told.object; notes = ns })) (sym so.1), so.2)
+answered name assembly (Ok noted) (Err (Source fault pos notes files)) is so = absurd so
+answered name assembly (Ok noted) (Err Read) is so = tt
+answered name assembly (Ok noted) (Err NoMemory) is so = tt
+answered name assembly (Err (refusal.Fault at)) (Ok told) is so = absurd so
+answered name assembly (Err (refusal.Fault at)) (Err (Source fault pos notes files)) is so =
+    (is ∙ ap (λ f. Err (fault_at f at.pos at.notes)) (sym so.0) ∙ ap (λ p. Err (fault_at fault p at.notes)) (sym so.1) ∙ ap (λ ns. Err (fault_at fault pos ns)) (sym so.2), so.3)
+answered name assembly (Err (refusal.Fault at)) (Err Read) is so = tt
+answered name assembly (Err (refusal.Fault at)) (Err NoMemory) is so = tt
+answered name assembly (Err refusal.NoMemory) (Ok told) is so = absurd so
+answered name assembly (Err refusal.NoMemory) (Err (Source fault pos notes files)) is so = absurd so
+answered name assembly (Err refusal.NoMemory) (Err Read) is so = tt
+answered name assembly (Err refusal.NoMemory) (Err NoMemory) is so = tt
 
 -- a source that is not too large is assembled by its lines
 small_source : (flags : Flags) (source : List ℕ) → length source ≤ most_bytes → assembly_of_lines flags main_file source ≡ assembly_of flags main_file source
 unfolding assembly_of
 small_source flags source few =
     let test : nat_lt most_bytes (length source) ≡ false = grind (arith, nat_tests) in
-    ap (λ b. cond b (unnoted (too_large main_file)) (assembly_of_lines flags main_file source)) (sym test)
+    ap (λ b. cond b (Err (too_large main_file)) (assembly_of_lines flags main_file source)) (sym test)
 
-large_source : (flags : Flags) (source : List ℕ) → most_bytes < length source → assembly_of flags main_file source ≡ unnoted (too_large main_file)
+large_source : (flags : Flags) (source : List ℕ) → most_bytes < length source → assembly_of flags main_file source ≡ Err (too_large main_file)
 unfolding assembly_of
 large_source flags source much =
     let test : nat_lt most_bytes (length source) ≡ true = grind (arith, nat_tests) in
-    ap (λ b. cond b (unnoted (too_large main_file)) (assembly_of_lines flags main_file source)) test
+    ap (λ b. cond b (Err (too_large main_file)) (assembly_of_lines flags main_file source)) test
 
 file_read : (flags : Flags) (name : List ℕ) (file : Option (List ℕ)) (text : List ℕ) (rest : Option (List ℕ)) (result : Result Assembled AsmFault)
     → ReadsFile file (Ok text) rest → AssemblesAs name (assembly_of_lines flags main_file text) result → AssemblesFile flags name file result
@@ -65,18 +56,18 @@ file_read flags name (Some bytes) text rest result read so =
     subst (λ assembly. AssemblesAs name assembly result) (small_source flags text (subst (λ xs. length xs ≤ most_bytes) (sym read.0) read.1) ∙ ap (assembly_of flags main_file) read.0) so
 
 -- a text that was read whole is assembled
-pub text_read : (flags : Flags) (contents : Option Contents) (name text : List ℕ) (rest : Option (List ℕ)) (notes : List Noted) (made : Result (List ℕ) (Refusal LocatedCause)) (result : Result Assembled AsmFault)
-    → ReadsName contents name (Ok text) rest → MakesNoted notes made (assembly_of_lines flags main_file text) → IsAnswered name notes made result → Assembles flags contents name result
-text_read flags None name text rest notes made result read is so = tt
-text_read flags (Some contents) name text rest notes made result read is so = file_read flags name (contents name) text rest result read (answered name (assembly_of_lines flags main_file text) notes made result is so)
+pub text_read : (flags : Flags) (contents : Option Contents) (name text : List ℕ) (rest : Option (List ℕ)) (made : Result NotedObject (Refusal FaultAt)) (result : Result Assembled AsmFault)
+    → ReadsName contents name (Ok text) rest → Returns made (assembly_of_lines flags main_file text) → IsAnswered name made result → Assembles flags contents name result
+text_read flags None name text rest made result read is so = tt
+text_read flags (Some contents) name text rest made result read is so = file_read flags name (contents name) text rest result read (answered name (assembly_of_lines flags main_file text) made result is so)
 
 file_too_large : (flags : Flags) (name : List ℕ) (file : Option (List ℕ)) (rest : Option (List ℕ)) (result : Result Assembled AsmFault)
-    → ReadsFile file (Err TooLarge) rest → IsAnswered name [] (Err (refusal.Fault (too_large main_file))) result → AssemblesFile flags name file result
+    → ReadsFile file (Err TooLarge) rest → IsAnswered name (Err (refusal.Fault (too_large main_file))) result → AssemblesFile flags name file result
 file_too_large flags name None rest result read so = absurd read
-file_too_large flags name (Some bytes) rest result read so = answered name (assembly_of flags main_file bytes) [] (Err (refusal.Fault (too_large main_file))) result (large_source flags bytes read) so
+file_too_large flags name (Some bytes) rest result read so = answered name (assembly_of flags main_file bytes) (Err (refusal.Fault (too_large main_file))) result (large_source flags bytes read) so
 
 -- a file that is too large is told so
-pub text_too_large : (flags : Flags) (contents : Option Contents) (name : List ℕ) (rest : Option (List ℕ)) (made : LocatedCause) (result : Result Assembled AsmFault)
-    → ReadsName contents name (Err TooLarge) rest → made ≡ too_large main_file → IsAnswered name [] (Err (refusal.Fault made)) result → Assembles flags contents name result
-text_too_large flags None name rest made result read is so = tt
-text_too_large flags (Some contents) name rest made result read is so = file_too_large flags name (contents name) rest result read (subst (λ m. IsAnswered name [] (Err (refusal.Fault m)) result) is so)
+pub text_too_large : (flags : Flags) (contents : Option Contents) (name : List ℕ) (rest : Option (List ℕ)) (fault : FaultAt) (result : Result Assembled AsmFault)
+    → ReadsName contents name (Err TooLarge) rest → fault ≡ too_large main_file → IsAnswered name (Err (refusal.Fault fault)) result → Assembles flags contents name result
+text_too_large flags None name rest fault result read is so = tt
+text_too_large flags (Some contents) name rest fault result read is so = file_too_large flags name (contents name) rest result read (subst (λ f. IsAnswered name (Err (refusal.Fault f)) result) is so)

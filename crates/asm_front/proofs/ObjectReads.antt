@@ -1,12 +1,14 @@
 -- Written bytes read back: an instruction's item stands in the object.
 use Rattle.std.proofs.Common.{◌≡◌, ℕ, ◌+◌, ◌&&◌, not, nat_lt, Bool, true, false, cond, List, [], ◌∷◌, ◌++◌, Option, Some, None, Result, Ok, Err, find, length, map, drop, refl, sym, ap, ◌∙◌}
+use Rattle.std.proofs.lemmas.List.{map-append}
 use Rattle.std.proofs.lemmas.Option.{slice_get-map}
 use Rattle.std.specs.Prelude.{slice_get, option_map}
-use Rattle.asm_base.specs.Tokens.{SpelledToken, tokens_of}
+use Rattle.asm_base.specs.Tokens.{SpelledToken}
 use Rattle.asm_base.specs.WholeFile.{most_bytes}
 use Rattle.asm_base.specs.declared.notes.Noted.{Noted}
 use Rattle.asm_base.specs.declared.positions.Pos.{Pos}
 use Rattle.asm_lines.specs.Statements.{StatementAt, statements_of}
+use Rattle.asm_lines.specs.NextStatements.{in_tokens}
 use Rattle.asm_symbols.specs.SymbolMap.{SymbolMap}
 use Rattle.asm_frags.specs.declared.items.Frag.{Frag}
 use Rattle.asm_frags.specs.Addresses.{item_with_address}
@@ -21,14 +23,13 @@ use Rattle.asm_relax.specs.Placing.{placed_from, placed_section, address_behind}
 use Rattle.asm_place.specs.declared.instructions.Row.{Row}
 use Rattle.asm_place.specs.Rows.{the_rows, has_name, bytes_of}
 use Rattle.asm_place.specs.Reads.{Reads}
-use Rattle.asm_base.specs.Refusals.{◌>>=◌}
 use Rattle.asm_place.specs.Idents.{plain_item}
 use Rattle.asm_place.specs.Operands.{is_name}
 use Rattle.asm_place.specs.Placing.{begins_with_dot}
 use Rattle.asm_place.specs.Places.{Item, LooseSection}
 use Rattle.asm_place.specs.State.{Placed, nothing_placed}
 use Rattle.asm_place.specs.Tables.{Table}
-use Rattle.asm_place.specs.Sources.{FaultAt, place_all}
+use Rattle.asm_place.specs.Sources.{place_all}
 use Rattle.asm_place.specs.Instructions.{behind_labels, row_written, next_item, StandsAt}
 use Rattle.asm_place.proofs.InstructionLaws.{instruction_there}
 use Rattle.asm_place.proofs.Readings.{found_reads, one_instruction}
@@ -39,8 +40,10 @@ use Rattle.elf_object.specs.Image.{image_of}
 use Rattle.elf_object.specs.Places.{PieceAt}
 use Rattle.elf_object.proofs.FilePlaces.{drop_stands, placed_get}
 use Rattle.elf_object.proofs.ItemPlaces.{items_stand}
-use Rattle.asm_front.specs.Ending.{Flags, NotedObject, first_warning, warned_end, made_end, laid_end, finished}
-use Rattle.asm_front.specs.Assembly.{lines_answer, assembly_of_lines, assembly_of}
+use Rattle.asm_front.specs.Ending.{Flags, first_warning, warned_end, made_end, laid_end, noted, finished}
+use Rattle.asm_front.specs.declared.ending.Ended.{Ended}
+use Rattle.asm_front.specs.declared.ending.NotedObject.{NotedObject}
+use Rattle.asm_front.specs.Assembly.{placed_end, source_placement, assembly_of_lines, assembly_of}
 use Rattle.asm_front.specs.Outcome.{main_file}
 use Rattle.asm_front.specs.ReadsBack.{ReadsAt, file_place, ReadsBack}
 use Rattle.asm_front.proofs.LaidItems.{items_of, layout_is}
@@ -126,42 +129,41 @@ reads_row bytes rest at row stands reads = record {
       one_instruction front (bytes_of row) after rest other row.mnemonic as_other reads (sym begins ∙ stands);
 }
 
--- a step that succeeded goes on from what the step before gave
-step_ok : {A B E : Type 0} (r : Result A E) (f : A → Result B E) (x : A) (answer : Result B E) → r ≡ Ok x → (r >>= f) ≡ answer → f x ≡ answer
-step_ok (Ok y) f x answer is e = let same : y ≡ x = cc in rw (← same) e
-step_ok (Err fault) f x answer is e = absurd cc
+warned_is : (place : Option Pos) (object made : List ℕ) → warned_end place object ≡ Ok made → made ≡ object
+warned_is None object made e = cc
+warned_is (Some pos) object made e = absurd cc
 
-warned_is : (place : Option Pos) (notes : List Noted) (object : List ℕ) (made : NotedObject) → warned_end place notes object ≡ Ok made → made.object ≡ object
-warned_is None notes object made e = cc
-warned_is (Some pos) notes object made e = absurd cc
-
-made_is : (fatal : Bool) (table : Table) (notes : List Noted) (fault : Option ObjectCause) (image : List ℕ) (made : NotedObject)
-    → made_end fatal table notes (unless fault image) ≡ Ok made → made.object ≡ image
-made_is fatal table notes None image made e = warned_is (first_warning fatal notes) notes image made e
+made_is : (fatal : Bool) (table : Table) (notes : List Noted) (fault : Option ObjectCause) (image made : List ℕ)
+    → made_end fatal table notes (unless fault image) ≡ Ok made → made ≡ image
+made_is fatal table notes None image made e = warned_is (first_warning fatal notes) image made e
 made_is fatal table notes (Some fault) image made e = absurd cc
 
-laid_is : (fatal : Bool) (table : Table) (notes : List Noted) (answer : Result LaidSections LayoutFault) (laid : LaidSections) (made : NotedObject)
-    → answer ≡ Ok laid → laid_end fatal table notes answer ≡ Ok made → made.object ≡ image_of table.symbols laid
+laid_is : (fatal : Bool) (table : Table) (notes : List Noted) (answer : Result LaidSections LayoutFault) (laid : LaidSections) (made : List ℕ)
+    → answer ≡ Ok laid → laid_end fatal table notes answer ≡ Ok made → made ≡ image_of table.symbols laid
 laid_is fatal table notes (Ok sections) laid made is e =
     let same : sections ≡ laid = cc in
     made_is fatal table notes (object_fault table.symbols sections) (image_of table.symbols sections) made e ∙ ap (image_of table.symbols) same
 laid_is fatal table notes (Err fault) laid made is e = absurd cc
 
+noted_is : (notes : List Noted) (answer : Result (List ℕ) Ended) (made : NotedObject) → noted notes answer ≡ Ok made → answer ≡ Ok made.object
+noted_is notes (Ok object) made e = cc
+noted_is notes (Err ended) made e = absurd cc
+
 -- the object that is made at the end is that of the layout
 finished_is : (fatal : Bool) (whole : Placed) (laid : LaidSections) (made : NotedObject) → layout_of whole.table.symbols whole.sections ≡ Ok laid
     → finished fatal whole.sections whole.table whole.notes ≡ Ok made → made.object ≡ image_of whole.table.symbols laid
 unfolding finished
-finished_is fatal whole laid made is e = laid_is fatal whole.table whole.notes (layout_of whole.table.symbols whole.sections) laid made is e
+finished_is fatal whole laid made is e =
+    let answer = layout_of whole.table.symbols whole.sections in
+    laid_is fatal whole.table whole.notes answer laid made.object is (noted_is whole.notes (laid_end fatal whole.table whole.notes answer) made e)
 
 lines_is : (flags : Flags) (source : List ℕ) (made : NotedObject) (statements : List StatementAt) (whole : Placed) → statements_of main_file source ≡ Ok statements
-    → place_all statements (nothing_placed flags.no_warn) ≡ Ok whole → assembly_of_lines flags main_file source ≡ Ok made
+    → place_all (map in_tokens statements) (nothing_placed flags.no_warn) ≡ Ok whole → assembly_of_lines flags main_file source ≡ Ok made
     → finished flags.fatal_warnings whole.sections whole.table whole.notes ≡ Ok made
 unfolding assembly_of_lines
 lines_is flags source made statements whole are all e =
-    let end = λ (placed : Placed). finished flags.fatal_warnings placed.sections placed.table placed.notes in
-    let from_lines = λ (r : Result (List StatementAt) FaultAt). r >>= λ these. place_all these (nothing_placed flags.no_warn) >>= end in
-    let placed_as : (place_all statements (nothing_placed flags.no_warn) >>= end) ≡ Ok made = sym (ap (λ r. from_lines (lines_answer main_file r)) are) ∙ e in
-    step_ok (place_all statements (nothing_placed flags.no_warn)) end whole (Ok made) all placed_as
+    let placement : source_placement flags.no_warn main_file (statements_of main_file source) ≡ Ok whole = ap (source_placement flags.no_warn main_file) are ∙ all in
+    sym (ap (placed_end flags.fatal_warnings) placement) ∙ e
 
 -- a source that has an object is not too large
 not_too_large : {B E : Type 0} (large : Bool) (fault : E) (r : Result B E) (y : B) → cond large (Err fault) r ≡ Ok y → r ≡ Ok y
@@ -170,7 +172,7 @@ not_too_large false fault r y e = e
 
 -- an object is that of the layout of what the statements of its source placed
 pub assembly_is : (flags : Flags) (source : List ℕ) (made : NotedObject) (statements : List StatementAt) (whole : Placed) (laid : LaidSections)
-    → statements_of main_file source ≡ Ok statements → place_all statements (nothing_placed flags.no_warn) ≡ Ok whole
+    → statements_of main_file source ≡ Ok statements → place_all (map in_tokens statements) (nothing_placed flags.no_warn) ≡ Ok whole
     → layout_of whole.table.symbols whole.sections ≡ Ok laid → assembly_of flags main_file source ≡ Ok made → made.object ≡ image_of whole.table.symbols laid
 unfolding assembly_of
 assembly_is flags source made statements whole laid are all is e =
@@ -180,10 +182,12 @@ assembly_is flags source made statements whole laid are all is e =
 -- each instruction that was written reads back
 pub reads_back : (flags : Flags) (source : List ℕ) (made : NotedObject) → assembly_of flags main_file source ≡ Ok made → ReadsBack flags source made.object
 reads_back flags source made e before after s row placed whole laid are front all is row_is =
-    let holds = instruction_there before s after (nothing_placed flags.no_warn) placed whole row front all row_is in
+    let split = map-append in_tokens before (s ∷ after) in
+    let whole_is = sym (ap (λ statements. place_all statements (nothing_placed flags.no_warn)) split) ∙ all in
+    let holds = instruction_there (map in_tokens before) (in_tokens s) (map in_tokens after) (nothing_placed flags.no_warn) placed whole row front whole_is row_is in
     let symbols = whole.table.symbols in
     let at = file_place symbols laid placed.current (next_item placed) in
     let same : made.object ≡ image_of symbols laid = assembly_is flags source made (before ++ s ∷ after) whole laid are all is e in
     let stands = object_stands symbols whole.sections laid placed.current (next_item placed) (bytes_of row) is holds in
     reads_row made.object stands.rest at row (ap (drop at) same ∙ drop_stands (image_of symbols laid) at (bytes_of row) stands)
-    (written_reads (behind_labels (tokens_of s.bytes)) row row_is)
+    (written_reads (behind_labels (in_tokens s).tokens) row row_is)

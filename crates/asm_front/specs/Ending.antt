@@ -12,21 +12,17 @@ use Rattle.asm_relax.specs.declared.faults.LayoutFault.TheVariants as layout
 use Rattle.elf_object.specs.declared.faults.ObjectCause.{ObjectCause}
 use Rattle.elf_object.specs.declared.faults.ObjectCause.TheVariants as object
 use Rattle.elf_object.specs.Objects.{object_of}
-use Rattle.asm_place.specs.declared.place_faults.LocatedCause.{LocatedCause}
 use Rattle.asm_place.specs.Tables.{Table}
 use Rattle.asm_place.specs.Places.{LooseSection}
-use Rattle.asm_place.specs.Sources.{FaultAt, fault_at}
+use Rattle.asm_place.specs.Sources.{fault_at}
+use Rattle.asm_place.specs.declared.place_faults.FaultAt.{FaultAt}
 use Rattle.asm_front.specs.declared.ending.Ended.{Ended}
+use Rattle.asm_front.specs.declared.ending.NotedObject.{NotedObject}
 
 -- the options that the assembly depends on
 pub record Flags : Type 0 where
   pub no_warn : Bool
   pub fatal_warnings : Bool
-
--- an object, and the notes of its source
-pub record NotedObject : Type 0 where
-  pub object : List ℕ
-  pub notes : List Noted
 
 -- a fault that is found at the end of a source, and its place
 abbrev pub ended_at : EndFault → Pos → Ended
@@ -60,29 +56,26 @@ abbrev pub first_warning : Bool → List Noted → Option Pos
 first_warning false notes = None
 first_warning true notes = option_map (λ noted. noted.pos) (slice_get notes 0)
 
--- a fault at the end as that of the assembly
-abbrev pub located : Ended → LocatedCause
-located ended = record { fault = End ended.fault; pos = ended.pos }
+-- the object, unless a warning refuses it
+abbrev pub warned_end : Option Pos → List ℕ → Result (List ℕ) Ended
+warned_end None object = Ok object
+warned_end (Some pos) object = Err (ended_at end.WarningsAreErrors pos)
 
--- the fault at the end, with the notes
-abbrev pub end_fault : Ended → List Noted → Result NotedObject FaultAt
-end_fault ended notes = Err (fault_at (End ended.fault) ended.pos notes)
+-- the object or its fault; a warning refuses it last
+abbrev pub made_end : Bool → Table → List Noted → Result (List ℕ) ObjectCause → Result (List ℕ) Ended
+made_end fatal table notes (Ok object) = warned_end (first_warning fatal notes) object
+made_end fatal table notes (Err cause) = Err (object_end table cause)
 
--- the object with the notes, unless a warning refuses it
-abbrev pub warned_end : Option Pos → List Noted → List ℕ → Result NotedObject FaultAt
-warned_end None notes made = Ok (record { object = made; notes = notes })
-warned_end (Some pos) notes made = end_fault (ended_at end.WarningsAreErrors pos) notes
-
--- the object or its fault, with the notes; a warning refuses it last
-abbrev pub made_end : Bool → Table → List Noted → Result (List ℕ) ObjectCause → Result NotedObject FaultAt
-made_end fatal table notes (Ok made) = warned_end (first_warning fatal notes) notes made
-made_end fatal table notes (Err fault) = end_fault (object_end table fault) notes
-
--- the object of a layout, or the fault of the layout or of the object, with the notes
-abbrev pub laid_end : Bool → Table → List Noted → Result LaidSections LayoutFault → Result NotedObject FaultAt
+-- the object of a layout, or the fault of the layout or of the object
+abbrev pub laid_end : Bool → Table → List Noted → Result LaidSections LayoutFault → Result (List ℕ) Ended
 laid_end fatal table notes (Ok sections) = made_end fatal table notes (object_of table.symbols sections)
-laid_end fatal table notes (Err fault) = end_fault (layout_end fault) notes
+laid_end fatal table notes (Err fault) = Err (layout_end fault)
+
+-- the object or the fault at the end, with the notes
+abbrev pub noted : List Noted → Result (List ℕ) Ended → Result NotedObject FaultAt
+noted notes (Ok object) = Ok (record { object = object; notes = notes })
+noted notes (Err ended) = Err (fault_at (End ended.fault) ended.pos notes)
 
 -- the object at the end of the source, or the first fault there: of the layout, of the object, and warnings last
 unfoldable pub finished : Bool → List LooseSection → Table → List Noted → Result NotedObject FaultAt
-finished fatal sections table notes = laid_end fatal table notes (layout_of table.symbols sections)
+finished fatal sections table notes = noted notes (laid_end fatal table notes (layout_of table.symbols sections))

@@ -1,7 +1,6 @@
 -- The definitions that the contracts cite, in reading order.
 pub mod Ending
 pub mod Assembly
-pub mod Stops
 pub mod Outcome
 pub mod ReadsBack
 pub mod Answering

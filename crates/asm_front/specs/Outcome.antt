@@ -4,8 +4,10 @@ use Rattle.asm_base.specs.Counts.{HasRisen, last_count}
 use Rattle.asm_base.specs.WholeFile.{most_bytes}
 use Rattle.asm_base.specs.Inputs.{Contents}
 use Rattle.asm_place.specs.Faults.{is_file_too_large}
-use Rattle.asm_place.specs.Sources.{FaultAt, fault_at}
-use Rattle.asm_front.specs.Ending.{Flags, NotedObject}
+use Rattle.asm_place.specs.Sources.{fault_at}
+use Rattle.asm_place.specs.declared.place_faults.FaultAt.{FaultAt}
+use Rattle.asm_front.specs.Ending.{Flags}
+use Rattle.asm_front.specs.declared.ending.NotedObject.{NotedObject}
 use Rattle.asm_front.specs.Assembly.{assembly_of}
 use Rattle.asm_front.specs.declared.answers.Options.{Options}
 use Rattle.asm_front.specs.declared.answers.Assembled.{Assembled}

@@ -1,7 +1,8 @@
 -- The bytes of an object at the place of each instruction, read as instructions.
-use Rattle.std.specs.Prelude.{ℕ, ◌+◌, ◌≡◌, List, ◌∷◌, ◌++◌, drop, Option, None, Some, Result, Ok, Err}
+use Rattle.std.specs.Prelude.{ℕ, ◌+◌, ◌≡◌, List, ◌∷◌, ◌++◌, map, drop, Option, None, Some, Result, Ok, Err}
 use Rattle.asm_base.specs.Inputs.{Contents}
 use Rattle.asm_lines.specs.Statements.{StatementAt, statements_of}
+use Rattle.asm_lines.specs.NextStatements.{in_tokens}
 use Rattle.asm_symbols.specs.SymbolMap.{SymbolMap}
 use Rattle.asm_relax.specs.Final.{address_of}
 use Rattle.asm_relax.specs.Settling.{LaidSections, layout_of}
@@ -30,13 +31,14 @@ pub record ReadsAt (bytes : List ℕ) (at : ℕ) (mnemonic : Mnemonic) : Type 0 
 abbrev pub file_place : SymbolMap → LaidSections → ℕ → ℕ → ℕ
 file_place symbols sections section item = section_offset symbols sections section + address_of sections section item
 
--- each instruction of the source reads back where its item stands: it is the next item of the section that items go into where the statements before it end
+-- each instruction of the source reads back where its item stands: it is the next item of the section that items go into where the
+-- statements that are handed out before it end
 abbrev pub ReadsBack : Flags → List ℕ → List ℕ → Type 0
 ReadsBack flags source object =
     (before after : List StatementAt) (s : StatementAt) (row : Row) (placed whole : Placed) (laid : LaidSections)
-    → statements_of main_file source ≡ Ok (before ++ s ∷ after) → place_all before (nothing_placed flags.no_warn) ≡ Ok placed
-    → place_all (before ++ s ∷ after) (nothing_placed flags.no_warn) ≡ Ok whole → layout_of whole.table.symbols whole.sections ≡ Ok laid
-    → instruction_of s ≡ Some row → ReadsAt object (file_place whole.table.symbols laid placed.current (next_item placed)) row.mnemonic
+    → statements_of main_file source ≡ Ok (before ++ s ∷ after) → place_all (map in_tokens before) (nothing_placed flags.no_warn) ≡ Ok placed
+    → place_all (map in_tokens (before ++ s ∷ after)) (nothing_placed flags.no_warn) ≡ Ok whole → layout_of whole.table.symbols whole.sections ≡ Ok laid
+    → instruction_of (in_tokens s) ≡ Some row → ReadsAt object (file_place whole.table.symbols laid placed.current (next_item placed)) row.mnemonic
 
 -- where the source is told, its object reads back as the source
 abbrev pub AnswerReadsBack : Flags → Option (List ℕ) → Result Assembled AsmFault → Type 0

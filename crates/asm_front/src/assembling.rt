@@ -1,113 +1,105 @@
 //! From the name of a source to its object.
 
-ghost use Rattle.std.specs.Prelude.{◌≡◌, ◌≤◌, ◌+◌, map, string_bytes, IfOk, OnOk};
+ghost use Rattle.std.specs.Prelude.{◌≡◌, ◌≤◌, ◌+◌, [], string_bytes, IfOk, OnOk};
 ghost use Rattle.std.specs.Io.KnownBytes.{IsAtEnd};
 ghost use Rattle.asm_base.specs.Inputs.{CountsMissing};
+ghost use Rattle.asm_base.specs.Refusals.{Raises, Returns};
 ghost use Rattle.asm_base.specs.WholeFile.{most_bytes};
-ghost use Rattle.asm_base.specs.Refusals.{Raises};
-ghost use Rattle.asm_front.specs.Assembly.{line_fault, too_large, placed_end, assembly_of_lines};
-ghost use Rattle.asm_lines.specs.Seen.{seen};
-ghost use Rattle.asm_place.specs.State.{nothing_placed};
-ghost use Rattle.asm_place.specs.Sources.{place_all};
-ghost use Rattle.asm_place.specs.PlacedBy.{placed_by};
+ghost use Rattle.asm_base.specs.declared.faults.Fault.TheVariants.{Statement};
+ghost use Rattle.asm_front.specs.Assembly.{line_fault, source_fault, source_placement, assembly_of_lines};
+ghost use Rattle.asm_lines.specs.Statements.{statements_of};
+ghost use Rattle.asm_place.specs.Sources.{pos_at, fault_at};
 ghost use Rattle.asm_front.specs.Outcome.{main_file, shown_name, files_of, flags_of, Assembles, NamesFiles, HasAssemblyCause, KeepsCount, TakesSource};
 ghost use Rattle.asm_front.specs.Answering.{IsAnswered};
 ghost use Rattle.asm_front.specs.ReadsBack.{ReadsBackFrom};
-ghost use Rattle.asm_front.specs.Stops.{MakesNoted};
 
 use crate::answers::{AsmFault, Assembled, Options};
-use crate::ending::{Made, finished};
+use crate::ending::{NotedObject, finished};
 use asm_base::{
-    Fault, Files, Inputs, NoMemory, Notes, Pos, StatementFault, Text, TextFault, read_text,
+    Fault, Files, Inputs, NoMemory, Notes, Pos, Refusal, StatementFault, Text, TextFault, read_text,
 };
-use asm_lines::{LineCause, LineFault, Statement, read_statements};
-use asm_place::{Assembler, LocatedCause, LocatedFault, place_all};
-use elf_object::Object;
+use asm_lines::{LineCause, SourceCause, SourceFault, place_source};
+use asm_place::{FaultAt, StatementPlacer, placing_in_order};
 use std::alloc::{AllocError, Global};
 
 /// The number of the source file, which is the only one.
 const MAIN_FILE: u32 = 0;
 
-/// A fault of the lines, at its place.
-fn line_fault(cause: LineCause) -> LocatedCause
-    ensures { result ≡ line_fault main_file cause }
+/// A fault of the source at a line of it, before which no note stands.
+fn fault_on_line(alloc: Global, fault: StatementFault, line: u32) -> FaultAt
+    ensures { result ≡ fault_at (Statement fault) (pos_at main_file line) [] }
 {
-    let (fault, line) = match cause {
-        LineCause::NulByte(line) => (StatementFault::NulByte, line),
-        LineCause::UnclosedString(line) => (StatementFault::UnclosedString, line),
-        LineCause::UnclosedComment(line) => (StatementFault::UnclosedComment, line),
-        LineCause::StatementTooLong(line) => (StatementFault::StatementTooLong, line),
-    };
-    LocatedCause {
+    FaultAt {
         fault: Fault::Statement(fault),
         pos: Pos {
             file: MAIN_FILE,
             line,
         },
+        notes: Notes::new(alloc),
     }
 }
 
-/// The refusal of the lines, as that of the assembly.
-fn line_refusal(refusal: LineFault) -> LocatedFault
-    ensures { Raises (λ cause raised. raised ≡ line_fault main_file cause) refusal result }
+/// A fault of the lines, at its place.
+fn line_fault(alloc: Global, cause: LineCause) -> FaultAt
+    ensures { result ≡ line_fault main_file cause }
+{
+    match cause {
+        LineCause::NulByte(line) => fault_on_line(alloc, StatementFault::NulByte, line),
+        LineCause::UnclosedString(line) => {
+            fault_on_line(alloc, StatementFault::UnclosedString, line)
+        }
+        LineCause::UnclosedComment(line) => {
+            fault_on_line(alloc, StatementFault::UnclosedComment, line)
+        }
+        LineCause::StatementTooLong(line) => {
+            fault_on_line(alloc, StatementFault::StatementTooLong, line)
+        }
+    }
+}
+
+/// The refusal of a source, whose fault is one of its lines or of a statement.
+fn source_refusal(alloc: Global, refusal: SourceFault<FaultAt>) -> Refusal<FaultAt>
+    ensures { Raises (λ cause fault. fault ≡ source_fault main_file cause) refusal result }
 {
     match refusal {
-        LineFault::Fault(cause) => LocatedFault::Fault(line_fault(cause)),
-        LineFault::NoMemory => LocatedFault::NoMemory,
+        SourceFault::Fault(SourceCause::Lines(cause)) => Refusal::Fault(line_fault(alloc, cause)),
+        SourceFault::Fault(SourceCause::Placing(fault)) => Refusal::Fault(fault),
+        SourceFault::NoMemory => Refusal::NoMemory,
     }
 }
 
-/// The notes of the statements, with their object or first fault.
-#[tactic(auto, using(crate::proofs::AnswerLemmas::stopped))]
-fn assemble_statements(
+/// What the statements of a text place, or the first fault.
+#[tactic(auto, using(crate::proofs::PlacementLemmas::placement_fails))]
+fn place_text(
     alloc: Global,
-    fatal: bool,
-    statements: &[Statement],
-    assembler: Assembler,
-) -> Made
-    ensures { MakesNoted result.notes result.object
-        (placed_end fatal (place_all (map seen statements.now) (placed_by assembler))) }
+    no_warn: bool,
+    text: &Text,
+) -> Result<StatementPlacer, Refusal<FaultAt>>
+    ensures { Returns result
+        (source_placement no_warn main_file (statements_of main_file text.now)) }
 {
-    let mut assembler = assembler;
-    match place_all(&mut assembler, statements) {
-        Ok(()) => finished(alloc, fatal, assembler.into_parts()),
-        Err(refusal) => Made {
-            notes: assembler.into_parts().notes,
-            object: Err(refusal),
-        },
+    placing_in_order();
+    let mut placer = match StatementPlacer::new(alloc, no_warn) {
+        Ok(placer) => placer,
+        Err(_) => return Err(Refusal::NoMemory),
+    };
+    match place_source(alloc, text, MAIN_FILE, &mut placer) {
+        Ok(()) => Ok(placer),
+        Err(refusal) => Err(source_refusal(alloc, refusal)),
     }
 }
 
-/// The notes of a text that is not too large, with its object or first fault, by an assembler that has placed nothing.
+/// The object of a text that is not too large, with its notes, or the first fault.
 #[tactic(auto, unfolding(crate::specs::Assembly::assembly_of_lines))]
-fn made_of_text(alloc: Global, options: &Options, assembler: Assembler, text: &Text) -> Made
-    requires { placed_by assembler ≡ nothing_placed options.now.no_warn }
-    ensures { MakesNoted result.notes result.object
-        (assembly_of_lines (flags_of options.now) main_file text.now) }
+fn assemble_text(
+    alloc: Global,
+    options: &Options,
+    text: &Text,
+) -> Result<NotedObject, Refusal<FaultAt>>
+    ensures { Returns result (assembly_of_lines (flags_of options.now) main_file text.now) }
 {
-    match read_statements(alloc, text, MAIN_FILE) {
-        Ok(statements) => assemble_statements(
-            alloc,
-            options.fatal_warnings,
-            statements.as_slice(),
-            assembler,
-        ),
-        Err(refusal) => Made {
-            notes: Notes::new(alloc),
-            object: Err(line_refusal(refusal)),
-        },
-    }
-}
-
-/// The notes of a text that is not too large, with its object or first fault.
-fn assemble_text(alloc: Global, options: &Options, text: &Text) -> Result<Made, NoMemory>
-    ensures { IfOk result (λ made. MakesNoted made.notes made.object
-        (assembly_of_lines (flags_of options.now) main_file text.now)) }
-{
-    match Assembler::new(alloc, options.no_warn) {
-        Ok(assembler) => Ok(made_of_text(alloc, options, assembler, text)),
-        Err(_) => Err(AllocError),
-    }
+    let placer = place_text(alloc, options.no_warn, text)?;
+    finished(alloc, options.fatal_warnings, placer.into_parts())
 }
 
 /// The name under which messages show the source.
@@ -130,47 +122,33 @@ fn started_files(alloc: Global, name: &str) -> Result<Files, NoMemory>
     Ok(files)
 }
 
-/// The answer for an object or a fault of the source, with the notes and the names of the files.
+/// The answer for an object or a fault of the source, with the names of the files.
 fn answered(
     alloc: Global,
     name: &str,
-    notes: Notes,
-    made: Result<Object, LocatedFault>,
+    made: Result<NotedObject, Refusal<FaultAt>>,
 ) -> Result<Assembled, AsmFault>
-    ensures { IsAnswered name.now notes made result }
+    ensures { IsAnswered name.now made result }
 {
     let files = match started_files(alloc, name) {
         Ok(files) => files,
         Err(_) => return Err(AsmFault::NoMemory),
     };
     match made {
-        Ok(object) => Ok(Assembled {
+        Ok(NotedObject { object, notes }) => Ok(Assembled {
             notes,
             files,
             object,
         }),
-        Err(LocatedFault::Fault(cause)) => {
-            Err(AsmFault::Source(cause.fault, cause.pos, notes, files))
+        Err(Refusal::Fault(FaultAt { fault, pos, notes })) => {
+            Err(AsmFault::Source(fault, pos, notes, files))
         }
-        Err(LocatedFault::NoMemory) => Err(AsmFault::NoMemory),
-    }
-}
-
-/// The fault of a file that is too large.
-fn too_large() -> LocatedCause
-    ensures { result ≡ too_large main_file }
-{
-    LocatedCause {
-        fault: Fault::Statement(StatementFault::FileTooLarge),
-        pos: Pos {
-            file: MAIN_FILE,
-            line: 1,
-        },
+        Err(Refusal::NoMemory) => Err(AsmFault::NoMemory),
     }
 }
 
 /// Reads the source and assembles it: its object, or its first fault.
-#[tactic(auto, using(crate::proofs::FaultLaws::not_too_large, crate::proofs::AnswersReadBack::no_object))]
+#[tactic(auto, using(crate::proofs::AnswersReadBack::no_object))]
 pub fn assemble<I: Inputs>(
     alloc: Global,
     options: &Options,
@@ -192,13 +170,10 @@ pub fn assemble<I: Inputs>(
 {
     let name = options.file.as_str();
     match read_text(alloc, ins, name) {
-        Ok(text) => match assemble_text(alloc, options, &text) {
-            Ok(made) => answered(alloc, name, made.notes, made.object),
-            Err(_) => Err(AsmFault::NoMemory),
-        },
+        Ok(text) => answered(alloc, name, assemble_text(alloc, options, &text)),
         Err(TextFault::TooLarge) => {
-            let refusal = LocatedFault::Fault(too_large());
-            answered(alloc, name, Notes::new(alloc), Err(refusal))
+            let fault = fault_on_line(alloc, StatementFault::FileTooLarge, 1);
+            answered(alloc, name, Err(Refusal::Fault(fault)))
         }
         Err(TextFault::Read) => Err(AsmFault::Read),
         Err(TextFault::NoMemory) => Err(AsmFault::NoMemory),

@@ -2,12 +2,12 @@
 
 ghost use Rattle.std.specs.Prelude.{◌≡◌, Ok};
 ghost use Rattle.asm_front.specs.Ending as spec;
-ghost use Rattle.asm_base.specs.Refusals.{Raises};
-ghost use Rattle.asm_front.specs.Stops.{MakesNoted};
+ghost use Rattle.asm_base.specs.Refusals.{Raises, Returns};
+ghost use Rattle.asm_relax.specs.Settling.{layout_of};
 
-use asm_base::{EndFault, Fault, Noted, Notes, Pos};
+use asm_base::{EndFault, Fault, Noted, Notes, Pos, Refusal};
 use asm_frags::{Laid, Sections};
-use asm_place::{LocatedCause, LocatedFault, Placed, SymbolUses};
+use asm_place::{FaultAt, Placed, SymbolUses};
 use asm_relax::{LayoutFault, Plan};
 use elf_object::{Object, ObjectCause, ObjectFault};
 use std::alloc::Global;
@@ -56,18 +56,6 @@ fn sized_at(table: &SymbolUses, index: usize) -> Pos
     }
 }
 
-impl Ended {
-    /// The fault as that of the assembly.
-    fn located(self) -> LocatedCause
-        ensures { result ≡ spec.located self }
-    {
-        LocatedCause {
-            fault: Fault::End(self.fault),
-            pos: self.pos,
-        }
-    }
-}
-
 /// The fault of the object, at the first statement that names the symbol, at that of the field, or at the `.size` statement.
 fn object_end(table: &SymbolUses, cause: ObjectCause) -> Ended
     ensures { result ≡ spec.object_end table.now cause }
@@ -83,13 +71,13 @@ fn object_end(table: &SymbolUses, cause: ObjectCause) -> Ended
     Ended { fault, pos }
 }
 
-/// The refusal of the object, as that of the assembly.
-fn object_refusal(table: &SymbolUses, refusal: ObjectFault) -> LocatedFault
-    ensures { Raises (λ cause raised. raised ≡ spec.located (spec.object_end table.now cause)) refusal result }
+/// The refusal of the object, as one at the end of the source.
+fn object_refusal(table: &SymbolUses, refusal: ObjectFault) -> Refusal<Ended>
+    ensures { Raises (λ cause ended. ended ≡ spec.object_end table.now cause) refusal result }
 {
     match refusal {
-        ObjectFault::Fault(cause) => LocatedFault::Fault(object_end(table, cause).located()),
-        ObjectFault::NoMemory => LocatedFault::NoMemory,
+        ObjectFault::Fault(cause) => Refusal::Fault(object_end(table, cause)),
+        ObjectFault::NoMemory => Refusal::NoMemory,
     }
 }
 
@@ -106,11 +94,11 @@ fn first_warning(fatal: bool, notes: &[Noted]) -> Option<Pos>
     }
 }
 
-/// The notes of a source, and its object or fault.
+/// An object, and the notes of its source.
 #[derive(Drop)]
-pub(crate) struct Made {
-    pub(crate) notes: Notes,
-    pub(crate) object: Result<Object, LocatedFault>,
+pub struct NotedObject {
+    pub object: Object,
+    pub notes: Notes,
 }
 
 /// The object of a layout, or its first fault; warnings come last.
@@ -120,14 +108,14 @@ fn laid_end(
     sections: Sections<Laid>,
     table: &SymbolUses,
     notes: &[Noted],
-) -> Result<Object, LocatedFault>
-    ensures { MakesNoted notes.now result (spec.laid_end fatal table.now notes.now (Ok sections)) }
+) -> Result<Object, Refusal<Ended>>
+    ensures { Returns result (spec.laid_end fatal table.now notes.now (Ok sections)) }
 {
     match Object::new(alloc, sections, table.symbols()) {
         Ok(object) => match first_warning(fatal, notes) {
             Some(pos) => {
                 let fault = EndFault::WarningsAreErrors;
-                Err(LocatedFault::Fault(Ended { fault, pos }.located()))
+                Err(Refusal::Fault(Ended { fault, pos }))
             }
             None => Ok(object),
         },
@@ -136,34 +124,44 @@ fn laid_end(
 }
 
 /// The object of the placed sections, or the first fault of layout and object.
-#[tactic(auto, unfolding(crate::specs::Ending::finished))]
-fn finished_object(
+fn placed_object(
     alloc: Global,
     fatal: bool,
     sections: Sections,
     table: &SymbolUses,
     notes: &[Noted],
-) -> Result<Object, LocatedFault>
-    ensures { MakesNoted notes.now result (spec.finished fatal sections table.now notes.now) }
+) -> Result<Object, Refusal<Ended>>
+    ensures { Returns result (spec.laid_end fatal table.now notes.now
+        (layout_of table.now.symbols sections)) }
 {
     let mut plan = Plan::new(alloc, sections, table.symbols())?;
     match plan.settle() {
         Ok(_) => laid_end(alloc, fatal, plan.laid(), table, notes),
-        Err(fault) => Err(LocatedFault::Fault(layout_end(fault).located())),
+        Err(fault) => Err(Refusal::Fault(layout_end(fault))),
     }
 }
 
-/// The notes of what was placed, with its object or the first fault of layout and object.
-pub(crate) fn finished(alloc: Global, fatal: bool, parts: Placed) -> Made
-    ensures made { MakesNoted result.notes result.object
-        (spec.finished fatal parts.sections parts.table parts.notes) }
-    ensures notes { result.notes ≡ parts.notes }
+/// What was placed with its object, or the first fault of layout and object behind the notes.
+#[tactic(auto, unfolding(crate::specs::Ending::finished))]
+pub(crate) fn finished(
+    alloc: Global,
+    fatal: bool,
+    parts: Placed,
+) -> Result<NotedObject, Refusal<FaultAt>>
+    ensures { Returns result (spec.finished fatal parts.sections parts.table parts.notes) }
 {
     let Placed {
         sections,
         table,
         notes,
     } = parts;
-    let object = finished_object(alloc, fatal, sections, &table, notes.as_slice());
-    Made { notes, object }
+    match placed_object(alloc, fatal, sections, &table, notes.as_slice()) {
+        Ok(object) => Ok(NotedObject { object, notes }),
+        Err(Refusal::Fault(ended)) => Err(Refusal::Fault(FaultAt {
+            fault: Fault::End(ended.fault),
+            pos: ended.pos,
+            notes,
+        })),
+        Err(Refusal::NoMemory) => Err(Refusal::NoMemory),
+    }
 }

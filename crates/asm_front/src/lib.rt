@@ -8,4 +8,5 @@ mod laws;
 
 pub use answers::{AsmFault, Assembled, Options};
 pub use assembling::assemble;
+pub use ending::NotedObject;
 pub use laws::{never_too_large, written_reads_back};

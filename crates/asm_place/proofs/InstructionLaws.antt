@@ -9,8 +9,8 @@ use Rattle.asm_place.specs.declared.place_faults.PlaceCause.{PlaceCause}
 use Rattle.asm_place.specs.declared.place_faults.PlaceCause.TheVariants.{NumberTooWide, UnknownMnemonic}
 use Rattle.asm_base.specs.declared.notes.Noted.{Noted}
 use Rattle.asm_base.specs.declared.positions.Pos.{Pos}
-use Rattle.asm_base.specs.Tokens.{SpelledToken, tokens_of}
-use Rattle.asm_lines.specs.Statements.{StatementAt}
+use Rattle.asm_base.specs.Tokens.{SpelledToken}
+use Rattle.asm_lines.specs.NextStatements.{TokenStatement}
 use Rattle.asm_frags.specs.declared.contents.Content.{Content}
 use Rattle.asm_frags.specs.declared.faults.FragCause.TheVariants as frag
 use Rattle.asm_frags.specs.SectionOf.{with_last_item}
@@ -173,13 +173,13 @@ located_ok : (pos : Pos) (notes : List Noted) (answer : Result Placed PlaceCause
 located_ok pos notes (Ok more) next is = ap Ok (same_Ok more next is)
 located_ok pos notes (Err fault) next is = err-ok _ next is
 
-statement_put : (s : StatementAt) (before next : Placed) (row : Row) → instruction_of s ≡ Some row → place s before ≡ Ok next → Puts (pos_at s.file s.line) row before next
+statement_put : (s : TokenStatement) (before next : Placed) (row : Row) → instruction_of s ≡ Some row → place s before ≡ Ok next → Puts (pos_at s.file s.line) row before next
 unfolding place
 statement_put s before next row written is =
-    instruction_put (pos_at s.file s.line) (tokens_of s.bytes) before next row written
-    (located_ok (pos_at s.file s.line) before.notes (place_tokens (pos_at s.file s.line) (tokens_of s.bytes) before) next is)
+    instruction_put (pos_at s.file s.line) s.tokens before next row written
+    (located_ok (pos_at s.file s.line) before.notes (place_tokens (pos_at s.file s.line) s.tokens before) next is)
 
-first_placed : {C : Type 0} (s : StatementAt) (later : List StatementAt) (placed whole : Placed) → place_all (s ∷ later) placed ≡ Ok whole
+first_placed : {C : Type 0} (s : TokenStatement) (later : List TokenStatement) (placed whole : Placed) → place_all (s ∷ later) placed ≡ Ok whole
     → ((next : Placed) → place s placed ≡ Ok next → place_all later next ≡ Ok whole → C) → C
 unfolding place_all
 first_placed s later placed whole is go = both_ok (place s placed) (place_all later) whole is go
@@ -207,7 +207,7 @@ put_stands before next whole number pos bytes put grows =
     }
 
 -- the item of an instruction stands in the whole
-pub instruction_there : (front : List StatementAt) (s : StatementAt) (later : List StatementAt) (before placed whole : Placed) (row : Row)
+pub instruction_there : (front : List TokenStatement) (s : TokenStatement) (later : List TokenStatement) (before placed whole : Placed) (row : Row)
     → place_all front before ≡ Ok placed → place_all (front ++ s ∷ later) before ≡ Ok whole → instruction_of s ≡ Some row
     → StandsAt whole.sections placed.current (next_item placed) (bytes_of row)
 instruction_there front s later before placed whole row is_front is_whole written =

@@ -6,7 +6,6 @@ pub mod OperandSplits
 pub mod NameParts
 pub mod StepLists
 pub mod LabelLemmas
-pub mod StatementLists
 pub mod GrowthLemmas
 pub mod Walks
 pub mod PlacingLaws

@@ -7,8 +7,8 @@ use Rattle.asm_place.specs.declared.place_faults.PlaceCause.{PlaceCause}
 use Rattle.asm_place.specs.declared.place_faults.PlaceCause.TheVariants.{BadExpression, NumberTooWide, ExpressionTooDeep, DivisionByZero, ValueNotKnown, NotASumOfSymbols, UnknownMnemonic, UnknownDirective, BadOperand, OutOfRange, BadSection, SymbolAlreadyDefined, BadSymbolUse}
 use Rattle.asm_base.specs.declared.notes.Noted.{Noted}
 use Rattle.asm_base.specs.declared.positions.Pos.{Pos}
-use Rattle.asm_base.specs.Tokens.{SpelledToken, tokens_of}
-use Rattle.asm_lines.specs.Statements.{StatementAt}
+use Rattle.asm_base.specs.Tokens.{SpelledToken}
+use Rattle.asm_lines.specs.NextStatements.{TokenStatement}
 use Rattle.asm_expr.specs.declared.naming.Name.{Name}
 use Rattle.asm_expr.specs.declared.naming.Name.TheVariants as naming
 use Rattle.asm_expr.specs.Trees.{Tree}
@@ -42,7 +42,8 @@ use Rattle.asm_place.specs.Assignments.{assign_words, place_set, place_assignmen
 use Rattle.asm_place.specs.Commons.{bss, with_space, with_common, is_said_local, place_space, place_comm, place_lcomm, space_size, space_words, define_space}
 use Rattle.asm_place.specs.Idents.{plain_item, items_in, comment_bytes, comment_header, place_ident, place_file, one_string, file_name}
 use Rattle.asm_place.specs.Placing.{DataWords, data_words, put_data, place_data, place_strings, with_item as with_space_item, place_zero, place_skip, place_fill, bare, initial_number, place_by, place_found, place_directive, place_row, place_instruction, is_assignment, begins_with_dot, place_body, is_label, place_label, place_tokens, label_symbol, place_labelled, has_wide_label}
-use Rattle.asm_place.specs.Sources.{FaultAt, pos_at, located, place, place_all}
+use Rattle.asm_place.specs.Sources.{pos_at, located, place, place_all}
+use Rattle.asm_place.specs.declared.place_faults.FaultAt.{FaultAt}
 use Rattle.asm_place.specs.Faults.{is_file_too_large, is_too_large, statement_fault}
 use Rattle.asm_place.specs.Instructions.{Grows}
 use Rattle.asm_place.proofs.GrowthLemmas.{grows_not, grows_by_item, grows_by_sections}
@@ -321,17 +322,17 @@ located_steps : (pos : Pos) (notes : List Noted) (before : Placed) (answer : Res
 located_steps pos notes before (Ok more) steps = made more steps.holds
 located_steps pos notes before (Err fault) steps = refused _
 
-place_steps : (s : StatementAt) (placed : Placed) → Steps placed (place s placed)
+place_steps : (s : TokenStatement) (placed : Placed) → Steps placed (place s placed)
 unfolding place
-place_steps s placed = located_steps (pos_at s.file s.line) placed.notes placed _ (tokens_steps (pos_at s.file s.line) (tokens_of s.bytes) placed)
+place_steps s placed = located_steps (pos_at s.file s.line) placed.notes placed _ (tokens_steps (pos_at s.file s.line) s.tokens placed)
 
-all_steps_grow : (statements : List StatementAt) (placed : Placed) → Steps placed (place_all statements placed)
+all_steps_grow : (statements : List TokenStatement) (placed : Placed) → Steps placed (place_all statements placed)
 unfolding place_all
 all_steps_grow [] placed = made _ (still placed)
 all_steps_grow (s ∷ later) placed = grown placed (place_steps s placed) (all_steps_grow later)
 
 -- placing only adds items
-pub all_grow : (statements : List StatementAt) (before placed : Placed) → place_all statements before ≡ Ok placed → Grows before.sections placed.sections
+pub all_grow : (statements : List TokenStatement) (before placed : Placed) → place_all statements before ≡ Ok placed → Grows before.sections placed.sections
 all_grow statements before placed is = IfOk-at_ok (λ (made : Placed). Grows before.sections made.sections) is (all_steps_grow statements before).holds
 
 -- no fault of placing is that a file is too large
@@ -361,10 +362,10 @@ first_fault (Ok x) f stop first later is = later x is
 first_fault (Err fault) f stop first later is = first is
 
 -- no fault of placing says that a file is too large
-pub no_fault_of_reading : (statements : List StatementAt) (before : Placed) (stop : FaultAt) → place_all statements before ≡ Err stop → is_file_too_large stop.fault ≡ false
+pub no_fault_of_reading : (statements : List TokenStatement) (before : Placed) (stop : FaultAt) → place_all statements before ≡ Err stop → is_file_too_large stop.fault ≡ false
 unfolding place_all place
 no_fault_of_reading [] before stop is = cc
 no_fault_of_reading (s ∷ later) before stop is =
     first_fault (place s before) (place_all later) stop
-    (located_fault (pos_at s.file s.line) before.notes (place_tokens (pos_at s.file s.line) (tokens_of s.bytes) before) stop)
+    (located_fault (pos_at s.file s.line) before.notes (place_tokens (pos_at s.file s.line) s.tokens before) stop)
     (λ placed. no_fault_of_reading later placed stop) is

@@ -27,7 +27,8 @@ use Rattle.asm_place.specs.State.{Placed, with_table, unless_dot, push_into, kno
 use Rattle.asm_place.specs.Operands.{begins_with_place, name_of, operands_of}
 use Rattle.asm_place.specs.declared.up_to_three.UpToThree.{UpToThree}
 use Rattle.asm_place.specs.Expressions.{known_operands}
-use Rattle.asm_place.specs.Spaces.{is_negative, space_of, log_of}
+use Rattle.asm_expr.specs.Arithmetic.{is_negative}
+use Rattle.asm_place.specs.Spaces.{space_of, log_of}
 use Rattle.asm_place.specs.SectionWords.{needed}
 
 -- the number of `.bss`

@@ -1,7 +1,7 @@
 -- Statements that are instructions, and where their items go.
 use Rattle.std.specs.Prelude.{◌≡◌, ℕ, ◌==◌, ◌&&◌, ◌++◌, false, not, List, [], ◌∷◌, find, if◌then◌else◌, Option, None, Some, slice_get, slice_set}
-use Rattle.asm_base.specs.Tokens.{SpelledToken, tokens_of}
-use Rattle.asm_lines.specs.Statements.{StatementAt}
+use Rattle.asm_base.specs.Tokens.{SpelledToken}
+use Rattle.asm_lines.specs.NextStatements.{TokenStatement}
 use Rattle.asm_frags.specs.SectionOf.{with_last_item}
 use Rattle.asm_place.specs.declared.instructions.Row.{Row}
 use Rattle.asm_place.specs.Rows.{the_rows, has_name}
@@ -25,8 +25,8 @@ row_written (name ∷ []) =
 row_written (name ∷ operand ∷ rest) = None
 
 -- the row of the instruction that the statement is, if it is one
-abbrev pub instruction_of : StatementAt → Option Row
-instruction_of s = row_written (behind_labels (tokens_of s.bytes))
+abbrev pub instruction_of : TokenStatement → Option Row
+instruction_of s = row_written (behind_labels s.tokens)
 
 -- how many items the section has that items go into
 abbrev pub next_item : Placed → ℕ

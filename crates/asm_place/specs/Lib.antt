@@ -32,4 +32,3 @@ pub mod DataWordsIn
 pub mod PlacedBy
 pub mod Sources
 pub mod Instructions
-pub mod Stops

@@ -19,7 +19,7 @@ use Rattle.asm_place.specs.Places.{LooseSection}
 use Rattle.asm_place.specs.State.{Placed, with_table, known_here}
 use Rattle.asm_place.specs.Operands.{operands_of}
 use Rattle.asm_place.specs.Expressions.{form_in, constant_in}
-use Rattle.asm_place.specs.Spaces.{is_negative}
+use Rattle.asm_expr.specs.Arithmetic.{is_negative}
 use Rattle.asm_place.specs.SectionWords.{SectionWords, says_merge, section_words, said_flags, said_kind}
 use Rattle.asm_place.specs.SectionDefaults.{default_header}
 

@@ -1,22 +1,18 @@
--- The statements of a source, placed in order, up to the first that has a fault.
+-- The statements that are handed out, placed in order, up to the first that has a fault.
 use Rattle.std.specs.Prelude.{ℕ, List, [], ◌∷◌, Result, Ok, Err}
+use Rattle.asm_base.specs.Refusals.{◌>>=◌}
 use Rattle.asm_base.specs.declared.faults.Fault.{Fault}
 use Rattle.asm_base.specs.declared.faults.Fault.TheVariants.{Statement}
 use Rattle.asm_base.specs.declared.notes.Noted.{Noted}
 use Rattle.asm_base.specs.declared.positions.Pos.{Pos}
-use Rattle.asm_base.specs.Tokens.{tokens_of}
-use Rattle.asm_lines.specs.Statements.{StatementAt}
+use Rattle.asm_base.specs.declared.refusals.Refusal.{Refusal}
+use Rattle.asm_base.specs.declared.refusals.Refusal.TheVariants as refusal
+use Rattle.asm_lines.specs.NextStatements.{TokenStatement}
+use Rattle.asm_place.specs.declared.place_faults.FaultAt.{FaultAt}
 use Rattle.asm_place.specs.declared.place_faults.PlaceCause.{PlaceCause}
 use Rattle.asm_place.specs.Faults.{statement_fault}
-use Rattle.asm_base.specs.Refusals.{◌>>=◌}
 use Rattle.asm_place.specs.State.{Placed}
 use Rattle.asm_place.specs.Placing.{place_tokens}
-
--- a fault and where it stands, and the notes before it
-pub record FaultAt : Type 0 where
-  pub fault : Fault
-  pub pos : Pos
-  pub notes : List Noted
 
 -- a line of a file
 abbrev pub pos_at : ℕ → ℕ → Pos
@@ -26,16 +22,25 @@ pos_at file line = record { file = file; line = line }
 abbrev pub fault_at : Fault → Pos → List Noted → FaultAt
 fault_at fault pos notes = record { fault = fault; pos = pos; notes = notes }
 
+-- a fault of the statement at this place, behind these notes
+abbrev pub statement_fault_at : Pos → List Noted → PlaceCause → FaultAt
+statement_fault_at pos notes cause = fault_at (Statement (statement_fault cause)) pos notes
+
+-- the refusal of the statement at this place, behind these notes
+abbrev pub refusal_at : Pos → List Noted → Refusal PlaceCause → Refusal FaultAt
+refusal_at pos notes (refusal.Fault cause) = refusal.Fault (statement_fault_at pos notes cause)
+refusal_at pos notes refusal.NoMemory = refusal.NoMemory
+
 -- a fault of a statement at this place, with the notes of those before it
 abbrev pub located : Pos → List Noted → Result Placed PlaceCause → Result Placed FaultAt
 located pos notes (Ok more) = Ok more
-located pos notes (Err fault) = Err (fault_at (Statement (statement_fault fault)) pos notes)
+located pos notes (Err cause) = Err (statement_fault_at pos notes cause)
 
--- a statement of a file, placed; one that has a fault makes no note
-unfoldable pub place : StatementAt → Placed → Result Placed FaultAt
-place s placed = located (pos_at s.file s.line) placed.notes (place_tokens (pos_at s.file s.line) (tokens_of s.bytes) placed)
+-- a statement that is handed out, placed; one that has a fault makes no note
+unfoldable pub place : TokenStatement → Placed → Result Placed FaultAt
+place s placed = located (pos_at s.file s.line) placed.notes (place_tokens (pos_at s.file s.line) s.tokens placed)
 
 -- all statements in order, up to the first that has a fault
-unfoldable pub place_all : List StatementAt → Placed → Result Placed FaultAt
+unfoldable pub place_all : List TokenStatement → Placed → Result Placed FaultAt
 place_all [] placed = Ok placed
 place_all (s ∷ later) placed = place s placed >>= place_all later

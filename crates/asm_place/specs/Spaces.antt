@@ -1,6 +1,7 @@
 -- Space (GNU as manual, ".zero", ".skip", ".space", ".fill"), and aligned space for a symbol (".comm", ".lcomm").
-use Rattle.std.specs.Prelude.{ℕ, ◌*◌, ◌^◌, ◌==◌, ◌&&◌, Bool, nat_lt, nat_le, min, Option, None, Some, Result, Ok, Err, if◌then◌else◌}
+use Rattle.std.specs.Prelude.{ℕ, ◌*◌, ◌^◌, ◌==◌, ◌&&◌, nat_lt, nat_le, min, Option, None, Some, Result, Ok, Err, if◌then◌else◌}
 use Rattle.std.specs.Int.{w64, is_power_of_two, trailing_zeros}
+use Rattle.asm_expr.specs.Arithmetic.{is_negative}
 use Rattle.asm_place.specs.declared.place_faults.PlaceCause.{PlaceCause}
 use Rattle.asm_place.specs.declared.place_faults.PlaceCause.TheVariants.{OutOfRange}
 use Rattle.asm_frags.specs.declared.contents.Content.{Content}
@@ -9,10 +10,6 @@ use Rattle.asm_frags.specs.declared.contents.Content.TheVariants as content
 -- the most bytes of one piece of space
 abbrev pub most_space : ℕ
 most_space = 2 ^ 30
-
--- a number modulo 2 ^ 64 that is below 0
-abbrev pub is_negative : ℕ → Bool
-is_negative number = nat_le (2 ^ 63) number
 
 -- an item of so many units of a size and a value
 abbrev pub fill_item : ℕ → ℕ → ℕ → Content

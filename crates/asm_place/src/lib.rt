@@ -26,7 +26,7 @@ mod tables;
 mod texts;
 mod up_to_three;
 
-pub use assemblers::{Assembler, Placed};
+pub use assemblers::Placed;
 pub use directives::{
     DIRECTIVES, Directive, DirectiveRow, InitialSection, SymbolAttribute, directives_apart,
     directives_are_whole,
@@ -35,7 +35,9 @@ pub use instructions::{
     Mnemonic, ROWS, Row, find_row, instruction_length, names_apart, names_are_whole, one_reading,
     put_instruction, rows, rows_apart, rows_read,
 };
-pub use laws::{instruction_items, instruction_stands, placing_grows, placing_is_not_reading};
-pub use place_faults::{LocatedCause, LocatedFault, PlaceCause};
-pub use sources::place_all;
+pub use laws::{
+    instruction_items, instruction_stands, placing_grows, placing_in_order, placing_is_not_reading,
+};
+pub use place_faults::{FaultAt, PlaceCause};
+pub use sources::StatementPlacer;
 pub use tables::SymbolUses;

@@ -2,7 +2,7 @@
 
 ghost use Rattle.std.specs.Prelude.{◌≡◌};
 
-use asm_base::{Fault, Pos, Refusal};
+use asm_base::{Fault, Notes, Pos, Refusal};
 use asm_expr::ExprCause;
 use asm_frags::FragCause;
 use asm_symbols::SymCause;
@@ -83,12 +83,10 @@ impl From<FragCause> for PlaceCause {
     }
 }
 
-/// The first fault of a source, and where it stands.
+/// The first fault of a source, where it stands, and the notes of what stands before it.
 #[derive(Drop)]
-pub struct LocatedCause {
+pub struct FaultAt {
     pub fault: Fault,
     pub pos: Pos,
+    pub notes: Notes,
 }
-
-/// Why the assembly of a source ends without an object.
-pub type LocatedFault = Refusal<LocatedCause>;

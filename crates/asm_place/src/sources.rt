@@ -1,16 +1,16 @@
-//! Placing all statements of a source.
+//! Placing the statements that are handed out, one after the other.
 
-ghost use Rattle.std.specs.Prelude.{◌≡◌, map};
-ghost use Rattle.asm_lines.specs.Seen.{seen};
+ghost use Rattle.std.specs.Prelude.{◌≡◌};
 ghost use Rattle.asm_place.specs.Faults.{statement_fault};
-ghost use Rattle.asm_place.specs.PlacedBy.{placed_by};
-ghost use Rattle.asm_place.specs.Sources.{place, place_all};
-ghost use Rattle.asm_place.specs.Stops.{Places, stop_at};
 
-use crate::assemblers::Assembler;
-use crate::place_faults::{LocatedCause, LocatedFault, PlaceCause, PlaceFault};
-use asm_base::{Fault, Pos, StatementFault, Tokens};
-use asm_lines::Statement;
+use crate::assemblers::{Assembler, Placed};
+use crate::place_faults::{FaultAt, PlaceCause, PlaceFault};
+use asm_base::{Fault, Notes, Pos, Refusal, StatementFault, Token};
+use asm_frags::FragFault;
+use asm_lines::Placer;
+use std::alloc::Global;
+use std::marker::Model;
+use std::mem;
 
 /// The fault of the statement that placing answers.
 fn statement_fault(fault: PlaceCause) -> StatementFault
@@ -33,41 +33,78 @@ fn statement_fault(fault: PlaceCause) -> StatementFault
     }
 }
 
-/// A fault of the statement at this place.
-fn stands_at(fault: PlaceFault, pos: Pos) -> LocatedFault
-    ensures { result ≡ stop_at fault pos }
-{
-    match fault {
-        PlaceFault::Fault(cause) => {
-            LocatedFault::Fault(LocatedCause {
-                fault: Fault::Statement(statement_fault(cause)),
-                pos,
-            })
+/// What the statements so far have placed, for more statements from anywhere.
+#[derive(Drop)]
+pub struct StatementPlacer {
+    assembler: Assembler,
+}
+
+impl Model for StatementPlacer {
+    ghost use Rattle.asm_place.specs.State.{Placed};
+    ghost use Rattle.asm_place.specs.PlacedBy.{placed_by};
+
+    ghost Value = { Placed };
+
+    ghost view = { λ placer. placed_by placer.assembler };
+}
+
+impl Assembler {
+    ghost use Rattle.std.specs.Prelude.{◌≡◌};
+    ghost use Rattle.asm_place.specs.Sources.{refusal_at};
+
+    /// The refusal of the statement at this place, which takes the notes along.
+    #[inline(never)]
+    fn refused(&mut self, pos: Pos, refusal: PlaceFault) -> Refusal<FaultAt>
+        ensures { result ≡ refusal_at pos self.old.notes refusal }
+    {
+        match refusal {
+            PlaceFault::NoMemory => Refusal::NoMemory,
+            PlaceFault::Fault(cause) => {
+                let notes = mem::replace(&mut self.notes, Notes::new(self.alloc));
+                let fault = Fault::Statement(statement_fault(cause));
+                Refusal::Fault(FaultAt { fault, pos, notes })
+            }
         }
-        PlaceFault::NoMemory => LocatedFault::NoMemory,
     }
 }
 
-/// Places one statement.
-#[tactic(auto, unfolding(crate::specs::Sources::place))]
-fn place(assembler: &mut Assembler, statement: &Statement) -> Result<(), LocatedFault>
-    ensures { Places (placed_by assembler.new) result
-        (place (seen statement.now) (placed_by assembler.old)) }
-{
-    let tokens = Tokens::read(assembler.alloc, statement.bytes)?;
-    match assembler.place_tokens(statement.pos, tokens.as_slice()) {
-        Ok(()) => Ok(()),
-        Err(fault) => Err(stands_at(fault, statement.pos)),
+impl StatementPlacer {
+    ghost use Rattle.std.specs.Prelude.{◌≡◌, IfOk, IfErr};
+    ghost use Rattle.asm_base.specs.declared.refusals.Refusal.TheVariants.{NoMemory};
+    ghost use Rattle.asm_place.specs.State.{nothing_placed};
+
+    /// Nothing is placed yet.
+    pub fn new(alloc: Global, no_warn: bool) -> Result<StatementPlacer, FragFault>
+        ensures ok { IfOk result (λ placer. placer ≡ nothing_placed no_warn) }
+        ensures memory { IfErr result (λ refusal. refusal ≡ NoMemory) }
+    {
+        Ok(StatementPlacer {
+            assembler: Assembler::new(alloc, no_warn)?,
+        })
+    }
+
+    /// The sections, the symbols and the notes.
+    pub fn into_parts(self) -> Placed
+        ensures sections { result.sections ≡ self.sections }
+        ensures table { result.table ≡ self.table }
+        ensures notes { result.notes ≡ self.notes }
+    {
+        self.assembler.into_parts()
     }
 }
 
-/// Places all statements in order, up to the first that has a fault.
-pub fn place_all(assembler: &mut Assembler, statements: &[Statement]) -> Result<(), LocatedFault>
-    ensures { Places (placed_by assembler.new) result
-        (place_all (map seen statements.now) (placed_by assembler.old)) }
-{
-    for statement in statements {
-        place(assembler, statement)?;
+impl Placer for StatementPlacer {
+    ghost use Rattle.asm_place.specs.Sources.{place};
+
+    type Fault = FaultAt;
+
+    ghost placed = { λ before statement. place statement before };
+
+    #[tactic(auto, unfolding(crate::specs::Sources::place))]
+    fn place(&mut self, pos: Pos, tokens: &[Token]) -> Result<(), Refusal<FaultAt>> {
+        match self.assembler.place_tokens(pos, tokens) {
+            Ok(()) => Ok(()),
+            Err(refusal) => Err(self.assembler.refused(pos, refusal)),
+        }
     }
-    Ok(())
 }

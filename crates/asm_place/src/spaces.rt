@@ -2,7 +2,8 @@
 
 ghost use Rattle.std.specs.Prelude.{◌≡◌, ◌≤◌, IfOk};
 ghost use Rattle.asm_base.specs.Refusals.{GivesBy};
-ghost use Rattle.asm_place.specs.Spaces.{is_negative, space_of, units_of, unit_size, default_log, said_log, log_of};
+ghost use Rattle.asm_expr.specs.Arithmetic.{is_negative};
+ghost use Rattle.asm_place.specs.Spaces.{space_of, units_of, unit_size, default_log, said_log, log_of};
 
 use crate::assemblers::Assembler;
 use crate::operands::Operands;

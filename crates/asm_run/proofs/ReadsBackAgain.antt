@@ -1,8 +1,9 @@
 -- What holds of every assembled source holds of what a command line stands for.
 use Rattle.std.proofs.Common.{◌≡◌, ℕ, List, Option, None, Some, Result, Ok, Err, refl}
 use Rattle.asm_base.specs.Inputs.{Contents}
-use Rattle.asm_place.specs.Sources.{FaultAt}
-use Rattle.asm_front.specs.Ending.{Flags, NotedObject}
+use Rattle.asm_place.specs.declared.place_faults.FaultAt.{FaultAt}
+use Rattle.asm_front.specs.Ending.{Flags}
+use Rattle.asm_front.specs.declared.ending.NotedObject.{NotedObject}
 use Rattle.asm_front.specs.Assembly.{assembly_of}
 use Rattle.asm_front.specs.Outcome.{main_file}
 use Rattle.asm_front.specs.ReadsBack.{ReadsBack}

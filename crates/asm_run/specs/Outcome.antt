@@ -2,8 +2,9 @@
 use Rattle.std.specs.Prelude.{ℕ, List, Option, None, Some, Result, Ok, Err}
 use Rattle.asm_base.specs.Inputs.{Contents}
 use Rattle.asm_base.specs.Messages.{remarks, refusal}
-use Rattle.asm_place.specs.Sources.{FaultAt}
-use Rattle.asm_front.specs.Ending.{Flags, NotedObject}
+use Rattle.asm_place.specs.declared.place_faults.FaultAt.{FaultAt}
+use Rattle.asm_front.specs.Ending.{Flags}
+use Rattle.asm_front.specs.declared.ending.NotedObject.{NotedObject}
 use Rattle.asm_front.specs.Assembly.{assembly_of}
 use Rattle.asm_front.specs.Outcome.{main_file, files_of}
 use Rattle.asm_run.specs.Words.{Invocation, command_of}
