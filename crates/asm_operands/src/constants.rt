@@ -1,0 +1,18 @@
+//! Operands of numbers alone, evaluated as they are read.
+
+ghost use Rattle.std.specs.Prelude.{map};
+ghost use Rattle.asm_base.specs.Tokens.{spelled};
+ghost use Rattle.asm_operands.specs.Constants.{FindsConstant};
+
+use asm_base::{Token, TokenKind};
+use asm_expr::{character_code, spelled_number};
+
+/// The value of an operand of numbers alone. None says nothing of the operand.
+pub fn constant_operand(operand: &[Token]) -> Option<u64>
+    ensures { FindsConstant (map spelled operand.now) result }
+{
+    match operand {
+        [token] if token.kind == TokenKind::Digits => spelled_number(token.bytes).ok(),
+        _ => None,
+    }
+}
