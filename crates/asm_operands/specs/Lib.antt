@@ -1,2 +1,3 @@
 -- The definitions that the contracts cite, in reading order.
 pub mod Constants
+pub mod Numbers

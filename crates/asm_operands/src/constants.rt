@@ -4,15 +4,15 @@ ghost use Rattle.std.specs.Prelude.{map};
 ghost use Rattle.asm_base.specs.Tokens.{spelled};
 ghost use Rattle.asm_operands.specs.Constants.{FindsConstant};
 
-use asm_base::{Token, TokenKind};
-use asm_expr::{character_code, spelled_number};
+use crate::numbers::leaf;
+use asm_base::Token;
 
 /// The value of an operand of numbers alone. None says nothing of the operand.
 pub fn constant_operand(operand: &[Token]) -> Option<u64>
     ensures { FindsConstant (map spelled operand.now) result }
 {
     match operand {
-        [token] if token.kind == TokenKind::Digits => spelled_number(token.bytes).ok(),
+        [token] => leaf(token),
         _ => None,
     }
 }

@@ -2,5 +2,6 @@
 #![tactic(auto)]
 
 mod constants;
+mod numbers;
 
 pub use constants::constant_operand;

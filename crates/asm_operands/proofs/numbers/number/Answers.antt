@@ -1,0 +1,22 @@
+-- The forms that are read in one pass are spelled so.
+use Rattle.std.proofs.Common.{◌-◌, length, take, drop, arith, length-drop}
+use Rattle.std.proofs.lemmas.List.{length-take-le}
+use Rattle.asm_operands.proofs.NumberLemmas.{sixteen_fits}
+use Rattle.asm_operands.proofs.LeafLemmas.{one_found, decimal_found, hexadecimal_found}
+use Rattle.asm_operands.proofs.numbers.number.Goals as goal
+
+pub returns-then-count-eq1 : goal.returns-then-count-eq1
+returns-then-count-eq1 c = one_found c.args.digits.now c.fitting_number.result c.if-count-eq1.true c.fitting_number.ensures
+
+pub returns-then-digits-ne48 : goal.returns-then-digits-ne48
+returns-then-digits-ne48 c = decimal_found c.args.digits.now c.fitting_number-then-digits-ne48.result (omega arith) c.if-digits-ne48.true c.fitting_number-then-digits-ne48.ensures
+
+pub fitting_number-requires-then-digits-eq120-clause-fits : goal.fitting_number-requires-then-digits-eq120-clause-fits
+fitting_number-requires-then-digits-eq120-clause-fits c =
+    let left = length-drop 2 c.args.digits.now in
+    let taken = length-take-le (length c.args.digits.now - 2) (drop 2 c.args.digits.now) (omega arith) in
+    sixteen_fits (length (take (length c.args.digits.now - 2) (drop 2 c.args.digits.now))) (omega arith)
+
+pub returns-then-digits-eq120 : goal.returns-then-digits-eq120
+returns-then-digits-eq120 c =
+    hexadecimal_found c.args.digits.now c.fitting_number-then-digits-eq120.result c.if-count-gt2.true c.if-digits-ne48.false c.if-digits-eq120.true c.fitting_number-then-digits-eq120.ensures

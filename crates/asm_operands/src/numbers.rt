@@ -1,0 +1,81 @@
+//! The numbers that single tokens are.
+
+ghost use Rattle.std.specs.Prelude.{◌≡◌, ◌<◌, ◌≤◌, ◌^◌, length};
+ghost use Rattle.asm_base.specs.Tokens.{spelled};
+ghost use Rattle.asm_expr.specs.Leaves.{is_numeric_label};
+ghost use Rattle.asm_operands.specs.Numbers.{FindsNumeral, FindsNumber, FindsLeaf};
+
+use asm_base::{Token, TokenKind, digit_of};
+use asm_expr::{all_digits, character_code, spelled_number};
+
+/// The number of digits so few that it fits.
+fn fitting_number(radix: u64, digits: &[u8]) -> Option<u64>
+    requires some { 0 < length digits.now }
+    requires fits { radix ^ length digits.now ≤ 2 ^ 64 }
+    ensures { FindsNumeral radix digits.now result }
+{
+    let mut number: u64 = 0;
+    for byte in digits {
+        let digit = digit_of(*byte);
+        if digit >= radix {
+            return None;
+        }
+        number = number * radix + digit;
+    }
+    Some(number)
+}
+
+/// Whether the digits are decimal and a `b` or an `f` stands behind them.
+fn is_numeric_label(digits: &[u8]) -> bool
+    ensures { result ≡ is_numeric_label digits.now }
+{
+    if digits.is_empty() {
+        return false;
+    }
+    let end = digits.len() - 1;
+    (digits[end] == b'b' || digits[end] == b'f') && all_digits(10, &digits[..end])
+}
+
+/// The number that a token of digits of any form is.
+#[inline(never)]
+fn any_number(digits: &[u8]) -> Option<u64>
+    ensures { FindsNumber digits.now result }
+{
+    if is_numeric_label(digits) {
+        return None;
+    }
+    spelled_number(digits).ok()
+}
+
+/// The number that a token of digits is. Those that are short, decimal with no zero in front or
+/// hexadecimal, are read in one pass.
+fn number(digits: &[u8]) -> Option<u64>
+    ensures { FindsNumber digits.now result }
+{
+    let count = digits.len();
+    if count == 0 || count > 18 {
+        return any_number(digits);
+    }
+    if count == 1 {
+        return fitting_number(10, digits);
+    }
+    if digits[0] != b'0' {
+        return fitting_number(10, digits);
+    }
+    if count > 2 && digits[1] == b'x' {
+        return fitting_number(16, &digits[2..]);
+    }
+    any_number(digits)
+}
+
+/// The number that a token is.
+#[tactic(auto, unfolding(asm_expr::specs::Leaves::leaf_of))]
+pub(crate) fn leaf(token: &Token) -> Option<u64>
+    ensures { FindsLeaf (spelled token.now) result }
+{
+    match token.kind {
+        TokenKind::Digits => number(token.bytes),
+        TokenKind::Character => character_code(token.bytes).ok(),
+        _ => None,
+    }
+}
