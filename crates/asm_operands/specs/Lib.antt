@@ -1,3 +1,4 @@
 -- The definitions that the contracts cite, in reading order.
 pub mod Constants
 pub mod Numbers
+pub mod Counting

@@ -1,11 +1,127 @@
 //! Operands of numbers alone, evaluated as they are read.
 
-ghost use Rattle.std.specs.Prelude.{map};
+ghost use Rattle.std.specs.Prelude.{◌≡◌, ◌<◌, ◌≤◌, length, map, IsSome};
 ghost use Rattle.asm_base.specs.Tokens.{spelled};
+ghost use Rattle.asm_expr.specs.Reading.{operator_from};
+ghost use Rattle.asm_expr.specs.Found.{spelled_from, operator_in};
 ghost use Rattle.asm_operands.specs.Constants.{FindsConstant};
+ghost use Rattle.asm_operands.specs.Counting.{ReadsOperand, ReadsExpression, FindsCounted};
 
+use crate::arithmetic::{combined, turned};
 use crate::numbers::leaf;
-use asm_base::Token;
+use crate::operators::{closes, level_of, opens, operator_of, prefix_of};
+use asm_base::{Token, TokenKind};
+use asm_expr::BinaryOp;
+
+/// The most tokens that are looked at: a tree of so many nodes is not too high.
+const MOST_TOKENS: usize = 200;
+
+/// The most parentheses and prefix operators that are open at one place.
+const MOST_OPEN: u8 = 60;
+
+/// The number that an expression counts, and the index of the first token behind it.
+#[derive(Clone, Copy)]
+struct Counted {
+    value: u64,
+    next: usize,
+}
+
+/// The operator, if it binds at least so tightly.
+fn operator_from(level: u8, op: Option<BinaryOp>) -> Option<BinaryOp>
+    ensures { result ≡ operator_from level op }
+{
+    let op = op?;
+    if level <= level_of(op) {
+        Some(op)
+    } else {
+        None
+    }
+}
+
+/// The operator at this token, if it binds at least so tightly.
+#[tactic(auto, using(crate::proofs::TokenLists::operator_none, crate::proofs::TokenLists::operator_one))]
+fn operator_in(tokens: &[Token], at: usize, level: u8) -> Option<BinaryOp>
+    ensures value { result ≡ operator_in level (spelled_from tokens.now at) }
+    ensures within { IsSome result → at < length tokens.now }
+{
+    if at >= tokens.len() {
+        return None;
+    }
+    operator_from(level, operator_of(&tokens[at]))
+}
+
+/// The operand that begins at this token, where so many constructs are open.
+#[cycle(constants)]
+fn operand(tokens: &[Token], at: usize, depth: u8) -> Option<Counted>
+    requires tokens { length tokens.now ≤ 200 }
+    requires depth { depth ≤ 60 }
+    ensures { FindsCounted (ReadsOperand depth) tokens.now at result }
+{
+    if at >= tokens.len() {
+        return None;
+    }
+    let token = &tokens[at];
+    if token.kind != TokenKind::Operator {
+        let value = leaf(token)?;
+        return Some(Counted {
+            value,
+            next: at + 1,
+        });
+    }
+    if depth >= MOST_OPEN {
+        return None;
+    }
+    if opens(token) {
+        let inner = expression(tokens, at + 1, 1, depth + 1)?;
+        if inner.next >= tokens.len() {
+            return None;
+        }
+        if !closes(&tokens[inner.next]) {
+            return None;
+        }
+        return Some(Counted {
+            value: inner.value,
+            next: inner.next + 1,
+        });
+    }
+    let op = prefix_of(token)?;
+    let inner = expression(tokens, at + 1, 7, depth + 1)?;
+    Some(Counted {
+        value: turned(op, inner.value),
+        next: inner.next,
+    })
+}
+
+/// The expression that begins at this token, of operators that bind at least so tightly.
+#[cycle(constants)]
+fn expression(tokens: &[Token], at: usize, level: u8, depth: u8) -> Option<Counted>
+    requires tokens { length tokens.now ≤ 200 }
+    requires depth { depth ≤ 60 }
+    ensures { FindsCounted (ReadsExpression level depth) tokens.now at result }
+{
+    let mut left = operand(tokens, at, depth)?;
+    while let Some(op) = operator_in(tokens, left.next, level) {
+        let right = expression(tokens, left.next + 1, level_of(op) + 1, depth)?;
+        let value = combined(op, left.value, right.value)?;
+        left = Counted {
+            value,
+            next: right.next,
+        };
+    }
+    Some(left)
+}
+
+/// The value of an operand of few tokens.
+fn counted_operand(operand: &[Token]) -> Option<u64>
+    requires { length operand.now ≤ 200 }
+    ensures { FindsConstant (map spelled operand.now) result }
+{
+    let found = expression(operand, 0, 1, 0)?;
+    if found.next < operand.len() {
+        return None;
+    }
+    Some(found.value)
+}
 
 /// The value of an operand of numbers alone. None says nothing of the operand.
 pub fn constant_operand(operand: &[Token]) -> Option<u64>
@@ -13,6 +129,7 @@ pub fn constant_operand(operand: &[Token]) -> Option<u64>
 {
     match operand {
         [token] => leaf(token),
+        _ if operand.len() <= MOST_TOKENS => counted_operand(operand),
         _ => None,
     }
 }

@@ -10,8 +10,8 @@ use asm_expr::{all_digits, character_code, spelled_number};
 
 /// The number of digits so few that it fits.
 fn fitting_number(radix: u64, digits: &[u8]) -> Option<u64>
-    requires some { 0 < length digits.now }
-    requires fits { radix ^ length digits.now ≤ 2 ^ 64 }
+    requires digits { 0 < length digits.now }
+    requires within { radix ^ length digits.now ≤ 2 ^ 64 }
     ensures { FindsNumeral radix digits.now result }
 {
     let mut number: u64 = 0;

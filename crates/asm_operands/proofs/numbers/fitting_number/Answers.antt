@@ -5,12 +5,12 @@ use Rattle.asm_operands.proofs.numbers.fitting_number.Goals as goal
 
 pub overflow_mul-number : goal.overflow_mul-number
 overflow_mul-number c =
-    let fits = step_fits c.args.radix c.loop-byte.number c.digit_of-digit.result c.loop-byte.byte-index (length c.args.digits.now) c.loop-byte.invariant.low c.if-digit-radix.false c.loop-byte-test.true c.requires.fits in
+    let fits = step_fits c.args.radix c.loop-byte.number c.digit_of-digit.result c.loop-byte.byte-index (length c.args.digits.now) c.loop-byte.invariant.low c.if-digit-radix.false c.loop-byte-test.true c.requires.within in
     omega (arith, fits)
 
 pub overflow_add-number : goal.overflow_add-number
 overflow_add-number c =
-    let fits = step_fits c.args.radix c.loop-byte.number c.digit_of-digit.result c.loop-byte.byte-index (length c.args.digits.now) c.loop-byte.invariant.low c.if-digit-radix.false c.loop-byte-test.true c.requires.fits in
+    let fits = step_fits c.args.radix c.loop-byte.number c.digit_of-digit.result c.loop-byte.byte-index (length c.args.digits.now) c.loop-byte.invariant.low c.if-digit-radix.false c.loop-byte-test.true c.requires.within in
     omega (arith, fits)
 
 pub loop-byte-preserved : goal.loop-byte-preserved
@@ -25,5 +25,5 @@ loop-byte-preserved c =
 
 pub returns : goal.returns
 returns c =
-    numeral_done c.args.radix c.loop-byte.number (length c.args.digits.now) c.loop-byte.byte-index c.args.digits.now c.requires.some refl c.loop-byte-test.false c.loop-byte.invariant.low c.loop-byte.auto.byte-index-end c.requires.fits
+    numeral_done c.args.radix c.loop-byte.number (length c.args.digits.now) c.loop-byte.byte-index c.args.digits.now c.requires.digits refl c.loop-byte-test.false c.loop-byte.invariant.low c.loop-byte.auto.byte-index-end c.requires.within
     c.loop-byte.invariant.value c.loop-byte.invariant.all

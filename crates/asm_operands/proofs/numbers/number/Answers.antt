@@ -11,8 +11,8 @@ returns-then-count-eq1 c = one_found c.args.digits.now c.fitting_number.result c
 pub returns-then-digits-ne48 : goal.returns-then-digits-ne48
 returns-then-digits-ne48 c = decimal_found c.args.digits.now c.fitting_number-then-digits-ne48.result (omega arith) c.if-digits-ne48.true c.fitting_number-then-digits-ne48.ensures
 
-pub fitting_number-requires-then-digits-eq120-clause-fits : goal.fitting_number-requires-then-digits-eq120-clause-fits
-fitting_number-requires-then-digits-eq120-clause-fits c =
+pub fitting_number-requires-then-digits-eq120-clause-within : goal.fitting_number-requires-then-digits-eq120-clause-within
+fitting_number-requires-then-digits-eq120-clause-within c =
     let left = length-drop 2 c.args.digits.now in
     let taken = length-take-le (length c.args.digits.now - 2) (drop 2 c.args.digits.now) (omega arith) in
     sixteen_fits (length (take (length c.args.digits.now - 2) (drop 2 c.args.digits.now))) (omega arith)

@@ -1,0 +1,222 @@
+-- What the reading of an expression of numbers finds, step by step.
+use Rattle.std.proofs.Common.{◌≡◌, ℕ, zero, suc, ◌+◌, ◌-◌, ◌<◌, ◌≤◌, Bool, true, false, cond, nat_lt, List, [], ◌∷◌, Option, Some, None, Ok, Err, length, get_or, drop, map, refl, sym, ap, ◌∙◌, arith, length-drop}
+use Rattle.std.proofs.lemmas.Bool.Decides.{nat_tests}
+use Rattle.std.proofs.lemmas.List.{length-map}
+use Rattle.asm_base.specs.declared.tokens.Token.{Token}
+use Rattle.asm_base.specs.Tokens.{SpelledToken, spelled}
+use Rattle.asm_base.specs.Refusals.{◌>>=◌}
+use Rattle.asm_expr.specs.declared.faults.ExprCause.TheVariants.{BadExpression, ExpressionTooDeep}
+use Rattle.asm_expr.specs.declared.trees.UnaryOp.{UnaryOp}
+use Rattle.asm_expr.specs.declared.trees.BinaryOp.{BinaryOp}
+use Rattle.asm_expr.specs.Trees.{Tree, number, unary, binary, height}
+use Rattle.asm_expr.specs.Arithmetic.{turned, combined}
+use Rattle.asm_expr.specs.Operators.{opens, closes, prefix_of, level_of}
+use Rattle.asm_expr.specs.Leaves.{leaf_of}
+use Rattle.asm_expr.specs.Reading.{Reading, Read, read, whole, closed, closed_by, deeper, unopened, operand_of, operator_at, follow, reading, read_at, read_more}
+use Rattle.asm_expr.specs.Found.{spelled_from, operator_in}
+use Rattle.asm_operands.specs.declared.constants.Counted.{Counted}
+use Rattle.asm_operands.specs.Constants.{IsConstant}
+use Rattle.asm_operands.specs.Counting.{Counts, operand_in, ReadsOperand, ReadsExpression, ReadsMore, IsCounted}
+use Rattle.asm_operands.proofs.LeafLemmas.{leaf_reads}
+use Rattle.asm_operands.proofs.TokenLists.{none_left, one_left}
+use Rattle.asm_operands.proofs.TreeCounts.{number_counts, lifted, unary_counts, binary_counts, whole_low}
+
+-- one construct more may be open
+under : (b : Bool) (depth : ℕ) (inner : Read) → nat_lt depth 64 ≡ b → depth < 64 → cond b inner (Err ExpressionTooDeep) ≡ inner
+under true depth inner is low = refl
+under false depth inner is low = absurd (grind (arith, nat_tests))
+
+-- how many tokens are left
+pub left_from : (tokens : List Token) (at : ℕ) → length (spelled_from tokens at) ≡ length tokens - at
+left_from tokens at = length-map (drop at tokens) spelled ∙ length-drop at tokens
+
+-- the operand that begins at an index
+operand_at : (tokens : List Token) (at steps depth : ℕ) (d : Token) → at < length tokens
+    → operand_in steps depth (spelled_from tokens at) ≡ operand_of (read_at steps) depth (spelled (get_or tokens at d)) (spelled_from tokens (at + 1))
+unfolding operand_in
+operand_at tokens at steps depth d inside = ap (operand_in steps depth) (one_left tokens at d inside)
+
+pub leaf_operand : (tokens : List Token) (at depth n : ℕ) (d : Token) → at < length tokens → leaf_of (spelled (get_or tokens at d)) ≡ Ok (number n)
+    → ReadsOperand depth (spelled_from tokens at) (read (number n) (spelled_from tokens (at + 1)))
+leaf_operand tokens at depth n d inside is steps few =
+    operand_at tokens at steps depth d inside ∙ leaf_reads (spelled (get_or tokens at d)) (read_at steps) depth n (spelled_from tokens (at + 1)) is
+
+-- with parentheses
+closed_at : (tokens : List Token) (next : ℕ) (tree : Tree) (d : Token) → next < length tokens → true ≡ closes (spelled (get_or tokens next d))
+    → closed_by tree (spelled_from tokens next) ≡ Ok (read tree (spelled_from tokens (next + 1)))
+closed_at tokens next tree d inside is =
+    ap (closed_by tree) (one_left tokens next d inside)
+    ∙ ap (λ (b : Bool). cond b (Ok (read tree (spelled_from tokens (next + 1)))) (Err BadExpression)) (sym is)
+
+fewer : (tokens : List Token) (at steps : ℕ) → at < length tokens → length (spelled_from tokens at) ≤ suc steps → length (spelled_from tokens (at + 1)) ≤ steps
+fewer tokens at steps inside few = let all = left_from tokens at in let rest = left_from tokens (at + 1) in omega arith
+
+pub opened_operand : (tokens : List Token) (at next depth : ℕ) (tree : Tree) (d e : Token) → at < length tokens → true ≡ opens (spelled (get_or tokens at d)) → depth < 64
+    → ReadsExpression 1 (depth + 1) (spelled_from tokens (at + 1)) (read tree (spelled_from tokens next)) → next < length tokens → true ≡ closes (spelled (get_or tokens next e))
+    → ReadsOperand depth (spelled_from tokens at) (read tree (spelled_from tokens (next + 1)))
+unfolding operand_of
+opened_operand tokens at next depth tree d e inside is low reads within ends steps few =
+    operand_at tokens at steps depth d inside
+    ∙ ap (λ (b : Bool). cond b (deeper depth (read_at steps 1 (depth + 1) (spelled_from tokens (at + 1)) >>= closed)) (unopened (read_at steps) depth (spelled (get_or tokens at d)) (spelled_from tokens (at + 1)) (prefix_of (spelled (get_or tokens at d))))) (sym is)
+    ∙ under (nat_lt depth 64) depth (read_at steps 1 (depth + 1) (spelled_from tokens (at + 1)) >>= closed) refl low
+    ∙ ap (λ (r : Read). r >>= closed) (reads steps (fewer tokens at steps inside few))
+    ∙ closed_at tokens next tree e within ends
+
+-- with a prefix operator
+pub prefix_operand : (tokens : List Token) (at next depth : ℕ) (op : UnaryOp) (tree : Tree) (d : Token) → at < length tokens → false ≡ opens (spelled (get_or tokens at d)) → Some op ≡ prefix_of (spelled (get_or tokens at d))
+    → depth < 64 → ReadsExpression 7 (depth + 1) (spelled_from tokens (at + 1)) (read tree (spelled_from tokens next)) → height (unary op tree) ≤ 256
+    → ReadsOperand depth (spelled_from tokens at) (read (unary op tree) (spelled_from tokens next))
+unfolding operand_of
+prefix_operand tokens at next depth op tree d inside is some low reads fits steps few =
+    operand_at tokens at steps depth d inside
+    ∙ ap (λ (b : Bool). cond b (deeper depth (read_at steps 1 (depth + 1) (spelled_from tokens (at + 1)) >>= closed)) (unopened (read_at steps) depth (spelled (get_or tokens at d)) (spelled_from tokens (at + 1)) (prefix_of (spelled (get_or tokens at d))))) (sym is)
+    ∙ ap (unopened (read_at steps) depth (spelled (get_or tokens at d)) (spelled_from tokens (at + 1))) (sym some)
+    ∙ under (nat_lt depth 64) depth (read_at steps 7 (depth + 1) (spelled_from tokens (at + 1)) >>= (λ operand. whole (unary op operand.tree) operand.rest)) refl low
+    ∙ ap (λ (r : Read). r >>= (λ operand. whole (unary op operand.tree) operand.rest)) (reads steps (fewer tokens at steps inside few))
+    ∙ whole_low (unary op tree) (spelled_from tokens next) fits
+
+-- an expression begins with an operand
+pub begins : (level depth : ℕ) (front behind : List SpelledToken) (tree : Tree) (found : Reading) → length behind < length front → ReadsOperand depth front (read tree behind)
+    → ReadsMore level depth tree behind found → ReadsExpression level depth front found
+unfolding operand_in read_at
+begins level depth [] behind tree found fewer operand more steps few = absurd (omega arith)
+begins level depth (token ∷ rest) behind tree found fewer operand more zero few = absurd (omega arith)
+begins level depth (token ∷ rest) behind tree found fewer operand more (suc steps) few =
+    ap (λ (r : Read). r >>= (λ left. read_more steps level depth left.tree left.rest)) (operand steps few)
+    ∙ more steps (omega arith)
+
+-- it ends where no operator follows that binds tightly enough
+pub stops : (level depth : ℕ) (left : Tree) (tokens : List SpelledToken) → None ≡ operator_in level tokens → ReadsMore level depth left tokens (read left tokens)
+unfolding operator_in read_more
+stops level depth left [] none steps few = refl
+stops level depth left (token ∷ rest) none zero few = absurd (omega arith)
+stops level depth left (token ∷ rest) none (suc steps) few =
+    ap (λ (op : Option BinaryOp). follow op (Ok (read left (token ∷ rest))) (λ op. read_at steps (level_of op + 1) depth rest >>= (λ right. whole (binary op left right.tree) right.rest) >>= (λ joined. read_more steps level depth joined.tree joined.rest)))
+    (sym none)
+
+-- and goes on where one does
+goes : (level depth : ℕ) (op : BinaryOp) (left right : Tree) (token : SpelledToken) (rest behind : List SpelledToken) (found : Reading) → Some op ≡ operator_at level token
+    → ReadsExpression (level_of op + 1) depth rest (read right behind) → height (binary op left right) ≤ 256 → length behind ≤ length rest
+    → ReadsMore level depth (binary op left right) behind found → ReadsMore level depth left (token ∷ rest) found
+unfolding read_more
+goes level depth op left right token rest behind found some reads fits fewer more zero few = absurd (omega arith)
+goes level depth op left right token rest behind found some reads fits fewer more (suc steps) few =
+    ap (λ (op : Option BinaryOp). follow op (Ok (read left (token ∷ rest))) (λ op. read_at steps (level_of op + 1) depth rest >>= (λ right. whole (binary op left right.tree) right.rest) >>= (λ joined. read_more steps level depth joined.tree joined.rest)))
+    (sym some)
+    ∙ ap (λ (r : Read). r >>= (λ right. whole (binary op left right.tree) right.rest) >>= (λ joined. read_more steps level depth joined.tree joined.rest)) (reads steps (omega arith))
+    ∙ ap (λ (r : Read). r >>= (λ joined. read_more steps level depth joined.tree joined.rest)) (whole_low (binary op left right) behind fits)
+    ∙ more steps (omega arith)
+
+operator_is : (tokens : List Token) (at level : ℕ) (d : Token) (op : BinaryOp) → at < length tokens → Some op ≡ operator_in level (spelled_from tokens at) → Some op ≡ operator_at level (spelled (get_or tokens at d))
+unfolding operator_in
+operator_is tokens at level d op inside is = is ∙ ap (operator_in level) (one_left tokens at d inside)
+
+pub goes_on : (tokens : List Token) (at next level depth : ℕ) (op : BinaryOp) (left right : Tree) (found : Reading) → at < length tokens → Some op ≡ operator_in level (spelled_from tokens at)
+    → ReadsExpression (level_of op + 1) depth (spelled_from tokens (at + 1)) (read right (spelled_from tokens next)) → height (binary op left right) ≤ 256 → at + 1 ≤ next
+    → ReadsMore level depth (binary op left right) (spelled_from tokens next) found → ReadsMore level depth left (spelled_from tokens at) found
+goes_on [] at next level depth op left right found inside some reads fits later more = absurd (omega arith)
+goes_on (first ∷ others) at next level depth op left right found inside some reads fits later more =
+    let tokens : List Token = first ∷ others in
+    let rest = left_from tokens (at + 1) in
+    let behind = left_from tokens next in
+    let all = goes level depth op left right (spelled (get_or tokens at first)) (spelled_from tokens (at + 1)) (spelled_from tokens next) found (operator_is tokens at level first op inside some) reads fits (omega arith) more in
+    rw (one_left tokens at first inside) all
+
+-- what an expression counts as far as it is read
+pub record IsLeft (tokens : List Token) (at level depth : ℕ) (left : Counted) : Type 0 where
+  pub tree : Tree
+  pub reads : (found : Reading) → ReadsMore level depth tree (spelled_from tokens left.next) found → ReadsExpression level depth (spelled_from tokens at) found
+  pub counts : Counts tree left.value (left.next - at)
+  pub later : at < left.next
+  pub within : left.next ≤ length tokens
+
+pub left_begins : (tokens : List Token) (at level depth : ℕ) (left : Counted) → IsCounted (ReadsOperand depth) tokens at left → IsLeft tokens at level depth left
+left_begins tokens at level depth left is = record {
+  tree = is.tree;
+  reads = λ found more. begins level depth (spelled_from tokens at) (spelled_from tokens left.next) is.tree found
+      (let all = left_from tokens at in let rest = left_from tokens left.next in let later = is.later in let within = is.within in omega arith) is.reads more;
+  counts = is.counts;
+  later = is.later;
+  within = is.within;
+}
+
+pub left_ends : (tokens : List Token) (at level depth : ℕ) (left : Counted) → None ≡ operator_in level (spelled_from tokens left.next) → IsLeft tokens at level depth left
+    → IsCounted (ReadsExpression level depth) tokens at left
+left_ends tokens at level depth left none is = record {
+  tree = is.tree;
+  reads = is.reads (read is.tree (spelled_from tokens left.next)) (stops level depth is.tree (spelled_from tokens left.next) none);
+  counts = is.counts;
+  later = is.later;
+  within = is.within;
+}
+
+pub left_goes_on : (tokens : List Token) (at level depth : ℕ) (op : BinaryOp) (left right joined : Counted) → length tokens ≤ 200 → Some op ≡ operator_in level (spelled_from tokens left.next)
+    → IsCounted (ReadsExpression (level_of op + 1) depth) tokens (left.next + 1) right → combined op left.value right.value ≡ Ok joined.value → joined.next ≡ right.next
+    → IsLeft tokens at level depth left → IsLeft tokens at level depth joined
+left_goes_on tokens at level depth op left right joined few some is value next before =
+    let node = binary op before.tree is.tree in
+    let begun = before.later in
+    let inside = before.within in
+    let later = is.later in
+    let within = is.within in
+    let counts = binary_counts op before.tree is.tree left.value right.value joined.value (left.next - at) (right.next - (left.next + 1)) (right.next - at) before.counts is.counts value (omega arith) (omega arith) in
+    let low = counts.low in
+    rw next (record {
+      tree = node;
+      reads = λ found more. before.reads found (goes_on tokens left.next right.next level depth op before.tree is.tree found (omega arith) some is.reads (omega arith) (omega arith) more);
+      counts = counts;
+      later = omega arith;
+      within = is.within;
+    })
+
+-- the operand of each kind, as it is counted
+pub leaf_counted : (tokens : List Token) (at depth n : ℕ) (d : Token) → at < length tokens → leaf_of (spelled (get_or tokens at d)) ≡ Ok (number n)
+    → IsCounted (ReadsOperand depth) tokens at (record { value = n; next = at + 1 })
+leaf_counted tokens at depth n d inside is = record {
+  tree = number n;
+  reads = leaf_operand tokens at depth n d inside is;
+  counts = number_counts n (at + 1 - at) (omega arith);
+  later = omega arith;
+  within = omega arith;
+}
+
+pub opened_counted : (tokens : List Token) (at depth : ℕ) (inner : Counted) (d e : Token) → at < length tokens → true ≡ opens (spelled (get_or tokens at d)) → depth < 64
+    → IsCounted (ReadsExpression 1 (depth + 1)) tokens (at + 1) inner → inner.next < length tokens → true ≡ closes (spelled (get_or tokens inner.next e))
+    → IsCounted (ReadsOperand depth) tokens at (record { value = inner.value; next = inner.next + 1 })
+opened_counted tokens at depth inner d e inside is low counted within ends =
+    let later = counted.later in
+    record {
+      tree = counted.tree;
+      reads = opened_operand tokens at inner.next depth counted.tree d e inside is low counted.reads within ends;
+      counts = lifted counted.tree inner.value (inner.next - (at + 1)) (inner.next + 1 - at) (omega arith) counted.counts;
+      later = omega arith;
+      within = omega arith;
+    }
+
+pub prefix_counted : (tokens : List Token) (at depth : ℕ) (op : UnaryOp) (inner : Counted) (d : Token) → length tokens ≤ 200 → at < length tokens → false ≡ opens (spelled (get_or tokens at d))
+    → Some op ≡ prefix_of (spelled (get_or tokens at d)) → depth < 64 → IsCounted (ReadsExpression 7 (depth + 1)) tokens (at + 1) inner
+    → IsCounted (ReadsOperand depth) tokens at (record { value = turned op inner.value; next = inner.next })
+prefix_counted tokens at depth op inner d few inside is some low counted =
+    let later = counted.later in
+    let within = counted.within in
+    let counts = lifted (unary op counted.tree) (turned op inner.value) (inner.next - (at + 1) + 1) (inner.next - at) (omega arith) (unary_counts op counted.tree inner.value (inner.next - (at + 1)) counted.counts) in
+    let fits = counts.low in
+    record {
+      tree = unary op counted.tree;
+      reads = prefix_operand tokens at inner.next depth op counted.tree d inside is some low counted.reads (omega arith);
+      counts = counts;
+      later = omega arith;
+      within = counted.within;
+    }
+
+-- an expression that is all tokens is the operand
+pub all_counted : (tokens : List Token) (found : Counted) → IsCounted (ReadsExpression 1 0) tokens 0 found → length tokens ≤ found.next → IsConstant (map spelled tokens) found.value
+unfolding reading
+all_counted tokens found counted all = record {
+  tree = counted.tree;
+  reads =
+      counted.reads (length (map spelled tokens)) (omega arith)
+      ∙ ap (λ rest. Ok (read counted.tree rest)) (none_left tokens found.next all);
+  counts = counted.counts.form;
+  names = counted.counts.names;
+}
