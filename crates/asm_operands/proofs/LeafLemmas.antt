@@ -1,5 +1,5 @@
 -- Tokens that are numbers alone.
-use Rattle.std.proofs.Common.{◌≡◌, ℕ, zero, suc, ◌-◌, ◌==◌, ◌<◌, ◌≤◌, Bool, true, false, ◌&&◌, ◌||◌, List, [], ◌∷◌, Result, Ok, Err, length, get_or, take, drop, refl, sym, ap, arith, nat_lt, ◌≢◌, Option, Some, None, map, length-drop}
+use Rattle.std.proofs.Common.{◌≡◌, ℕ, zero, suc, ◌-◌, ◌==◌, ◌<◌, ◌≤◌, Bool, true, false, ◌&&◌, ◌||◌, List, [], ◌∷◌, Result, Ok, Err, length, get_or, take, drop, refl, sym, ap, arith, nat_lt, ◌≢◌, Option, Some, None, map, length-drop, lit≤, cond, ◌∙◌}
 use Rattle.std.proofs.lemmas.List.{take_all}
 use Rattle.std.specs.List.{list_all}
 use Rattle.std.specs.Result.{result_ok}
@@ -20,34 +20,6 @@ use Rattle.asm_expr.specs.Reading.{Read, read, operand_of, reading, read_at, rea
 use Rattle.asm_operands.specs.Numbers.{FindsNumeral, FindsNumber, FindsLeaf}
 use Rattle.asm_operands.specs.Constants.{FindsConstant}
 use Rattle.asm_operands.proofs.NumberLemmas.{numeral_all}
-
--- digits that are no label spell their number
-pub number_leaf : (digits : List ℕ) (n : ℕ) → is_numeric_label digits ≡ false → spelled_number digits ≡ Ok n → digits_leaf digits ≡ Ok (number n)
-unfolding digits_leaf
-number_leaf digits n label is = rw (label, is) refl
-
--- a token that is a number is an operand by itself
-reads_by : (kind : TokenKind) (bytes : List ℕ) (start : ℕ) (below : ℕ → ℕ → List SpelledToken → Read) (depth n : ℕ) (rest : List SpelledToken) → leaf_by kind bytes ≡ Ok (number n)
-    → operand_of below depth (record { kind = kind; bytes = bytes; start = start }) rest ≡ Ok (read (number n) rest)
-unfolding operand_of prefix_by leaf_of
-reads_by Name bytes start below depth n rest is = ap (λ (r : Result Tree ExprCause). r >>= (λ tree. Ok (read tree rest))) is
-reads_by Digits bytes start below depth n rest is = ap (λ (r : Result Tree ExprCause). r >>= (λ tree. Ok (read tree rest))) is
-reads_by Character bytes start below depth n rest is = ap (λ (r : Result Tree ExprCause). r >>= (λ tree. Ok (read tree rest))) is
-reads_by String bytes start below depth n rest is = ap (λ (r : Result Tree ExprCause). r >>= (λ tree. Ok (read tree rest))) is
-reads_by Other bytes start below depth n rest is = cc
-reads_by Operator bytes start below depth n rest is = cc
-
-pub leaf_reads : (token : SpelledToken) (below : ℕ → ℕ → List SpelledToken → Read) (depth n : ℕ) (rest : List SpelledToken) → leaf_of token ≡ Ok (number n)
-    → operand_of below depth token rest ≡ Ok (read (number n) rest)
-unfolding leaf_of
-leaf_reads token below depth n rest is = reads_by token.kind token.bytes token.start below depth n rest is
-
--- with an `x` behind the first, not all bytes before the last are decimal digits
-short : (n : ℕ) (digits : List ℕ) → 2 ≤ n → list_all (is_digit_of 10) (take n (48 ∷ 120 ∷ digits)) ≡ false
-unfolding digit_of
-short zero digits some = absurd (omega arith)
-short (suc zero) digits some = absurd (omega arith)
-short (suc (suc n)) digits some = refl
 
 -- one of the digits is one of the radix
 all_at : (radix i : ℕ) (digits : List ℕ) → list_all (is_digit_of radix) digits ≡ true → i < length digits → digit_of (get_or digits i 0) < radix
@@ -76,53 +48,131 @@ ends_by last others small = by (last == 98) (last == 102) refl refl
 no_label : (digits : List ℕ) → 0 < length digits → list_all (is_digit_of 10) digits ≡ true → is_numeric_label digits ≡ false
 no_label digits some all = ends_by (last_byte digits) (list_all (is_digit_of 10) (without_last digits)) (all_at 10 (length digits - 1) digits all (omega arith))
 
--- one digit, or decimal digits with no zero in front
-pub one_leaf : (digits : List ℕ) (n : ℕ) → length digits ≡ 1 → numeral 10 digits ≡ Ok n → digits_leaf digits ≡ Ok (number n)
-unfolding spelled_number
-one_leaf [] n long is = absurd (omega arith)
-one_leaf (first ∷ []) n long is = number_leaf (first ∷ []) n (no_label (first ∷ []) (omega arith) (numeral_all 10 n (first ∷ []) is)) is
-one_leaf (first ∷ second ∷ rest) n long is = absurd (omega arith)
-
-pub decimal_leaf : (digits : List ℕ) (n : ℕ) → 1 < length digits → get_or digits 0 0 ≢ 48 → numeral 10 digits ≡ Ok n → digits_leaf digits ≡ Ok (number n)
-unfolding spelled_number
-decimal_leaf [] n long other is = absurd (omega arith)
-decimal_leaf (first ∷ []) n long other is = absurd (omega arith)
-decimal_leaf (first ∷ second ∷ rest) n long other is =
-    let none : (first == 48) ≡ false = grind (arith, nat_tests) in
-    number_leaf (first ∷ second ∷ rest) n (no_label (first ∷ second ∷ rest) (omega arith) (numeral_all 10 n (first ∷ second ∷ rest) is)) (rw none is)
-
--- `0x` and hexadecimal digits
-pub hexadecimal_leaf : (digits : List ℕ) (n : ℕ) → 2 < length digits → get_or digits 0 0 ≡ 48 → get_or digits 1 0 ≡ 120 → numeral 16 (drop 2 digits) ≡ Ok n → digits_leaf digits ≡ Ok (number n)
-unfolding spelled_number
-hexadecimal_leaf [] n long first second is = absurd (omega arith)
-hexadecimal_leaf (a ∷ []) n long first second is = absurd (omega arith)
-hexadecimal_leaf (a ∷ b ∷ rest) n long first second is =
-    rw (first, second) (number_leaf (48 ∷ 120 ∷ rest) n (label (last_byte (48 ∷ 120 ∷ rest) == 98 || last_byte (48 ∷ 120 ∷ rest) == 102) _ (short (length (48 ∷ 120 ∷ rest) - 1) rest (omega arith))) is)
+-- a byte that is no decimal digit, and others behind it: not all before the last are decimal
+mixed : (n first second : ℕ) (rest : List ℕ) → 2 ≤ n → 10 ≤ digit_of second → list_all (is_digit_of 10) (take n (first ∷ second ∷ rest)) ≡ false
+mixed zero first second rest some other = absurd (omega arith)
+mixed (suc zero) first second rest some other = absurd (omega arith)
+mixed (suc (suc n)) first second rest some other = by (nat_lt (digit_of first) 10) (nat_lt (digit_of second) 10) refl
   where
-    label : (ends others : Bool) → others ≡ false → (ends && others) ≡ false
-    label true others none = none
-    label false others none = refl
+    by : (a b : Bool) → nat_lt (digit_of second) 10 ≡ b → (a && (b && list_all (is_digit_of 10) (take n rest))) ≡ false
+    by true true is = absurd (grind (arith, nat_tests))
+    by true false is = refl
+    by false b is = refl
+
+none_of : (ends others : Bool) → others ≡ false → (ends && others) ≡ false
+none_of true others none = none
+none_of false others none = refl
+
+-- a radix letter is no decimal digit
+marked_no_label : (first second radix n : ℕ) (rest : List ℕ) → 10 ≤ digit_of second → numeral radix rest ≡ Ok n → is_numeric_label (first ∷ second ∷ rest) ≡ false
+unfolding numeral
+marked_no_label first second radix n [] other is = cc
+marked_no_label first second radix n (third ∷ rest) other is =
+    none_of (last_byte (first ∷ second ∷ third ∷ rest) == 98 || last_byte (first ∷ second ∷ third ∷ rest) == 102) _
+    (mixed (length (first ∷ second ∷ third ∷ rest) - 1) first second (third ∷ rest) (omega arith) other)
+
+-- nor is the last of octal digits a `b` or an `f`
+octal_no_label : (first second : ℕ) (rest : List ℕ) → digit_of (get_or (second ∷ rest) (length rest) 0) < 10 → is_numeric_label (first ∷ second ∷ rest) ≡ false
+octal_no_label first second rest small =
+    let last : length (first ∷ second ∷ rest) - 1 ≡ suc (length rest) = omega arith in
+    ends_by (last_byte (first ∷ second ∷ rest)) (list_all (is_digit_of 10) (without_last (first ∷ second ∷ rest))) (rw last small)
+
+letter_120 : 10 ≤ digit_of 120
+unfolding digit_of
+letter_120 = lit≤ tt
+
+letter_88 : 10 ≤ digit_of 88
+unfolding digit_of
+letter_88 = lit≤ tt
+
+letter_98 : 10 ≤ digit_of 98
+unfolding digit_of
+letter_98 = lit≤ tt
+
+letter_66 : 10 ≤ digit_of 66
+unfolding digit_of
+letter_66 = lit≤ tt
+
+-- what spells a number is no label
+spelled_no_label : (digits : List ℕ) (n : ℕ) → spelled_number digits ≡ Ok n → is_numeric_label digits ≡ false
+unfolding spelled_number numeral
+spelled_no_label [] n is = cc
+spelled_no_label (first ∷ []) n is = no_label (first ∷ []) (omega arith) (numeral_all 10 n (first ∷ []) is)
+spelled_no_label (first ∷ second ∷ rest) n is = by (first == 48) (second == 120) (second == 88) (second == 98) (second == 66) refl refl refl refl refl is
+  where
+    letter : (code : ℕ) → second ≡ code → 10 ≤ digit_of code → 10 ≤ digit_of second
+    letter code same other = rw same other
+
+    by : (zero hex HEX two TWO : Bool) → (first == 48) ≡ zero → (second == 120) ≡ hex → (second == 88) ≡ HEX → (second == 98) ≡ two → (second == 66) ≡ TWO
+        → cond zero (cond (hex || HEX) (numeral 16 rest) (cond (two || TWO) (numeral 2 rest) (numeral 8 (second ∷ rest)))) (numeral 10 (first ∷ second ∷ rest)) ≡ Ok n
+        → is_numeric_label (first ∷ second ∷ rest) ≡ false
+    by false hex HEX two TWO z h H t T is = no_label (first ∷ second ∷ rest) (omega arith) (numeral_all 10 n (first ∷ second ∷ rest) is)
+    by true true HEX two TWO z h H t T is = marked_no_label first second 16 n rest (letter 120 (grind (arith, nat_tests)) letter_120) is
+    by true false true two TWO z h H t T is = marked_no_label first second 16 n rest (letter 88 (grind (arith, nat_tests)) letter_88) is
+    by true false false true TWO z h H t T is = marked_no_label first second 2 n rest (letter 98 (grind (arith, nat_tests)) letter_98) is
+    by true false false false true z h H t T is = marked_no_label first second 2 n rest (letter 66 (grind (arith, nat_tests)) letter_66) is
+    by true false false false false z h H t T is =
+        octal_no_label first second rest (let small = all_at 8 (length rest) (second ∷ rest) (numeral_all 8 n (second ∷ rest) is) (omega arith) in omega (arith, small))
+
+-- what spells a number is that number
+number_leaf : (digits : List ℕ) (n : ℕ) → spelled_number digits ≡ Ok n → digits_leaf digits ≡ Ok (number n)
+unfolding digits_leaf
+number_leaf digits n is = rw (spelled_no_label digits n is, is) refl
+
+-- one digit, decimal digits with no zero in front, and `0x` with hexadecimal digits
+one_is : (digits : List ℕ) → length digits ≡ 1 → spelled_number digits ≡ numeral 10 digits
+unfolding spelled_number
+one_is [] long = absurd (omega arith)
+one_is (first ∷ []) long = refl
+one_is (first ∷ second ∷ rest) long = absurd (omega arith)
+
+decimal_is : (digits : List ℕ) → 1 < length digits → get_or digits 0 0 ≢ 48 → spelled_number digits ≡ numeral 10 digits
+unfolding spelled_number
+decimal_is [] long other = absurd (omega arith)
+decimal_is (first ∷ []) long other = absurd (omega arith)
+decimal_is (first ∷ second ∷ rest) long other = let none : (first == 48) ≡ false = grind (arith, nat_tests) in rw none refl
+
+hexadecimal_is : (digits : List ℕ) → 2 < length digits → get_or digits 0 0 ≡ 48 → get_or digits 1 0 ≡ 120 → spelled_number digits ≡ numeral 16 (drop 2 digits)
+unfolding spelled_number
+hexadecimal_is [] long first second = absurd (omega arith)
+hexadecimal_is (a ∷ []) long first second = absurd (omega arith)
+hexadecimal_is (a ∷ b ∷ rest) long first second = rw (first, second) refl
 
 -- what is found of them is what their token spells
 pub one_found : (digits : List ℕ) (answer : Option ℕ) → length digits ≡ 1 → FindsNumeral 10 digits answer → FindsNumber digits answer
-one_found digits (Some n) long is = one_leaf digits n long is
+one_found digits (Some n) long is = number_leaf digits n (one_is digits long ∙ is)
 one_found digits None long is = tt
 
 pub decimal_found : (digits : List ℕ) (answer : Option ℕ) → 1 < length digits → get_or digits 0 0 ≢ 48 → FindsNumeral 10 digits answer → FindsNumber digits answer
-decimal_found digits (Some n) long other is = decimal_leaf digits n long other is
+decimal_found digits (Some n) long other is = number_leaf digits n (decimal_is digits long other ∙ is)
 decimal_found digits None long other is = tt
 
 pub hexadecimal_found : (digits : List ℕ) (answer : Option ℕ) → 2 < length digits → get_or digits 0 0 ≡ 48 → get_or digits 1 0 ≡ 120 → FindsNumeral 16 (take (length digits - 2) (drop 2 digits)) answer
     → FindsNumber digits answer
 hexadecimal_found digits (Some n) long first second is =
-    hexadecimal_leaf digits n long first second (rw (take_all (length digits - 2) (drop 2 digits) (omega (arith, length-drop 2 digits))) at is)
+    number_leaf digits n (hexadecimal_is digits long first second ∙ rw (take_all (length digits - 2) (drop 2 digits) (omega (arith, length-drop 2 digits))) at is)
 hexadecimal_found digits None long first second is = tt
 
-pub any_found : (digits : List ℕ) (spelling : Result ℕ ExprCause) (answer : Option ℕ) → is_numeric_label digits ≡ false → spelling ≡ spelled_number digits → answer ≡ result_ok spelling
-    → FindsNumber digits answer
-any_found digits (Ok n) (Some m) label is taken = let same : m ≡ n = cc in rw same (number_leaf digits n label (sym is))
-any_found digits (Err fault) (Some m) label is taken = cc
-any_found digits spelling None label is taken = tt
+pub any_found : (digits : List ℕ) (spelling : Result ℕ ExprCause) (answer : Option ℕ) → spelling ≡ spelled_number digits → answer ≡ result_ok spelling → FindsNumber digits answer
+any_found digits (Ok n) (Some m) is taken = let same : m ≡ n = cc in rw same (number_leaf digits n (sym is))
+any_found digits (Err fault) (Some m) is taken = cc
+any_found digits spelling None is taken = tt
+
+-- a token that is a number is an operand by itself
+reads_by : (kind : TokenKind) (bytes : List ℕ) (start : ℕ) (below : ℕ → ℕ → List SpelledToken → Read) (depth n : ℕ) (rest : List SpelledToken) → leaf_by kind bytes ≡ Ok (number n)
+    → operand_of below depth (record { kind = kind; bytes = bytes; start = start }) rest ≡ Ok (read (number n) rest)
+unfolding operand_of prefix_by leaf_of
+reads_by Name bytes start below depth n rest is = ap (λ (r : Result Tree ExprCause). r >>= (λ tree. Ok (read tree rest))) is
+reads_by Digits bytes start below depth n rest is = ap (λ (r : Result Tree ExprCause). r >>= (λ tree. Ok (read tree rest))) is
+reads_by Character bytes start below depth n rest is = ap (λ (r : Result Tree ExprCause). r >>= (λ tree. Ok (read tree rest))) is
+reads_by String bytes start below depth n rest is = ap (λ (r : Result Tree ExprCause). r >>= (λ tree. Ok (read tree rest))) is
+reads_by Other bytes start below depth n rest is = cc
+reads_by Operator bytes start below depth n rest is = cc
+
+pub leaf_reads : (token : SpelledToken) (below : ℕ → ℕ → List SpelledToken → Read) (depth n : ℕ) (rest : List SpelledToken) → leaf_of token ≡ Ok (number n)
+    → operand_of below depth token rest ≡ Ok (read (number n) rest)
+unfolding leaf_of
+leaf_reads token below depth n rest is = reads_by token.kind token.bytes token.start below depth n rest is
 
 -- a token that is a number is an operand by itself
 pub leaf_constant : (token : SpelledToken) (answer : Option ℕ) → FindsLeaf token answer → FindsConstant (token ∷ []) answer

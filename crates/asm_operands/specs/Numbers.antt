@@ -1,9 +1,15 @@
 -- Digits whose number fits, and tokens that are numbers alone.
-use Rattle.std.specs.Prelude.{◌≡◌, ℕ, List, Option, None, Some, Ok}
+use Rattle.std.specs.Prelude.{◌≡◌, ◌<◌, ℕ, List, Option, None, Some, Ok}
+use Rattle.asm_base.specs.Digits.{digit_of}
 use Rattle.asm_base.specs.Tokens.{SpelledToken}
 use Rattle.asm_expr.specs.Trees.{number}
 use Rattle.asm_expr.specs.Numbers.{numeral}
 use Rattle.asm_expr.specs.Leaves.{digits_leaf, leaf_of}
+
+-- a digit that is found is the value of the byte, and the radix has it; where none is found nothing is said
+abbrev pub FindsDigit : ℕ → ℕ → Option ℕ → Type 0
+FindsDigit radix byte (Some digit) = (digit ≡ digit_of byte) × (digit < radix)
+FindsDigit radix byte None = Unit {0}
 
 -- a number that is found is that of the digits in this radix; where none is found nothing is said
 abbrev pub FindsNumeral : ℕ → List ℕ → Option ℕ → Type 0

@@ -1,12 +1,19 @@
 //! The numbers that single tokens are.
 
-ghost use Rattle.std.specs.Prelude.{◌≡◌, ◌<◌, ◌≤◌, ◌^◌, length};
+ghost use Rattle.std.specs.Prelude.{◌<◌, ◌≤◌, ◌^◌, length};
 ghost use Rattle.asm_base.specs.Tokens.{spelled};
-ghost use Rattle.asm_expr.specs.Leaves.{is_numeric_label};
-ghost use Rattle.asm_operands.specs.Numbers.{FindsNumeral, FindsNumber, FindsLeaf};
+ghost use Rattle.asm_operands.specs.Numbers.{FindsDigit, FindsNumeral, FindsNumber, FindsLeaf};
 
 use asm_base::{Token, TokenKind, digit_of};
-use asm_expr::{all_digits, character_code, spelled_number};
+use asm_expr::{character_code, spelled_number};
+
+/// The value of a digit, if the radix has it.
+fn digit_below(radix: u64, byte: u8) -> Option<u64>
+    ensures { FindsDigit radix byte result }
+{
+    let digit = digit_of(byte);
+    if digit < radix { Some(digit) } else { None }
+}
 
 /// The number of digits so few that it fits.
 fn fitting_number(radix: u64, digits: &[u8]) -> Option<u64>
@@ -16,34 +23,17 @@ fn fitting_number(radix: u64, digits: &[u8]) -> Option<u64>
 {
     let mut number: u64 = 0;
     for byte in digits {
-        let digit = digit_of(*byte);
-        if digit >= radix {
-            return None;
-        }
+        let digit = digit_below(radix, *byte)?;
         number = number * radix + digit;
     }
     Some(number)
 }
 
-/// Whether the digits are decimal and a `b` or an `f` stands behind them.
-fn is_numeric_label(digits: &[u8]) -> bool
-    ensures { result ≡ is_numeric_label digits.now }
-{
-    if digits.is_empty() {
-        return false;
-    }
-    let end = digits.len() - 1;
-    (digits[end] == b'b' || digits[end] == b'f') && all_digits(10, &digits[..end])
-}
-
-/// The number that a token of digits of any form is.
+/// The number that a token of digits of any form is. What spells a number is no label.
 #[inline(never)]
 fn any_number(digits: &[u8]) -> Option<u64>
     ensures { FindsNumber digits.now result }
 {
-    if is_numeric_label(digits) {
-        return None;
-    }
     spelled_number(digits).ok()
 }
 

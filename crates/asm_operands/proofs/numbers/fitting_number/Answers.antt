@@ -5,22 +5,22 @@ use Rattle.asm_operands.proofs.numbers.fitting_number.Goals as goal
 
 pub overflow_mul-number : goal.overflow_mul-number
 overflow_mul-number c =
-    let fits = step_fits c.args.radix c.loop-byte.number c.digit_of-digit.result c.loop-byte.byte-index (length c.args.digits.now) c.loop-byte.invariant.low c.if-digit-radix.false c.loop-byte-test.true c.requires.within in
+    let fits = step_fits c.args.radix c.loop-byte.number c.in_ok-digit.digit c.loop-byte.byte-index (length c.args.digits.now) c.loop-byte.invariant.low c.in_ok-digit.ensures.1 c.loop-byte-test.true c.requires.within in
     omega (arith, fits)
 
 pub overflow_add-number : goal.overflow_add-number
 overflow_add-number c =
-    let fits = step_fits c.args.radix c.loop-byte.number c.digit_of-digit.result c.loop-byte.byte-index (length c.args.digits.now) c.loop-byte.invariant.low c.if-digit-radix.false c.loop-byte-test.true c.requires.within in
+    let fits = step_fits c.args.radix c.loop-byte.number c.in_ok-digit.digit c.loop-byte.byte-index (length c.args.digits.now) c.loop-byte.invariant.low c.in_ok-digit.ensures.1 c.loop-byte-test.true c.requires.within in
     omega (arith, fits)
 
 pub loop-byte-preserved : goal.loop-byte-preserved
 loop-byte-preserved c =
-    let same = c.digit_of-digit.ensures.value in
-    let small = c.if-digit-radix.false in
+    let same = c.in_ok-digit.ensures.0 in
+    let small = c.in_ok-digit.ensures.1 in
     record {
       value = rw same (sym (number_step c.args.radix c.loop-byte.number c.loop-byte.byte-index c.args.digits.now c.loop-byte-test.true) ∙ c.loop-byte.invariant.value);
       all = sym (all_step c.args.radix c.loop-byte.byte-index c.args.digits.now c.loop-byte-test.true (rw same at small)) ∙ c.loop-byte.invariant.all;
-      low = step_below c.args.radix c.loop-byte.number c.digit_of-digit.result c.loop-byte.byte-index c.loop-byte.invariant.low small;
+      low = step_below c.args.radix c.loop-byte.number c.in_ok-digit.digit c.loop-byte.byte-index c.loop-byte.invariant.low small;
     }
 
 pub returns : goal.returns
