@@ -5,6 +5,7 @@ pub mod TokenLists
 pub mod OperandSplits
 pub mod NameParts
 pub mod StepLists
+pub mod ConstantDataLemmas
 pub mod LabelLemmas
 pub mod GrowthLemmas
 pub mod Walks

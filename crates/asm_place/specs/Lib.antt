@@ -29,6 +29,7 @@ pub mod Idents
 pub mod Directives
 pub mod Placing
 pub mod DataWordsIn
+pub mod ConstantData
 pub mod PlacedBy
 pub mod Sources
 pub mod Instructions

@@ -10,6 +10,7 @@ ghost use Rattle.std.specs.List.{count_by};
 ghost use Rattle.asm_place.specs.DataItems.{put_form, data_of, is_cut};
 
 use crate::assemblers::Assembler;
+use crate::constant_data::{constant_data, put_constant};
 use crate::expressions::{expressions, forms};
 use crate::operands::Operands;
 use crate::place_faults::PlaceFault;
@@ -34,13 +35,11 @@ fn count_cut(size: FieldSize, forms: &[Linear]) -> usize
 }
 
 /// Puts a form last: the bytes of a value that is known, or a field.
-#[tactic(auto, unfolding(asm_frags::specs::Fields::low_bytes))]
 fn put_form(held: &mut Data, size: FieldSize, form: Linear) -> Result<(), AllocError>
     ensures { OnOk result (held.new ≡ put_form size held.old form) }
 {
     if form.terms().is_empty() {
-        let bytes = form.constant().to_le_bytes();
-        held.add_bytes(&bytes[..size.bytes()])
+        put_constant(held, size, form.constant())
     } else {
         held.add_field(size, form)
     }
@@ -103,9 +102,10 @@ impl Assembler {
         Ok(())
     }
 
-    /// `.byte` and the others.
+    /// Data of any operands.
+    #[inline(never)]
     #[tactic(auto, unfolding(crate::specs::Placing::place_data))]
-    pub(crate) fn place_data(
+    fn place_any_data(
         &mut self,
         pos: Pos,
         size: FieldSize,
@@ -117,5 +117,22 @@ impl Assembler {
     {
         let words = data_words(self.alloc, self.view(), tokens)?;
         self.put_data(pos, size, words)
+    }
+
+    /// `.byte` and the others: at once where all operands are numbers.
+    pub(crate) fn place_data(
+        &mut self,
+        pos: Pos,
+        size: FieldSize,
+        tokens: &[Token],
+    ) -> Result<(), PlaceFault>
+        ensures placed { PlacesBy (place_data pos size (map spelled tokens.now))
+            self.old self.new result }
+        ensures kept { KeepsNotes result self.old.notes self.new.notes }
+    {
+        match constant_data(self.alloc, size, tokens)? {
+            Some(found) => self.put_constants(pos, found),
+            None => self.place_any_data(pos, size, tokens),
+        }
     }
 }

@@ -4,6 +4,7 @@
 mod assemblers;
 mod assignments;
 mod commons;
+mod constant_data;
 mod data_items;
 mod directives;
 mod expressions;
