@@ -1,5 +1,6 @@
 -- The proofs of this crate.
 pub mod Names
+pub mod InstructionBytes
 pub mod Readings
 pub mod TokenLists
 pub mod OperandSplits

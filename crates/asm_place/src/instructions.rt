@@ -1,12 +1,14 @@
 //! The instructions that have no operands, as one table, with its look-up by name and its encoder.
 
 ghost use Rattle.std.specs.Prelude.{◌≡◌, ◌++◌, ◌<◌, ◌≤◌, List, ℕ, Bool, Contains, find, length};
-ghost use Rattle.std.specs.Prelude.{option_map, OnOk, IsTrue};
+ghost use Rattle.std.specs.Prelude.{option_map, IfOk, OnOk, IsTrue};
 ghost use Rattle.std.specs.List.{list_all};
 ghost use Rattle.asm_place.specs.Rows.{the_rows, name_of, has_name, has_whole_name, all_named_apart, bytes_of};
 ghost use Rattle.asm_place.specs.Reads.{Reads, all_apart};
+ghost use Rattle.asm_frags.specs.DataOf.{no_data, with_bytes};
 
-use std::alloc::AllocError;
+use asm_frags::Data;
+use std::alloc::{AllocError, Global};
 
 /// What an instruction does; several names or encodings may have one mnemonic.
 #[derive(Clone, Copy)]
@@ -182,6 +184,19 @@ pub fn put_instruction(out: &mut Vec<u8>, row: &Row) -> Result<(), AllocError>
     out.extend_from_slice(row.escape.then_some(ESCAPE).as_slice())?;
     out.push(row.opcode)?;
     out.extend_from_slice(row.modrm.as_slice())
+}
+
+/// The row's bytes as the data of an item.
+pub(crate) fn instruction_data(alloc: Global, row: &Row) -> Result<Data, AllocError>
+    ensures { IfOk result (λ held. held ≡ with_bytes no_data (bytes_of row.now)) }
+{
+    let mut data = Data::new(alloc);
+    data.add_bytes(row.prefix.as_slice())?;
+    data.add_bytes(row.wide.then_some(REX_W).as_slice())?;
+    data.add_bytes(row.escape.then_some(ESCAPE).as_slice())?;
+    data.add_bytes(&[row.opcode])?;
+    data.add_bytes(row.modrm.as_slice())?;
+    Ok(data)
 }
 
 /// Each row's name ends where the spaces after it begin.

@@ -6,16 +6,16 @@ ghost use Rattle.asm_place.specs.Placing.{initial_number, is_too_wide, has_wide_
 
 use crate::assemblers::Assembler;
 use crate::directives::{Directive, InitialSection, directive_of};
-use crate::instructions::{Row, find_row, put_instruction};
+use crate::instructions::{Row, find_row, instruction_data};
 use crate::operands::{
     begins_assignment, begins_with_dot, begins_with_label, is_dot, is_name, is_number,
     names_symbol, symbol_name,
 };
 use crate::place_faults::{PlaceCause, PlaceFault};
 use crate::tables::SymbolUses;
-use crate::texts::plain_item;
 use asm_base::{Pos, Text, Token, TokenKind};
 use asm_expr::{Name, decimal_number};
+use asm_frags::Content;
 use asm_symbols::{Definition, SymId};
 use std::alloc::Global;
 
@@ -155,10 +155,8 @@ impl Assembler {
             self.old self.new result }
         ensures kept { self.new.notes ≡ self.old.notes }
     {
-        let mut bytes = Vec::new(self.alloc);
-        put_instruction(&mut bytes, row)?;
-        let item = plain_item(self.alloc, &bytes)?;
-        self.push_item(pos, item)
+        let data = instruction_data(self.alloc, row)?;
+        self.push_item(pos, Content::Bytes(data))
     }
 
     /// An instruction by its name, which takes no operands.
