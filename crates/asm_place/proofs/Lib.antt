@@ -1,6 +1,7 @@
 -- The proofs of this crate.
 pub mod Names
 pub mod InstructionBytes
+pub mod SlotLemmas
 pub mod Readings
 pub mod TokenLists
 pub mod OperandSplits

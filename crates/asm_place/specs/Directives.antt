@@ -4,11 +4,15 @@ use Rattle.std.specs.List.{list_all}
 use Rattle.std.specs.Str.{bytes_eq}
 use Rattle.asm_place.specs.declared.directives.Directive.{Directive}
 use Rattle.asm_place.specs.declared.directives.DirectiveRow.{DirectiveRow}
-use Rattle.asm_place.specs.declared.directives.TheConstants.{DIRECTIVES}
+use Rattle.asm_place.specs.declared.directives.TheConstants.{DIRECTIVES, DIRECTIVE_SLOTS}
 
 -- the rows of the table
 unfoldable pub the_directives : List DirectiveRow
 the_directives = DIRECTIVES
+
+-- what stands in the slots of names: the numbers of their rows, or 255
+unfoldable pub the_directive_slots : List ℕ
+the_directive_slots = DIRECTIVE_SLOTS
 
 -- the row's name, without the spaces after it
 abbrev pub directive_name : DirectiveRow → List ℕ

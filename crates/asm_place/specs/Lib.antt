@@ -1,4 +1,5 @@
 -- The definitions that the contracts cite, in reading order.
+pub mod Slots
 pub mod Rows
 pub mod Reads
 pub mod Faults

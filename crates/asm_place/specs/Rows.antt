@@ -6,11 +6,15 @@ use Rattle.std.specs.Bool.{then_some}
 use Rattle.std.specs.Option.{option_to_list}
 use Rattle.std.specs.Str.{str_eq_ignore_ascii_case}
 use Rattle.asm_place.specs.declared.instructions.Row.{Row}
-use Rattle.asm_place.specs.declared.instructions.TheConstants.{ROWS}
+use Rattle.asm_place.specs.declared.instructions.TheConstants.{ROWS, ROW_SLOTS}
 
 -- the rows of the table
 unfoldable pub the_rows : List Row
 the_rows = ROWS
+
+-- what stands in the slots of names: the numbers of their rows, or 255
+unfoldable pub the_row_slots : List ℕ
+the_row_slots = ROW_SLOTS
 
 -- the row's name, without the spaces after it
 abbrev pub name_of : Row → List ℕ

@@ -1,9 +1,11 @@
 //! The directives, as one table with its look-up by name.
 
-ghost use Rattle.std.specs.Prelude.{◌≡◌, IsTrue};
+ghost use Rattle.std.specs.Prelude.{◌≡◌, find, option_map, IsTrue};
 ghost use Rattle.std.specs.List.{list_all};
 ghost use Rattle.asm_place.specs.Directives as spec;
+ghost use Rattle.asm_place.specs.Slots.{row_in};
 
+use crate::slots::slot;
 use asm_frags::FieldSize;
 use asm_symbols::{Binding, Visibility};
 
@@ -70,7 +72,7 @@ macro_rules! directives {
     };
 }
 
-/// The names of the GNU as manual, chapter 7, "Assembler Directives". The most frequent stand first.
+/// The names of the GNU as manual, chapter 7, "Assembler Directives".
 #[rattlefmt::skip]
 pub static DIRECTIVES: [DirectiveRow; 40] = directives! {
     b".byte       " 5  Directive::Data(FieldSize::One);
@@ -115,6 +117,19 @@ pub static DIRECTIVES: [DirectiveRow; 40] = directives! {
     b".file       " 5  Directive::File;
 };
 
+/// The number of the row of each slot, or 255 where no name has the slot.
+#[rattlefmt::skip]
+pub static DIRECTIVE_SLOTS: [u8; 128] = [
+     23, 255, 255, 255, 255, 255,   0, 255, 255,  11,  39, 255, 255, 255, 255,   2,
+    255, 255, 255, 255, 255,   5, 255,  32,  31, 255, 255, 255,   1,  15, 255, 255,
+      4, 255, 255,  10, 255, 255, 255, 255, 255, 255, 255, 255,  29, 255, 255,  12,
+    255, 255, 255, 255,  16, 255, 255,  36, 255, 255, 255,  24, 255, 255, 255,  26,
+     27,  25, 255, 255, 255, 255,  37, 255, 255, 255, 255, 255, 255, 255,  28,  30,
+    255, 255, 255, 255,  19, 255, 255, 255, 255,  14,  13, 255,   7, 255,   8,  20,
+    255,   6,   9,  34, 255, 255, 255, 255, 255, 255, 255,  33, 255,  38,  22, 255,
+     18, 255,  17, 255,  21,  35, 255,   3, 255, 255, 255, 255, 255, 255, 255, 255,
+];
+
 /// The table.
 #[tactic(auto, unfolding(crate::specs::Directives::the_directives))]
 fn directives() -> &'static [DirectiveRow]
@@ -132,12 +147,37 @@ fn is_directive(name: &[u8], row: &DirectiveRow) -> bool
     &padded[..row.length.min(padded.len())] == name
 }
 
+/// The number of the row that the slot of the name leads to, or 255.
+#[tactic(auto, unfolding(crate::specs::Directives::the_directive_slots))]
+fn directive_number(name: &[u8]) -> usize
+    ensures { result ≡ row_in spec.the_directive_slots name.now }
+{
+    DIRECTIVE_SLOTS[slot(name)] as usize
+}
+
+/// The row that the slot of the name leads to, if it has the name.
+fn directive_row(name: &[u8]) -> Option<&'static DirectiveRow>
+    ensures { option_map (λ row. row.now) result
+        ≡ find (spec.is_directive name.now) spec.the_directives }
+{
+    match directives().get(directive_number(name)) {
+        Some(row) => {
+            if is_directive(name, row) {
+                Some(row)
+            } else {
+                None
+            }
+        }
+        None => None,
+    }
+}
+
 /// The directive of the name.
 #[tactic(auto, unfolding(crate::specs::Directives::directive_of))]
 pub(crate) fn directive_of(name: &[u8]) -> Option<Directive>
     ensures { result ≡ spec.directive_of name.now }
 {
-    match directives().iter().find(|row| is_directive(name, row)) {
+    match directive_row(name) {
         Some(row) => Some(row.directive),
         None => None,
     }

@@ -3,10 +3,12 @@
 ghost use Rattle.std.specs.Prelude.{◌≡◌, ◌++◌, ◌<◌, ◌≤◌, List, ℕ, Bool, Contains, find, length};
 ghost use Rattle.std.specs.Prelude.{option_map, IfOk, OnOk, IsTrue};
 ghost use Rattle.std.specs.List.{list_all};
-ghost use Rattle.asm_place.specs.Rows.{the_rows, name_of, has_name, has_whole_name, all_named_apart, bytes_of};
+ghost use Rattle.asm_place.specs.Rows.{the_rows, the_row_slots, name_of, has_name, has_whole_name, all_named_apart, bytes_of};
 ghost use Rattle.asm_place.specs.Reads.{Reads, all_apart};
+ghost use Rattle.asm_place.specs.Slots.{row_in};
 ghost use Rattle.asm_frags.specs.DataOf.{no_data, with_bytes};
 
+use crate::slots::slot;
 use asm_frags::Data;
 use std::alloc::{AllocError, Global};
 
@@ -137,6 +139,19 @@ pub static ROWS: [Row; 29] = rows! {
     Cqto     b"cqto    " 4       -       W     -    0x99    -   ;
 };
 
+/// The number of the row of each slot, or 255 where no name has the slot.
+#[rattlefmt::skip]
+pub static ROW_SLOTS: [u8; 128] = [
+     27, 255, 255, 255,  14, 255, 255,   2, 255, 255,   9,  26,   6, 255, 255,   7,
+    255, 255, 255, 255, 255, 255,  11, 255, 255, 255, 255, 255, 255,   1,   8, 255,
+    255, 255, 255, 255,  12, 255, 255, 255, 255, 255, 255,   5,  10, 255, 255, 255,
+    255, 255, 255, 255, 255, 255, 255,   4, 255, 255, 255,  24,  17, 255, 255, 255,
+    255,  21,  20, 255, 255, 255, 255,  28, 255,   0, 255, 255,  15, 255,  25, 255,
+    255, 255, 255, 255, 255, 255, 255, 255, 255, 255, 255, 255, 255, 255, 255, 255,
+    255, 255, 255, 255, 255, 255, 255, 255,  23, 255, 255, 255, 255,  22, 255, 255,
+    255,   3, 255, 255,  16,  18, 255, 255,  13, 255,  19, 255, 255, 255, 255, 255,
+];
+
 /// The table.
 #[tactic(auto, unfolding(crate::specs::Rows::the_rows))]
 pub fn rows() -> &'static [Row]
@@ -162,11 +177,22 @@ fn is_named(row: &Row, name: &[u8]) -> bool
     row_name(row).eq_ignore_ascii_case(name)
 }
 
-/// The row of the name, in either case.
+/// The number of the row that the slot of the name leads to, or 255.
+#[tactic(auto, unfolding(crate::specs::Rows::the_row_slots))]
+fn row_number(name: &[u8]) -> usize
+    ensures { result ≡ row_in the_row_slots name.now }
+{
+    ROW_SLOTS[slot(name)] as usize
+}
+
+/// The row of the name, in either case: the one that its slot leads to, if that has the name.
 pub fn find_row(name: &[u8]) -> Option<&'static Row>
     ensures { option_map (λ row. row.now) result ≡ find (λ row. has_name row name.now) the_rows }
 {
-    rows().iter().find(|row| is_named(row, name))
+    match rows().get(row_number(name)) {
+        Some(row) => { if is_named(row, name) { Some(row) } else { None } }
+        None => None,
+    }
 }
 
 /// REX, 0100WRXB, with W alone (Intel SDM, volume 2, section 2.2.1.2).

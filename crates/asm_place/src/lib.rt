@@ -19,6 +19,7 @@ mod placing;
 mod section_changes;
 mod section_defaults;
 mod section_words;
+mod slots;
 mod sources;
 mod spaces;
 mod stacks;
