@@ -2,10 +2,10 @@
 
 ghost use Rattle.std.specs.Prelude.{◌≡◌, ◌<◌, ◌≤◌, ◌^◌};
 ghost use Rattle.asm_expr.specs.Forms.{signed};
-ghost use Rattle.asm_expr.specs.Arithmetic.{is_negative, magnitude, quotient, remainder, is_signed_below, comparison, truth, combined};
+ghost use Rattle.asm_expr.specs.Arithmetic.{is_negative, magnitude, quotient, remainder, is_signed_below, comparison, truth, combined, turned};
 
 use crate::faults::ExprCause;
-use crate::trees::BinaryOp;
+use crate::trees::{BinaryOp, UnaryOp};
 
 /// The number, or minus the number.
 pub(crate) fn signed(minus: bool, number: u64) -> u64
@@ -75,7 +75,7 @@ fn truth(holds: bool) -> u64
 
 /// What an operator gives for two constants.
 #[tactic(auto, unfolding(crate::specs::Arithmetic::combined))]
-pub(crate) fn combined(op: BinaryOp, a: u64, b: u64) -> Result<u64, ExprCause>
+pub fn combined(op: BinaryOp, a: u64, b: u64) -> Result<u64, ExprCause>
     ensures { result ≡ combined op a b }
 {
     match op {
@@ -100,5 +100,15 @@ pub(crate) fn combined(op: BinaryOp, a: u64, b: u64) -> Result<u64, ExprCause>
         BinaryOp::Ge => Ok(comparison(!is_signed_below(a, b))),
         BinaryOp::BothTrue => Ok(truth(a != 0 && b != 0)),
         BinaryOp::OneTrue => Ok(truth(a != 0 || b != 0)),
+    }
+}
+
+/// What a prefix operator gives for a constant.
+pub fn turned(op: UnaryOp, number: u64) -> u64
+    ensures { result ≡ turned op number }
+{
+    match op {
+        UnaryOp::Minus => signed(true, number),
+        UnaryOp::Complement => !number,
     }
 }

@@ -22,6 +22,7 @@ mod trees;
 mod visiting;
 mod visitors;
 
+pub use arithmetic::{combined, turned};
 pub use evaluating::value_of;
 pub use faults::{ExprCause, ExprFault};
 pub use folding::fold;
@@ -35,6 +36,7 @@ pub use laws::{
 pub use leaves::{between_quotes, character_code, is_symbol_name};
 pub use naming::{Name, copied_name};
 pub use numbers::{all_digits, decimal_number, spelled_number};
+pub use operators::{closes, level_of, opens, operator_from, operator_of, prefix_of};
 pub use parsing::{parse, parse_front};
 pub use settling::{settled, settled_value};
 pub use showing::{Piece, Shown, shown_text};

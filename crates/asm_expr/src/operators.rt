@@ -3,6 +3,7 @@
 ghost use Rattle.std.specs.Prelude.{◌≡◌, ◌≤◌};
 ghost use Rattle.asm_base.specs.Tokens.{spelled};
 ghost use Rattle.asm_expr.specs.Operators.{mark_of, opens, closes, prefix_by, prefix_of, operator_byte, below_byte, above_byte, operator_bytes, operator_by, operator_of, level_of};
+ghost use Rattle.asm_expr.specs.Reading.{operator_from};
 
 use crate::trees::{BinaryOp, UnaryOp};
 use asm_base::{Token, TokenKind};
@@ -18,14 +19,14 @@ fn mark_of<'a>(token: &Token<'a>) -> &'a [u8]
 }
 
 /// Whether the token is `(`.
-pub(crate) fn opens(token: &Token) -> bool
+pub fn opens(token: &Token) -> bool
     ensures { result ≡ opens (spelled token.now) }
 {
     mark_of(token) == b"(".as_slice()
 }
 
 /// Whether the token is `)`.
-pub(crate) fn closes(token: &Token) -> bool
+pub fn closes(token: &Token) -> bool
     ensures { result ≡ closes (spelled token.now) }
 {
     mark_of(token) == b")".as_slice()
@@ -47,7 +48,7 @@ fn prefix_by(mark: &[u8]) -> Option<UnaryOp>
 }
 
 /// The operator that the token is before an operand.
-pub(crate) fn prefix_of(token: &Token) -> Option<UnaryOp>
+pub fn prefix_of(token: &Token) -> Option<UnaryOp>
     ensures { result ≡ prefix_of (spelled token.now) }
 {
     prefix_by(mark_of(token))
@@ -126,7 +127,7 @@ fn operator_by(mark: &[u8]) -> Option<BinaryOp>
 }
 
 /// The operator that the token is between two operands.
-pub(crate) fn operator_of(token: &Token) -> Option<BinaryOp>
+pub fn operator_of(token: &Token) -> Option<BinaryOp>
     ensures { result ≡ operator_of (spelled token.now) }
 {
     operator_by(mark_of(token))
@@ -134,7 +135,7 @@ pub(crate) fn operator_of(token: &Token) -> Option<BinaryOp>
 
 /// How tightly an operator binds its operands.
 #[tactic(auto, unfolding(crate::specs::Operators::level_of))]
-pub(crate) fn level_of(op: BinaryOp) -> u8
+pub fn level_of(op: BinaryOp) -> u8
     ensures value { result ≡ level_of op }
     ensures least { 1 ≤ result }
     ensures most { result ≤ 6 }
@@ -147,5 +148,17 @@ pub(crate) fn level_of(op: BinaryOp) -> u8
             3,
         BinaryOp::BothTrue => 2,
         BinaryOp::OneTrue => 1,
+    }
+}
+
+/// The operator, if it binds at least so tightly.
+pub fn operator_from(level: u8, op: Option<BinaryOp>) -> Option<BinaryOp>
+    ensures { result ≡ operator_from level op }
+{
+    let op = op?;
+    if level <= level_of(op) {
+        Some(op)
+    } else {
+        None
     }
 }

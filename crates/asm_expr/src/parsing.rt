@@ -4,14 +4,14 @@ ghost use Rattle.std.specs.Prelude.{◌≡◌, ◌+◌, ◌<◌, ◌≤◌, leng
 ghost use Rattle.asm_base.specs.Tokens.{spelled};
 ghost use Rattle.asm_expr.specs.Trees.{tree_of, unary, binary};
 ghost use Rattle.asm_base.specs.Refusals.{GivesBy};
-ghost use Rattle.asm_expr.specs.Reading.{closed_by, operator_from, reading, reading_of};
+ghost use Rattle.asm_expr.specs.Reading.{closed_by, reading, reading_of};
 ghost use Rattle.asm_expr.specs.Grammar.{IsFoundIn};
 ghost use Rattle.asm_expr.specs.Found.{spelled_from, front_of, read_tree, operand_in, operator_in, IsLow, Finds, CompletesNode};
 
 use crate::faults::{ExprCause, ExprFault};
 use crate::laws::read_is_written;
 use crate::leaves::leaf_of;
-use crate::operators::{closes, level_of, opens, operator_of, prefix_of};
+use crate::operators::{closes, level_of, opens, operator_from, operator_of, prefix_of};
 use crate::trees::{BinaryOp, Expr, UnaryOp};
 use asm_base::{Token, Tokens};
 use std::alloc::Global;
@@ -66,18 +66,6 @@ fn binary_node(alloc: Global, op: BinaryOp, left: Found, right: Found) -> Result
         height,
         next: right.next,
     })
-}
-
-/// The operator, if it binds at least so tightly.
-fn operator_from(level: u8, op: Option<BinaryOp>) -> Option<BinaryOp>
-    ensures { result ≡ operator_from level op }
-{
-    let op = op?;
-    if level <= level_of(op) {
-        Some(op)
-    } else {
-        None
-    }
 }
 
 /// The operator at this token, if it binds at least so tightly.

@@ -180,6 +180,13 @@ leaf_counted tokens at depth n d inside is = record {
   within = omega arith;
 }
 
+-- a number with no operator behind it that binds tightly enough is an expression
+pub lone_counted : (tokens : List Token) (at level n : ℕ) (d : Token) → at < length tokens → leaf_of (spelled (get_or tokens at d)) ≡ Ok (number n) → None ≡ operator_in level (spelled_from tokens (at + 1))
+    → (depth : ℕ) → IsCounted (ReadsExpression level depth) tokens at (record { value = n; next = at + 1 })
+lone_counted tokens at level n d inside is none depth =
+    let found : Counted = record { value = n; next = at + 1 } in
+    left_ends tokens at level depth found none (left_begins tokens at level depth found (leaf_counted tokens at depth n d inside is))
+
 pub opened_counted : (tokens : List Token) (at depth : ℕ) (inner : Counted) (d e : Token) → at < length tokens → true ≡ opens (spelled (get_or tokens at d)) → depth < 64
     → IsCounted (ReadsExpression 1 (depth + 1)) tokens (at + 1) inner → inner.next < length tokens → true ≡ closes (spelled (get_or tokens inner.next e))
     → IsCounted (ReadsOperand depth) tokens at (record { value = inner.value; next = inner.next + 1 })

@@ -1,5 +1,6 @@
 -- What the tree of an expression of numbers counts.
-use Rattle.std.proofs.Common.{◌≡◌, ℕ, ◌+◌, ◌-◌, ◌^◌, ◌<◌, ◌≤◌, Bool, true, false, cond, nat_lt, List, ◌++◌, Result, Ok, Err, refl, ap, ◌∙◌, arith}
+use Rattle.std.proofs.Common.{◌≡◌, ℕ, ◌+◌, ◌-◌, ◌^◌, ◌<◌, ◌≤◌, Bool, true, false, cond, nat_lt, List, ◌++◌, Some, Result, Ok, Err, refl, ap, ◌∙◌, arith}
+use Rattle.std.specs.Result.{result_ok}
 use Rattle.std.proofs.lemmas.Bool.Decides.{nat_tests}
 use Rattle.asm_base.specs.Tokens.{SpelledToken}
 use Rattle.asm_base.specs.Refusals.{◌>>=◌}
@@ -62,6 +63,11 @@ binary_counts op left right a b n one other most first second is low high = reco
   names = ap (λ names. names ++ names_of right) first.names ∙ second.names;
   low = let low_left = first.low in let low_right = second.low in omega arith;
 }
+
+-- a number that an operator gives
+pub number_given : (answer : Result ℕ ExprCause) (n : ℕ) → Some n ≡ result_ok answer → answer ≡ Ok n
+number_given (Ok m) n is = cc
+number_given (Err cause) n is = absurd (cc)
 
 -- a node that is low enough is complete
 low_enough : (b : Bool) (tree : Tree) (rest : List SpelledToken) → nat_lt 256 (height tree) ≡ b → height tree ≤ 256 → cond b (Err ExpressionTooDeep) (Ok (read tree rest)) ≡ Ok (read tree rest)

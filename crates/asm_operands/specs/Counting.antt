@@ -3,21 +3,14 @@ use Rattle.std.specs.Prelude.{◌≡◌, ℕ, suc, ◌-◌, ◌<◌, ◌≤◌, 
 use Rattle.asm_base.specs.declared.tokens.Token.{Token}
 use Rattle.asm_base.specs.Tokens.{SpelledToken}
 use Rattle.asm_expr.specs.declared.faults.ExprCause.TheVariants.{BadExpression}
-use Rattle.asm_expr.specs.declared.trees.BinaryOp.{BinaryOp}
 use Rattle.asm_expr.specs.Trees.{Tree, height}
 use Rattle.asm_expr.specs.Forms.{constant_form}
 use Rattle.asm_expr.specs.Knowledge.{Knowledge}
-use Rattle.asm_expr.specs.Arithmetic.{combined}
 use Rattle.asm_expr.specs.Linear.{linear}
 use Rattle.asm_expr.specs.NamesOf.{names_of}
 use Rattle.asm_expr.specs.Reading.{Reading, Read, read, operand_of, read_at, read_more}
 use Rattle.asm_expr.specs.Found.{spelled_from}
 use Rattle.asm_operands.specs.declared.constants.Counted.{Counted}
-
--- a number that is found is what the operator gives for these two; where none is found nothing is said
-abbrev pub FindsCombined : BinaryOp → ℕ → ℕ → Option ℕ → Type 0
-FindsCombined op a b (Some value) = combined op a b ≡ Ok value
-FindsCombined op a b None = Unit {0}
 
 -- the tree counts this number whatever is known, names nothing, and has at most so many nodes one above the other
 pub record Counts (tree : Tree) (value most : ℕ) : Type 0 where

@@ -1,17 +1,16 @@
 //! Operands of numbers alone, evaluated as they are read.
 
-ghost use Rattle.std.specs.Prelude.{◌≡◌, ◌<◌, ◌≤◌, length, map, IsSome};
+ghost use Rattle.std.specs.Prelude.{◌≡◌, ◌<◌, ◌≤◌, ℕ, length, map, IsSome};
 ghost use Rattle.asm_base.specs.Tokens.{spelled};
-ghost use Rattle.asm_expr.specs.Reading.{operator_from};
 ghost use Rattle.asm_expr.specs.Found.{spelled_from, operator_in};
 ghost use Rattle.asm_operands.specs.Constants.{FindsConstant};
 ghost use Rattle.asm_operands.specs.Counting.{ReadsOperand, ReadsExpression, FindsCounted};
 
-use crate::arithmetic::{combined, turned};
 use crate::numbers::leaf;
-use crate::operators::{closes, level_of, opens, operator_of, prefix_of};
 use asm_base::{Token, TokenKind};
-use asm_expr::BinaryOp;
+use asm_expr::{
+    BinaryOp, closes, combined, level_of, opens, operator_from, operator_of, prefix_of, turned,
+};
 
 /// The most tokens that are looked at: a tree of so many nodes is not too high.
 const MOST_TOKENS: usize = 200;
@@ -26,18 +25,6 @@ struct Counted {
     next: usize,
 }
 
-/// The operator, if it binds at least so tightly.
-fn operator_from(level: u8, op: Option<BinaryOp>) -> Option<BinaryOp>
-    ensures { result ≡ operator_from level op }
-{
-    let op = op?;
-    if level <= level_of(op) {
-        Some(op)
-    } else {
-        None
-    }
-}
-
 /// The operator at this token, if it binds at least so tightly.
 #[tactic(auto, using(crate::proofs::TokenLists::operator_none, crate::proofs::TokenLists::operator_one))]
 fn operator_in(tokens: &[Token], at: usize, level: u8) -> Option<BinaryOp>
@@ -48,6 +35,24 @@ fn operator_in(tokens: &[Token], at: usize, level: u8) -> Option<BinaryOp>
         return None;
     }
     operator_from(level, operator_of(&tokens[at]))
+}
+
+/// The expression that begins at this token, if it is one token, however many constructs are open.
+#[inline(always)]
+fn lone_number(tokens: &[Token], at: usize, level: u8) -> Option<Counted>
+    ensures { (depth : ℕ) → FindsCounted (ReadsExpression level depth) tokens.now at result }
+{
+    if at >= tokens.len() {
+        return None;
+    }
+    let value = leaf(&tokens[at])?;
+    match operator_in(tokens, at + 1, level) {
+        Some(_) => None,
+        None => Some(Counted {
+            value,
+            next: at + 1,
+        }),
+    }
 }
 
 /// The operand that begins at this token, where so many constructs are open.
@@ -92,6 +97,20 @@ fn operand(tokens: &[Token], at: usize, depth: u8) -> Option<Counted>
     })
 }
 
+/// The expression behind an operator: most are one token.
+#[cycle(constants)]
+#[inline(always)]
+fn right_operand(tokens: &[Token], at: usize, level: u8, depth: u8) -> Option<Counted>
+    requires tokens { length tokens.now ≤ 200 }
+    requires depth { depth ≤ 60 }
+    ensures { FindsCounted (ReadsExpression level depth) tokens.now at result }
+{
+    match lone_number(tokens, at, level) {
+        Some(found) => Some(found),
+        None => expression(tokens, at, level, depth),
+    }
+}
+
 /// The expression that begins at this token, of operators that bind at least so tightly.
 #[cycle(constants)]
 fn expression(tokens: &[Token], at: usize, level: u8, depth: u8) -> Option<Counted>
@@ -101,8 +120,8 @@ fn expression(tokens: &[Token], at: usize, level: u8, depth: u8) -> Option<Count
 {
     let mut left = operand(tokens, at, depth)?;
     while let Some(op) = operator_in(tokens, left.next, level) {
-        let right = expression(tokens, left.next + 1, level_of(op) + 1, depth)?;
-        let value = combined(op, left.value, right.value)?;
+        let right = right_operand(tokens, left.next + 1, level_of(op) + 1, depth)?;
+        let value = combined(op, left.value, right.value).ok()?;
         left = Counted {
             value,
             next: right.next,

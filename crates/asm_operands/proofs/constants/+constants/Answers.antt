@@ -1,6 +1,7 @@
 -- What is counted, step by step.
-use Rattle.std.proofs.Common.{refl, arith}
+use Rattle.std.proofs.Common.{refl, sym, ◌∙◌, arith}
 use Rattle.asm_operands.proofs.CountingLemmas.{leaf_counted, opened_counted, prefix_counted, left_begins, left_goes_on, left_ends}
+use Rattle.asm_operands.proofs.TreeCounts.{number_given}
 use Rattle.asm_operands.proofs.constants.+constants.Goals as goal
 
 pub expression-loop-op-init : goal.expression-loop-op-init
@@ -9,7 +10,8 @@ expression-loop-op-init t c = left_begins c.args.tokens.now c.args.at c.args.lev
 pub expression-loop-op-preserved : goal.expression-loop-op-preserved
 expression-loop-op-preserved t c =
     let level = c.level_of.ensures.value in
-    left_goes_on c.args.tokens.now c.args.at c.args.level c.args.depth c.in-Some.op c.loop-op.left c.in_ok-right.right _ c.requires.tokens c.in-Some.ensures.value (rw level at c.in_ok-right.ensures) c.in_ok-value.ensures refl c.loop-op.invariant
+    let given = sym c.combined.ensures ∙ number_given c.combined.result c.in_ok-value.value c.in_ok-value.ensures.value in
+    left_goes_on c.args.tokens.now c.args.at c.args.level c.args.depth c.in-Some.op c.loop-op.left c.in_ok-right.right _ c.requires.tokens c.in-Some.ensures.value (rw level at c.in_ok-right.ensures) given refl c.loop-op.invariant
 
 pub expression-returns : goal.expression-returns
 expression-returns t c = left_ends c.args.tokens.now c.args.at c.args.level c.args.depth c.loop-op.left c.in_default.ensures.value c.loop-op.invariant
