@@ -74,6 +74,7 @@ fn truth(holds: bool) -> u64
 }
 
 /// What an operator gives for two constants.
+#[inline(always)]
 #[tactic(auto, unfolding(crate::specs::Arithmetic::combined))]
 pub fn combined(op: BinaryOp, a: u64, b: u64) -> Result<u64, ExprCause>
     ensures { result ≡ combined op a b }

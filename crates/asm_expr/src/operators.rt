@@ -127,6 +127,7 @@ fn operator_by(mark: &[u8]) -> Option<BinaryOp>
 }
 
 /// The operator that the token is between two operands.
+#[inline(always)]
 pub fn operator_of(token: &Token) -> Option<BinaryOp>
     ensures { result ≡ operator_of (spelled token.now) }
 {

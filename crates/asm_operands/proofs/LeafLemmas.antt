@@ -126,10 +126,10 @@ one_is [] long = absurd (omega arith)
 one_is (first ∷ []) long = refl
 one_is (first ∷ second ∷ rest) long = absurd (omega arith)
 
-decimal_is : (digits : List ℕ) → 1 < length digits → get_or digits 0 0 ≢ 48 → spelled_number digits ≡ numeral 10 digits
+decimal_is : (digits : List ℕ) → 0 < length digits → get_or digits 0 0 ≢ 48 → spelled_number digits ≡ numeral 10 digits
 unfolding spelled_number
 decimal_is [] long other = absurd (omega arith)
-decimal_is (first ∷ []) long other = absurd (omega arith)
+decimal_is (first ∷ []) long other = refl
 decimal_is (first ∷ second ∷ rest) long other = let none : (first == 48) ≡ false = grind (arith, nat_tests) in rw none refl
 
 hexadecimal_is : (digits : List ℕ) → 2 < length digits → get_or digits 0 0 ≡ 48 → get_or digits 1 0 ≡ 120 → spelled_number digits ≡ numeral 16 (drop 2 digits)
@@ -143,7 +143,7 @@ pub one_found : (digits : List ℕ) (answer : Option ℕ) → length digits ≡ 
 one_found digits (Some n) long is = number_leaf digits n (one_is digits long ∙ is)
 one_found digits None long is = tt
 
-pub decimal_found : (digits : List ℕ) (answer : Option ℕ) → 1 < length digits → get_or digits 0 0 ≢ 48 → FindsNumeral 10 digits answer → FindsNumber digits answer
+pub decimal_found : (digits : List ℕ) (answer : Option ℕ) → 0 < length digits → get_or digits 0 0 ≢ 48 → FindsNumeral 10 digits answer → FindsNumber digits answer
 decimal_found digits (Some n) long other is = number_leaf digits n (decimal_is digits long other ∙ is)
 decimal_found digits None long other is = tt
 

@@ -46,10 +46,10 @@ fn number(digits: &[u8]) -> Option<u64>
     if count == 0 || count > 18 {
         return any_number(digits);
     }
-    if count == 1 {
+    if digits[0] != b'0' {
         return fitting_number(10, digits);
     }
-    if digits[0] != b'0' {
+    if count == 1 {
         return fitting_number(10, digits);
     }
     if count > 2 && digits[1] == b'x' {
@@ -58,14 +58,26 @@ fn number(digits: &[u8]) -> Option<u64>
     any_number(digits)
 }
 
+/// The number that a token of another class is.
+#[inline(never)]
+#[tactic(auto, unfolding(asm_expr::specs::Leaves::leaf_of))]
+fn other_leaf(token: &Token) -> Option<u64>
+    ensures { FindsLeaf (spelled token.now) result }
+{
+    match token.kind {
+        TokenKind::Character => character_code(token.bytes).ok(),
+        _ => None,
+    }
+}
+
 /// The number that a token is.
 #[tactic(auto, unfolding(asm_expr::specs::Leaves::leaf_of))]
 pub(crate) fn leaf(token: &Token) -> Option<u64>
     ensures { FindsLeaf (spelled token.now) result }
 {
-    match token.kind {
-        TokenKind::Digits => number(token.bytes),
-        TokenKind::Character => character_code(token.bytes).ok(),
-        _ => None,
+    if token.kind == TokenKind::Digits {
+        number(token.bytes)
+    } else {
+        other_leaf(token)
     }
 }

@@ -6,10 +6,10 @@ use Rattle.asm_operands.proofs.LeafLemmas.{one_found, decimal_found, hexadecimal
 use Rattle.asm_operands.proofs.numbers.number.Goals as goal
 
 pub returns-then-count-eq1 : goal.returns-then-count-eq1
-returns-then-count-eq1 c = one_found c.args.digits.now c.fitting_number.result c.if-count-eq1.true c.fitting_number.ensures
+returns-then-count-eq1 c = one_found c.args.digits.now c.fitting_number-then-count-eq1.result c.if-count-eq1.true c.fitting_number-then-count-eq1.ensures
 
 pub returns-then-digits-ne48 : goal.returns-then-digits-ne48
-returns-then-digits-ne48 c = decimal_found c.args.digits.now c.fitting_number-then-digits-ne48.result (omega arith) c.if-digits-ne48.true c.fitting_number-then-digits-ne48.ensures
+returns-then-digits-ne48 c = decimal_found c.args.digits.now c.fitting_number.result (omega arith) c.if-digits-ne48.true c.fitting_number.ensures
 
 pub fitting_number-requires-then-digits-eq120-clause-within : goal.fitting_number-requires-then-digits-eq120-clause-within
 fitting_number-requires-then-digits-eq120-clause-within c =
