@@ -16,7 +16,7 @@ use Rattle.asm_expr.specs.Reading.{Reading, Read, read, whole, closed, closed_by
 use Rattle.asm_expr.specs.Found.{spelled_from, operator_in}
 use Rattle.asm_operands.specs.declared.constants.Counted.{Counted}
 use Rattle.asm_operands.specs.Constants.{IsConstant}
-use Rattle.asm_operands.specs.Counting.{Counts, operand_in, ReadsOperand, ReadsExpression, ReadsMore, IsCounted}
+use Rattle.asm_operands.specs.Counting.{Counts, first_operator, operand_in, ReadsOperand, ReadsExpression, ReadsMore, IsCounted}
 use Rattle.asm_operands.proofs.LeafLemmas.{leaf_reads}
 use Rattle.asm_operands.proofs.TokenLists.{none_left, one_left}
 use Rattle.asm_operands.proofs.TreeCounts.{number_counts, lifted, unary_counts, binary_counts, whole_low}
@@ -129,6 +129,7 @@ pub record IsLeft (tokens : List Token) (at level depth : ℕ) (left : Counted) 
   pub counts : Counts tree left.value (left.next - at)
   pub later : at < left.next
   pub within : left.next ≤ length tokens
+  pub follows : left.follows ≡ first_operator (spelled_from tokens left.next)
 
 pub left_begins : (tokens : List Token) (at level depth : ℕ) (left : Counted) → IsCounted (ReadsOperand depth) tokens at left → IsLeft tokens at level depth left
 left_begins tokens at level depth left is = record {
@@ -138,6 +139,7 @@ left_begins tokens at level depth left is = record {
   counts = is.counts;
   later = is.later;
   within = is.within;
+  follows = is.follows;
 }
 
 pub left_ends : (tokens : List Token) (at level depth : ℕ) (left : Counted) → None ≡ operator_in level (spelled_from tokens left.next) → IsLeft tokens at level depth left
@@ -148,12 +150,13 @@ left_ends tokens at level depth left none is = record {
   counts = is.counts;
   later = is.later;
   within = is.within;
+  follows = is.follows;
 }
 
 pub left_goes_on : (tokens : List Token) (at level depth : ℕ) (op : BinaryOp) (left right joined : Counted) → length tokens ≤ 200 → Some op ≡ operator_in level (spelled_from tokens left.next)
-    → IsCounted (ReadsExpression (level_of op + 1) depth) tokens (left.next + 1) right → combined op left.value right.value ≡ Ok joined.value → joined.next ≡ right.next
+    → IsCounted (ReadsExpression (level_of op + 1) depth) tokens (left.next + 1) right → combined op left.value right.value ≡ Ok joined.value → joined.next ≡ right.next → joined.follows ≡ right.follows
     → IsLeft tokens at level depth left → IsLeft tokens at level depth joined
-left_goes_on tokens at level depth op left right joined few some is value next before =
+left_goes_on tokens at level depth op left right joined few some is value next behind before =
     let node = binary op before.tree is.tree in
     let begun = before.later in
     let inside = before.within in
@@ -167,30 +170,33 @@ left_goes_on tokens at level depth op left right joined few some is value next b
       counts = counts;
       later = omega arith;
       within = is.within;
+      follows = behind ∙ is.follows;
     })
 
 -- the operand of each kind, as it is counted
-pub leaf_counted : (tokens : List Token) (at depth n : ℕ) (d : Token) → at < length tokens → leaf_of (spelled (get_or tokens at d)) ≡ Ok (number n)
-    → IsCounted (ReadsOperand depth) tokens at (record { value = n; next = at + 1 })
-leaf_counted tokens at depth n d inside is = record {
+pub leaf_counted : (tokens : List Token) (at depth n : ℕ) (behind : Option BinaryOp) (d : Token) → at < length tokens → leaf_of (spelled (get_or tokens at d)) ≡ Ok (number n)
+    → behind ≡ first_operator (spelled_from tokens (at + 1)) → IsCounted (ReadsOperand depth) tokens at (record { value = n; next = at + 1; follows = behind })
+leaf_counted tokens at depth n behind d inside is before = record {
   tree = number n;
   reads = leaf_operand tokens at depth n d inside is;
   counts = number_counts n (at + 1 - at) (omega arith);
   later = omega arith;
   within = omega arith;
+  follows = before;
 }
 
 -- a number with no operator behind it that binds tightly enough is an expression
-pub lone_counted : (tokens : List Token) (at level n : ℕ) (d : Token) → at < length tokens → leaf_of (spelled (get_or tokens at d)) ≡ Ok (number n) → None ≡ operator_in level (spelled_from tokens (at + 1))
-    → (depth : ℕ) → IsCounted (ReadsExpression level depth) tokens at (record { value = n; next = at + 1 })
-lone_counted tokens at level n d inside is none depth =
-    let found : Counted = record { value = n; next = at + 1 } in
-    left_ends tokens at level depth found none (left_begins tokens at level depth found (leaf_counted tokens at depth n d inside is))
+pub lone_counted : (tokens : List Token) (at level n : ℕ) (behind : Option BinaryOp) (d : Token) → at < length tokens → leaf_of (spelled (get_or tokens at d)) ≡ Ok (number n)
+    → behind ≡ first_operator (spelled_from tokens (at + 1)) → None ≡ operator_in level (spelled_from tokens (at + 1))
+    → (depth : ℕ) → IsCounted (ReadsExpression level depth) tokens at (record { value = n; next = at + 1; follows = behind })
+lone_counted tokens at level n behind d inside is before none depth =
+    let found : Counted = record { value = n; next = at + 1; follows = behind } in
+    left_ends tokens at level depth found none (left_begins tokens at level depth found (leaf_counted tokens at depth n behind d inside is before))
 
-pub opened_counted : (tokens : List Token) (at depth : ℕ) (inner : Counted) (d e : Token) → at < length tokens → true ≡ opens (spelled (get_or tokens at d)) → depth < 64
+pub opened_counted : (tokens : List Token) (at depth : ℕ) (inner : Counted) (behind : Option BinaryOp) (d e : Token) → at < length tokens → true ≡ opens (spelled (get_or tokens at d)) → depth < 64
     → IsCounted (ReadsExpression 1 (depth + 1)) tokens (at + 1) inner → inner.next < length tokens → true ≡ closes (spelled (get_or tokens inner.next e))
-    → IsCounted (ReadsOperand depth) tokens at (record { value = inner.value; next = inner.next + 1 })
-opened_counted tokens at depth inner d e inside is low counted within ends =
+    → behind ≡ first_operator (spelled_from tokens (inner.next + 1)) → IsCounted (ReadsOperand depth) tokens at (record { value = inner.value; next = inner.next + 1; follows = behind })
+opened_counted tokens at depth inner behind d e inside is low counted within ends before =
     let later = counted.later in
     record {
       tree = counted.tree;
@@ -198,11 +204,12 @@ opened_counted tokens at depth inner d e inside is low counted within ends =
       counts = lifted counted.tree inner.value (inner.next - (at + 1)) (inner.next + 1 - at) (omega arith) counted.counts;
       later = omega arith;
       within = omega arith;
+      follows = before;
     }
 
 pub prefix_counted : (tokens : List Token) (at depth : ℕ) (op : UnaryOp) (inner : Counted) (d : Token) → length tokens ≤ 200 → at < length tokens → false ≡ opens (spelled (get_or tokens at d))
     → Some op ≡ prefix_of (spelled (get_or tokens at d)) → depth < 64 → IsCounted (ReadsExpression 7 (depth + 1)) tokens (at + 1) inner
-    → IsCounted (ReadsOperand depth) tokens at (record { value = turned op inner.value; next = inner.next })
+    → IsCounted (ReadsOperand depth) tokens at (record { value = turned op inner.value; next = inner.next; follows = inner.follows })
 prefix_counted tokens at depth op inner d few inside is some low counted =
     let later = counted.later in
     let within = counted.within in
@@ -214,6 +221,7 @@ prefix_counted tokens at depth op inner d few inside is some low counted =
       counts = counts;
       later = omega arith;
       within = counted.within;
+      follows = counted.follows;
     }
 
 -- an expression that is all tokens is the operand

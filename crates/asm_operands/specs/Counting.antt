@@ -3,6 +3,8 @@ use Rattle.std.specs.Prelude.{◌≡◌, ℕ, suc, ◌-◌, ◌<◌, ◌≤◌, 
 use Rattle.asm_base.specs.declared.tokens.Token.{Token}
 use Rattle.asm_base.specs.Tokens.{SpelledToken}
 use Rattle.asm_expr.specs.declared.faults.ExprCause.TheVariants.{BadExpression}
+use Rattle.asm_expr.specs.declared.trees.BinaryOp.{BinaryOp}
+use Rattle.asm_expr.specs.Operators.{operator_of}
 use Rattle.asm_expr.specs.Trees.{Tree, height}
 use Rattle.asm_expr.specs.Forms.{constant_form}
 use Rattle.asm_expr.specs.Knowledge.{Knowledge}
@@ -23,6 +25,11 @@ unfoldable pub operand_in : ℕ → ℕ → List SpelledToken → Read
 operand_in steps depth [] = Err BadExpression
 operand_in steps depth (token ∷ rest) = operand_of (read_at steps) depth token rest
 
+-- the operator that the first of the tokens is, if it is one
+unfoldable pub first_operator : List SpelledToken → Option BinaryOp
+first_operator [] = None
+first_operator (token ∷ rest) = operator_of token
+
 -- in as many steps as there are tokens, or more, the operand at their front is read so
 abbrev pub ReadsOperand : ℕ → List SpelledToken → Reading → Type 0
 ReadsOperand depth tokens found = (steps : ℕ) → length tokens ≤ suc steps → operand_in steps depth tokens ≡ Ok found
@@ -42,6 +49,7 @@ pub record IsCounted (Reads : List SpelledToken → Reading → Type 0) (tokens 
   pub counts : Counts tree found.value (found.next - at)
   pub later : at < found.next
   pub within : found.next ≤ length tokens
+  pub follows : found.follows ≡ first_operator (spelled_from tokens found.next)
 
 -- what is found counts so; where nothing is found nothing is said
 abbrev pub FindsCounted : (List SpelledToken → Reading → Type 0) → List Token → ℕ → Option Counted → Type 0

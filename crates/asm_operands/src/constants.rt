@@ -4,7 +4,7 @@ ghost use Rattle.std.specs.Prelude.{◌≡◌, ◌<◌, ◌≤◌, ℕ, length, 
 ghost use Rattle.asm_base.specs.Tokens.{spelled};
 ghost use Rattle.asm_expr.specs.Found.{spelled_from, operator_in};
 ghost use Rattle.asm_operands.specs.Constants.{FindsConstant};
-ghost use Rattle.asm_operands.specs.Counting.{ReadsOperand, ReadsExpression, FindsCounted};
+ghost use Rattle.asm_operands.specs.Counting.{first_operator, ReadsOperand, ReadsExpression, FindsCounted};
 
 use crate::numbers::leaf;
 use asm_base::{Token, TokenKind};
@@ -18,23 +18,33 @@ const MOST_TOKENS: usize = 200;
 /// The most parentheses and prefix operators that are open at one place.
 const MOST_OPEN: u8 = 60;
 
-/// The number that an expression counts, and the index of the first token behind it.
+/// The number that an expression counts, the index of the first token behind it, and the operator
+/// that this token is.
 #[derive(Clone, Copy)]
 struct Counted {
     value: u64,
     next: usize,
+    follows: Option<BinaryOp>,
 }
 
-/// The operator at this token, if it binds at least so tightly.
-#[tactic(auto, using(crate::proofs::TokenLists::operator_none, crate::proofs::TokenLists::operator_one))]
-fn operator_in(tokens: &[Token], at: usize, level: u8) -> Option<BinaryOp>
-    ensures value { result ≡ operator_in level (spelled_from tokens.now at) }
-    ensures within { IsSome result → at < length tokens.now }
+/// The operator that the token is, if there is one.
+#[tactic(auto, using(crate::proofs::TokenLists::first_none, crate::proofs::TokenLists::first_one))]
+fn operator_at(tokens: &[Token], at: usize) -> Option<BinaryOp>
+    ensures { result ≡ first_operator (spelled_from tokens.now at) }
 {
     if at >= tokens.len() {
         return None;
     }
-    operator_from(level, operator_of(&tokens[at]))
+    operator_of(&tokens[at])
+}
+
+/// The operator behind what was counted, if it binds at least so tightly.
+fn operator_behind(tokens: &[Token], left: Counted, level: u8) -> Option<BinaryOp>
+    requires { left.follows ≡ first_operator (spelled_from tokens.now left.next) }
+    ensures value { result ≡ operator_in level (spelled_from tokens.now left.next) }
+    ensures within { IsSome result → left.next < length tokens.now }
+{
+    operator_from(level, left.follows)
 }
 
 /// The expression that begins at this token, if it is one token, however many constructs are open.
@@ -46,12 +56,14 @@ fn lone_number(tokens: &[Token], at: usize, level: u8) -> Option<Counted>
         return None;
     }
     let value = leaf(&tokens[at])?;
-    match operator_in(tokens, at + 1, level) {
+    let found = Counted {
+        value,
+        next: at + 1,
+        follows: operator_at(tokens, at + 1),
+    };
+    match operator_behind(tokens, found, level) {
         Some(_) => None,
-        None => Some(Counted {
-            value,
-            next: at + 1,
-        }),
+        None => Some(found),
     }
 }
 
@@ -71,6 +83,7 @@ fn operand(tokens: &[Token], at: usize, depth: u8) -> Option<Counted>
         return Some(Counted {
             value,
             next: at + 1,
+            follows: operator_at(tokens, at + 1),
         });
     }
     if depth >= MOST_OPEN {
@@ -87,6 +100,7 @@ fn operand(tokens: &[Token], at: usize, depth: u8) -> Option<Counted>
         return Some(Counted {
             value: inner.value,
             next: inner.next + 1,
+            follows: operator_at(tokens, inner.next + 1),
         });
     }
     let op = prefix_of(token)?;
@@ -94,6 +108,7 @@ fn operand(tokens: &[Token], at: usize, depth: u8) -> Option<Counted>
     Some(Counted {
         value: turned(op, inner.value),
         next: inner.next,
+        follows: inner.follows,
     })
 }
 
@@ -119,12 +134,13 @@ fn expression(tokens: &[Token], at: usize, level: u8, depth: u8) -> Option<Count
     ensures { FindsCounted (ReadsExpression level depth) tokens.now at result }
 {
     let mut left = operand(tokens, at, depth)?;
-    while let Some(op) = operator_in(tokens, left.next, level) {
+    while let Some(op) = operator_behind(tokens, left, level) {
         let right = right_operand(tokens, left.next + 1, level_of(op) + 1, depth)?;
         let value = combined(op, left.value, right.value).ok()?;
         left = Counted {
             value,
             next: right.next,
+            follows: right.follows,
         };
     }
     Some(left)
