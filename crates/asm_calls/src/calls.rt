@@ -1,6 +1,6 @@
 //! A line of the stored input: a call by its word, and what it is called with.
 
-use crate::contents::{write_align, write_data, write_fill};
+use crate::contents::{write_align, write_fill, write_run};
 use crate::expressions::{
     write_folded, write_form, write_names, write_parsed, write_settled, write_shown, write_value,
 };
@@ -94,7 +94,7 @@ fn make_other_call(alloc: Global, call: &str, text: &str, out: &mut Vec<u8>) -> 
         "faults" => write_faults(out),
         "instances" => write_instances(alloc, out),
         "assigned" => write_assigned(alloc, out),
-        "data" => write_data(alloc, out),
+        "run" => write_run(alloc, out),
         "fill" => call_fill(alloc, text, out),
         "align" => call_align(alloc, text, out),
         "layout" => call_layout(alloc, text, out),

@@ -1,22 +1,10 @@
 //! What items are known to be before they have addresses, and their bytes at one.
 
-use asm_expr::constant_form;
 use asm_frags::{
-    Align, Content, Data, FieldSize, Fill, asked_alignment, fixed_size, is_known_zeros, put_bytes,
-    size,
+    Align, Content, Fill, asked_alignment, fixed_size, is_known_zeros, put_bytes, size,
 };
-use std::alloc::{AllocError, Global};
+use std::alloc::Global;
 use std::io::{self, Write};
-
-/// Bytes, and behind them a field where one is asked for.
-fn data(alloc: Global, bytes: &[u8], field: Option<FieldSize>) -> Result<Content, AllocError> {
-    let mut held = Data::new(alloc);
-    held.add_bytes(bytes)?;
-    if let Some(size) = field {
-        held.add_field(size, constant_form(alloc, 0))?;
-    }
-    Ok(Content::Bytes(held))
-}
 
 /// The item's size at address 5 and its bytes there, the size that it has at any address, its alignment, and whether it is known to be zeros.
 fn write_item(alloc: Global, content: &Content, out: &mut Vec<u8>) -> io::Result<()> {
@@ -33,11 +21,9 @@ fn write_item(alloc: Global, content: &Content, out: &mut Vec<u8>) -> io::Result
     writeln!(out, ", {fixed:?}, {alignment}, {zeros}")
 }
 
-/// `data`: two zeros, a one and a zero, a zero and a field.
-pub fn write_data(alloc: Global, out: &mut Vec<u8>) -> io::Result<()> {
-    write_item(alloc, &data(alloc, b"\0\0", None)?, out)?;
-    write_item(alloc, &data(alloc, b"\x01\0", None)?, out)?;
-    write_item(alloc, &data(alloc, b"\0", Some(FieldSize::Two))?, out)
+/// `run`
+pub fn write_run(alloc: Global, out: &mut Vec<u8>) -> io::Result<()> {
+    write_item(alloc, &Content::Run, out)
 }
 
 /// `fill COUNT SIZE VALUE`

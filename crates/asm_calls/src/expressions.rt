@@ -13,7 +13,7 @@ use std::alloc::Global;
 use std::fmt::Display;
 use std::io::{self, Write};
 
-/// Each numeric label has three instances before the place, which is item 100 of section 1. No symbol has a value.
+/// Each numeric label has three instances before the place, which is behind 100 items of section 1. No symbol has a value.
 struct Numbered;
 
 impl Known for Numbered {
@@ -21,7 +21,7 @@ impl Known for Numbered {
 
     ghost counted = { λ _ _. 3 };
 
-    ghost place = { λ _. Place 1 100 };
+    ghost place = { λ _. Place 1 100 0 };
 
     fn look(&self, name: &Name) -> Look<'_> {
         match name {
@@ -30,7 +30,7 @@ impl Known for Numbered {
                 stretch: *number,
                 at: u64::from(*instance),
             },
-            Name::Place { section, item } => Look::Label {
+            Name::Place { section, item, .. } => Look::Label {
                 stretch: u64::from(*section),
                 at: *item,
             },
@@ -45,6 +45,7 @@ impl Known for Numbered {
         Name::Place {
             section: 1,
             item: 100,
+            offset: 0,
         }
     }
 }

@@ -1,40 +1,36 @@
 //! What settling a layout answers.
 
 use asm_base::Pos;
-use asm_expr::constant_form;
-use asm_frags::{Content, Data, FieldSize, Fill, Frag, FragCause, FragFault, Sections};
+use asm_expr::{Linear, constant_form};
+use asm_frags::{Content, FieldSize, Fill, Frag, FragCause, FragFault, Sections};
 use asm_relax::{LayoutFault, Plan, Settled};
 use asm_symbols::Symbols;
 use std::alloc::Global;
 use std::io::{self, Write};
 
-/// Puts an item of this line into a section.
-fn push(
-    sections: &mut Sections,
-    number: u32,
-    line: u32,
-    content: Content,
-) -> Result<(), FragFault> {
-    if (number as usize) < sections.len() {
-        sections.push(number, Frag::new(Pos { file: 0, line }, content))
-    } else {
-        Err(FragFault::Fault(FragCause::BadSection))
+/// Puts a field of line 1 into `.text`.
+fn push_field(sections: &mut Sections, size: FieldSize, form: Linear) -> Result<(), FragFault> {
+    if sections.is_empty() {
+        return Err(FragFault::Fault(FragCause::BadSection));
     }
+    sections.push_field(0, Pos { file: 0, line: 1 }, size, form)
+}
+
+/// Puts zeros of this line into `.bss`.
+fn push_zeros(sections: &mut Sections, line: u32, count: u64) -> Result<(), FragFault> {
+    if sections.len() < 3 {
+        return Err(FragFault::Fault(FragCause::BadSection));
+    }
+    let zeros = Content::Fill(Fill::new(count.min(1 << 30), 1, 0));
+    sections.push(2, Frag::new(Pos { file: 0, line }, zeros))
 }
 
 /// A field of this size and value on line 1, and in another section so many bytes above 2^30 on lines 2 and 3.
 fn sections(alloc: Global, size: FieldSize, value: u64, more: u64) -> Result<Sections, FragFault> {
     let mut sections = Sections::new(alloc)?;
-    let mut held = Data::new(alloc);
-    held.add_field(size, constant_form(alloc, value))?;
-    push(&mut sections, 0, 1, Content::Bytes(held))?;
-    push(&mut sections, 2, 2, Content::Fill(Fill::new(1 << 30, 1, 0)))?;
-    push(
-        &mut sections,
-        2,
-        3,
-        Content::Fill(Fill::new(more.min(9), 1, 0)),
-    )?;
+    push_field(&mut sections, size, constant_form(alloc, value))?;
+    push_zeros(&mut sections, 2, 1 << 30)?;
+    push_zeros(&mut sections, 3, more)?;
     Ok(sections)
 }
 

@@ -15,6 +15,7 @@ fn plain(alloc: Global, text: &[u8]) -> Result<Name, AllocError> {
 const SPOT: Spot = Spot {
     section: 1,
     item: 2,
+    offset: 0,
     stretch: 3,
     at: 4,
 };

@@ -17,20 +17,22 @@ both false b is = cc
 pub same_is : (one other : Name) → same_name one other ≡ true → one ≡ other
 same_is (Plain text) (Plain others) is = ap Plain ((bytes_eq-Decides text others).0 is)
 same_is (Plain text) (Numeric n i) is = cc
-same_is (Plain text) (Place n i) is = cc
+same_is (Plain text) (Place n i o) is = cc
 same_is (Numeric n i) (Plain text) is = cc
 same_is (Numeric number instance) (Numeric others last) is =
     let p = both (number == others) (instance == last) is in
     let a : number ≡ others = grind (arith, nat_tests, p.0) in
     let b : instance ≡ last = grind (arith, nat_tests, p.1) in
     cc
-same_is (Numeric n i) (Place m j) is = cc
-same_is (Place n i) (Plain text) is = cc
-same_is (Place n i) (Numeric m j) is = cc
-same_is (Place section item) (Place others last) is =
-    let p = both (section == others) (item == last) is in
-    let a : section ≡ others = grind (arith, nat_tests, p.0) in
-    let b : item ≡ last = grind (arith, nat_tests, p.1) in
+same_is (Numeric n i) (Place m j o) is = cc
+same_is (Place n i o) (Plain text) is = cc
+same_is (Place n i o) (Numeric m j) is = cc
+same_is (Place section item offset) (Place others last bytes) is =
+    let p = both (section == others && item == last) (offset == bytes) is in
+    let q = both (section == others) (item == last) p.0 in
+    let a : section ≡ others = grind (arith, nat_tests, q.0) in
+    let b : item ≡ last = grind (arith, nat_tests, q.1) in
+    let c : offset ≡ bytes = grind (arith, nat_tests, p.1) in
     cc
 
 -- a weight of coefficients that adds up modulo 2^64

@@ -8,5 +8,5 @@ use Rattle.asm_expr.specs.declared.naming.Name.TheVariants.{Plain, Numeric, Plac
 abbrev pub same_name : Name → Name → Bool
 same_name (Plain text) (Plain others) = bytes_eq text others
 same_name (Numeric number instance) (Numeric others last) = number == others && instance == last
-same_name (Place section item) (Place others last) = section == others && item == last
+same_name (Place section item offset) (Place others last bytes) = section == others && item == last && offset == bytes
 same_name _ _ = false

@@ -18,13 +18,14 @@ pub struct Term {
 }
 
 impl Default for Term {
-    ghost is_default = { λ term. (term.name ≡ Place 0 0) × (term.coefficient ≡ 0) };
+    ghost is_default = { λ term. (term.name ≡ Place 0 0 0) × (term.coefficient ≡ 0) };
 
     fn default() -> Term {
         Term {
             name: Name::Place {
                 section: 0,
                 item: 0,
+                offset: 0,
             },
             coefficient: 0,
         }

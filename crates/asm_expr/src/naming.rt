@@ -12,9 +12,16 @@ pub enum Name {
     /// A symbol.
     Plain(Text),
     /// An instance of a numeric label.
-    Numeric { number: u64, instance: u32 },
-    /// An item of a section.
-    Place { section: u32, item: u64 },
+    Numeric {
+        number: u64,
+        instance: u32,
+    },
+    /// A place of a section: so many items and so many plain bytes stand before it.
+    Place {
+        section: u32,
+        item: u64,
+        offset: u64,
+    },
 }
 
 /// Whether both are the same name.
@@ -33,11 +40,16 @@ pub(crate) fn same_name(one: &Name, other: &Name) -> bool
             } => *number == *others && *instance == *last,
             _ => false,
         },
-        Name::Place { section, item } => match other {
+        Name::Place {
+            section,
+            item,
+            offset,
+        } => match other {
             Name::Place {
                 section: others,
                 item: last,
-            } => *section == *others && *item == *last,
+                offset: bytes,
+            } => *section == *others && *item == *last && *offset == *bytes,
             _ => false,
         },
     }
@@ -60,9 +72,14 @@ pub fn copied_name(alloc: Global, name: &Name) -> Result<Name, AllocError>
             number: *number,
             instance: *instance,
         }),
-        Name::Place { section, item } => Ok(Name::Place {
+        Name::Place {
+            section,
+            item,
+            offset,
+        } => Ok(Name::Place {
             section: *section,
             item: *item,
+            offset: *offset,
         }),
     }
 }

@@ -1,14 +1,15 @@
 -- What holds of every item.
-use Rattle.std.proofs.Common.{◌≡◌, ℕ, zero, suc, ◌+◌, ◌-◌, ◌*◌, ◌%◌, ◌^◌, ◌<◌, ◌≤◌, ◌&&◌, inl, inr, min, length, take, replicate, refl, sym, ap, ◌∙◌, arith, length-append}
+use Rattle.std.proofs.Common.{◌≡◌, ℕ, zero, suc, ◌+◌, ◌-◌, ◌*◌, ◌%◌, ◌^◌, ◌<◌, ◌≤◌, inl, inr, min, length, take, replicate, refl, sym, ap, ◌∙◌, arith, length-append}
 use Rattle.std.specs.Int.{w32, to_le_bytes}
 use Rattle.std.specs.List.{list_all}
 use Rattle.std.proofs.Math.Nat.{mod-add-mod, add-mod-mod, mod_self, mod-lt, mod-eq_of_lt}
 use Rattle.std.proofs.lemmas.List.{length-take, length-replicate}
 use Rattle.std.proofs.lemmas.Bool.Decides.{leb_tells}
 use Rattle.asm_frags.specs.declared.contents.Content.{Content}
-use Rattle.asm_frags.specs.declared.contents.Content.TheVariants.{Bytes, Fill, Align}
-use Rattle.asm_frags.specs.DataOf.{FillOf, is_zero}
-use Rattle.asm_frags.specs.Contents.{padding, unit_of, size_at, bytes_at, fields_of, are_none, is_known_zeros}
+use Rattle.asm_frags.specs.declared.contents.Content.TheVariants.{Run, Fill, Align}
+use Rattle.asm_frags.specs.PlainBytes.{is_zero}
+use Rattle.asm_frags.specs.ItemParts.{FillOf}
+use Rattle.asm_frags.specs.Contents.{padding, unit_of, size_at, bytes_at, is_known_zeros}
 use Rattle.asm_frags.proofs.Repeats.{length-repeated, list_all-repeated, list_all-replicate}
 
 length-unit : (fill : FillOf) → length (unit_of fill) ≡ fill.size
@@ -19,12 +20,12 @@ length-unit fill =
     omega (arith, length-append (take fill.size (to_le_bytes w32 (fill.value % 2 ^ 32))) (replicate (fill.size - 4) 0))
 
 pub bytes_are_sized : (content : Content) (at : ℕ) → length (bytes_at content at) ≡ size_at content at
-bytes_are_sized (Bytes held) at = refl
+bytes_are_sized Run at = refl
 bytes_are_sized (Fill held) at = length-repeated held.count (unit_of held) ∙ ap (λ (n : ℕ). held.count * n) (length-unit held)
 bytes_are_sized (Align held) at = length-replicate (padding (2 ^ held.log) at) 0
 
-pub zeros_are_known : (content : Content) (at : ℕ) → is_known_zeros content ≡ (are_none (fields_of content) && list_all is_zero (bytes_at content at))
-zeros_are_known (Bytes held) at = refl
+pub zeros_are_known : (content : Content) (at : ℕ) → is_known_zeros content ≡ list_all is_zero (bytes_at content at)
+zeros_are_known Run at = refl
 zeros_are_known (Fill held) at = sym (list_all-repeated is_zero held.count (unit_of held))
 zeros_are_known (Align held) at = sym (list_all-replicate is_zero (padding (2 ^ held.log) at) 0 refl)
 

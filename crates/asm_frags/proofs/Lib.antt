@@ -3,9 +3,10 @@ pub mod Units
 pub mod Powers
 pub mod Repeats
 pub mod BytesGiven
-pub mod DataLemmas
+pub mod PlainLemmas
 pub mod AlignmentLemmas
 pub mod KnownExtentLemmas
+pub mod StretchLemmas
 pub mod SubstitutingLemmas
 pub mod AddressLemmas
 pub mod NamedLemmas

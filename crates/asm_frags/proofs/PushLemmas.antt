@@ -1,46 +1,69 @@
--- A section that an item is put into, among the others.
-use Rattle.std.proofs.Common.{◌≡◌, ℕ, Bool, true, false, cond, List, Some, Result, Ok, Err, sym, ap, ◌∙◌, get_or, set, slice_get}
+-- A section that something is put into, among the others.
+use Rattle.std.proofs.Common.{◌≡◌, ℕ, ◌&&◌, not, Bool, true, false, cond, List, Some, Result, Ok, Err, refl, sym, ap, ◌∙◌, get_or, set, slice_get}
+use Rattle.std.specs.List.{list_all}
 use Rattle.std.proofs.lemmas.List.{set-get_or}
+use Rattle.asm_base.specs.declared.positions.Pos.{Pos}
+use Rattle.asm_expr.specs.Forms.{Form}
 use Rattle.asm_base.specs.declared.refusals.Refusal.{Refusal}
 use Rattle.asm_base.specs.declared.refusals.Refusal.TheVariants.{Fault, NoMemory}
 use Rattle.asm_base.specs.Refusals.{FailsLast}
 use Rattle.asm_frags.specs.declared.faults.FragCause.{FragCause}
 use Rattle.asm_frags.specs.declared.faults.FragCause.TheVariants.{BadSection}
-use Rattle.asm_frags.specs.declared.items.Frag.{Frag}
-use Rattle.asm_frags.specs.SectionOf.{SectionOf, with_last_item}
-use Rattle.asm_frags.specs.Answers.{Changes, refuses, with_last_item_or_fault}
-use Rattle.asm_frags.specs.Sections.{with_section_or_fault, pushed}
+use Rattle.asm_frags.specs.declared.fields.FieldSize.{FieldSize}
+use Rattle.asm_frags.specs.declared.contents.Content.TheVariants.{Run}
+use Rattle.asm_frags.specs.PlainBytes.{is_zero}
+use Rattle.asm_frags.specs.Contents.{is_known_zeros}
+use Rattle.asm_frags.specs.SectionOf.{SectionOf}
+use Rattle.asm_frags.specs.Writing.{LooseItem, LooseSection, ends_in_run, new_item, with_item, with_run, with_bytes, with_field, takes_zeros_alone, bytes_put, field_put, item_put}
+use Rattle.asm_frags.specs.Answers.{Changes}
+use Rattle.asm_frags.specs.Sections.{with_section_or_fault, put_into}
 
-module _ {P Address : Type 0} where
-  answered : Bool → SectionOf (Frag P Address) → Result (SectionOf (Frag P Address)) FragCause
-  answered b section = cond b (Err BadSection) (Ok section)
+module _ {Item : Type 0} where
+  made_name : (b : Bool) (old made new : SectionOf Item) → made.name ≡ old.name → cond b (Err BadSection) (Ok made) ≡ Ok new → new.name ≡ old.name
+  made_name true old made new same is = cc
+  made_name false old made new same is = let alike : made ≡ new = cc in ap (λ (s : SectionOf Item). s.name) (sym alike) ∙ same
 
-  put_name : (b : Bool) (old new : SectionOf (Frag P Address)) (item : Frag P Address) → answered b (with_last_item old item) ≡ Ok new → new.name ≡ old.name
-  unfolding answered
-  put_name true old new item is = cc
-  put_name false old new item is = let same : with_last_item old item ≡ new = cc in ap (λ (s : SectionOf (Frag P Address)). s.name) (sym same)
+  -- a section keeps its name where what is put into it, unless it is refused, keeps it
+  pub name_kept : (b : Bool) (old made new : SectionOf Item) (answer : Result (Unit {0}) (Refusal FragCause)) → made.name ≡ old.name
+      → Changes old new answer (cond b (Err BadSection) (Ok made)) → new.name ≡ old.name
+  name_kept b old made new (Ok done) same changed = made_name b old made new same changed
+  name_kept b old made new (Err refusal) same changed = ap (λ (s : SectionOf Item). s.name) changed.1
 
-  -- a section keeps its name
-  pub name_kept : (old new : SectionOf (Frag P Address)) (item : Frag P Address) (answer : Result (Unit {0}) (Refusal FragCause)) → Changes old new answer (with_last_item_or_fault old item) → new.name ≡ old.name
-  unfolding answered
-  name_kept old new item (Ok done) changed = put_name (refuses old item) old new item changed
-  name_kept old new item (Err refusal) changed = ap (λ (s : SectionOf (Frag P Address)). s.name) changed.1
-
-  refused_replaced : (sections : List (SectionOf (Frag P Address))) (number : ℕ) (refusal : Refusal FragCause) (due : Result (SectionOf (Frag P Address)) FragCause)
+  refused_replaced : (sections : List (SectionOf Item)) (number : ℕ) (refusal : Refusal FragCause) (due : Result (SectionOf Item) FragCause)
       → FailsLast refusal due → FailsLast refusal (with_section_or_fault sections number due)
   refused_replaced sections number (Fault fault) due fails = ap (with_section_or_fault sections number) fails
   refused_replaced sections number NoMemory (Ok section) ok = ok
   refused_replaced sections number NoMemory (Err fault) ok = ok
 
-  same_place : (sections : List (SectionOf (Frag P Address))) (number : ℕ) (old new d : SectionOf (Frag P Address)) → old ≡ get_or sections number d → new ≡ old → set sections number new ≡ sections
+  same_place : (sections : List (SectionOf Item)) (number : ℕ) (old new d : SectionOf Item) → old ≡ get_or sections number d → new ≡ old → set sections number new ≡ sections
   same_place sections number old new d there same = ap (set sections number) (same ∙ there) ∙ set-get_or sections number d
 
   -- what the section answers is what the sections answer
-  pub pushed_changes : (sections : List (SectionOf (Frag P Address))) (number : ℕ) (old new d : SectionOf (Frag P Address)) (item : Frag P Address) (answer : Result (Unit {0}) (Refusal FragCause))
-      → slice_get sections number ≡ Some old → old ≡ get_or sections number d → Changes old new answer (with_last_item_or_fault old item)
-      → Changes sections (set sections number new) answer (pushed sections number item)
-  pushed_changes sections number old new d item answer found there changed = rw found (by_answer answer changed)
+  pub put_changes : (put : SectionOf Item → Result (SectionOf Item) FragCause) (sections : List (SectionOf Item)) (number : ℕ) (old new d : SectionOf Item)
+      (answer : Result (Unit {0}) (Refusal FragCause)) → slice_get sections number ≡ Some old → old ≡ get_or sections number d → Changes old new answer (put old)
+      → Changes sections (set sections number new) answer (put_into put sections number)
+  put_changes put sections number old new d answer found there changed = rw found (by_answer answer changed)
     where
-      by_answer : (answer : Result (Unit {0}) (Refusal FragCause)) → Changes old new answer (with_last_item_or_fault old item) → Changes sections (set sections number new) answer (with_section_or_fault sections number (with_last_item_or_fault old item))
+      by_answer : (answer : Result (Unit {0}) (Refusal FragCause)) → Changes old new answer (put old) → Changes sections (set sections number new) answer (with_section_or_fault sections number (put old))
       by_answer (Ok done) changed = ap (with_section_or_fault sections number) changed
-      by_answer (Err refusal) changed = (refused_replaced sections number refusal (with_last_item_or_fault old item) changed.0, same_place sections number old new d there changed.1)
+      by_answer (Err refusal) changed = (refused_replaced sections number refusal (put old) changed.0, same_place sections number old new d there changed.1)
+
+either_name : (b : Bool) (old made : LooseSection) → made.name ≡ old.name → (cond b old made).name ≡ old.name
+either_name true old made same = refl
+either_name false old made same = same
+
+pub run_name : (pos : Pos) (section : LooseSection) → (with_run pos section).name ≡ section.name
+run_name pos section = either_name (ends_in_run section.items) section (with_item (new_item pos Run) section) refl
+
+module _ (old new : LooseSection) (answer : Result (Unit {0}) (Refusal FragCause)) where
+  -- a section that an item is put into keeps its name
+  pub item_name : (item : LooseItem) → Changes old new answer (item_put item old) → new.name ≡ old.name
+  item_name item = name_kept (takes_zeros_alone old && not (is_known_zeros item.content)) old (with_item item old) new answer refl
+
+  -- a section that bytes are put into keeps its name
+  pub bytes_name : (pos : Pos) (more : List ℕ) → Changes old new answer (bytes_put pos more old) → new.name ≡ old.name
+  bytes_name pos more = name_kept (takes_zeros_alone old && not (list_all is_zero more)) old (with_bytes pos more old) new answer (run_name pos old)
+
+  -- a section that a field is put into keeps its name
+  pub field_name : (pos : Pos) (size : FieldSize) (form : Form) → Changes old new answer (field_put pos size form old) → new.name ≡ old.name
+  field_name pos size form = name_kept (takes_zeros_alone old) old (with_field pos size form old) new answer (run_name pos old)

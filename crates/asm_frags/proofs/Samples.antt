@@ -1,24 +1,26 @@
 -- The definitions, computed on small items and sections.
-use Rattle.std.proofs.Common.{◌≡◌, ℕ, true, false, List, [], ◌∷◌, ◌++◌, Ok, Err, refl}
+use Rattle.std.proofs.Common.{◌≡◌, ℕ, true, false, List, [], ◌∷◌, ◌++◌, Result, Ok, Err, refl}
 use Rattle.std.specs.Prelude.{codes}
+use Rattle.asm_base.specs.Refusals.{◌>>=◌}
+use Rattle.asm_base.specs.declared.positions.Pos.{Pos}
+use Rattle.asm_expr.specs.Forms.{constant_form}
+use Rattle.asm_frags.specs.declared.faults.FragCause.{FragCause}
 use Rattle.asm_frags.specs.declared.faults.FragCause.TheVariants.{BadSection}
-use Rattle.asm_frags.specs.declared.phases.Loose.{Loose}
-use Rattle.asm_frags.specs.declared.items.Frag.{Frag}
+use Rattle.asm_frags.specs.declared.fields.FieldSize.TheVariants.{Two, Four}
 use Rattle.asm_frags.specs.declared.contents.Content.{Content}
-use Rattle.asm_frags.specs.declared.contents.Content.TheVariants.{Bytes, Fill, Align}
+use Rattle.asm_frags.specs.declared.contents.Content.TheVariants.{Run, Fill, Align}
 use Rattle.asm_frags.specs.Contents.{unit_of, repeated, size_at, bytes_at, is_known_zeros}
 use Rattle.asm_frags.specs.Alignments.{alignment_of_all}
-use Rattle.asm_frags.specs.SectionOf.{SectionOf, new_section, with_last_item}
-use Rattle.asm_frags.specs.Sections.{section_flags, first_sections, entered, pushed}
+use Rattle.asm_frags.specs.KnownExtents.{extent_of}
+use Rattle.asm_frags.specs.SectionOf.{new_section}
+use Rattle.asm_frags.specs.Writing.{LooseItem, LooseSection, new_item, item_behind, with_bytes, bytes_put, field_put, item_put}
+use Rattle.asm_frags.specs.Sections.{section_flags, first_sections, entered, put_into}
 
 fill : ℕ → ℕ → ℕ → Content
 fill count size value = Fill (record { count = count; size = size; value = value })
 
 align : ℕ → Content
 align log = Align (record { log = log })
-
-plain : List ℕ → Content
-plain bytes = Bytes (record { bytes = bytes; fields = [] })
 
 -- three units of two bytes
 two_bytes : bytes_at (fill 3 2 0x1234) 0 ≡ 0x34 ∷ 0x12 ∷ 0x34 ∷ 0x12 ∷ 0x34 ∷ 0x12 ∷ []
@@ -42,6 +44,10 @@ there_already : size_at (align 4) 32 ≡ 0
 unfolding align
 there_already = refl
 
+-- the bytes of a run are counted in its section
+run_alone : size_at Run 5 ≡ 0
+run_alone = refl
+
 -- the byte that counts is 0, whatever stands above it in the value
 low_zero : is_known_zeros (fill 9 1 0x100) ≡ true
 unfolding fill unit_of
@@ -55,14 +61,52 @@ no_units : is_known_zeros (fill 0 1 5) ≡ true
 unfolding fill unit_of
 no_units = refl
 
-item : Content → Frag Loose (Unit {0})
-item content = record { pos = record { file = 0; line = 1 }; content = content; address = tt }
+on_line : ℕ → Pos
+on_line line = record { file = 0; line = line }
 
-greatest : alignment_of_all (item (align 3) ∷ item (plain (1 ∷ [])) ∷ item (align 5) ∷ item (align 0) ∷ []) ≡ 32
-unfolding item align plain
+item : ℕ → Content → LooseItem
+item line content = new_item (on_line line) content
+
+greatest : alignment_of_all (item 1 (align 3) ∷ item 2 Run ∷ item 3 (align 5) ∷ item 4 (align 0) ∷ []) ≡ 32
+unfolding item align
 greatest = refl
 
-first : List (SectionOf (Frag Loose (Unit {0})))
+-- a fill counts on both sides of a break
+known : extent_of (item 1 Run ∷ item 2 (fill 3 2 0) ∷ item 3 (align 4) ∷ item 4 (fill 1 8 0) ∷ []) ≡ record { breaks = 1; bytes = 14 }
+unfolding item fill align extent_of
+known = refl
+
+text : LooseSection
+text = new_section (codes ".text") (section_flags 6) 1 0
+
+-- three bytes, a fill, a byte, and a field of two bytes, each of a line of its own
+filled : Result LooseSection FragCause
+filled = bytes_put (on_line 1) (1 ∷ 2 ∷ 3 ∷ []) text >>= bytes_put (on_line 2) (4 ∷ []) >>= item_put (item 3 (fill 5 1 9)) >>= bytes_put (on_line 4) (7 ∷ [])
+    >>= field_put (on_line 5) Two (constant_form 8)
+
+-- plain bytes go on with the run that is there, and a run begins behind the fill
+filled_is : filled ≡ Ok (record {
+  name = codes ".text";
+  flags = section_flags 6;
+  kind = 1;
+  entry_size = 0;
+  bytes = 1 ∷ 2 ∷ 3 ∷ 4 ∷ 7 ∷ 0 ∷ 0 ∷ [];
+  fields = record { pos = on_line 5; item = 3; offset = 5; size = Two; form = constant_form 8 } ∷ [];
+  items = item_behind 0 (item 1 Run) ∷ item_behind 4 (item 3 (fill 5 1 9)) ∷ item_behind 4 (item 4 Run) ∷ [];
+})
+unfolding filled text item fill
+filled_is = refl
+
+-- a field begins a run too
+field_first : field_put (on_line 1) Four (constant_form 0) text ≡ Ok (record text {
+  bytes = 0 ∷ 0 ∷ 0 ∷ 0 ∷ [];
+  fields = record { pos = on_line 1; item = 1; offset = 0; size = Four; form = constant_form 0 } ∷ [];
+  items = item 1 Run ∷ [];
+})
+unfolding text item
+field_first = refl
+
+first : List LooseSection
 first = first_sections
 
 there : entered first (codes ".data") (section_flags 3) 1 0 ≡ Ok (1, first)
@@ -85,13 +129,21 @@ other_entry_size : entered first (codes ".text") (section_flags 6) 1 4 ≡ Err B
 unfolding first first_sections
 other_entry_size = refl
 
-bytes_in_bss : pushed first 2 (item (plain (1 ∷ []))) ≡ Err BadSection
-unfolding first first_sections item plain
+bytes_in_bss : put_into (bytes_put (on_line 1) (0 ∷ 1 ∷ [])) first 2 ≡ Err BadSection
+unfolding first first_sections
 bytes_in_bss = refl
 
-zeros_in_bss : pushed first 2 (item (plain (0 ∷ []))) ≡ Ok (
+field_in_bss : put_into (field_put (on_line 1) Four (constant_form 0)) first 2 ≡ Err BadSection
+unfolding first first_sections
+field_in_bss = refl
+
+fill_in_bss : put_into (item_put (item 1 (fill 1 1 1))) first 2 ≡ Err BadSection
+unfolding first first_sections item fill unit_of
+fill_in_bss = refl
+
+zeros_in_bss : put_into (bytes_put (on_line 1) (0 ∷ 0 ∷ [])) first 2 ≡ Ok (
     new_section (codes ".text") (section_flags 6) 1 0
     ∷ new_section (codes ".data") (section_flags 3) 1 0
-    ∷ with_last_item (new_section (codes ".bss") (section_flags 3) 8 0) (item (plain (0 ∷ []))) ∷ [])
-unfolding first first_sections item plain
+    ∷ with_bytes (on_line 1) (0 ∷ 0 ∷ []) (new_section (codes ".bss") (section_flags 3) 8 0) ∷ [])
+unfolding first first_sections
 zeros_in_bss = refl

@@ -1,22 +1,21 @@
--- What is kept where the forms of fields are substituted.
-use Rattle.std.proofs.Common.{◌≡◌, ℕ, zero, suc, ◌+◌, ◌<◌, List, [], ◌∷◌, ◌++◌, length, map, take, drop, refl, sym, ap, ◌∙◌, arith, add-one, get_or, set}
+-- What is kept where items come to address 0, and where the forms of fields are substituted.
+use Rattle.std.proofs.Common.{◌≡◌, ℕ, zero, suc, ◌+◌, ◌<◌, ◌≤◌, max, Bool, List, [], ◌∷◌, ◌++◌, length, map, take, drop, refl, sym, ap, ◌∙◌, arith, add-one, get_or, set}
 use Rattle.std.specs.List.{fold}
 use Rattle.std.proofs.lemmas.List.{length-map, append-nil, take_all, drop_all}
+use Rattle.std.proofs.lemmas.List.Elements.{All-map}
 use Rattle.asm_expr.specs.Forms.{Form}
-use Rattle.asm_frags.specs.declared.phases.Loose.{Loose}
+use Rattle.asm_frags.specs.declared.phases.Laid.{Laid}
 use Rattle.asm_frags.specs.declared.fields.Field.{Field}
-use Rattle.asm_frags.specs.declared.contents.Content.{Content}
-use Rattle.asm_frags.specs.declared.contents.Content.TheVariants.{Bytes, Fill, Align}
 use Rattle.asm_frags.specs.declared.items.Frag.{Frag}
 use Rattle.asm_frags.specs.declared.known_extents.KnownExtent.{KnownExtent}
 use Rattle.asm_frags.specs.Contents.{alignment_of}
-use Rattle.asm_frags.specs.DataOf.{field_end, FieldsStand, IsData}
+use Rattle.asm_frags.specs.PlainBytes.{field_end, FieldsStand, AreBytes}
 use Rattle.asm_frags.specs.Alignments.{alignment_of_all}
 use Rattle.asm_frags.specs.KnownExtents.{advanced, extent_of}
-use Rattle.asm_frags.specs.SectionOf.{SectionOf}
 use Rattle.asm_frags.specs.Sound.{AreNamed}
-use Rattle.asm_frags.specs.SoundItems.{AreItems}
-use Rattle.asm_frags.specs.Substituting.{substituted_field, substituted_content, laid_item, laid_section}
+use Rattle.asm_frags.specs.Writing.{LooseItem, LooseSection, ends_in_run}
+use Rattle.asm_frags.specs.SoundItems.{AreItems, AreBehind}
+use Rattle.asm_frags.specs.Substituting.{substituted_field, laid_item, laid_section}
 
 -- the elements before an index are changed, and the others are not
 abbrev pub front_changed : {X : Type 0} → (X → X) → List X → ℕ → List X
@@ -37,16 +36,48 @@ all_back change before after count long is =
     let none : drop (length after) before ≡ [] = drop_all (length after) before (omega arith) in
     ap (λ ys. take count (after ++ ys)) none ∙ ap (take count) (append-nil after) ∙ take_all count after (omega arith) ∙ is
 
+alignment-laid : (items : List LooseItem) → alignment_of_all (map laid_item items) ≡ alignment_of_all items
+alignment-laid [] = refl
+alignment-laid (item ∷ items) = ap (max (alignment_of item.content)) (alignment-laid items)
+
+extent-laid : (extent : KnownExtent) (items : List LooseItem) → fold advanced extent (map laid_item items) ≡ fold advanced extent items
+extent-laid extent [] = refl
+extent-laid extent (item ∷ items) = extent-laid (advanced extent item) items
+
+end-laid : (items : List LooseItem) → ends_in_run (map laid_item items) ≡ ends_in_run items
+end-laid [] = refl
+end-laid (item ∷ []) = refl
+end-laid (item ∷ next ∷ items) = end-laid (next ∷ items)
+
+-- what is kept of items looks at no address
+pub items_at_zero : (items : List LooseItem) (all : List (Frag Laid ℕ)) (alignment : ℕ) (extent : KnownExtent) (in_run : Bool) → AreItems items alignment extent in_run
+    → all ≡ map laid_item items → AreItems all alignment extent in_run
+unfolding extent_of
+items_at_zero items all alignment extent in_run sound is =
+    let long : length (map laid_item items) ≡ length items = simp length-map in
+    rw is (record {
+      few = rw long sound.few;
+      aligned = sound.aligned ∙ sym (alignment-laid items);
+      known = sound.known ∙ sym (extent-laid (record { breaks = 0; bytes = 0 }) items);
+      breaks = rw long sound.breaks;
+      bytes = rw long sound.bytes;
+      last = sound.last ∙ sym (end-laid items);
+    })
+
+-- the items stand where they stood
+pub behind_at_zero : (bytes : ℕ) (items : List LooseItem) (all : List (Frag Laid ℕ)) → AreBehind bytes items → all ≡ map laid_item items → AreBehind bytes all
+behind_at_zero bytes items all sound is = rw is (All-map (λ (item : Frag Laid ℕ). item.offset ≤ bytes) laid_item items sound)
+
 module _ (substitute : Form → Form) where
   -- the field at the index has its substituted form
   pub field_more : (all fields : List Field) (count : ℕ) (there old : Field) (form : Form) → count < length all
       → fields ≡ front_changed (substituted_field substitute) all count → there ≡ get_or fields count old → old ≡ there → form ≡ substitute there.form
-      → set fields count (record { offset = there.offset; size = there.size; form = form }) ≡ front_changed (substituted_field substitute) all (count + 1)
+      → set fields count (record { pos = there.pos; item = there.item; offset = there.offset; size = there.size; form = form }) ≡ front_changed (substituted_field substitute) all (count + 1)
   field_more all fields count there old form within held is same made =
       let found : there ≡ get_or (front_changed (substituted_field substitute) all count) count there =
       is ∙ ap (get_or fields count) same ∙ ap (λ (fs : List Field). get_or fs count there) held in
-      rw add-one (ap (λ (fs : List Field). set fs count (record { offset = there.offset; size = there.size; form = form })) held
-      ∙ ap (λ (f : Form). set (front_changed (substituted_field substitute) all count) count (record { offset = there.offset; size = there.size; form = f })) made
+      rw add-one (ap (λ (fs : List Field). set fs count (record { pos = there.pos; item = there.item; offset = there.offset; size = there.size; form = form })) held
+      ∙ ap (λ (f : Form). set (front_changed (substituted_field substitute) all count) count (record { pos = there.pos; item = there.item; offset = there.offset; size = there.size; form = f })) made
       ∙ front_changed_more (substituted_field substitute) all count there within found)
 
   stand-substituted : (bytes : List ℕ) (from : ℕ) (fields : List Field) → FieldsStand bytes from fields → FieldsStand bytes from (map (substituted_field substitute) fields)
@@ -55,48 +86,15 @@ module _ (substitute : Form → Form) where
       (stand.0, record { within = stand.1.within; zeros = stand.1.zeros }, stand-substituted bytes (field_end field) fields stand.2)
 
   -- the fields stand where they stood
-  pub data_substituted : (bytes : List ℕ) (fields all : List Field) → IsData bytes fields → all ≡ map (substituted_field substitute) fields → IsData bytes all
-  data_substituted bytes fields all sound is = rw is (record { small = sound.small; stand = stand-substituted bytes 0 fields sound.stand })
+  pub fields_substituted : (bytes : List ℕ) (fields all : List Field) → AreBytes bytes fields → all ≡ map (substituted_field substitute) fields → AreBytes bytes all
+  fields_substituted bytes fields all sound is = rw is (record { small = sound.small; stand = stand-substituted bytes 0 fields sound.stand })
 
-  same_alignment : (content : Content) → alignment_of (substituted_content substitute content) ≡ alignment_of content
-  same_alignment (Bytes held) = refl
-  same_alignment (Fill held) = refl
-  same_alignment (Align held) = refl
-
-  alignment-substituted : (items : List (Frag Loose (Unit {0}))) → alignment_of_all (map (laid_item substitute) items) ≡ alignment_of_all items
-  alignment-substituted [] = refl
-  alignment-substituted (item ∷ items) = rw (same_alignment item.content, alignment-substituted items) refl
-
-  same_step : (extent : KnownExtent) (item : Frag Loose (Unit {0})) (content : Content) → item.content ≡ content → advanced extent (laid_item substitute item) ≡ advanced extent item
-  same_step extent item (Bytes held) is = rw is refl
-  same_step extent item (Fill held) is = rw is refl
-  same_step extent item (Align held) is = rw is refl
-
-  extent-substituted : (extent : KnownExtent) (items : List (Frag Loose (Unit {0}))) → fold advanced extent (map (laid_item substitute) items) ≡ fold advanced extent items
-  extent-substituted extent [] = refl
-  extent-substituted extent (item ∷ items) =
-      ap (λ (r : KnownExtent). fold advanced r (map (laid_item substitute) items)) (same_step extent item item.content refl) ∙ extent-substituted (advanced extent item) items
-
-  -- alignment and extent look at no form
-  pub items_substituted : (items : List (Frag Loose (Unit {0}))) (all : List _) (alignment : ℕ) (extent : KnownExtent) → AreItems items alignment extent
-      → all ≡ map (laid_item substitute) items → AreItems all alignment extent
-  unfolding extent_of
-  items_substituted items all alignment extent sound is =
-      let long : length (map (laid_item substitute) items) ≡ length items = simp length-map in
-      rw is (record {
-        few = rw long sound.few;
-        aligned = sound.aligned ∙ sym (alignment-substituted items);
-        known = sound.known ∙ sym (extent-substituted (record { breaks = 0; bytes = 0 }) items);
-        breaks = rw long sound.breaks;
-        bytes = rw long sound.bytes;
-      })
-
-  names-substituted : (sections : List (SectionOf (Frag Loose (Unit {0})))) → map (λ section. section.name) (map (laid_section substitute) sections) ≡ map (λ section. section.name) sections
+  names-substituted : (sections : List LooseSection) → map (λ section. section.name) (map (laid_section substitute) sections) ≡ map (λ section. section.name) sections
   names-substituted [] = refl
   names-substituted (section ∷ sections) = ap (λ (names : List (List ℕ)). section.name ∷ names) (names-substituted sections)
 
   -- the sections keep their names
-  pub named_substituted : (names : List (List ℕ)) (sections : List (SectionOf (Frag Loose (Unit {0})))) (all : List _) → AreNamed names sections
+  pub named_substituted : (names : List (List ℕ)) (sections : List LooseSection) (all : List _) → AreNamed names sections
       → all ≡ map (laid_section substitute) sections → AreNamed names all
   named_substituted names sections all sound is =
       let long : length (map (laid_section substitute) sections) ≡ length sections = simp length-map in

@@ -14,7 +14,7 @@ changed_at change all number = changed_there change all number (slice_get all nu
 
 -- the item at this address
 abbrev pub item_with_address : {P : Type 0} → ℕ → Frag P ℕ → Frag P ℕ
-item_with_address address item = record { pos = item.pos; content = item.content; address = address }
+item_with_address address item = record { pos = item.pos; offset = item.offset; content = item.content; address = address }
 
 -- the section with this address at the item of this index
 abbrev pub section_with_address : {P : Type 0} → SectionOf (Frag P ℕ) → ℕ → ℕ → SectionOf (Frag P ℕ)

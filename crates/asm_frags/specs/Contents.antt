@@ -1,11 +1,11 @@
--- The size and the bytes of an item at its address.
-use Rattle.std.specs.Prelude.{◌≡◌, ℕ, zero, suc, ◌-◌, ◌*◌, ◌%◌, ◌^◌, ◌≤◌, ◌==◌, ◌&&◌, ◌||◌, Bool, true, false, List, [], ◌∷◌, ◌++◌, length, take, replicate}
+-- The size and the bytes that an item has beside the plain bytes of its section.
+use Rattle.std.specs.Prelude.{◌≡◌, ℕ, zero, suc, ◌-◌, ◌*◌, ◌%◌, ◌^◌, ◌≤◌, ◌==◌, ◌||◌, Bool, true, List, [], ◌++◌, take, replicate}
 use Rattle.std.specs.Int.{w32, to_le_bytes}
 use Rattle.std.specs.List.{list_all}
-use Rattle.asm_frags.specs.declared.fields.Field.{Field}
 use Rattle.asm_frags.specs.declared.contents.Content.{Content}
-use Rattle.asm_frags.specs.declared.contents.Content.TheVariants.{Bytes, Fill, Align}
-use Rattle.asm_frags.specs.DataOf.{FillOf, AlignOf, is_zero}
+use Rattle.asm_frags.specs.declared.contents.Content.TheVariants.{Run, Fill, Align}
+use Rattle.asm_frags.specs.PlainBytes.{is_zero}
+use Rattle.asm_frags.specs.ItemParts.{FillOf, AlignOf}
 
 -- the number of bytes from an address up to the next multiple of the alignment
 abbrev pub padding : ℕ → ℕ → ℕ
@@ -28,9 +28,9 @@ fill_bytes fill = repeated fill.count (unit_of fill)
 abbrev pub padding_bytes : AlignOf → ℕ → List ℕ
 padding_bytes align at = replicate (padding (2 ^ align.log) at) 0
 
--- the size in bytes of an item at an address
+-- the size in bytes of an item at an address; the bytes of a run are plain bytes of the section, and are counted there
 abbrev pub size_at : Content → ℕ → ℕ
-size_at (Bytes held) at = length held.bytes
+size_at Run at = 0
 size_at (Fill held) at = held.count * held.size
 size_at (Align held) at = padding (2 ^ held.log) at
 
@@ -38,31 +38,20 @@ size_at (Align held) at = padding (2 ^ held.log) at
 abbrev pub IsSize : ℕ → ℕ → Type 0
 IsSize size answer = (answer ≡ size) × (answer ≤ 2 ^ 33)
 
--- the bytes of an item at an address; those of a field are 0
+-- the bytes of an item at an address; those of a run are plain bytes of the section
 abbrev pub bytes_at : Content → ℕ → List ℕ
-bytes_at (Bytes held) at = held.bytes
+bytes_at Run at = []
 bytes_at (Fill held) at = fill_bytes held
 bytes_at (Align held) at = padding_bytes held at
 
--- the fields of an item
-abbrev pub fields_of : Content → List Field
-fields_of (Bytes held) = held.fields
-fields_of (Fill held) = []
-fields_of (Align held) = []
-
 -- the alignment that an item requires of its section: 1 unless it aligns
 abbrev pub alignment_of : Content → ℕ
-alignment_of (Bytes held) = 1
+alignment_of Run = 1
 alignment_of (Fill held) = 1
 alignment_of (Align held) = 2 ^ held.log
 
--- there is no field
-abbrev pub are_none : List Field → Bool
-are_none [] = true
-are_none (field ∷ fields) = false
-
--- the item is known to be zeros: each byte is 0, and none belongs to a field
+-- the item is known to be zeros: each byte is 0
 abbrev pub is_known_zeros : Content → Bool
-is_known_zeros (Bytes held) = are_none held.fields && list_all is_zero held.bytes
+is_known_zeros Run = true
 is_known_zeros (Fill held) = (held.count == 0) || list_all is_zero (unit_of held)
 is_known_zeros (Align held) = true

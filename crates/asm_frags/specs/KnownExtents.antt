@@ -1,15 +1,15 @@
--- The known extent of a section: how many items it has whose size depends on their address, and the bytes behind the last of them.
+-- The known extent of a section: how many items it has whose size depends on their address, and the bytes of all others.
 use Rattle.std.specs.Prelude.{◌≡◌, ℕ, ◌+◌, ◌^◌, ◌≤◌, IfSome, Bool, true, false, List, Option, None, Some, if◌then◌else◌}
 use Rattle.std.specs.List.{fold}
 use Rattle.asm_frags.specs.declared.contents.Content.{Content}
-use Rattle.asm_frags.specs.declared.contents.Content.TheVariants.{Bytes, Fill, Align}
+use Rattle.asm_frags.specs.declared.contents.Content.TheVariants.{Run, Fill, Align}
 use Rattle.asm_frags.specs.declared.items.Frag.{Frag}
 use Rattle.asm_frags.specs.declared.known_extents.KnownExtent.{KnownExtent}
 use Rattle.asm_frags.specs.Contents.{size_at}
 
--- the size of the item is the same at each address
+-- the item has one possible size: it is the same at each address
 abbrev pub is_fixed : Content → Bool
-is_fixed (Bytes held) = true
+is_fixed Run = true
 is_fixed (Fill held) = true
 is_fixed (Align held) = false
 
@@ -21,11 +21,11 @@ fixed_size_of content = if is_fixed content then Some (size_at content 0) else N
 abbrev pub IsFixedSize : Option ℕ → Option ℕ → Type 0
 IsFixedSize size answer = (answer ≡ size) × IfSome answer (λ bytes. bytes ≤ 2 ^ 33)
 
--- the extent with an item more: an item whose size depends on its address is a break, and bytes are counted behind the last break
+-- the extent with an item more: an item whose size depends on its address is a break
 abbrev pub advanced : {P Address : Type 0} → KnownExtent → Frag P Address → KnownExtent
 advanced extent item =
     if is_fixed item.content then record { breaks = extent.breaks; bytes = extent.bytes + size_at item.content 0 }
-    else record { breaks = extent.breaks + 1; bytes = 0 }
+    else record { breaks = extent.breaks + 1; bytes = extent.bytes }
 
 -- the known extent of these items
 unfoldable pub extent_of : {P Address : Type 0} → List (Frag P Address) → KnownExtent

@@ -1,11 +1,13 @@
 -- The definitions that contracts cite, in reading order.
 pub mod Fields
-pub mod DataOf
+pub mod PlainBytes
+pub mod ItemParts
 pub mod Contents
 pub mod Visits
 pub mod Alignments
 pub mod KnownExtents
 pub mod SectionOf
+pub mod Writing
 pub mod Answers
 pub mod Sound
 pub mod SoundItems

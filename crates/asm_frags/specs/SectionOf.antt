@@ -1,19 +1,24 @@
--- Sections as values: what a section header says, and the items.
+-- Sections as values: what a section header says, the plain bytes with their fields, and the items.
 use Rattle.std.specs.Prelude.{ℕ, ◌==◌, ◌&&◌, Bool, List, [], ◌∷◌, ◌++◌, Option, position}
 use Rattle.std.specs.Str.{bytes_eq}
+use Rattle.asm_frags.specs.declared.fields.Field.{Field}
 use Rattle.asm_frags.specs.declared.flags.SectionFlags.{SectionFlags}
 
--- a section: its name, `sh_flags`, `sh_type`, `sh_entsize`, and its items in order
+-- a section: its name, `sh_flags`, `sh_type`, `sh_entsize`, the plain bytes of all its statements in one piece, the fields over them, and the
+-- items in order: a run says where plain bytes begin, and a fill or an alignment stands between the plain bytes before its offset and those behind it
 pub record SectionOf (Item : Type 0) : Type 0 where
   pub name : List ℕ
   pub flags : SectionFlags
   pub kind : ℕ
   pub entry_size : ℕ
+  pub bytes : List ℕ
+  pub fields : List Field
   pub items : List Item
 
--- a section without items
+-- a section that nothing was put into
 abbrev pub new_section : {Item : Type 0} → List ℕ → SectionFlags → ℕ → ℕ → SectionOf Item
-new_section name flags kind entry_size = record { name = name; flags = flags; kind = kind; entry_size = entry_size; items = [] }
+new_section name flags kind entry_size =
+    record { name = name; flags = flags; kind = kind; entry_size = entry_size; bytes = []; fields = []; items = [] }
 
 -- the section with the item last
 abbrev pub with_last_item : {Item : Type 0} → SectionOf Item → Item → SectionOf Item

@@ -5,9 +5,7 @@ use Rattle.asm_base.specs.Refusals.{FailsLast}
 use Rattle.asm_frags.specs.declared.faults.FragCause.{FragCause}
 use Rattle.asm_frags.specs.declared.faults.FragCause.TheVariants.{BadSection}
 use Rattle.asm_frags.specs.declared.flags.SectionFlags.{SectionFlags}
-use Rattle.asm_frags.specs.declared.items.Frag.{Frag}
 use Rattle.asm_frags.specs.SectionOf.{SectionOf, new_section, is_alike, section_number}
-use Rattle.asm_frags.specs.Answers.{with_last_item_or_fault}
 
 -- the flags with these bits
 abbrev pub section_flags : ℕ → SectionFlags
@@ -44,15 +42,15 @@ Enters old new (Ok number) due = due ≡ Ok (number, new)
 Enters old new (Err refusal) due = FailsLast refusal due × (new ≡ old)
 
 -- the sections with the section of this number replaced, or the fault
-abbrev pub with_section_or_fault : {P Address : Type 0} → List (SectionOf (Frag P Address)) → ℕ → Result (SectionOf (Frag P Address)) FragCause → Result (List (SectionOf (Frag P Address))) FragCause
+abbrev pub with_section_or_fault : {Item : Type 0} → List (SectionOf Item) → ℕ → Result (SectionOf Item) FragCause → Result (List (SectionOf Item)) FragCause
 with_section_or_fault sections number (Ok section) = Ok (slice_set sections number section)
 with_section_or_fault sections number (Err fault) = Err fault
 
 -- the same, by the section that there is of this number
-abbrev pub pushed_into : {P Address : Type 0} → List (SectionOf (Frag P Address)) → ℕ → Option (SectionOf (Frag P Address)) → Frag P Address → Result (List (SectionOf (Frag P Address))) FragCause
-pushed_into sections number None item = Err BadSection
-pushed_into sections number (Some section) item = with_section_or_fault sections number (with_last_item_or_fault section item)
+abbrev pub put_into_there : {Item : Type 0} → (SectionOf Item → Result (SectionOf Item) FragCause) → List (SectionOf Item) → ℕ → Option (SectionOf Item) → Result (List (SectionOf Item)) FragCause
+put_into_there put sections number None = Err BadSection
+put_into_there put sections number (Some section) = with_section_or_fault sections number (put section)
 
--- the sections with the item last in the one of this number, or the fault
-abbrev pub pushed : {P Address : Type 0} → List (SectionOf (Frag P Address)) → ℕ → Frag P Address → Result (List (SectionOf (Frag P Address))) FragCause
-pushed sections number item = pushed_into sections number (slice_get sections number) item
+-- the sections with something put into the one of this number, or the fault
+abbrev pub put_into : {Item : Type 0} → (SectionOf Item → Result (SectionOf Item) FragCause) → List (SectionOf Item) → ℕ → Result (List (SectionOf Item)) FragCause
+put_into put sections number = put_into_there put sections number (slice_get sections number)

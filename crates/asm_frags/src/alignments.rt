@@ -3,7 +3,7 @@
 ghost use Rattle.std.specs.Prelude.{◌≡◌, ◌^◌};
 ghost use Rattle.asm_frags.specs.Contents.{alignment_of};
 
-use crate::contents::{Align, Content, Data, Fill};
+use crate::contents::{Align, Content, Fill};
 use crate::visiting::FragVisit;
 use crate::walking::visit;
 
@@ -14,13 +14,13 @@ pub struct AskedAlignment;
 impl FragVisit for AskedAlignment {
     type Out = u64;
 
-    ghost bytes_gives = { λ before held answer after. answer ≡ 1 };
+    ghost run_gives = { λ before answer after. answer ≡ 1 };
 
     ghost fill_gives = { λ before held answer after. answer ≡ 1 };
 
     ghost align_gives = { λ before held answer after. answer ≡ 2 ^ held.log };
 
-    fn bytes(&mut self, _held: &Data) -> u64 {
+    fn run(&mut self) -> u64 {
         1
     }
 

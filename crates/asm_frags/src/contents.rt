@@ -1,104 +1,8 @@
-//! The contents of items: bytes with fields, a fill, or an alignment.
+//! The contents of items: a run of plain bytes, a fill, or an alignment.
 
-ghost use Rattle.std.specs.Prelude.{◌≡◌, ◌≤◌, ◌^◌, OnOk, OnErr, IfOk, IfErr, take};
-ghost use Rattle.asm_frags.specs.DataOf.{IsData, no_data, with_bytes, with_field};
-ghost use Rattle.asm_frags.specs.Substituting.{substituted_data, substituted_content};
-ghost use Rattle.asm_base.specs.declared.refusals.Refusal.TheVariants.{NoMemory};
+ghost use Rattle.std.specs.Prelude.{◌≡◌, ◌≤◌, ◌^◌, take};
 
-use crate::faults::FragFault;
-use crate::fields::{Field, FieldSize};
-use crate::substituting::{Substitution, substitute_fields};
-use asm_expr::Linear;
-use std::alloc::{AllocError, Global};
 use std::marker::Model;
-
-/// The most bytes of an item.
-const MOST_BYTES: usize = 1 << 33;
-
-/// Bytes with fields. The fields stand in order and apart, and the bytes at a field are 0.
-#[derive(Drop)]
-pub struct Data {
-    bytes: Vec<u8>,
-    fields: Vec<Field>,
-}
-
-impl Model for Data {
-    ghost use Rattle.asm_frags.specs.DataOf.{DataOf, IsData};
-
-    ghost Value = { DataOf };
-
-    ghost view = { λ inside. record { bytes = inside.bytes.items; fields = inside.fields.items } };
-
-    ghost invariant = { λ inside. IsData inside.bytes.items inside.fields.items };
-}
-
-impl Data {
-    /// No bytes.
-    pub fn new(alloc: Global) -> Data
-        ensures { result ≡ no_data }
-    {
-        Data {
-            bytes: Vec::new(alloc),
-            fields: Vec::new(alloc),
-        }
-    }
-
-    /// Appends bytes. An item has at most 2^33 bytes; more are refused as want of memory.
-    #[tactic(auto, using(crate::proofs::DataLemmas::with_bytes_is))]
-    pub fn add_bytes(&mut self, bytes: &[u8]) -> Result<(), AllocError>
-        ensures ok { OnOk result (self.new ≡ with_bytes self.old bytes.now) }
-        ensures err { OnErr result (self.new ≡ self.old) }
-    {
-        if bytes.len() > MOST_BYTES - self.bytes.len() {
-            return Err(AllocError);
-        }
-        self.bytes.extend_from_slice(bytes)
-    }
-
-    /// Appends a field, over zeros. An item has at most 2^33 bytes; more are refused as want of memory.
-    #[tactic(auto, using(crate::proofs::DataLemmas::with_field_is))]
-    pub fn add_field(&mut self, size: FieldSize, form: Linear) -> Result<(), AllocError>
-        ensures ok { OnOk result (self.new ≡ with_field self.old size form) }
-        ensures err { OnErr result (self.new ≡ self.old) }
-    {
-        let offset = self.bytes.len();
-        if size.bytes() > MOST_BYTES - offset {
-            return Err(AllocError);
-        }
-        self.fields.reserve(1)?;
-        self.bytes.extend_from_slice(size.blank())?;
-        // `reserve` made room for it.
-        self.fields.push(Field { offset, size, form }).unwrap();
-        Ok(())
-    }
-
-    /// The bytes with the form of each field substituted.
-    pub(crate) fn substituted<R: Substitution>(self, substitution: &R) -> Result<Data, FragFault>
-        ensures ok { IfOk result (λ made.
-            made ≡ substituted_data (R.substitute substitution.now) self) }
-        ensures memory { IfErr result (λ fault. fault ≡ NoMemory) }
-    {
-        let Data { bytes, mut fields } = self;
-        substitute_fields(&mut fields, substitution)?;
-        Ok(Data { bytes, fields })
-    }
-
-    /// The bytes, which are 0 at each field.
-    pub fn bytes(&self) -> &[u8]
-        ensures bytes { result.now ≡ self.now.bytes }
-        ensures within { IsData self.now.bytes self.now.fields }
-    {
-        self.bytes.as_slice()
-    }
-
-    /// The fields, in the order of their offsets.
-    pub fn fields(&self) -> &[Field]
-        ensures fields { result.now ≡ self.now.fields }
-        ensures within { IsData self.now.bytes self.now.fields }
-    {
-        self.fields.as_slice()
-    }
-}
 
 /// `count` units of `size` bytes: the low 4 bytes of a value, then zeros (GNU as manual, ".fill").
 #[derive(Drop)]
@@ -110,7 +14,7 @@ pub struct Fill {
 
 impl Model for Fill {
     ghost use Rattle.std.specs.Prelude.{◌≤◌, ◌^◌};
-    ghost use Rattle.asm_frags.specs.DataOf.{FillOf};
+    ghost use Rattle.asm_frags.specs.ItemParts.{FillOf};
 
     ghost Value = { FillOf };
 
@@ -172,7 +76,7 @@ pub struct Align {
 
 impl Model for Align {
     ghost use Rattle.std.specs.Prelude.{◌≤◌};
-    ghost use Rattle.asm_frags.specs.DataOf.{AlignOf};
+    ghost use Rattle.asm_frags.specs.ItemParts.{AlignOf};
 
     ghost Value = { AlignOf };
 
@@ -202,22 +106,22 @@ impl Align {
 /// The contents of an item.
 #[derive(Drop)]
 pub enum Content {
-    Bytes(Data),
+    /// Plain bytes, which the section holds, up to the next item.
+    Run,
     Fill(Fill),
     Align(Align),
 }
 
 impl Content {
-    /// The contents with the form of each field substituted.
-    pub(crate) fn substituted<R: Substitution>(self, substitution: &R) -> Result<Content, FragFault>
-        ensures ok { IfOk result (λ made.
-            made ≡ substituted_content (R.substitute substitution.now) self) }
-        ensures memory { IfErr result (λ fault. fault ≡ NoMemory) }
+    ghost use Rattle.asm_frags.specs.Writing as spec;
+
+    /// Whether it is a run.
+    pub(crate) fn is_run(&self) -> bool
+        ensures { result ≡ spec.is_run self.now }
     {
         match self {
-            Content::Bytes(held) => Ok(Content::Bytes(held.substituted(substitution)?)),
-            Content::Fill(held) => Ok(Content::Fill(held)),
-            Content::Align(held) => Ok(Content::Align(held)),
+            Content::Run => true,
+            Content::Fill(_) | Content::Align(_) => false,
         }
     }
 }

@@ -1,8 +1,9 @@
-//! Fields of items: values that are written over zeros once they are known.
+//! Fields: values that are written over zeros of a section once they are known.
 
 ghost use Rattle.std.specs.Prelude.{◌≡◌, replicate};
 ghost use Rattle.asm_frags.specs.Fields.{width, fits};
 
+use asm_base::Pos;
 use asm_expr::Linear;
 
 /// The size of a field.
@@ -57,10 +58,14 @@ impl FieldSize {
     }
 }
 
-/// A field of an item.
+/// A field over plain bytes of a section.
 #[derive(Drop)]
 pub struct Field {
-    /// Its offset in the item, in bytes.
+    /// The place of its statement.
+    pub pos: Pos,
+    /// How many items of the section stand before it.
+    pub item: usize,
+    /// How many plain bytes of the section stand before it.
     pub offset: usize,
     pub size: FieldSize,
     /// The form whose value it holds.

@@ -1,70 +1,72 @@
 //! Items of sections: a statement's place and contents, and an address once it is laid out.
 
-ghost use Rattle.std.specs.Prelude.{◌≡◌, IfOk, IfErr};
+ghost use Rattle.std.specs.Prelude.{◌≡◌};
 
 use crate::contents::Content;
-use crate::faults::FragFault;
 use crate::phases::{Laid, Loose, Phase};
-use crate::substituting::Substitution;
 use asm_base::Pos;
 
-/// An item of a section. `Frag::new` and `Frag::at` alone make one.
+/// An item of a section. `Frag::new` alone makes one, and layout gives it an address.
 #[derive(Drop)]
 #[non_exhaustive]
 pub struct Frag<P: Phase> {
-    /// The place of its statement.
+    /// The place of its statement, the first one where it is a run.
     pub pos: Pos,
+    /// How many plain bytes of its section stand before it.
+    pub offset: usize,
     pub content: Content,
     pub address: P::Address,
 }
 
 impl Frag<Loose> {
+    ghost use Rattle.asm_frags.specs.Writing.{new_item, item_behind};
     ghost use Rattle.asm_frags.specs.Substituting.{laid_item};
-    ghost use Rattle.asm_base.specs.declared.refusals.Refusal.TheVariants.{NoMemory};
 
-    /// An item of a statement.
+    /// An item of a statement, which is put nowhere so far.
     pub fn new(pos: Pos, content: Content) -> Frag<Loose>
-        ensures pos { result.pos ≡ pos }
-        ensures content { result.content ≡ content }
+        ensures { result ≡ new_item pos content }
     {
         Frag {
             pos,
+            offset: 0,
             content,
             address: (),
         }
     }
 
-    /// The item at this address. Only layout calls this; no other crate makes an item that is laid out.
-    pub fn at(self, address: u64) -> Frag<Laid>
-        ensures pos { result.pos ≡ self.pos }
-        ensures content { result.content ≡ self.content }
-        ensures address { result.address ≡ address }
+    /// The item behind so many plain bytes.
+    pub(crate) fn behind(self, bytes: usize) -> Frag<Loose>
+        ensures { result ≡ item_behind bytes self }
     {
         let Frag {
             pos,
+            offset: _,
             content,
             address: (),
         } = self;
         Frag {
             pos,
+            offset: bytes,
             content,
-            address,
+            address: (),
         }
     }
 
-    /// The item with the form of each field substituted, at address 0 until layout sets its address.
-    pub(crate) fn substituted<R: Substitution>(
-        self,
-        substitution: &R,
-    ) -> Result<Frag<Laid>, FragFault>
-        ensures ok { IfOk result (λ made. made ≡ laid_item (R.substitute substitution.now) self) }
-        ensures memory { IfErr result (λ fault. fault ≡ NoMemory) }
+    /// The item at address 0, until layout sets its address.
+    pub(crate) fn laid(self) -> Frag<Laid>
+        ensures { result ≡ laid_item self }
     {
         let Frag {
             pos,
+            offset,
             content,
             address: (),
         } = self;
-        Ok(Frag::new(pos, content.substituted(substitution)?).at(0))
+        Frag {
+            pos,
+            offset,
+            content,
+            address: 0,
+        }
     }
 }

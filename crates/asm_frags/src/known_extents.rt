@@ -1,21 +1,21 @@
 //! The known extent of a section, from which the distance of two places follows before layout.
 
-ghost use Rattle.std.specs.Prelude.{◌≡◌, ◌+◌, ◌*◌, ◌<◌, ◌≤◌, ◌^◌, Some, None, IfSome, length};
+ghost use Rattle.std.specs.Prelude.{◌≡◌, ◌+◌, ◌*◌, ◌<◌, ◌≤◌, ◌^◌, Some, None, IfSome};
 ghost use Rattle.asm_frags.specs.KnownExtents as spec;
 
-use crate::contents::{Align, Content, Data, Fill};
+use crate::contents::{Align, Content, Fill};
 use crate::items::Frag;
 use crate::phases::Phase;
 use crate::visiting::FragVisit;
 use crate::walking::visit;
 
 /// What is known of the extent of a section before layout. Two places of one section with as many breaks before them
-/// are the difference of their bytes apart.
+/// are as far apart as their plain bytes and these bytes together.
 #[derive(Clone, Copy, PartialEq, Eq, Debug)]
 pub struct KnownExtent {
     /// The number of items whose size depends on their address.
     pub breaks: u64,
-    /// The number of bytes behind the last of them.
+    /// The number of bytes of all other items, without plain bytes.
     pub bytes: u64,
 }
 
@@ -26,16 +26,15 @@ pub struct FixedSize;
 impl FragVisit for FixedSize {
     type Out = Option<u64>;
 
-    ghost bytes_gives = { λ before held answer after.
-        spec.IsFixedSize (Some (length held.bytes)) answer };
+    ghost run_gives = { λ before answer after. spec.IsFixedSize (Some 0) answer };
 
     ghost fill_gives = { λ before held answer after.
         spec.IsFixedSize (Some (held.count * held.size)) answer };
 
     ghost align_gives = { λ before held answer after. spec.IsFixedSize None answer };
 
-    fn bytes(&mut self, held: &Data) -> Option<u64> {
-        Some(held.bytes().len() as u64)
+    fn run(&mut self) -> Option<u64> {
+        Some(0)
     }
 
     fn fill(&mut self, held: &Fill) -> Option<u64> {
@@ -72,7 +71,7 @@ impl KnownExtent {
             },
             None => KnownExtent {
                 breaks: self.breaks + 1,
-                bytes: 0,
+                bytes: self.bytes,
             },
         }
     }

@@ -7,6 +7,7 @@ mod contents;
 mod faults;
 mod fields;
 mod flags;
+mod item_list;
 mod items;
 mod known_extents;
 mod laws;
@@ -21,7 +22,7 @@ mod walking;
 mod zeros;
 
 pub use alignments::{AskedAlignment, asked_alignment};
-pub use contents::{Align, Content, Data, Fill};
+pub use contents::{Align, Content, Fill};
 pub use faults::{FragCause, FragFault};
 pub use fields::{Field, FieldSize};
 pub use flags::{
@@ -30,7 +31,7 @@ pub use flags::{
 };
 pub use items::Frag;
 pub use known_extents::{FixedSize, KnownExtent, fixed_size};
-pub use laws::{bytes_are_sized, padding_is_least, zeros_are_known};
+pub use laws::{bytes_are_sized, padding_is_least, stretches_are_fixed, zeros_are_known};
 pub use parts::Section;
 pub use phases::{Laid, Loose, Phase};
 pub use pieces::{BytesAt, TakesBytes, put_bytes};

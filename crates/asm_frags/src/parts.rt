@@ -1,24 +1,27 @@
-//! Sections: the words of their headers, and their items in order.
+//! Sections: the words of their headers, their plain bytes with fields, and their items in order.
 
-ghost use Rattle.std.specs.Prelude.{◌≡◌, ◌<◌, ◌≤◌, ◌^◌, length, map, IfOk, IfErr};
-ghost use Rattle.asm_frags.specs.Substituting.{laid_item, laid_section};
-ghost use Rattle.asm_frags.specs.Addresses.{section_with_address};
+ghost use Rattle.std.specs.Prelude.{◌≡◌, ◌<◌, ◌≤◌, ◌^◌, length, IfOk, IfErr};
 ghost use Rattle.asm_base.specs.declared.refusals.Refusal.TheVariants.{NoMemory};
+ghost use Rattle.asm_frags.specs.Substituting.{laid_section};
+ghost use Rattle.asm_frags.specs.Addresses.{section_with_address};
 
-use crate::alignments::asked_alignment;
+use crate::contents::Content;
 use crate::faults::{FragCause, FragFault};
+use crate::fields::{Field, FieldSize};
 use crate::flags::{SHT_NOBITS, SectionFlags};
+use crate::item_list::Items;
 use crate::items::Frag;
 use crate::known_extents::KnownExtent;
 use crate::phases::{Laid, Loose, Phase};
-use crate::substituting::Substitution;
-use crate::zeros::is_known_zeros;
-use asm_base::Text;
+use crate::substituting::{Substitution, substitute_fields};
+use crate::zeros::{are_zeros, is_known_zeros};
+use asm_base::{Pos, Text};
+use asm_expr::Linear;
 use std::alloc::Global;
 use std::marker::Model;
 
-/// The most items of a section. Each has at most 2^33 bytes, so all have at most 2^61.
-const MOST_ITEMS: usize = 1 << 28;
+/// The most plain bytes of a section.
+const MOST_BYTES: usize = 1 << 33;
 
 /// A section.
 #[derive(Drop)]
@@ -27,15 +30,17 @@ pub struct Section<P: Phase> {
     flags: SectionFlags,
     kind: u32,
     entry_size: u64,
-    items: Vec<Frag<P>>,
-    alignment: u64,
-    extent: KnownExtent,
+    bytes: Vec<u8>,
+    fields: Vec<Field>,
+    items: Items<P>,
 }
 
 impl<P: Phase> Model for Section<P> {
+    ghost use Rattle.std.specs.Prelude.{length};
     ghost use Rattle.asm_frags.specs.declared.items.Frag.{Frag};
     ghost use Rattle.asm_frags.specs.SectionOf.{SectionOf};
-    ghost use Rattle.asm_frags.specs.SoundItems.{AreItems};
+    ghost use Rattle.asm_frags.specs.PlainBytes.{AreBytes};
+    ghost use Rattle.asm_frags.specs.SoundItems.{AreBehind};
 
     ghost Value = { SectionOf (Frag P P.Address) };
 
@@ -44,19 +49,23 @@ impl<P: Phase> Model for Section<P> {
       flags = inside.flags;
       kind = inside.kind;
       entry_size = inside.entry_size;
-      items = inside.items.items;
+      bytes = inside.bytes.items;
+      fields = inside.fields.items;
+      items = inside.items;
     } };
 
-    ghost invariant = { λ inside. AreItems inside.items.items inside.alignment inside.extent };
+    ghost invariant = { λ inside. AreBytes inside.bytes.items inside.fields.items
+        × AreBehind (length inside.bytes.items) inside.items };
 }
 
 impl<P: Phase> Section<P> {
     ghost use Rattle.asm_frags.specs.Alignments.{alignment_of_all};
     ghost use Rattle.asm_frags.specs.KnownExtents.{extent_of};
+    ghost use Rattle.asm_frags.specs.PlainBytes.{AreBytes};
+    ghost use Rattle.asm_frags.specs.SoundItems.{AreBehind};
     ghost use Rattle.asm_frags.specs.SectionOf.{new_section, is_alike};
-    ghost use Rattle.asm_frags.specs.Answers.{Changes, with_last_item_or_fault};
 
-    /// A section without items.
+    /// A section that nothing was put into.
     pub fn new(
         alloc: Global,
         name: Text,
@@ -71,12 +80,9 @@ impl<P: Phase> Section<P> {
             flags,
             kind,
             entry_size,
-            items: Vec::new(alloc),
-            alignment: 1,
-            extent: KnownExtent {
-                breaks: 0,
-                bytes: 0,
-            },
+            bytes: Vec::new(alloc),
+            fields: Vec::new(alloc),
+            items: Items::new(alloc),
         }
     }
 
@@ -108,10 +114,27 @@ impl<P: Phase> Section<P> {
         self.entry_size
     }
 
+    /// The plain bytes, which are 0 at each field.
+    pub fn bytes(&self) -> &[u8]
+        ensures bytes { result.now ≡ self.now.bytes }
+        ensures within { AreBytes self.now.bytes self.now.fields }
+    {
+        self.bytes.as_slice()
+    }
+
+    /// The fields, in the order of their offsets.
+    pub fn fields(&self) -> &[Field]
+        ensures fields { result.now ≡ self.now.fields }
+        ensures within { AreBytes self.now.bytes self.now.fields }
+    {
+        self.fields.as_slice()
+    }
+
     /// The items in order.
     pub fn items(&self) -> &[Frag<P>]
         ensures items { result.now ≡ self.now.items }
         ensures within { length result.now ≤ 2 ^ 28 }
+        ensures behind { AreBehind (length self.now.bytes) result.now }
     {
         self.items.as_slice()
     }
@@ -120,7 +143,7 @@ impl<P: Phase> Section<P> {
     pub fn alignment(&self) -> u64
         ensures { result ≡ alignment_of_all self.now.items }
     {
-        self.alignment
+        self.items.alignment()
     }
 
     /// The known extent of the section.
@@ -129,7 +152,7 @@ impl<P: Phase> Section<P> {
         ensures breaks { result.breaks ≤ 2 ^ 28 }
         ensures bytes { result.bytes ≤ 2 ^ 61 }
     {
-        self.extent
+        self.items.extent()
     }
 
     /// Whether the section has these flags, this type and this entry size.
@@ -138,42 +161,81 @@ impl<P: Phase> Section<P> {
     {
         self.flags == flags && self.kind == kind && self.entry_size == entry_size
     }
+}
+
+impl Section<Loose> {
+    ghost use Rattle.asm_frags.specs.Answers.{Changes};
+    ghost use Rattle.asm_frags.specs.Writing.{bytes_put, field_put, item_put};
 
     /// Puts the item last. `BadSection` comes exactly where the section has the type `SHT_NOBITS` and the item is not known
-    /// to be zeros. A section has at most 2^28 items; one more is refused as want of memory.
-    pub fn put(&mut self, item: Frag<P>) -> Result<(), FragFault>
-        ensures { Changes self.old self.new result (with_last_item_or_fault self.old item) }
+    /// to be zeros.
+    pub(crate) fn put(&mut self, item: Frag<Loose>) -> Result<(), FragFault>
+        ensures { Changes self.old self.new result (item_put item self.old) }
     {
         if self.kind == SHT_NOBITS && !is_known_zeros(&item.content) {
             return Err(FragFault::Fault(FragCause::BadSection));
         }
-        if self.items.len() >= MOST_ITEMS {
+        self.items.add(item.behind(self.bytes.len()))
+    }
+
+    /// Puts plain bytes last. `BadSection` comes exactly where the section has the type `SHT_NOBITS` and a byte is not 0.
+    /// A section has at most 2^33 plain bytes; more are refused as want of memory.
+    pub(crate) fn put_bytes(&mut self, pos: Pos, bytes: &[u8]) -> Result<(), FragFault>
+        ensures { Changes self.old self.new result (bytes_put pos bytes.now self.old) }
+    {
+        if self.kind == SHT_NOBITS && !are_zeros(bytes) {
+            return Err(FragFault::Fault(FragCause::BadSection));
+        }
+        if bytes.len() > MOST_BYTES - self.bytes.len() {
             return Err(FragFault::NoMemory);
         }
-        let asked = asked_alignment(&item.content);
-        let extent = self.extent.advanced(&item);
-        self.items.push(item)?;
-        self.alignment = self.alignment.max(asked);
-        self.extent = extent;
+        self.bytes.reserve(bytes.len())?;
+        if !self.items.ends_in_run() {
+            self.items
+                .add(Frag::new(pos, Content::Run).behind(self.bytes.len()))?;
+        }
+        // `reserve` made room for them.
+        self.bytes.extend_from_slice(bytes).unwrap();
         Ok(())
     }
-}
 
-/// The items with the form of each field substituted, at address 0.
-fn substitute_items<R: Substitution>(
-    alloc: Global,
-    items: Vec<Frag<Loose>>,
-    substitution: &R,
-) -> Result<Vec<Frag<Laid>>, FragFault>
-    ensures ok { IfOk result (λ made.
-        made.items ≡ map (laid_item (R.substitute substitution.now)) items.items) }
-    ensures memory { IfErr result (λ fault. fault ≡ NoMemory) }
-{
-    let mut made = Vec::with_capacity(alloc, items.len())?;
-    for item in items {
-        made.push(item.substituted(substitution)?)?;
+    /// Puts a field last, over zeros. `BadSection` comes exactly where the section has the type `SHT_NOBITS`.
+    /// A section has at most 2^33 plain bytes; more are refused as want of memory.
+    pub(crate) fn put_field(
+        &mut self,
+        pos: Pos,
+        size: FieldSize,
+        form: Linear,
+    ) -> Result<(), FragFault>
+        ensures { Changes self.old self.new result (field_put pos size form self.old) }
+    {
+        if self.kind == SHT_NOBITS {
+            return Err(FragFault::Fault(FragCause::BadSection));
+        }
+        let offset = self.bytes.len();
+        if size.bytes() > MOST_BYTES - offset {
+            return Err(FragFault::NoMemory);
+        }
+        self.fields.reserve(1)?;
+        self.bytes.reserve(size.bytes())?;
+        if !self.items.ends_in_run() {
+            self.items
+                .add(Frag::new(pos, Content::Run).behind(self.bytes.len()))?;
+        }
+        let item = self.items.len();
+        // `reserve` made room for them.
+        self.bytes.extend_from_slice(size.blank()).unwrap();
+        self.fields
+            .push(Field {
+                pos,
+                item,
+                offset,
+                size,
+                form,
+            })
+            .unwrap();
+        Ok(())
     }
-    Ok(made)
 }
 
 impl Section<Loose> {
@@ -192,19 +254,20 @@ impl Section<Loose> {
             flags,
             kind,
             entry_size,
+            bytes,
+            mut fields,
             items,
-            alignment,
-            extent,
         } = self;
-        let items = substitute_items(alloc, items, substitution)?;
+        substitute_fields(&mut fields, substitution)?;
+        let items = items.laid(alloc)?;
         Ok(Section {
             name,
             flags,
             kind,
             entry_size,
+            bytes,
+            fields,
             items,
-            alignment,
-            extent,
         })
     }
 }
@@ -215,6 +278,6 @@ impl Section<Laid> {
         requires { item < length self.old.items }
         ensures { self.new ≡ section_with_address self.old item address }
     {
-        self.items[item].address = address;
+        self.items.lay(item, address);
     }
 }

@@ -1,9 +1,9 @@
 //! The bytes of items, piece by piece.
 
-ghost use Rattle.std.specs.Prelude.{◌≡◌, ℕ, List};
+ghost use Rattle.std.specs.Prelude.{◌≡◌, ℕ, List, []};
 ghost use Rattle.asm_frags.specs.Contents.{repeated, fill_bytes, padding_bytes, bytes_at};
 
-use crate::contents::{Align, Content, Data, Fill};
+use crate::contents::{Align, Content, Fill};
 use crate::sizes::padding;
 use crate::visiting::FragVisit;
 use crate::walking::visit;
@@ -34,9 +34,9 @@ pub struct BytesAt<'a, T> {
 impl<'a, T: TakesBytes> FragVisit for BytesAt<'a, T> {
     type Out = T::Out;
 
-    ghost bytes_gives = { λ before held answer after.
+    ghost run_gives = { λ before answer after.
         (after.taker.ghost_name ≡ before.taker.ghost_name)
-        × T.takes before.taker.now held.bytes answer after.taker.now };
+        × T.takes before.taker.now [] answer after.taker.now };
 
     ghost fill_gives = { λ before held answer after.
         (after.taker.ghost_name ≡ before.taker.ghost_name)
@@ -46,8 +46,8 @@ impl<'a, T: TakesBytes> FragVisit for BytesAt<'a, T> {
         (after.taker.ghost_name ≡ before.taker.ghost_name)
         × T.takes before.taker.now (padding_bytes held before.at) answer after.taker.now };
 
-    fn bytes(&mut self, held: &Data) -> T::Out {
-        self.taker.bytes(held.bytes())
+    fn run(&mut self) -> T::Out {
+        self.taker.bytes(&[])
     }
 
     fn fill(&mut self, held: &Fill) -> T::Out {

@@ -6,12 +6,14 @@ ghost use Rattle.asm_frags.specs.Substituting.{laid_section};
 ghost use Rattle.asm_base.specs.declared.refusals.Refusal.TheVariants.{NoMemory};
 
 use crate::faults::{FragCause, FragFault};
+use crate::fields::FieldSize;
 use crate::flags::{SHT_NOBITS, SHT_PROGBITS, SectionFlags};
 use crate::items::Frag;
 use crate::parts::Section;
 use crate::phases::{Laid, Loose, Phase};
 use crate::substituting::Substitution;
-use asm_base::Text;
+use asm_base::{Pos, Text};
+use asm_expr::Linear;
 use bitflags::Flags;
 use indexmap::IndexSet;
 use std::alloc::Global;
@@ -90,9 +92,10 @@ impl<P: Phase> Sections<P> {
 }
 
 impl Sections<Loose> {
-    ghost use Rattle.asm_frags.specs.Sections.{first_sections, entered, Enters, pushed, new_last};
+    ghost use Rattle.asm_frags.specs.Sections.{first_sections, entered, Enters, put_into, new_last};
     ghost use Rattle.asm_frags.specs.SectionOf.{new_section, is_section_named, section_number};
     ghost use Rattle.asm_frags.specs.Answers.{Changes};
+    ghost use Rattle.asm_frags.specs.Writing.{item_put, bytes_put, field_put};
 
     /// Adds one of the first three sections.
     fn begin(&mut self, name: &[u8], flags: SectionFlags, kind: u32) -> Result<(), FragFault>
@@ -179,14 +182,42 @@ impl Sections<Loose> {
         }
     }
 
-    /// Puts the item last in the section of this number. `BadSection` comes exactly where the section has the type
+    /// Puts an item last in the section of this number. `BadSection` comes exactly where the section has the type
     /// `SHT_NOBITS` and the item is not known to be zeros.
     pub fn push(&mut self, section: u32, item: Frag<Loose>) -> Result<(), FragFault>
         requires { section < length self.old }
-        ensures { Changes self.old self.new result (pushed self.old section item) }
+        ensures { Changes self.old self.new result (put_into (item_put item) self.old section) }
     {
         let section = &mut self.sections[section as usize];
         section.put(item)
+    }
+
+    /// Puts plain bytes last in the section of this number. `BadSection` comes exactly where the section has the type
+    /// `SHT_NOBITS` and a byte is not 0.
+    pub fn push_bytes(&mut self, section: u32, pos: Pos, bytes: &[u8]) -> Result<(), FragFault>
+        requires { section < length self.old }
+        ensures { Changes self.old self.new result
+            (put_into (bytes_put pos bytes.now) self.old section) }
+    {
+        let section = &mut self.sections[section as usize];
+        section.put_bytes(pos, bytes)
+    }
+
+    /// Puts a field last in the section of this number, over zeros. `BadSection` comes exactly where the section has the type
+    /// `SHT_NOBITS`.
+    pub fn push_field(
+        &mut self,
+        section: u32,
+        pos: Pos,
+        size: FieldSize,
+        form: Linear,
+    ) -> Result<(), FragFault>
+        requires { section < length self.old }
+        ensures { Changes self.old self.new result
+            (put_into (field_put pos size form) self.old section) }
+    {
+        let section = &mut self.sections[section as usize];
+        section.put_field(pos, size, form)
     }
 }
 

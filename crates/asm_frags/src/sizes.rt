@@ -1,9 +1,9 @@
 //! The sizes of items.
 
-ghost use Rattle.std.specs.Prelude.{◌≡◌, ◌≤◌, ◌*◌, ◌^◌, length};
+ghost use Rattle.std.specs.Prelude.{◌≡◌, ◌≤◌, ◌*◌, ◌^◌};
 ghost use Rattle.asm_frags.specs.Contents as spec;
 
-use crate::contents::{Align, Content, Data, Fill};
+use crate::contents::{Align, Content, Fill};
 use crate::visiting::FragVisit;
 use crate::walking::visit;
 
@@ -26,15 +26,15 @@ pub struct SizeAt {
 impl FragVisit for SizeAt {
     type Out = u64;
 
-    ghost bytes_gives = { λ before held answer after. spec.IsSize (length held.bytes) answer };
+    ghost run_gives = { λ before answer after. spec.IsSize 0 answer };
 
     ghost fill_gives = { λ before held answer after. spec.IsSize (held.count * held.size) answer };
 
     ghost align_gives = { λ before held answer after.
         spec.IsSize (spec.padding (2 ^ held.log) before.at) answer };
 
-    fn bytes(&mut self, held: &Data) -> u64 {
-        held.bytes().len() as u64
+    fn run(&mut self) -> u64 {
+        0
     }
 
     fn fill(&mut self, held: &Fill) -> u64 {
@@ -46,7 +46,7 @@ impl FragVisit for SizeAt {
     }
 }
 
-/// The size of the item at this address, in bytes.
+/// The size of the item at this address, in bytes. Those of a run are plain bytes of its section, and counted there.
 pub fn size(content: &Content, at: u64) -> u64
     ensures size { result ≡ spec.size_at content.now at }
     ensures within { result ≤ 2 ^ 33 }

@@ -1,16 +1,16 @@
 //! Visitors of items.
 
-ghost use Rattle.asm_frags.specs.DataOf.{DataOf, FillOf, AlignOf};
+ghost use Rattle.asm_frags.specs.ItemParts.{FillOf, AlignOf};
 
-use crate::contents::{Align, Data, Fill};
+use crate::contents::{Align, Fill};
 
 /// A visitor of items: an answer for each kind of contents.
 pub trait FragVisit {
     /// The answer for an item.
     type Out;
 
-    /// The visitor before, the bytes with their fields, the answer, and the visitor after.
-    ghost bytes_gives: { Self → DataOf → Self.Out → Self → Type 0 };
+    /// The visitor before, the answer for a run, and the visitor after.
+    ghost run_gives: { Self → Self.Out → Self → Type 0 };
 
     /// The visitor before, the fill, the answer, and the visitor after.
     ghost fill_gives: { Self → FillOf → Self.Out → Self → Type 0 };
@@ -18,9 +18,9 @@ pub trait FragVisit {
     /// The visitor before, the alignment, the answer, and the visitor after.
     ghost align_gives: { Self → AlignOf → Self.Out → Self → Type 0 };
 
-    /// The answer for bytes with fields.
-    fn bytes(&mut self, held: &Data) -> Self::Out
-        ensures { bytes_gives self.old held.now result self.new };
+    /// The answer for a run, whose bytes are plain bytes of its section.
+    fn run(&mut self) -> Self::Out
+        ensures { run_gives self.old result self.new };
 
     /// The answer for a fill.
     fn fill(&mut self, held: &Fill) -> Self::Out

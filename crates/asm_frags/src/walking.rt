@@ -7,11 +7,11 @@ use crate::visiting::FragVisit;
 
 /// The visitor's answer for the contents of an item.
 pub fn visit<V: FragVisit>(content: &Content, visitor: &mut V) -> V::Out
-    ensures { Visits V.bytes_gives V.fill_gives V.align_gives
+    ensures { Visits V.run_gives V.fill_gives V.align_gives
         content.now visitor.old result visitor.new }
 {
     match content {
-        Content::Bytes(held) => visitor.bytes(held),
+        Content::Run => visitor.run(),
         Content::Fill(held) => visitor.fill(held),
         Content::Align(held) => visitor.align(held),
     }

@@ -1,16 +1,16 @@
 //! Items that are known to be zeros: all that a section of type `SHT_NOBITS` takes.
 
-ghost use Rattle.std.specs.Prelude.{◌≡◌, ◌==◌, ◌||◌, ◌&&◌, true};
+ghost use Rattle.std.specs.Prelude.{◌≡◌, ◌==◌, ◌||◌, true};
 ghost use Rattle.std.specs.List.{list_all};
-ghost use Rattle.asm_frags.specs.DataOf.{is_zero};
+ghost use Rattle.asm_frags.specs.PlainBytes.{is_zero};
 ghost use Rattle.asm_frags.specs.Contents as spec;
 
-use crate::contents::{Align, Content, Data, Fill};
+use crate::contents::{Align, Content, Fill};
 use crate::visiting::FragVisit;
 use crate::walking::visit;
 
 /// Whether all bytes are 0.
-fn are_zeros(bytes: &[u8]) -> bool
+pub(crate) fn are_zeros(bytes: &[u8]) -> bool
     ensures { result ≡ list_all is_zero bytes.now }
 {
     bytes.iter().all(|byte| *byte == 0)
@@ -23,16 +23,15 @@ pub struct KnownZeros;
 impl FragVisit for KnownZeros {
     type Out = bool;
 
-    ghost bytes_gives = { λ before held answer after.
-        answer ≡ (spec.are_none held.fields && list_all is_zero held.bytes) };
+    ghost run_gives = { λ before answer after. answer ≡ true };
 
     ghost fill_gives = { λ before held answer after.
         answer ≡ ((held.count == 0) || list_all is_zero (spec.unit_of held)) };
 
     ghost align_gives = { λ before held answer after. answer ≡ true };
 
-    fn bytes(&mut self, held: &Data) -> bool {
-        held.fields().is_empty() && are_zeros(held.bytes())
+    fn run(&mut self) -> bool {
+        true
     }
 
     fn fill(&mut self, held: &Fill) -> bool {
@@ -45,7 +44,7 @@ impl FragVisit for KnownZeros {
     }
 }
 
-/// Whether the item is known to be zeros: each byte is 0, and none belongs to a field.
+/// Whether the item is known to be zeros: each byte is 0.
 pub fn is_known_zeros(content: &Content) -> bool
     ensures { result ≡ spec.is_known_zeros content.now }
 {

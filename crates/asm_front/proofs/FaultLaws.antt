@@ -13,7 +13,7 @@ use Rattle.asm_lines.specs.declared.faults.LineCause.TheVariants as line
 use Rattle.asm_relax.specs.Settling.{layout_of}
 use Rattle.asm_place.specs.Faults.{is_file_too_large}
 use Rattle.asm_place.specs.Tables.{Table}
-use Rattle.asm_place.specs.Places.{LooseSection}
+use Rattle.asm_frags.specs.Writing.{LooseSection}
 use Rattle.asm_place.specs.State.{Placed, nothing_placed}
 use Rattle.asm_place.specs.Sources.{fault_at, place_all}
 use Rattle.asm_place.specs.declared.place_faults.FaultAt.{FaultAt}

@@ -1,5 +1,5 @@
--- Written bytes read back: an instruction's item stands in the object.
-use Rattle.std.proofs.Common.{◌≡◌, ℕ, ◌+◌, ◌&&◌, not, nat_lt, Bool, true, false, cond, List, [], ◌∷◌, ◌++◌, Option, Some, None, Result, Ok, Err, find, length, map, drop, refl, sym, ap, ◌∙◌}
+-- Written bytes read back: the bytes of an instruction stand in the object.
+use Rattle.std.proofs.Common.{◌≡◌, ℕ, ◌+◌, ◌≤◌, ◌&&◌, not, nat_lt, Bool, true, false, cond, List, [], ◌∷◌, ◌++◌, Option, Some, None, Result, Ok, Err, find, length, map, drop, refl, sym, ap, ◌∙◌, arith}
 use Rattle.std.proofs.lemmas.List.{map-append}
 use Rattle.std.proofs.lemmas.Option.{slice_get-map}
 use Rattle.std.specs.Prelude.{slice_get, option_map}
@@ -14,46 +14,41 @@ use Rattle.asm_frags.specs.declared.items.Frag.{Frag}
 use Rattle.asm_frags.specs.Addresses.{item_with_address}
 use Rattle.asm_frags.specs.Contents.{size_at}
 use Rattle.asm_frags.specs.SectionOf.{SectionOf}
-use Rattle.asm_frags.specs.Substituting.{laid_item, laid_section}
-use Rattle.asm_relax.specs.Final.{address_in, address_of}
+use Rattle.asm_frags.specs.Substituting.{laid_section}
 use Rattle.asm_relax.specs.Expanding.{expanded}
 use Rattle.asm_relax.specs.Settling.{LaidItem, LaidSections, unless, layout_of}
 use Rattle.asm_relax.specs.declared.faults.LayoutFault.{LayoutFault}
-use Rattle.asm_relax.specs.Placing.{placed_from, placed_section, address_behind}
+use Rattle.asm_relax.specs.Placing.{placed_from, placed_section}
 use Rattle.asm_place.specs.declared.instructions.Row.{Row}
 use Rattle.asm_place.specs.Rows.{the_rows, has_name, bytes_of}
 use Rattle.asm_place.specs.Reads.{Reads}
-use Rattle.asm_place.specs.Idents.{plain_item}
 use Rattle.asm_place.specs.Operands.{is_name}
 use Rattle.asm_place.specs.Placing.{begins_with_dot}
-use Rattle.asm_place.specs.Places.{Item, LooseSection}
+use Rattle.asm_frags.specs.Writing.{LooseSection}
 use Rattle.asm_place.specs.State.{Placed, nothing_placed}
 use Rattle.asm_place.specs.Tables.{Table}
 use Rattle.asm_place.specs.Sources.{place_all}
-use Rattle.asm_place.specs.Instructions.{behind_labels, row_written, next_item, StandsAt}
+use Rattle.asm_place.specs.Instructions.{behind_labels, row_written, next_item, next_offset, StandsAt}
+use Rattle.asm_place.proofs.GrowthLemmas.{nothing_within}
 use Rattle.asm_place.proofs.InstructionLaws.{instruction_there}
 use Rattle.asm_place.proofs.Readings.{found_reads, one_instruction}
 use Rattle.elf_object.specs.declared.faults.ObjectCause.{ObjectCause}
-use Rattle.elf_object.specs.Contents.{filled, item_bytes}
 use Rattle.elf_object.specs.Faults.{object_fault}
 use Rattle.elf_object.specs.Image.{image_of}
-use Rattle.elf_object.specs.Places.{PieceAt}
-use Rattle.elf_object.proofs.FilePlaces.{drop_stands, placed_get}
-use Rattle.elf_object.proofs.ItemPlaces.{items_stand}
+use Rattle.elf_object.specs.Places.{PieceAt, IsFiled, IsBetween}
+use Rattle.elf_object.proofs.FilePlaces.{drop_stands}
+use Rattle.elf_object.proofs.ItemPlaces.{bytes_stand}
 use Rattle.asm_front.specs.Ending.{Flags, first_warning, warned_end, made_end, laid_end, noted, finished}
 use Rattle.asm_front.specs.declared.ending.Ended.{Ended}
 use Rattle.asm_front.specs.declared.ending.NotedObject.{NotedObject}
 use Rattle.asm_front.specs.Assembly.{placed_end, source_placement, assembly_of_lines, assembly_of}
 use Rattle.asm_front.specs.Outcome.{main_file}
 use Rattle.asm_front.specs.ReadsBack.{ReadsAt, file_place, ReadsBack}
-use Rattle.asm_front.proofs.LaidItems.{items_of, layout_is}
+use Rattle.asm_front.proofs.LaidItems.{items_of, layout_is, first_kept, others_kept, beside_kept}
 
 -- the section of an item, as it is laid out
 abbrev kept_section : SymbolMap → LooseSection → SectionOf LaidItem
 kept_section symbols section = placed_section (laid_section (expanded symbols) section)
-
-abbrev kept_item : SymbolMap → LooseSection → ℕ → Item → LaidItem
-kept_item symbols section index item = item_with_address (address_behind index 0 (items_of symbols section)) (laid_item (expanded symbols) item)
 
 section_kept : (symbols : SymbolMap) (sections : List LooseSection) (laid : LaidSections) (n : ℕ) (section : LooseSection) → layout_of symbols sections ≡ Ok laid
     → slice_get sections n ≡ Some section → slice_get laid n ≡ Some (kept_section symbols section)
@@ -62,46 +57,33 @@ section_kept symbols sections laid n section e there =
     ap (λ (all : LaidSections). slice_get all n) (layout_is symbols sections laid e) ∙ slice_get-map placed_section (map substituted sections) n
     ∙ ap (option_map placed_section) (slice_get-map substituted sections n ∙ ap (option_map substituted) there)
 
-item_there : (symbols : SymbolMap) (section : LooseSection) (i : ℕ) (item : Item) → slice_get section.items i ≡ Some item
-    → slice_get (items_of symbols section) i ≡ Some (laid_item (expanded symbols) item)
-item_there symbols section i item at = slice_get-map (laid_item (expanded symbols)) section.items i ∙ ap (option_map (laid_item (expanded symbols))) at
-
-item_kept : (symbols : SymbolMap) (section : LooseSection) (i : ℕ) (item : Item) → slice_get section.items i ≡ Some item
-    → slice_get (kept_section symbols section).items i ≡ Some (kept_item symbols section i item)
-item_kept symbols section i item at = placed_get (items_of symbols section) i 0 (laid_item (expanded symbols) item) (item_there symbols section i item at)
-
--- the address of an item is where those before it end
-address_is : (symbols : SymbolMap) (laid : LaidSections) (n i : ℕ) (section : LooseSection) (item : Item) → slice_get laid n ≡ Some (kept_section symbols section)
-    → slice_get section.items i ≡ Some item → address_of laid n i ≡ address_behind i 0 (items_of symbols section)
-unfolding address_of address_in
-address_is symbols laid n i section item there at = rw (there, item_kept symbols section i item at) refl
-
--- the bytes of an item without fields
-plain_bytes : (symbols : SymbolMap) (laid : LaidSections) (section : LooseSection) (i : ℕ) (item : Item) (bytes : List ℕ) → item.content ≡ plain_item bytes
-    → item_bytes symbols laid (kept_item symbols section i item) ≡ bytes
-unfolding item_bytes filled
-plain_bytes symbols laid section i item bytes holds = rw holds refl
-
-placed_again : {P : Type 0} (at : ℕ) (items : List (Frag P ℕ)) → placed_from at (placed_from at items) ≡ placed_from at items
+placed_again : {P : Type 0} (shift : ℕ) (items : List (Frag P ℕ)) → placed_from shift (placed_from shift items) ≡ placed_from shift items
 unfolding placed_from
-placed_again at [] = refl
-placed_again at (item ∷ items) = ap (λ xs. item_with_address at item ∷ xs) (placed_again (at + size_at item.content at) items)
+placed_again shift [] = refl
+placed_again shift (item ∷ items) =
+    ap (λ xs. item_with_address (item.offset + shift) item ∷ xs) (placed_again (shift + size_at item.content (item.offset + shift)) items)
 
 -- a section that is laid out stays as it is
 laid_stays : (symbols : SymbolMap) (section : LooseSection) → placed_section (kept_section symbols section) ≡ kept_section symbols section
-laid_stays symbols section = ap (λ items. record (kept_section symbols section) { items = items }) (placed_again 0 (items_of symbols section))
+laid_stays symbols section = ap (λ items. record (kept_section symbols section) { items = items }) (placed_again 0 (items_of section))
 
--- an item of bytes alone stands in the object at its place
-pub object_stands : (symbols : SymbolMap) (sections : List LooseSection) (laid : LaidSections) (n i : ℕ) (bytes : List ℕ) → layout_of symbols sections ≡ Ok laid
-    → StandsAt sections n i bytes → PieceAt (image_of symbols laid) (file_place symbols laid n i) bytes
-object_stands symbols sections laid n i bytes e holds =
+-- plain bytes that stand in a section stand in the object at their place
+pub object_stands : (symbols : SymbolMap) (sections : List LooseSection) (laid : LaidSections) (n item offset : ℕ) (bytes : List ℕ) → layout_of symbols sections ≡ Ok laid
+    → StandsAt sections n item offset bytes → PieceAt (image_of symbols laid) (file_place symbols laid n item offset) bytes
+object_stands symbols sections laid n item offset bytes e holds =
     let section = kept_section symbols holds.section in
     let there : slice_get laid n ≡ Some section = section_kept symbols sections laid n holds.section e holds.found in
-    let address = address_is symbols laid n i holds.section holds.item there holds.there in
-    let plain = plain_bytes symbols laid holds.section i holds.item bytes holds.holds in
-    let stands = items_stand symbols laid n i section (kept_item symbols holds.section i holds.item) there holds.takes_bytes (laid_stays symbols holds.section)
-    (item_kept symbols holds.section i holds.item holds.there) in
-    rw (address, ← plain) stands
+    let last = offset + length bytes in
+    let filed : IsFiled laid n section = record { found = there; takes_bytes = holds.takes_bytes; laid = laid_stays symbols holds.section } in
+    let between : IsBetween section.items item offset last = record {
+      before = first_kept (λ at. at ≤ offset) item holds.section.items 0 holds.before;
+      behind = others_kept (λ at. last ≤ at) item holds.section.items 0 holds.behind;
+    } in
+    let within : last ≤ length holds.section.bytes = holds.within in
+    let inside : offset ≤ length holds.section.bytes = omega arith in
+    let stands = bytes_stand symbols laid n item offset section bytes filed inside holds.there
+    (beside_kept (expanded symbols) offset last holds.section.fields holds.free) between in
+    rw there stands
 
 row_of_one : (name plain : Bool) (found : Option Row) (row : Row) → cond (name && plain) found None ≡ Some row → found ≡ Some row
 row_of_one true true found row e = e
@@ -184,10 +166,11 @@ pub reads_back : (flags : Flags) (source : List ℕ) (made : NotedObject) → as
 reads_back flags source made e before after s row placed whole laid are front all is row_is =
     let split = map-append in_tokens before (s ∷ after) in
     let whole_is = sym (ap (λ statements. place_all statements (nothing_placed flags.no_warn)) split) ∙ all in
-    let holds = instruction_there (map in_tokens before) (in_tokens s) (map in_tokens after) (nothing_placed flags.no_warn) placed whole row front whole_is row_is in
+    let holds = instruction_there (map in_tokens before) (in_tokens s) (map in_tokens after) (nothing_placed flags.no_warn) placed whole row
+    (nothing_within flags.no_warn) front whole_is row_is in
     let symbols = whole.table.symbols in
-    let at = file_place symbols laid placed.current (next_item placed) in
+    let at = file_place symbols laid placed.current (next_item placed) (next_offset placed) in
     let same : made.object ≡ image_of symbols laid = assembly_is flags source made (before ++ s ∷ after) whole laid are all is e in
-    let stands = object_stands symbols whole.sections laid placed.current (next_item placed) (bytes_of row) is holds in
+    let stands = object_stands symbols whole.sections laid placed.current (next_item placed) (next_offset placed) (bytes_of row) is holds in
     reads_row made.object stands.rest at row (ap (drop at) same ∙ drop_stands (image_of symbols laid) at (bytes_of row) stands)
     (written_reads (behind_labels (in_tokens s).tokens) row row_is)

@@ -6,7 +6,8 @@ use Rattle.asm_expr.specs.declared.naming.Name.TheVariants.{Plain, Place}
 use Rattle.asm_expr.specs.declared.forms.Term.{Term}
 use Rattle.asm_expr.specs.Forms.{term_of}
 use Rattle.asm_expr.specs.Settled.{put_all, settled}
-use Rattle.asm_frags.specs.declared.contents.Content.TheVariants.{Bytes}
+use Rattle.asm_frags.specs.declared.contents.Content.TheVariants.{Run}
+use Rattle.asm_frags.specs.declared.fields.Field.{Field}
 use Rattle.asm_frags.specs.declared.fields.FieldSize.{FieldSize}
 use Rattle.asm_frags.specs.declared.fields.FieldSize.TheVariants.{Four, Eight}
 use Rattle.asm_frags.specs.Fields.{low_bytes}
@@ -17,15 +18,15 @@ use Rattle.asm_symbols.specs.declared.entries.Kind.TheVariants.{Object}
 use Rattle.asm_symbols.specs.declared.entries.Meaning.{Meaning}
 use Rattle.asm_symbols.specs.declared.entries.Meaning.TheVariants as meaning
 use Rattle.asm_symbols.specs.SymbolMap.{SymbolMap}
-use Rattle.asm_relax.specs.Final.{items_size, address_in, address_of, final_told, laid_value, final_form}
+use Rattle.asm_relax.specs.Final.{shift_in, section_size, address_of, final_told, laid_value, final_form}
 use Rattle.asm_relax.specs.Expanding.{assigned_form, plus_terms, expanded_within, expanded}
 use Rattle.asm_relax.specs.Settling.{LaidItem, LaidSections}
 use Rattle.elf_object.specs.declared.faults.ObjectCause.{ObjectCause}
 use Rattle.elf_object.specs.Fields.{half, word, xword}
 use Rattle.elf_object.specs.StringTable.{string_table_of, name_offsets}
 use Rattle.elf_object.specs.Relocations.{name_reference, field_relocation}
-use Rattle.elf_object.specs.Contents.{filled, item_bytes, item_relocations, has_lost, items_bytes, items_relocations}
-use Rattle.elf_object.specs.Faults.{items_fault, object_fault}
+use Rattle.elf_object.specs.Contents.{filled, interleaved, section_bytes}
+use Rattle.elf_object.specs.Faults.{fields_fault, object_fault}
 use Rattle.elf_object.specs.Naming.{named_of}
 use Rattle.elf_object.specs.Aliases.{said_along, symbol_kind, symbol_size}
 use Rattle.elf_object.specs.SymbolTable.{listed, table_of}
@@ -44,8 +45,8 @@ symbol name what = record {
   visibility = None;
 }
 
-label : ℕ → ℕ → Meaning
-label section item = meaning.Label (record { section = section; item = item; stretch = 0; at = 0 })
+label : ℕ → ℕ → ℕ → Meaning
+label section item offset = meaning.Label (record { section = section; item = item; offset = offset; stretch = 0; at = 0 })
 
 x : Name
 x = Plain (codes "x")
@@ -53,42 +54,56 @@ x = Plain (codes "x")
 y : Name
 y = Plain (codes "y")
 
--- `x` before the first item of `.data`, `y` of another object, and the place before the second item
+-- `x` before the first byte of `.data`, `y` of another object, and the place behind eight bytes
 symbols : SymbolMap
-symbols = record { symbols = symbol x (label 1 0) ∷ symbol y meaning.Undefined ∷ symbol (Place 1 1) (label 1 1) ∷ []; files = []; counts = []; sizes = 0 }
+symbols = record { symbols = symbol x (label 1 0 0) ∷ symbol y meaning.Undefined ∷ symbol (Place 1 1 8) (label 1 1 8) ∷ []; files = []; counts = []; sizes = 0 }
 
 -- the name of a file, and no symbol
 one_file : SymbolMap
 one_file = record { symbols = []; files = Plain (codes "q.c") ∷ []; counts = []; sizes = 0 }
 
--- `v` before the first item of the section behind `.bss`, said to be an object
+-- `v` before the first byte of the section behind `.bss`, said to be an object
 thread_local : SymbolMap
-thread_local = record { symbols = record (symbol (Plain (codes "v")) (label 3 0)) { kind = Some Object } ∷ []; files = []; counts = []; sizes = 0 }
+thread_local = record { symbols = record (symbol (Plain (codes "v")) (label 3 0 0)) { kind = Some Object } ∷ []; files = []; counts = []; sizes = 0 }
 
--- an item that is one field
-item : ℕ → ℕ → FieldSize → List Term → ℕ → LaidItem
-item address count size terms constant = record {
+-- a field behind a run and so many bytes
+field : ℕ → FieldSize → List Term → ℕ → Field
+field offset size terms constant = record {
   pos = record { file = 0; line = 1 };
-  content = Bytes (record { bytes = replicate count 0; fields = record { offset = 0; size = size; form = record { terms = terms; constant = constant } } ∷ [] });
-  address = address;
+  item = 1;
+  offset = offset;
+  size = size;
+  form = record { terms = terms; constant = constant };
 }
 
-section : List ℕ → ℕ → ℕ → List LaidItem → SectionOf LaidItem
-section name flags kind items = record { name = name; flags = section_flags flags; kind = kind; entry_size = 0; items = items }
+-- a run that begins a section
+run : LaidItem
+run = record { pos = record { file = 0; line = 1 }; offset = 0; content = Run; address = 0 }
+
+section : List ℕ → ℕ → ℕ → ℕ → List Field → List LaidItem → SectionOf LaidItem
+section name flags kind count fields items = record {
+  name = name;
+  flags = section_flags flags;
+  kind = kind;
+  entry_size = 0;
+  bytes = replicate count 0;
+  fields = fields;
+  items = items;
+}
 
 -- in `.data`, `.quad x+8` and `.long y-.`
 sections : LaidSections
 sections =
-    section (codes ".text") 6 1 []
-    ∷ section (codes ".data") 3 1 (item 0 8 Eight (term_of x 1 ∷ []) 8 ∷ item 8 4 Four (term_of y 1 ∷ term_of (Place 1 1) (2 ^ 64 - 1) ∷ []) 0 ∷ [])
-    ∷ section (codes ".bss") 3 8 [] ∷ []
+    section (codes ".text") 6 1 0 [] []
+    ∷ section (codes ".data") 3 1 12 (field 0 Eight (term_of x 1 ∷ []) 8 ∷ field 8 Four (term_of y 1 ∷ term_of (Place 1 1 8) (2 ^ 64 - 1) ∷ []) 0 ∷ []) (run ∷ [])
+    ∷ section (codes ".bss") 3 8 0 [] [] ∷ []
 
 no_sections : LaidSections
-no_sections = section (codes ".text") 6 1 [] ∷ section (codes ".data") 3 1 [] ∷ section (codes ".bss") 3 8 [] ∷ []
+no_sections = section (codes ".text") 6 1 0 [] [] ∷ section (codes ".data") 3 1 0 [] [] ∷ section (codes ".bss") 3 8 0 [] [] ∷ []
 
 -- a section that each thread has for itself
 thread_sections : LaidSections
-thread_sections = no_sections ++ section (codes ".tdata") 0x403 1 (item 0 4 Four [] 1 ∷ []) ∷ []
+thread_sections = no_sections ++ section (codes ".tdata") 0x403 1 4 (field 0 Four [] 1 ∷ []) (run ∷ []) ∷ []
 
 bytes_of : Result (List ℕ) ObjectCause → List ℕ
 bytes_of (Ok bytes) = bytes
@@ -99,18 +114,18 @@ row : (length (bytes_of (object_of symbols sections)) ≡ 800)
     × (take 64 (drop 64 (bytes_of (object_of symbols sections))) ≡ replicate 24 0 ++ (1 ∷ 0 ∷ 0 ∷ 0 ∷ 1 ∷ []) ++ replicate 3 0 ++ (8 ∷ []) ++ replicate 7 0
     ++ (8 ∷ []) ++ replicate 7 0 ++ (2 ∷ 0 ∷ 0 ∷ 0 ∷ 3 ∷ []) ++ replicate 11 0)
     × (take 4 (drop 652 (bytes_of (object_of symbols sections))) ≡ 3 ∷ 0 ∷ 0 ∷ 0 ∷ [])
-unfolding symbol label x y symbols item section sections bytes_of put_all settled low_bytes items_size address_in address_of final_told laid_value final_form assigned_form plus_terms expanded_within expanded half word xword string_table_of name_offsets name_reference field_relocation filled item_bytes item_relocations has_lost items_bytes items_relocations items_fault object_fault named_of listed symbol_kind symbol_size said_along table_of section_names null_header header_table elf_header file_of symbol_names symbol_table_of before_names all_names with_names file_with image_with image_of
+unfolding symbol label x y symbols field run section sections bytes_of put_all settled low_bytes shift_in section_size address_of final_told laid_value final_form assigned_form plus_terms expanded_within expanded half word xword string_table_of name_offsets name_reference field_relocation filled interleaved section_bytes fields_fault object_fault named_of listed symbol_kind symbol_size said_along table_of section_names null_header header_table elf_header file_of symbol_names symbol_table_of before_names all_names with_names file_with image_with image_of
 row = (refl, refl, refl)
 
 -- the length of the file; its symbol 1; `sh_info` of the symbol table
 row_file : (length (bytes_of (object_of one_file no_sections)) ≡ 616)
     × (take 24 (drop 88 (bytes_of (object_of one_file no_sections))) ≡ (1 ∷ 0 ∷ 0 ∷ 0 ∷ 4 ∷ 0 ∷ 0xf1 ∷ 0xff ∷ []) ++ replicate 16 0)
     × (take 4 (drop 468 (bytes_of (object_of one_file no_sections))) ≡ 2 ∷ 0 ∷ 0 ∷ 0 ∷ [])
-unfolding symbol label one_file thread_local no_sections thread_sections item section bytes_of put_all settled low_bytes items_size address_in address_of final_told laid_value final_form assigned_form plus_terms expanded_within expanded half word xword string_table_of name_offsets name_reference field_relocation filled item_bytes item_relocations has_lost items_bytes items_relocations items_fault object_fault named_of listed symbol_kind symbol_size said_along table_of section_names null_header header_table elf_header file_of symbol_names symbol_table_of before_names all_names with_names file_with image_with image_of
+unfolding symbol label one_file thread_local no_sections thread_sections field run section bytes_of put_all settled low_bytes shift_in section_size address_of final_told laid_value final_form assigned_form plus_terms expanded_within expanded half word xword string_table_of name_offsets name_reference field_relocation filled interleaved section_bytes fields_fault object_fault named_of listed symbol_kind symbol_size said_along table_of section_names null_header header_table elf_header file_of symbol_names symbol_table_of before_names all_names with_names file_with image_with image_of
 row_file = (refl, refl, refl)
 
 -- the length of the file, and its symbol 1, which is of type TLS
 row_thread : (length (bytes_of (object_of thread_local thread_sections)) ≡ 688)
     × (take 8 (drop 96 (bytes_of (object_of thread_local thread_sections))) ≡ 1 ∷ 0 ∷ 0 ∷ 0 ∷ 6 ∷ 0 ∷ 4 ∷ 0 ∷ [])
-unfolding symbol label one_file thread_local no_sections thread_sections item section bytes_of put_all settled low_bytes items_size address_in address_of final_told laid_value final_form assigned_form plus_terms expanded_within expanded half word xword string_table_of name_offsets name_reference field_relocation filled item_bytes item_relocations has_lost items_bytes items_relocations items_fault object_fault named_of listed symbol_kind symbol_size said_along table_of section_names null_header header_table elf_header file_of symbol_names symbol_table_of before_names all_names with_names file_with image_with image_of
+unfolding symbol label one_file thread_local no_sections thread_sections field run section bytes_of put_all settled low_bytes shift_in section_size address_of final_told laid_value final_form assigned_form plus_terms expanded_within expanded half word xword string_table_of name_offsets name_reference field_relocation filled interleaved section_bytes fields_fault object_fault named_of listed symbol_kind symbol_size said_along table_of section_names null_header header_table elf_header file_of symbol_names symbol_table_of before_names all_names with_names file_with image_with image_of
 row_thread = (refl, refl)

@@ -1,18 +1,18 @@
 -- The bytes of an object at the place of each instruction, read as instructions.
-use Rattle.std.specs.Prelude.{ℕ, ◌+◌, ◌≡◌, List, ◌∷◌, ◌++◌, map, drop, Option, None, Some, Result, Ok, Err}
+use Rattle.std.specs.Prelude.{ℕ, ◌+◌, ◌≡◌, List, ◌∷◌, ◌++◌, map, drop, Option, None, Some, Result, Ok, Err, slice_get}
+use Rattle.std.specs.Option.{option_map_or}
 use Rattle.asm_base.specs.Inputs.{Contents}
 use Rattle.asm_lines.specs.Statements.{StatementAt, statements_of}
 use Rattle.asm_lines.specs.NextStatements.{in_tokens}
 use Rattle.asm_symbols.specs.SymbolMap.{SymbolMap}
-use Rattle.asm_relax.specs.Final.{address_of}
 use Rattle.asm_relax.specs.Settling.{LaidSections, layout_of}
 use Rattle.asm_place.specs.declared.instructions.Mnemonic.{Mnemonic}
 use Rattle.asm_place.specs.declared.instructions.Row.{Row}
 use Rattle.asm_place.specs.Reads.{Reads}
 use Rattle.asm_place.specs.State.{Placed, nothing_placed}
 use Rattle.asm_place.specs.Sources.{place_all}
-use Rattle.asm_place.specs.Instructions.{instruction_of, next_item}
-use Rattle.elf_object.specs.Places.{section_offset}
+use Rattle.asm_place.specs.Instructions.{instruction_of, next_item, next_offset}
+use Rattle.elf_object.specs.Places.{section_offset, moved}
 use Rattle.asm_front.specs.Ending.{Flags}
 use Rattle.asm_front.specs.Outcome.{main_file}
 use Rattle.asm_front.specs.declared.answers.Assembled.{Assembled}
@@ -27,18 +27,19 @@ pub record ReadsAt (bytes : List ℕ) (at : ℕ) (mnemonic : Mnemonic) : Type 0 
   pub only : (front after : List ℕ) (other : Mnemonic) → drop at bytes ≡ front ++ after → Reads front other
       → (other ≡ mnemonic) × (front ≡ instruction)
 
--- the offset of an item in the file
-abbrev pub file_place : SymbolMap → LaidSections → ℕ → ℕ → ℕ
-file_place symbols sections section item = section_offset symbols sections section + address_of sections section item
+-- the offset in the file of a place of a section: so many items and so many plain bytes stand before it
+abbrev pub file_place : SymbolMap → LaidSections → ℕ → ℕ → ℕ → ℕ
+file_place symbols sections number item offset =
+    section_offset symbols sections number + option_map_or (λ section. moved section.items item offset) (slice_get sections number) 0
 
--- each instruction of the source reads back where its item stands: it is the next item of the section that items go into where the
+-- each instruction of the source reads back at its place: that of the next plain bytes of the section that statements put into, where the
 -- statements that are handed out before it end
 abbrev pub ReadsBack : Flags → List ℕ → List ℕ → Type 0
 ReadsBack flags source object =
     (before after : List StatementAt) (s : StatementAt) (row : Row) (placed whole : Placed) (laid : LaidSections)
     → statements_of main_file source ≡ Ok (before ++ s ∷ after) → place_all (map in_tokens before) (nothing_placed flags.no_warn) ≡ Ok placed
     → place_all (map in_tokens (before ++ s ∷ after)) (nothing_placed flags.no_warn) ≡ Ok whole → layout_of whole.table.symbols whole.sections ≡ Ok laid
-    → instruction_of (in_tokens s) ≡ Some row → ReadsAt object (file_place whole.table.symbols laid placed.current (next_item placed)) row.mnemonic
+    → instruction_of (in_tokens s) ≡ Some row → ReadsAt object (file_place whole.table.symbols laid placed.current (next_item placed) (next_offset placed)) row.mnemonic
 
 -- where the source is told, its object reads back as the source
 abbrev pub AnswerReadsBack : Flags → Option (List ℕ) → Result Assembled AsmFault → Type 0

@@ -1,34 +1,51 @@
 -- Data of numbers alone is what its statement places.
-use Rattle.std.proofs.Common.{◌≡◌, ℕ, ◌+◌, ◌≤◌, Bool, true, false, cond, not, List, [], ◌∷◌, length, map, fold, Result, Ok, Err, refl, sym, ap, subst, ◌∙◌, arith, length-append}
+use Rattle.std.proofs.Common.{◌≡◌, ℕ, ◌+◌, ◌≤◌, false, cond, List, [], ◌∷◌, ◌++◌, length, Result, Ok, Err, refl, sym, ap, subst, ◌∙◌, arith, length-append}
 use Rattle.std.specs.List.{list_any, count_by}
 use Rattle.std.proofs.lemmas.List.Sums.{sum_by-cons}
 use Rattle.asm_base.specs.Tokens.{SpelledToken}
 use Rattle.asm_base.specs.Refusals.{◌>>=◌}
 use Rattle.asm_base.specs.declared.positions.Pos.{Pos}
 use Rattle.asm_expr.specs.Forms.{constant_form, Form}
-use Rattle.asm_expr.specs.Knowledge.{Knowledge}
 use Rattle.asm_expr.specs.Trees.{Tree}
-use Rattle.asm_frags.specs.declared.contents.Content.TheVariants as content
 use Rattle.asm_frags.specs.declared.fields.FieldSize.{FieldSize}
 use Rattle.asm_frags.specs.declared.fields.FieldSize.TheVariants.{One, Two, Four, Eight}
-use Rattle.asm_frags.specs.DataOf.{DataOf, no_data, with_bytes}
 use Rattle.asm_frags.specs.Fields.{low_bytes}
 use Rattle.asm_operands.specs.Constants.{IsConstant}
 use Rattle.asm_symbols.specs.declared.entries.Spot.{Spot}
 use Rattle.asm_place.specs.declared.place_faults.PlaceCause.{PlaceCause}
-use Rattle.asm_place.specs.ConstantData.{MakesData, cut_of, put_constants}
-use Rattle.asm_place.specs.DataItems.{put_form, data_of, is_cut, cut_notes}
+use Rattle.asm_place.specs.ConstantData.{MakesData, cut_of, put_any, put_constants}
+use Rattle.asm_place.specs.DataItems.{put_forms, is_cut, cut_notes}
 use Rattle.asm_place.specs.ExprFaults.{in_statement}
 use Rattle.asm_place.specs.Expressions.{alone, expression_of, form_in}
 use Rattle.asm_place.specs.Operands.{operands_of, each}
 use Rattle.asm_place.specs.Places.{uses_dot, name_parts, name_here}
 use Rattle.asm_place.specs.Placing.{DataWords, data_words, put_data, place_data}
 use Rattle.asm_place.specs.Results.{all_steps}
-use Rattle.asm_place.specs.State.{Placed, with_table, with_notes, here, known_here, push_item}
+use Rattle.asm_place.specs.State.{Placed, with_table, with_notes, here, known_here, put_bytes}
 use Rattle.asm_place.specs.Tables.{Table, name_written, name_list, name_tree, name_trees}
+use Rattle.asm_place.proofs.PutTwice.{any_twice}
+
+some_bytes : (size : FieldSize) (value : ℕ) → 1 ≤ length (low_bytes size value)
+unfolding low_bytes
+some_bytes One value = omega arith
+some_bytes Two value = omega arith
+some_bytes Four value = omega arith
+some_bytes Eight value = omega arith
+
+none_behind : (pos : Pos) (size : FieldSize) (put : Result Placed PlaceCause) → (put >>= put_forms pos size []) ≡ put
+unfolding put_forms all_steps
+none_behind pos size (Ok placed) = refl
+none_behind pos size (Err fault) = refl
+
+-- a number in front is put behind what is there, and then the others
+one_in_front : (pos : Pos) (size : FieldSize) (value : ℕ) (forms : List Form) (put : Result Placed PlaceCause)
+    → (put >>= put_forms pos size (constant_form value ∷ forms)) ≡ ((put >>= put_bytes pos (low_bytes size value)) >>= put_forms pos size forms)
+unfolding put_forms all_steps
+one_in_front pos size value forms (Ok placed) = refl
+one_in_front pos size value forms (Err fault) = refl
 
 -- no operand makes nothing more
-pub makes_none : (size : FieldSize) (held : DataOf) (cut : ℕ) → MakesData size [] held cut held cut
+makes_none : (size : FieldSize) (held : List ℕ) (cut : ℕ) → MakesData size [] held cut held cut
 unfolding each name_trees all_steps
 makes_none size held cut = record {
   trees = [];
@@ -37,13 +54,13 @@ makes_none size held cut = record {
   counts = λ known. refl;
   names = λ pos table. refl;
   away = λ spot. refl;
-  held = refl;
+  held = λ pos placed. none_behind pos size (put_any pos held placed);
   cut = omega arith;
 }
 
 -- a number in front makes its bytes
-pub makes_more : (size : FieldSize) (operand : List SpelledToken) (value : ℕ) (rest : List (List SpelledToken)) (before after : DataOf) (cut cut_after : ℕ)
-    → IsConstant operand value → MakesData size rest (with_bytes before (low_bytes size value)) (cut + cut_of size value) after cut_after
+makes_more : (size : FieldSize) (operand : List SpelledToken) (value : ℕ) (rest : List (List SpelledToken)) (before after : List ℕ) (cut cut_after : ℕ)
+    → IsConstant operand value → MakesData size rest (before ++ low_bytes size value) (cut + cut_of size value) after cut_after
     → MakesData size (operand ∷ rest) before cut after cut_after
 unfolding each expression_of form_in name_trees name_tree name_list all_steps
 makes_more size operand value rest before after cut cut_after one later = record {
@@ -59,7 +76,9 @@ makes_more size operand value rest before after cut cut_after one later = record
       ap (λ names. all_steps (name_written pos) names table >>= all_steps (name_tree pos) later.trees) one.names
       ∙ later.names pos table;
   away = λ spot. later.away spot;
-  held = later.held;
+  held = λ pos placed.
+      one_in_front pos size value later.forms (put_any pos before placed)
+      ∙ (ap (λ put. put >>= put_forms pos size later.forms) (any_twice pos before (low_bytes size value) placed (some_bytes size value)) ∙ later.held pos placed);
   cut =
       let one_more : count_by (is_cut size) (constant_form value ∷ later.forms) ≡ cut_of size value + count_by (is_cut size) later.forms =
       sum_by-cons (λ form. cond (is_cut size form) 1 0) (constant_form value) later.forms in
@@ -67,10 +86,10 @@ makes_more size operand value rest before after cut cut_after one later = record
 }
 
 -- a number more behind what made data from the beginning
-pub loop_more : (size : FieldSize) (operand : List SpelledToken) (value : ℕ) (all left rest : List (List SpelledToken)) (before held : DataOf) (cut more : ℕ)
-    → left ≡ operand ∷ rest → IsConstant operand value → held ≡ with_bytes before (low_bytes size value) → more ≡ cut_of size value
-    → ((after : DataOf) (cut_after : ℕ) → MakesData size left before cut after cut_after → MakesData size all no_data 0 after cut_after)
-    → (after : DataOf) (cut_after : ℕ) → MakesData size rest held (cut + more) after cut_after → MakesData size all no_data 0 after cut_after
+pub loop_more : (size : FieldSize) (operand : List SpelledToken) (value : ℕ) (all left rest : List (List SpelledToken)) (before held : List ℕ) (cut more : ℕ)
+    → left ≡ operand ∷ rest → IsConstant operand value → held ≡ before ++ low_bytes size value → more ≡ cut_of size value
+    → ((after : List ℕ) (cut_after : ℕ) → MakesData size left before cut after cut_after → MakesData size all [] 0 after cut_after)
+    → (after : List ℕ) (cut_after : ℕ) → MakesData size rest held (cut + more) after cut_after → MakesData size all [] 0 after cut_after
 loop_more size operand value all left rest before held cut more is one held_is more_is so_far after cut_after later =
     so_far after cut_after (subst (λ operands. MakesData size operands before cut after cut_after) (sym is)
     (makes_more size operand value rest before after cut cut_after one
@@ -78,52 +97,44 @@ loop_more size operand value all left rest before held cut more is one held_is m
     (subst (λ n. MakesData size rest held (cut + n) after cut_after) more_is later))))
 
 -- behind the last operand
-pub loop_end : (size : FieldSize) (all left : List (List SpelledToken)) (held : DataOf) (cut : ℕ) → left ≡ []
-    → ((after : DataOf) (cut_after : ℕ) → MakesData size left held cut after cut_after → MakesData size all no_data 0 after cut_after)
-    → MakesData size all no_data 0 held cut
+pub loop_end : (size : FieldSize) (all left : List (List SpelledToken)) (held : List ℕ) (cut : ℕ) → left ≡ []
+    → ((after : List ℕ) (cut_after : ℕ) → MakesData size left held cut after cut_after → MakesData size all [] 0 after cut_after)
+    → MakesData size all [] 0 held cut
 loop_end size all left held cut is so_far =
     so_far held cut (subst (λ operands. MakesData size operands held cut held cut) (sym is) (makes_none size held cut))
 
-some_bytes : (size : FieldSize) (value : ℕ) → 1 ≤ length (low_bytes size value)
-unfolding low_bytes
-some_bytes One value = omega arith
-some_bytes Two value = omega arith
-some_bytes Four value = omega arith
-some_bytes Eight value = omega arith
-
 -- no more values are cut than there are bytes
-pub still_few : (size : FieldSize) (value : ℕ) (before held : DataOf) (cut more : ℕ) → held ≡ with_bytes before (low_bytes size value)
-    → more ≤ 1 → cut ≤ length before.bytes → cut + more ≤ length held.bytes
+pub still_few : (size : FieldSize) (value : ℕ) (before held : List ℕ) (cut more : ℕ) → held ≡ before ++ low_bytes size value
+    → more ≤ 1 → cut ≤ length before → cut + more ≤ length held
 still_few size value before held cut more is one few =
-    let bytes : length held.bytes ≡ length before.bytes + length (low_bytes size value) =
-    ap (λ (put : DataOf). length put.bytes) is ∙ length-append before.bytes (low_bytes size value) in
+    let bytes : length held ≡ length before + length (low_bytes size value) = ap length is ∙ length-append before (low_bytes size value) in
     omega (arith, some_bytes size value)
 
 -- operands that make data from the beginning are placed as that data
-module _ (pos : Pos) (size : FieldSize) (held : DataOf) (cut : ℕ) where
-  pushed_so : (pushed : Result Placed PlaceCause) (spot : Spot) (trees : List Tree) (forms : List Form) (item : DataOf)
+module _ (pos : Pos) (size : FieldSize) (held : List ℕ) (cut : ℕ) where
+  put_so : (put : Result Placed PlaceCause) (spot : Spot) (trees : List Tree) (forms : List Form)
       → ((table : Table) → name_trees pos trees table ≡ Ok table) → list_any (uses_dot spot) forms ≡ false → count_by (is_cut size) forms ≡ cut
-      → (pushed >>= λ made. name_parts pos spot (list_any (uses_dot spot) forms) trees made.table >>= λ table.
+      → (put >>= λ made. name_parts pos spot (list_any (uses_dot spot) forms) trees made.table >>= λ table.
       Ok (with_notes (cut_notes pos (count_by (is_cut size) forms)) (with_table made table)))
-      ≡ (pushed >>= λ made. Ok (with_notes (cut_notes pos cut) made))
+      ≡ (put >>= λ made. Ok (with_notes (cut_notes pos cut) made))
   unfolding name_parts name_here
-  pushed_so (Err fault) spot trees forms item names away count = refl
-  pushed_so (Ok made) spot trees forms item names away count =
+  put_so (Err fault) spot trees forms names away count = refl
+  put_so (Ok made) spot trees forms names away count =
       ap (λ keeps. (name_trees pos trees made.table >>= name_here pos spot keeps) >>= λ table.
       Ok (with_notes (cut_notes pos (count_by (is_cut size) forms)) (with_table made table))) away
       ∙ (ap (λ table. (table >>= name_here pos spot false) >>= λ table.
       Ok (with_notes (cut_notes pos (count_by (is_cut size) forms)) (with_table made table))) (names made.table)
       ∙ ap (λ n. Ok (with_notes (cut_notes pos n) made)) count)
 
-  pub constants_place : (tokens : List SpelledToken) (placed : Placed) → MakesData size (operands_of tokens) no_data 0 held cut
+  pub constants_place : (tokens : List SpelledToken) (placed : Placed) → MakesData size (operands_of tokens) [] 0 held cut
       → place_data pos size tokens placed ≡ put_constants pos held cut placed
-  unfolding place_data data_words put_data data_of
+  unfolding place_data data_words put_data
   constants_place tokens placed made =
       ap (λ read. (read >>= λ trees. each (form_in (known_here placed)) trees >>= λ forms. Ok (record { trees = trees; forms = forms }))
       >>= λ (words : DataWords). put_data pos size words placed) made.reads
       ∙ (ap (λ counted. (counted >>= λ forms. Ok (record { trees = made.trees; forms = forms })) >>= λ (words : DataWords). put_data pos size words placed)
       (made.counts (known_here placed))
-      ∙ (ap (λ item. push_item pos (content.Bytes item) placed >>= λ pushed.
-      name_parts pos (here placed) (list_any (uses_dot (here placed)) made.forms) made.trees pushed.table >>= λ table.
-      Ok (with_notes (cut_notes pos (count_by (is_cut size) made.forms)) (with_table pushed table))) made.held
-      ∙ pushed_so (push_item pos (content.Bytes held) placed) (here placed) made.trees made.forms held (made.names pos) (made.away (here placed)) (omega (arith, made.cut))))
+      ∙ (ap (λ put. put >>= λ made_so.
+      name_parts pos (here placed) (list_any (uses_dot (here placed)) made.forms) made.trees made_so.table >>= λ table.
+      Ok (with_notes (cut_notes pos (count_by (is_cut size) made.forms)) (with_table made_so table))) (made.held pos placed)
+      ∙ put_so (put_any pos held placed) (here placed) made.trees made.forms (made.names pos) (made.away (here placed)) (omega (arith, made.cut))))

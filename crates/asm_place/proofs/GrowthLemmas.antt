@@ -1,10 +1,21 @@
--- Sections that grow: by nothing, one by items, or the list by a section.
-use Rattle.std.proofs.Common.{◌≡◌, ◌≢◌, ℕ, zero, suc, ◌⊎◌, inl, inr, List, [], ◌∷◌, ◌++◌, Some, set, slice_get, refl, sym, ap, ◌∙◌, arith, append-nil}
-use mathlib.Core.List.{append_assoc}
+-- Sections that are continued: by nothing, by bytes, a field or an item; and the list by a section.
+use Rattle.std.proofs.Common.{◌≡◌, ◌≢◌, ℕ, zero, suc, ◌≤◌, ◌⊎◌, inl, inr, Bool, true, false, cond, List, [], ◌∷◌, ◌++◌, All, codes, length, replicate, Option, Some, set, slice_get, refl, sym, ap, subst, ◌∙◌, arith, append-nil, append_assoc, length-append}
 use Rattle.std.proofs.lemmas.Option.{none-some, same_Some}
-use Rattle.asm_frags.specs.SectionOf.{with_last_item}
-use Rattle.asm_place.specs.Places.{Item, LooseSection}
-use Rattle.asm_place.specs.Instructions.{Grows}
+use Rattle.std.proofs.lemmas.List.{length-replicate}
+use Rattle.std.proofs.lemmas.List.Elements.{All-from_recursion, All-nil, All-cons, All-head, All-tail, All-append, All-push, All-set, All-weaker}
+use Rattle.asm_base.specs.declared.positions.Pos.{Pos}
+use Rattle.asm_expr.specs.Forms.{Form}
+use Rattle.asm_frags.specs.declared.contents.Content.TheVariants.{Run}
+use Rattle.asm_frags.specs.declared.fields.Field.{Field}
+use Rattle.asm_frags.specs.declared.fields.FieldSize.{FieldSize}
+use Rattle.asm_frags.specs.Fields.{width}
+use Rattle.asm_frags.specs.PlainBytes.{field_end}
+use Rattle.asm_frags.specs.declared.flags.SectionFlags.{SectionFlags}
+use Rattle.asm_frags.specs.SectionOf.{new_section}
+use Rattle.asm_frags.specs.Sections.{section_flags, first_sections}
+use Rattle.asm_frags.specs.Writing.{LooseItem, LooseSection, ends_in_run, new_item, item_behind, with_item, with_run, with_bytes, with_field}
+use Rattle.asm_place.specs.State.{nothing_placed}
+use Rattle.asm_place.specs.Instructions.{with_more, IsContinued, Grows, IsWithin, AreWithin}
 
 -- two numbers are one or not
 pub same_or_not : (i j : ℕ) → (j ≡ i) ⊎ (j ≢ i)
@@ -28,47 +39,222 @@ module _ {X : Type 0} where
   get_set_other (x ∷ xs) (suc i) zero new apart = refl
   get_set_other (x ∷ xs) (suc i) (suc j) new apart = get_set_other xs i j new (λ same. apart (ap suc same))
 
+  -- what is set twice is what was set last
+  pub set_twice : (xs : List X) (i : ℕ) (first last : X) → set (set xs i first) i last ≡ set xs i last
+  set_twice [] i first last = refl
+  set_twice (x ∷ xs) zero first last = refl
+  set_twice (x ∷ xs) (suc i) first last = ap (λ rest. x ∷ rest) (set_twice xs i first last)
+
   -- what is there is there in front of more
   pub get_append : (xs ys : List X) (i : ℕ) (x : X) → slice_get xs i ≡ Some x → slice_get (xs ++ ys) i ≡ Some x
   get_append [] ys i x there = absurd (none-some x there)
   get_append (y ∷ xs) ys zero x there = there
   get_append (y ∷ xs) ys (suc i) x there = get_append xs ys i x there
 
--- the section with these items
-abbrev holding : LooseSection → List Item → LooseSection
-holding section items = record section { items = items }
+  -- what holds of all holds of the one that is there
+  pub All-there : (P : X → Type 0) (xs : List X) (i : ℕ) (x : X) → slice_get xs i ≡ Some x → All P xs → P x
+  All-there P [] i x there all = absurd (none-some x there)
+  All-there P (y ∷ xs) zero x there all = subst P (same_Some y x there) (All-head P y xs all)
+  All-there P (y ∷ xs) (suc i) x there all = All-there P xs i x there (All-tail P y xs all)
 
--- the same items are nothing more
-same_items : (section : LooseSection) → section ≡ holding section (section.items ++ [])
-same_items section = ap (holding section) (sym (append-nil section.items))
+-- what two sections tell alike, either tells
+pub told_by : {Y : Type 0} (tells : LooseSection → Y) (test : Bool) (one other : LooseSection) → tells other ≡ tells one → tells (cond test one other) ≡ tells one
+told_by tells true one other same = refl
+told_by tells false one other same = same
 
-pub grows_not : (sections : List LooseSection) → Grows sections sections
-grows_not sections = record { kept = λ number section there. ([], there ∙ ap Some (same_items section)) }
+-- the section with these bytes, fields and items
+abbrev holding : LooseSection → List ℕ → List Field → List LooseItem → LooseSection
+holding section bytes fields items = record section { bytes = bytes; fields = fields; items = items }
 
--- what grows twice grows
-pub grows_on : (before between after : List LooseSection) → Grows before between → Grows between after → Grows before after
-grows_on before between after first later = record {
-  kept = λ number section there.
-      let one = first.kept number section there in
-      let two = later.kept number (holding section (section.items ++ one.0)) one.1 in
-      (one.0 ++ two.0, two.1 ∙ ap (λ items. Some (holding section items)) (append_assoc section.items one.0 two.0));
+same_holding : (section : LooseSection) (b1 b2 : List ℕ) (f1 f2 : List Field) (i1 i2 : List LooseItem) → b1 ≡ b2 → f1 ≡ f2 → i1 ≡ i2
+    → holding section b1 f1 i1 ≡ holding section b2 f2 i2
+same_holding section b1 b2 f1 f2 i1 i2 bytes fields items =
+    ap (λ b. holding section b f1 i1) bytes ∙ (ap (λ f. holding section b2 f i1) fields ∙ ap (λ i. holding section b2 f2 i) items)
+
+-- a section is continued by nothing,
+pub continued_not : (section : LooseSection) → IsContinued section (Some section)
+continued_not section = record {
+  bytes = [];
+  fields = [];
+  items = [];
+  there = ap Some (same_holding section _ _ _ _ _ _ (sym (append-nil section.bytes)) (sym (append-nil section.fields)) (sym (append-nil section.items)));
+  fields_behind = All-nil _;
+  items_behind = All-nil _;
 }
 
--- an item more in one section
-pub grows_by_item : (before : List LooseSection) (number : ℕ) (section : LooseSection) (item : Item)
-    → slice_get before number ≡ Some section → Grows before (set before number (with_last_item section item))
-grows_by_item before number section item there = record {
+-- and once more where it is continued
+continued_on : (section : LooseSection) (found last : Option LooseSection) → IsContinued section found → ((s : LooseSection) → found ≡ Some s → IsContinued s last)
+    → IsContinued section last
+continued_on section found last one later =
+    let between = with_more section one.bytes one.fields one.items in
+    let two = later between one.there in
+    let longer = length-append section.bytes one.bytes in
+    record {
+      bytes = one.bytes ++ two.bytes;
+      fields = one.fields ++ two.fields;
+      items = one.items ++ two.items;
+      there = two.there ∙ ap Some (same_holding section _ _ _ _ _ _ (append_assoc section.bytes one.bytes two.bytes)
+          (append_assoc section.fields one.fields two.fields) (append_assoc section.items one.items two.items));
+      fields_behind = All-append (λ (field : Field). length section.bytes ≤ field.offset) one.fields two.fields one.fields_behind
+          (All-weaker (λ (field : Field). length (section.bytes ++ one.bytes) ≤ field.offset) (λ (field : Field). length section.bytes ≤ field.offset)
+          (λ field behind. omega (arith, longer, behind)) two.fields two.fields_behind);
+      items_behind = All-append (λ (item : LooseItem). length section.bytes ≤ item.offset) one.items two.items one.items_behind
+          (All-weaker (λ (item : LooseItem). length (section.bytes ++ one.bytes) ≤ item.offset) (λ (item : LooseItem). length section.bytes ≤ item.offset)
+          (λ item behind. omega (arith, longer, behind)) two.items two.items_behind);
+    }
+
+-- what is put into a section continues it, and keeps its fields and items within its bytes
+pub record IsAdded (section new : LooseSection) : Type 0 where
+  pub continued : IsContinued section (Some new)
+  pub within : IsWithin section → IsWithin new
+
+-- the same of sections
+pub record Adds (before after : List LooseSection) : Type 0 where
+  pub grows : Grows before after
+  pub within : AreWithin before → AreWithin after
+
+grows_not : (sections : List LooseSection) → Grows sections sections
+grows_not sections = record { kept = λ number section there. subst (IsContinued section) (sym there) (continued_not section) }
+
+-- what grows twice grows
+grows_on : (before between after : List LooseSection) → Grows before between → Grows between after → Grows before after
+grows_on before between after first later = record {
+  kept = λ number section there. continued_on section _ _ (first.kept number section there) (λ s is. later.kept number s is);
+}
+
+-- one section is continued
+grows_by : (before : List LooseSection) (number : ℕ) (section new : LooseSection) → slice_get before number ≡ Some section → IsContinued section (Some new)
+    → Grows before (set before number new)
+grows_by before number section new there continued = record {
   kept = λ other found at. elim (same_or_not number other) [
     | inl same ↦
-        let is : section ≡ found = same_Some section found (sym there ∙ (ap (slice_get before) (sym same) ∙ at)) in (
-          item ∷ [],
-          ap (slice_get (set before number (with_last_item section item))) same
-              ∙ (get_set before number section (with_last_item section item) there ∙ ap (λ (s : LooseSection). Some (with_last_item s item)) is),
-        )
-    | inr apart ↦ ([], get_set_other before number other (with_last_item section item) apart ∙ (at ∙ ap Some (same_items found)))
+        let is : section ≡ found = same_Some section found (sym there ∙ (ap (slice_get before) (sym same) ∙ at)) in
+        let last : slice_get (set before number new) other ≡ Some new = ap (slice_get (set before number new)) same ∙ get_set before number section new there in
+        subst (IsContinued found) (sym last) (subst (λ s. IsContinued s (Some new)) is continued)
+    | inr apart ↦ subst (IsContinued found) (sym (get_set_other before number other new apart ∙ at)) (continued_not found)
   ];
 }
 
--- sections more
-pub grows_by_sections : (before more : List LooseSection) → Grows before (before ++ more)
-grows_by_sections before more = record { kept = λ number section there. ([], get_append before more number section there ∙ ap Some (same_items section)) }
+pub adds_nothing : (sections : List LooseSection) → Adds sections sections
+adds_nothing sections = record { grows = grows_not sections; within = λ all. all }
+
+pub adds_on : (before between after : List LooseSection) → Adds before between → Adds between after → Adds before after
+adds_on before between after first later = record { grows = grows_on before between after first.grows later.grows; within = λ all. later.within (first.within all) }
+
+-- something is put into one section
+pub adds_to : (before : List LooseSection) (number : ℕ) (section new : LooseSection) → slice_get before number ≡ Some section → IsAdded section new
+    → Adds before (set before number new)
+adds_to before number section new there added = record {
+  grows = grows_by before number section new there added.continued;
+  within = λ all. All-set IsWithin before number new (added.within (All-there IsWithin before number section there all)) all;
+}
+
+-- a section more, which has no fields and no items
+pub adds_section : (before : List LooseSection) (new : LooseSection) → new.fields ≡ [] → new.items ≡ [] → Adds before (before ++ new ∷ [])
+adds_section before new no_fields no_items = record {
+  grows = record { kept = λ number section there. subst (IsContinued section) (sym (get_append before (new ∷ []) number section there)) (continued_not section) };
+  within = λ all. All-push IsWithin before new all (record {
+    fields = subst (All (λ (field : Field). field_end field ≤ length new.bytes)) (sym no_fields) (All-nil _);
+    items = subst (All (λ (item : LooseItem). item.offset ≤ length new.bytes)) (sym no_items) (All-nil _);
+  });
+}
+
+-- an item
+pub item_added : (item : LooseItem) (section : LooseSection) → IsAdded section (with_item item section)
+item_added item section = record {
+  continued = record {
+    bytes = [];
+    fields = [];
+    items = item_behind (length section.bytes) item ∷ [];
+    there = ap Some (same_holding section _ _ _ _ _ _ (sym (append-nil section.bytes)) (sym (append-nil section.fields)) refl);
+    fields_behind = All-nil _;
+    items_behind = All-cons (λ (item : LooseItem). length section.bytes ≤ item.offset) _ [] (omega arith) (All-nil _);
+  };
+  within = λ within. record {
+    fields = within.fields;
+    items = All-push (λ (item : LooseItem). item.offset ≤ length section.bytes) section.items (item_behind (length section.bytes) item) within.items (omega arith);
+  };
+}
+
+-- a run, where none is last
+run_by : (test : Bool) (pos : Pos) (section : LooseSection) → IsAdded section (cond test section (with_item (new_item pos Run) section))
+run_by true pos section = record { continued = continued_not section; within = λ within. within }
+run_by false pos section = item_added (new_item pos Run) section
+
+pub run_added : (pos : Pos) (section : LooseSection) → IsAdded section (with_run pos section)
+run_added pos section = run_by (ends_in_run section.items) pos section
+
+-- a run changes neither the bytes nor the fields, nor what the section says of itself
+pub run_keeps : {Y : Type 0} (tells : LooseSection → Y) (pos : Pos) (section : LooseSection) → tells (with_item (new_item pos Run) section) ≡ tells section
+    → tells (with_run pos section) ≡ tells section
+run_keeps tells pos section same = told_by tells (ends_in_run section.items) section (with_item (new_item pos Run) section) same
+
+-- more bytes, and fields over them
+more_added : (section : LooseSection) (bytes : List ℕ) (fields : List Field) → All (λ field. length section.bytes ≤ field.offset) fields
+    → All (λ field. field_end field ≤ length (section.bytes ++ bytes)) fields → IsAdded section (with_more section bytes fields [])
+more_added section bytes fields behind over =
+    let longer = length-append section.bytes bytes in
+    record {
+      continued = record { bytes = bytes; fields = fields; items = []; there = refl; fields_behind = behind; items_behind = All-nil _ };
+      within = λ within. record {
+        fields = All-append (λ (field : Field). field_end field ≤ length (section.bytes ++ bytes)) section.fields fields
+            (All-weaker (λ (field : Field). field_end field ≤ length section.bytes) (λ (field : Field). field_end field ≤ length (section.bytes ++ bytes))
+            (λ field ends. omega (arith, longer, ends)) section.fields within.fields) over;
+        items = subst (All (λ (item : LooseItem). item.offset ≤ length (section.bytes ++ bytes))) (sym (append-nil section.items))
+            (All-weaker (λ (item : LooseItem). item.offset ≤ length section.bytes) (λ (item : LooseItem). item.offset ≤ length (section.bytes ++ bytes))
+            (λ item stands. omega (arith, longer, stands)) section.items within.items);
+      };
+    }
+
+-- one after the other
+pub added_on : (section between new : LooseSection) → IsAdded section between → IsAdded between new → IsAdded section new
+added_on section between new first later = record {
+  continued = continued_on section (Some between) (Some new) first.continued (λ s is. subst (λ s. IsContinued s (Some new)) (same_Some between s is) later.continued);
+  within = λ within. later.within (first.within within);
+}
+
+-- bytes behind a run that is last
+bytes_are_more : (pos : Pos) (more : List ℕ) (section : LooseSection) → with_more (with_run pos section) more [] [] ≡ with_bytes pos more section
+bytes_are_more pos more section =
+    same_holding (with_run pos section) _ _ _ _ _ _ (ap (λ bytes. bytes ++ more) (run_keeps (λ s. s.bytes) pos section refl))
+    (append-nil (with_run pos section).fields) (append-nil (with_run pos section).items)
+
+pub bytes_added : (pos : Pos) (more : List ℕ) (section : LooseSection) → IsAdded section (with_bytes pos more section)
+bytes_added pos more section =
+    added_on section (with_run pos section) _ (run_added pos section)
+    (subst (IsAdded (with_run pos section)) (bytes_are_more pos more section) (more_added (with_run pos section) more [] (All-nil _) (All-nil _)))
+
+-- a field over zeros
+abbrev field_of : Pos → FieldSize → Form → LooseSection → Field
+field_of pos size form section = record { pos = pos; item = length (with_run pos section).items; offset = length section.bytes; size = size; form = form }
+
+field_is_more : (pos : Pos) (size : FieldSize) (form : Form) (section : LooseSection)
+    → with_more (with_run pos section) (replicate (width size) 0) (field_of pos size form section ∷ []) [] ≡ with_field pos size form section
+field_is_more pos size form section =
+    same_holding (with_run pos section) _ _ _ _ _ _ (ap (λ bytes. bytes ++ replicate (width size) 0) (run_keeps (λ s. s.bytes) pos section refl))
+    (ap (λ fields. fields ++ field_of pos size form section ∷ []) (run_keeps (λ s. s.fields) pos section refl)) (append-nil (with_run pos section).items)
+
+pub field_added : (pos : Pos) (size : FieldSize) (form : Form) (section : LooseSection) → IsAdded section (with_field pos size form section)
+field_added pos size form section =
+    let run = with_run pos section in
+    let zeros : List ℕ = replicate (width size) 0 in
+    let same : length run.bytes ≡ length section.bytes = ap length (run_keeps (λ s. s.bytes) pos section refl) in
+    added_on section run _ (run_added pos section)
+    (subst (IsAdded run) (field_is_more pos size form section)
+    (more_added run zeros (field_of pos size form section ∷ [])
+    (All-cons (λ (field : Field). length run.bytes ≤ field.offset) _ [] (omega (arith, same)) (All-nil _))
+    (All-cons (λ (field : Field). field_end field ≤ length (run.bytes ++ zeros)) _ []
+    (omega (arith, same, length-append run.bytes zeros, length-replicate {A = ℕ} (width size) 0)) (All-nil _))))
+
+-- a new section has neither fields nor items, and so have the first ones
+new_within : (name : List ℕ) (flags : SectionFlags) (kind entry_size : ℕ) → IsWithin (new_section name flags kind entry_size)
+new_within name flags kind entry_size = record {
+  fields = All-nil (λ (field : Field). field_end field ≤ 0);
+  items = All-nil (λ (item : LooseItem). item.offset ≤ 0);
+}
+
+pub nothing_within : (no_warn : Bool) → AreWithin (nothing_placed no_warn).sections
+unfolding first_sections
+nothing_within no_warn =
+    All-from_recursion IsWithin first_sections
+    (new_within (codes ".text") (section_flags 6) 1 0, (new_within (codes ".data") (section_flags 3) 1 0, (new_within (codes ".bss") (section_flags 3) 8 0, tt)))

@@ -1,8 +1,10 @@
--- Where the items of instructions stand.
-use Rattle.std.proofs.Common.{◌≡◌, ℕ, Bool, true, false, cond, List, [], ◌∷◌, ◌++◌, length, Option, None, Some, Result, Ok, Err, refl, sym, ap, ◌∙◌, subst, slice_get}
-use Rattle.std.specs.Prelude.{◌&&◌, not, find}
+-- Where the bytes of instructions stand.
+use Rattle.std.proofs.Common.{◌≡◌, ℕ, ◌+◌, ◌-◌, ◌≤◌, inl, inr, Bool, true, false, cond, List, [], ◌∷◌, ◌++◌, All, length, take, drop, Option, None, Some, Result, Ok, Err, refl, sym, ap, ◌∙◌, subst, slice_get, arith, append_assoc, length-append}
+use Rattle.std.specs.Prelude.{◌==◌, ◌&&◌, not, find, slice_range}
 use Rattle.std.specs.List.{list_all}
 use Rattle.std.specs.Option.{option_map_or}
+use Rattle.std.proofs.Math.Seq.{take-append_seam, drop-append_seam}
+use Rattle.std.proofs.lemmas.List.Elements.{All-append, All-weaker}
 use Rattle.std.proofs.lemmas.Bool.{false≢true}
 use Rattle.std.proofs.lemmas.Option.{none-some}
 use Rattle.asm_place.specs.declared.place_faults.PlaceCause.{PlaceCause}
@@ -11,26 +13,23 @@ use Rattle.asm_base.specs.declared.notes.Noted.{Noted}
 use Rattle.asm_base.specs.declared.positions.Pos.{Pos}
 use Rattle.asm_base.specs.Tokens.{SpelledToken}
 use Rattle.asm_lines.specs.NextStatements.{TokenStatement}
-use Rattle.asm_frags.specs.declared.contents.Content.{Content}
+use Rattle.asm_frags.specs.declared.contents.Content.TheVariants.{Run}
+use Rattle.asm_frags.specs.declared.fields.Field.{Field}
 use Rattle.asm_frags.specs.declared.faults.FragCause.TheVariants as frag
-use Rattle.asm_frags.specs.SectionOf.{with_last_item}
-use Rattle.asm_frags.specs.DataOf.{is_zero}
-use Rattle.asm_frags.specs.Contents.{is_known_zeros}
-use Rattle.asm_frags.specs.Answers.{refuses}
-use Rattle.asm_frags.specs.Sections.{with_section_or_fault, pushed_into}
+use Rattle.asm_frags.specs.PlainBytes.{is_zero, field_end, IsBeside}
+use Rattle.asm_frags.specs.Writing.{LooseItem, LooseSection, new_item, ends_in_run, takes_zeros_alone, with_item, with_run, with_bytes, bytes_put}
+use Rattle.asm_frags.specs.Sections.{with_section_or_fault, put_into_there}
 use Rattle.asm_place.specs.declared.instructions.Row.{Row}
 use Rattle.asm_base.specs.Refusals.{◌>>=◌}
 use Rattle.asm_place.specs.Rows.{the_rows, has_name, bytes_of}
 use Rattle.asm_place.specs.LayerFaults.{of_sections}
 use Rattle.asm_place.specs.Operands.{is_name, is_dot, names_symbol}
-use Rattle.asm_place.specs.Places.{Item, LooseSection}
-use Rattle.asm_place.specs.State.{Placed, with_table, unless_dot, item_of, push_into}
-use Rattle.asm_place.specs.Idents.{plain_item, items_in}
+use Rattle.asm_place.specs.State.{Placed, with_table, unless_dot, put_bytes_into}
 use Rattle.asm_place.specs.Placing.{place_row, place_instruction, begins_with_dot, place_body, is_label, place_label, place_labelled, has_wide_label, place_tokens}
 use Rattle.asm_place.specs.Sources.{pos_at, located, place, place_all}
-use Rattle.asm_place.specs.Instructions.{behind_labels, row_written, instruction_of, next_item, Grows, IsPut, StandsAt}
-use Rattle.asm_place.proofs.GrowthLemmas.{get_set, get_append}
-use Rattle.asm_place.proofs.PlacingLaws.{all_grow}
+use Rattle.asm_place.specs.Instructions.{behind_labels, row_written, instruction_of, run_end, next_item, next_offset, with_more, IsContinued, Grows, IsWithin, AreWithin, IsPut, StandsAt}
+use Rattle.asm_place.proofs.GrowthLemmas.{get_set, All-there, run_keeps, run_added}
+use Rattle.asm_place.proofs.PlacingLaws.{all_grow, all_within}
 use Rattle.asm_place.proofs.StatementSplits.{err-ok, same_Ok, both_ok, all_split}
 
 -- some byte of the row is not 0
@@ -61,36 +60,37 @@ false_of_not : (b : Bool) → not b ≡ true → b ≡ false
 false_of_not true is = absurd (false≢true is)
 false_of_not false is = refl
 
-row_not_zeros : (name : List ℕ) (row : Row) → find (λ row. has_name row name) the_rows ≡ Some row → is_known_zeros (plain_item (bytes_of row)) ≡ false
+row_not_zeros : (name : List ℕ) (row : Row) → find (λ row. has_name row name) the_rows ≡ Some row → list_all is_zero (bytes_of row) ≡ false
 row_not_zeros name row is = false_of_not _ (holds_of_found (λ row. has_name row name) is_not_zeros the_rows row none_zeros is)
 
--- an item that some section takes
+-- bytes that some section takes
 left_false : (a b : Bool) → (a && not b) ≡ false → b ≡ false → a ≡ false
 left_false true true is not_b = absurd (false≢true (sym not_b))
 left_false true false is not_b = absurd (false≢true (sym is))
 left_false false b is not_b = refl
 
-module _ (pos : Pos) (number : ℕ) (item : Content) (known : is_known_zeros item ≡ false) where
-  put_test : (sections : List LooseSection) (section : LooseSection) (test : Bool) (new : List LooseSection) → slice_get sections number ≡ Some section → refuses section (item_of pos item) ≡ test
-      → of_sections (with_section_or_fault sections number (cond test (Err frag.BadSection) (Ok (with_last_item section (item_of pos item))))) ≡ Ok new → IsPut sections new number (item_of pos item)
+module _ (pos : Pos) (number : ℕ) (bytes : List ℕ) (some : list_all is_zero bytes ≡ false) where
+  put_test : (sections : List LooseSection) (section : LooseSection) (test : Bool) (new : List LooseSection) → slice_get sections number ≡ Some section
+      → (takes_zeros_alone section && not (list_all is_zero bytes)) ≡ test
+      → of_sections (with_section_or_fault sections number (cond test (Err frag.BadSection) (Ok (with_bytes pos bytes section)))) ≡ Ok new → IsPut sections new number pos bytes
   put_test sections section true new there test is = err-ok _ new is
   put_test sections section false new there test is = record {
     section = section;
     there = there;
-    takes_bytes = left_false _ _ test known;
+    takes_bytes = left_false _ _ test some;
     put = sym (same_Ok _ new is);
   }
 
   put_found : (sections : List LooseSection) (found : Option LooseSection) (new : List LooseSection) → slice_get sections number ≡ found
-      → of_sections (pushed_into sections number found (item_of pos item)) ≡ Ok new → IsPut sections new number (item_of pos item)
+      → of_sections (put_into_there (bytes_put pos bytes) sections number found) ≡ Ok new → IsPut sections new number pos bytes
   put_found sections None new there is = err-ok _ new is
-  put_found sections (Some section) new there is = put_test sections section (refuses section (item_of pos item)) new there refl is
+  put_found sections (Some section) new there is = put_test sections section (takes_zeros_alone section && not (list_all is_zero bytes)) new there refl is
 
-  put_last : (before placed : Placed) → push_into pos number item before ≡ Ok placed → IsPut before.sections placed.sections number (item_of pos item)
-  unfolding push_into
+  put_last : (before placed : Placed) → put_bytes_into pos number bytes before ≡ Ok placed → IsPut before.sections placed.sections number pos bytes
+  unfolding put_bytes_into
   put_last before placed is =
       both_ok _ _ placed is (λ sections pushed made.
-      subst (λ s. IsPut before.sections s number (item_of pos item)) (ap (λ (p : Placed). p.sections) (same_Ok _ placed made))
+      subst (λ s. IsPut before.sections s number pos bytes) (ap (λ (p : Placed). p.sections) (same_Ok _ placed made))
       (put_found before.sections (slice_get before.sections number) sections refl pushed))
 
 -- the row that is named
@@ -106,15 +106,15 @@ body_test symbol true true assignment directive instruction named not_dotted = a
 body_test true true false assignment directive instruction named not_dotted = refl
 body_test false true false assignment directive instruction named not_dotted = refl
 
--- the item of an instruction
+-- the bytes of an instruction
 abbrev Puts : Pos → Row → Placed → Placed → Type 0
-Puts pos row before placed = IsPut before.sections placed.sections before.current (item_of pos (plain_item (bytes_of row)))
+Puts pos row before placed = IsPut before.sections placed.sections before.current pos (bytes_of row)
 
 name_puts : (pos : Pos) (first : SpelledToken) (before placed : Placed) (row : Row) → row_written (first ∷ []) ≡ Some row → place_body pos first [] before ≡ Ok placed → Puts pos row before placed
 unfolding row_written place_body place_instruction
 name_puts pos first before placed row written is =
     let parts = name_test (is_name first) (begins_with_dot first.bytes) (find (λ row. has_name row first.bytes) the_rows) row written in
-    put_last pos before.current (plain_item (bytes_of row)) (row_not_zeros first.bytes row parts.2) before placed
+    put_last pos before.current (bytes_of row) (row_not_zeros first.bytes row parts.2) before placed
     (ap (λ found. place_row pos found [] before) (sym parts.2)
     ∙ (sym (body_test (names_symbol first) (is_name first) (begins_with_dot first.bytes) _ _ _ parts.0 parts.1) ∙ is))
 
@@ -145,8 +145,8 @@ unfolding row_written
 label_test pos true first second rest before placed row again written is =
     both_ok _ _ placed is (λ labels labelled later.
     let keeps = label_keeps pos first before labels labelled in
-    subst (λ sections. IsPut sections placed.sections before.current (item_of pos (plain_item (bytes_of row)))) keeps.0
-    (subst (λ number. IsPut labels.sections placed.sections number (item_of pos (plain_item (bytes_of row)))) keeps.1 (again labels written later)))
+    subst (λ sections. IsPut sections placed.sections before.current pos (bytes_of row)) keeps.0
+    (subst (λ number. IsPut labels.sections placed.sections number pos (bytes_of row)) keeps.1 (again labels written later)))
 label_test pos false first second rest before placed row again written is = absurd (none-some row written)
 
 no_tokens : (row : Row) → row_written [] ≡ Some row → ⊥
@@ -161,9 +161,9 @@ labelled_put pos (first ∷ []) before placed row written is = name_puts pos fir
 labelled_put pos (first ∷ second ∷ rest) before placed row written is =
     label_test pos (is_label first second) first second rest before placed row (λ labels. labelled_put pos rest labels placed row) written is
 
--- where the tokens are an instruction, its item is the next one of the current section, alone
+-- where the tokens are an instruction, its bytes are put last in the current section, and nothing else
 pub instruction_put : (pos : Pos) (tokens : List SpelledToken) (before placed : Placed) (row : Row) → row_written (behind_labels tokens) ≡ Some row
-    → place_tokens pos tokens before ≡ Ok placed → IsPut before.sections placed.sections before.current (item_of pos (plain_item (bytes_of row)))
+    → place_tokens pos tokens before ≡ Ok placed → IsPut before.sections placed.sections before.current pos (bytes_of row)
 unfolding place_tokens
 instruction_put pos tokens before placed row written is =
     labelled_put pos tokens before placed row written (wide_ok (has_wide_label tokens) (place_labelled pos tokens before) placed is)
@@ -184,34 +184,84 @@ first_placed : {C : Type 0} (s : TokenStatement) (later : List TokenStatement) (
 unfolding place_all
 first_placed s later placed whole is go = both_ok (place s placed) (place_all later) whole is go
 
-get_last : {X : Type 0} (xs : List X) (x : X) → slice_get (xs ++ x ∷ []) (length xs) ≡ Some x
-get_last [] x = refl
-get_last (y ∷ xs) x = get_last xs x
+-- how many items stand before bytes that are put last
+run_items : (test : Bool) (pos : Pos) (section : LooseSection)
+    → length (cond test section (with_item (new_item pos Run) section)).items ≡ cond test (length section.items) (length section.items + 1)
+run_items true pos section = refl
+run_items false pos section = length-append section.items _
+
+-- bytes behind others, in front of more
+between : (front bytes more : List ℕ) → slice_range ((front ++ bytes) ++ more) (length front) (length front + length bytes) ≡ bytes
+between front bytes more =
+    let count : (length front + length bytes) - length front ≡ length bytes = omega arith in
+    ap (λ n. take n (drop (length front) ((front ++ bytes) ++ more))) count
+    ∙ (ap (λ all. take (length bytes) (drop (length front) all)) (append_assoc front bytes more)
+    ∙ (ap (take (length bytes)) (drop-append_seam front (bytes ++ more)) ∙ take-append_seam bytes more))
+
+-- bytes that are put last in a section stand there later
+module _ (pos : Pos) (section : LooseSection) (bytes : List ℕ) (within : IsWithin section) (whole : List LooseSection) (number : ℕ)
+    (later : IsContinued (with_bytes pos bytes section) (slice_get whole number)) (takes : (section.kind == 8) ≡ false) where
+  abbrev begun : LooseSection
+  begun = with_run pos section
+
+  -- the section with the bytes, and with what came later
+  abbrev last : LooseSection
+  last = with_more (with_bytes pos bytes section) later.bytes later.fields later.items
+
+  ends : length (section.bytes ++ bytes) ≡ length section.bytes + length bytes
+  ends = length-append section.bytes bytes
+
+  items_so_far : length begun.items ≡ run_end section
+  items_so_far = run_items (ends_in_run section.items) pos section
+
+  fields_beside : All (IsBeside (length section.bytes) (length section.bytes + length bytes)) last.fields
+  fields_beside =
+      All-append (IsBeside (length section.bytes) (length section.bytes + length bytes)) begun.fields later.fields
+      (subst (All (IsBeside (length section.bytes) (length section.bytes + length bytes))) (sym (run_keeps (λ s. s.fields) pos section refl))
+      (All-weaker (λ (field : Field). field_end field ≤ length section.bytes) (IsBeside (length section.bytes) (length section.bytes + length bytes))
+      (λ field ends. inl ends) section.fields within.fields))
+      (All-weaker (λ (field : Field). length (section.bytes ++ bytes) ≤ field.offset) (IsBeside (length section.bytes) (length section.bytes + length bytes))
+      (λ field behind. inr (omega (arith, ends, behind))) later.fields later.fields_behind)
+
+  items_before : All (λ item. item.offset ≤ length section.bytes) (take (run_end section) last.items)
+  items_before =
+      subst (λ n. All (λ (item : LooseItem). item.offset ≤ length section.bytes) (take n last.items)) items_so_far
+      (subst (All (λ (item : LooseItem). item.offset ≤ length section.bytes)) (sym (take-append_seam begun.items later.items))
+      (subst (λ n. All (λ (item : LooseItem). item.offset ≤ n) begun.items) (run_keeps (λ s. length s.bytes) pos section refl) ((run_added pos section).within within).items))
+
+  items_behind : All (λ item. length section.bytes + length bytes ≤ item.offset) (drop (run_end section) last.items)
+  items_behind =
+      subst (λ n. All (λ (item : LooseItem). length section.bytes + length bytes ≤ item.offset) (drop n last.items)) items_so_far
+      (subst (All (λ (item : LooseItem). length section.bytes + length bytes ≤ item.offset)) (sym (drop-append_seam begun.items later.items))
+      (subst (λ n. All (λ (item : LooseItem). n ≤ item.offset) later.items) ends later.items_behind))
+
+  stands : StandsAt whole number (run_end section) (length section.bytes) bytes
+  stands = record {
+    section = last;
+    found = later.there;
+    takes_bytes = run_keeps (λ s. s.kind == 8) pos section refl ∙ takes;
+    within = omega (arith, length-append (section.bytes ++ bytes) later.bytes, length-append section.bytes bytes);
+    there = between section.bytes bytes later.bytes;
+    free = fields_beside;
+    before = items_before;
+    behind = items_behind;
+  }
 
 -- what is put stands there later
-put_stands : (before next whole : List LooseSection) (number : ℕ) (pos : Pos) (bytes : List ℕ) → IsPut before next number (item_of pos (plain_item bytes)) → Grows next whole
-    → StandsAt whole number (items_in before number) bytes
-put_stands before next whole number pos bytes put grows =
-    let item : Item = item_of pos (plain_item bytes) in
-    let there : slice_get next number ≡ Some (with_last_item put.section item) =
-    ap (λ sections. slice_get sections number) put.put ∙ get_set before number put.section (with_last_item put.section item) put.there in
-    let later = grows.kept number (with_last_item put.section item) there in
-    record {
-      section = record put.section { items = (put.section.items ++ item ∷ []) ++ later.0 };
-      found = later.1;
-      takes_bytes = put.takes_bytes;
-      item = item;
-      there = ap (slice_get ((put.section.items ++ item ∷ []) ++ later.0)) (ap (λ (found : Option LooseSection). option_map_or (λ section. length section.items) found 0) put.there)
-          ∙ get_append (put.section.items ++ item ∷ []) later.0 (length put.section.items) item (get_last put.section.items item);
-      holds = refl;
-    }
+put_stands : (before next whole : List LooseSection) (number : ℕ) (pos : Pos) (bytes : List ℕ) → IsPut before next number pos bytes → AreWithin before → Grows next whole
+    → StandsAt whole number (option_map_or run_end (slice_get before number) 0) (option_map_or (λ section. length section.bytes) (slice_get before number) 0) bytes
+put_stands before next whole number pos bytes put within grows =
+    let new = with_bytes pos bytes put.section in
+    let there : slice_get next number ≡ Some new = ap (λ sections. slice_get sections number) put.put ∙ get_set before number put.section new put.there in
+    subst (λ found. StandsAt whole number (option_map_or run_end found 0) (option_map_or (λ (section : LooseSection). length section.bytes) found 0) bytes) (sym put.there)
+    (stands pos put.section bytes (All-there IsWithin before number put.section put.there within) whole number (grows.kept number new there) put.takes_bytes)
 
--- the item of an instruction stands in the whole
+-- the bytes of an instruction stand in the whole
 pub instruction_there : (front : List TokenStatement) (s : TokenStatement) (later : List TokenStatement) (before placed whole : Placed) (row : Row)
-    → place_all front before ≡ Ok placed → place_all (front ++ s ∷ later) before ≡ Ok whole → instruction_of s ≡ Some row
-    → StandsAt whole.sections placed.current (next_item placed) (bytes_of row)
-instruction_there front s later before placed whole row is_front is_whole written =
+    → AreWithin before.sections → place_all front before ≡ Ok placed → place_all (front ++ s ∷ later) before ≡ Ok whole → instruction_of s ≡ Some row
+    → StandsAt whole.sections placed.current (next_item placed) (next_offset placed) (bytes_of row)
+instruction_there front s later before placed whole row within is_front is_whole written =
     first_placed s later placed whole (sym (all_split front (s ∷ later) before ∙ ap (λ r. r >>= place_all (s ∷ later)) is_front) ∙ is_whole)
     (λ next is_next is_later.
     put_stands placed.sections next.sections whole.sections placed.current (pos_at s.file s.line) (bytes_of row)
-    (statement_put s placed next row written is_next) (all_grow later next whole is_later))
+    (statement_put s placed next row written is_next) (all_within front before placed is_front within) (all_grow later next whole is_later))

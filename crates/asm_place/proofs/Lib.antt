@@ -1,15 +1,16 @@
 -- The proofs of this crate.
 pub mod Names
-pub mod InstructionBytes
 pub mod SlotLemmas
 pub mod Readings
 pub mod TokenLists
 pub mod OperandSplits
 pub mod NameParts
 pub mod StepLists
+pub mod GrowthLemmas
+pub mod PlainStrings
+pub mod PutTwice
 pub mod ConstantDataLemmas
 pub mod LabelLemmas
-pub mod GrowthLemmas
 pub mod Walks
 pub mod PlacingLaws
 pub mod StatementSplits

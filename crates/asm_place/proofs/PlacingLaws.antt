@@ -1,7 +1,7 @@
--- Placing only adds items, and none of its faults is one of reading a file.
+-- Placing only adds to sections, and none of its faults is one of reading a file.
 use Rattle.std.proofs.Common.{◌≡◌, ℕ, Bool, true, false, cond, List, [], ◌∷◌, ◌++◌, length, Option, None, Some, Result, Ok, Err, refl, slice_get}
 use Rattle.std.specs.Prelude.{◌&&◌, ◌^◌, nat_lt, not, drop, codes, unwrap_or}
-use Rattle.std.specs.List.{list_any, count_by}
+use Rattle.std.specs.List.{list_any, list_all, count_by}
 use Rattle.std.proofs.lemmas.Result.{IfOk-at_ok, IfErr-at_err}
 use Rattle.asm_place.specs.declared.place_faults.PlaceCause.{PlaceCause}
 use Rattle.asm_place.specs.declared.place_faults.PlaceCause.TheVariants.{BadExpression, NumberTooWide, ExpressionTooDeep, DivisionByZero, ValueNotKnown, NotASumOfSymbols, UnknownMnemonic, UnknownDirective, BadOperand, OutOfRange, BadSection, SymbolAlreadyDefined, BadSymbolUse}
@@ -11,14 +11,19 @@ use Rattle.asm_base.specs.Tokens.{SpelledToken}
 use Rattle.asm_lines.specs.NextStatements.{TokenStatement}
 use Rattle.asm_expr.specs.declared.naming.Name.{Name}
 use Rattle.asm_expr.specs.declared.naming.Name.TheVariants as naming
+use Rattle.asm_expr.specs.declared.forms.Term.{Term}
+use Rattle.asm_expr.specs.Forms.{Form}
 use Rattle.asm_expr.specs.Trees.{Tree}
 use Rattle.asm_frags.specs.declared.contents.Content.{Content}
 use Rattle.asm_frags.specs.declared.contents.Content.TheVariants as content
+use Rattle.asm_frags.specs.declared.faults.FragCause.{FragCause}
 use Rattle.asm_frags.specs.declared.fields.FieldSize.{FieldSize}
 use Rattle.asm_frags.specs.declared.faults.FragCause.TheVariants as frag
-use Rattle.asm_frags.specs.SectionOf.{new_section, is_alike, section_number, with_last_item}
-use Rattle.asm_frags.specs.Answers.{refuses}
-use Rattle.asm_frags.specs.Sections.{section_flags, entered_there, entered_by, with_section_or_fault, pushed_into}
+use Rattle.asm_frags.specs.SectionOf.{new_section, is_alike, section_number}
+use Rattle.asm_frags.specs.PlainBytes.{is_zero}
+use Rattle.asm_frags.specs.Contents.{is_known_zeros}
+use Rattle.asm_frags.specs.Writing.{LooseSection, new_item, takes_zeros_alone, with_item, with_bytes, with_field, bytes_put, field_put, item_put}
+use Rattle.asm_frags.specs.Sections.{section_flags, entered_there, entered_by, with_section_or_fault, put_into_there}
 use Rattle.asm_symbols.specs.declared.entries.Definition.TheVariants.{Label, Space, Common}
 use Rattle.asm_symbols.specs.Defining.{defined}
 use Rattle.asm_symbols.specs.LeadsBack.{assigned}
@@ -32,71 +37,92 @@ use Rattle.asm_base.specs.Refusals.{◌>>=◌}
 use Rattle.asm_place.specs.LayerFaults.{of_sections}
 use Rattle.asm_place.specs.Operands.{is_name, names_symbol, operands_of, is_dot, begins_with_place, symbol_name, each, joined_strings}
 use Rattle.asm_place.specs.Expressions.{expression_of, form_in, known_operands}
-use Rattle.asm_place.specs.Places.{Item, LooseSection, uses_dot, spot_at, name_parts}
-use Rattle.asm_place.specs.State.{Placed, with_table, with_notes, here, known_here, item_of, push_into, unless_dot}
-use Rattle.asm_place.specs.DataItems.{data_of, is_cut, cut_notes}
+use Rattle.asm_place.specs.Places.{uses_dot, spot_at, name_parts}
+use Rattle.asm_place.specs.State.{Placed, with_table, with_notes, here, known_here, put_section, put_bytes_into, put_field_into, push_into, unless_dot}
+use Rattle.asm_place.specs.DataItems.{put_by, put_forms, is_cut, cut_notes}
+use Rattle.asm_place.specs.Results.{all_steps}
 use Rattle.asm_place.specs.SectionWords.{SectionWords, section_words}
 use Rattle.asm_place.specs.SectionChanges.{with_current, option_trees, numbered, entered_as, enter_words, place_section, entered_now, place_pushed, back_to, popped, entry_size_in, header_by}
 use Rattle.asm_place.specs.SymbolWords.{plain_of, kind_said, place_said, named_kind, place_type, sized, size_words, place_size, NamedTree, say_all, named_tree, name_rest}
 use Rattle.asm_place.specs.Assignments.{assign_words, place_set, place_assignment}
 use Rattle.asm_place.specs.Commons.{bss, with_space, with_common, is_said_local, place_space, place_comm, place_lcomm, space_size, space_words, define_space}
-use Rattle.asm_place.specs.Idents.{plain_item, items_in, comment_bytes, comment_header, place_ident, place_file, one_string, file_name}
+use Rattle.asm_place.specs.Idents.{items_in, comment_bytes, comment_header, place_ident, place_file, one_string, file_name}
 use Rattle.asm_place.specs.Placing.{DataWords, data_words, put_data, place_data, place_strings, with_item as with_space_item, place_zero, place_skip, place_fill, bare, initial_number, place_by, place_found, place_directive, place_row, place_instruction, is_assignment, begins_with_dot, place_body, is_label, place_label, place_tokens, label_symbol, place_labelled, has_wide_label}
 use Rattle.asm_place.specs.Sources.{pos_at, located, place, place_all}
 use Rattle.asm_place.specs.declared.place_faults.FaultAt.{FaultAt}
 use Rattle.asm_place.specs.Faults.{is_file_too_large, is_too_large, statement_fault}
-use Rattle.asm_place.specs.Instructions.{Grows}
-use Rattle.asm_place.proofs.GrowthLemmas.{grows_not, grows_by_item, grows_by_sections}
+use Rattle.asm_place.specs.Instructions.{Grows, AreWithin}
+use Rattle.asm_place.proofs.GrowthLemmas.{Adds, IsAdded, adds_nothing, adds_to, adds_section, item_added, bytes_added, field_added}
 use Rattle.asm_place.proofs.Walks.{Fine, Steps, made, refused, step, after, grown, still, either, on}
 use Rattle.asm_place.specs.Tables.{symbol_of, changed_by, change_named, file_named, name_trees}
 use Rattle.asm_place.specs.Spaces.{space_of, units_of, unit_size, log_of}
 
--- an item in a section
-put_grows : (sections : List LooseSection) (number : ℕ) (section : LooseSection) (item : Item) (test : Bool) → slice_get sections number ≡ Some section
-    → Fine (Grows sections) (of_sections (with_section_or_fault sections number (cond test (Err frag.BadSection) (Ok (with_last_item section item)))))
-put_grows sections number section item true there = refused _
-put_grows sections number section item false there = made _ (grows_by_item sections number section item there)
+-- something is put into a section
+module _ (put : LooseSection → Result LooseSection FragCause) (puts : (section : LooseSection) → Fine (IsAdded section) (put section)) where
+  put_adds : (sections : List LooseSection) (number : ℕ) (section : LooseSection) (new : Result LooseSection FragCause) → slice_get sections number ≡ Some section
+      → Fine (IsAdded section) new → Fine (Adds sections) (of_sections (with_section_or_fault sections number new))
+  put_adds sections number section (Ok new) there added = made _ (adds_to sections number section new there added.holds)
+  put_adds sections number section (Err fault) there added = refused _
 
-there_grows : (sections : List LooseSection) (number : ℕ) (found : Option LooseSection) (item : Item) → slice_get sections number ≡ found
-    → Fine (Grows sections) (of_sections (pushed_into sections number found item))
-there_grows sections number None item there = refused _
-there_grows sections number (Some section) item there = put_grows sections number section item (refuses section item) there
+  there_adds : (sections : List LooseSection) (number : ℕ) (found : Option LooseSection) → slice_get sections number ≡ found
+      → Fine (Adds sections) (of_sections (put_into_there put sections number found))
+  there_adds sections number None there = refused _
+  there_adds sections number (Some section) there = put_adds sections number section (put section) there (puts section)
 
-pub push_steps : (pos : Pos) (number : ℕ) (item : Content) (placed : Placed) → Steps placed (push_into pos number item placed)
+  put_steps : (number : ℕ) (placed : Placed) → Steps placed (put_section put number placed)
+  put_steps number placed =
+      step (there_adds placed.sections number (slice_get placed.sections number) refl) (λ sections adds. made (record placed { sections = sections }) adds)
+
+bytes_steps : (pos : Pos) (number : ℕ) (bytes : List ℕ) (placed : Placed) → Steps placed (put_bytes_into pos number bytes placed)
+unfolding put_bytes_into
+bytes_steps pos number bytes placed =
+    put_steps (bytes_put pos bytes)
+    (λ section. either (takes_zeros_alone section && not (list_all is_zero bytes)) (refused _) (made (with_bytes pos bytes section) (bytes_added pos bytes section)))
+    number placed
+
+field_steps : (pos : Pos) (number : ℕ) (size : FieldSize) (form : Form) (placed : Placed) → Steps placed (put_field_into pos number size form placed)
+unfolding put_field_into
+field_steps pos number size form placed =
+    put_steps (field_put pos size form)
+    (λ section. either (takes_zeros_alone section) (refused _) (made (with_field pos size form section) (field_added pos size form section))) number placed
+
+push_steps : (pos : Pos) (number : ℕ) (item : Content) (placed : Placed) → Steps placed (push_into pos number item placed)
 unfolding push_into
 push_steps pos number item placed =
-    step (there_grows placed.sections number (slice_get placed.sections number) (item_of pos item) refl) (λ sections grows. made _ grows)
+    put_steps (item_put (new_item pos item))
+    (λ section. either (takes_zeros_alone section && not (is_known_zeros item)) (refused _)
+    (made (with_item (new_item pos item) section) (item_added (new_item pos item) section))) number placed
 
 -- a section that is entered
-new_grows : (sections : List LooseSection) (new : LooseSection) (test : Bool)
-    → Fine (λ pair. Grows sections pair.0) (numbered (cond test (Ok (length sections, sections ++ new ∷ [])) (Err frag.BadSection)))
-new_grows sections new true = made _ (grows_by_sections sections (new ∷ []))
-new_grows sections new false = refused _
+new_adds : (sections : List LooseSection) (name : List ℕ) (header : Header) (test : Bool) → let new = new_section name (section_flags header.flags) header.kind header.entry_size in
+    Fine (λ pair. Adds sections pair.0) (numbered (cond test (Ok (length sections, sections ++ new ∷ [])) (Err frag.BadSection)))
+new_adds sections name header true = made _ (adds_section sections (new_section name (section_flags header.flags) header.kind header.entry_size) refl refl)
+new_adds sections name header false = refused _
 
-alike_grows : (sections : List LooseSection) (number : ℕ) (test : Bool)
-    → Fine (λ pair. Grows sections pair.0) (numbered (cond test (Ok (number, sections)) (Err frag.BadSection)))
-alike_grows sections number true = made _ (grows_not sections)
-alike_grows sections number false = refused _
+alike_adds : (sections : List LooseSection) (number : ℕ) (test : Bool)
+    → Fine (λ pair. Adds sections pair.0) (numbered (cond test (Ok (number, sections)) (Err frag.BadSection)))
+alike_adds sections number true = made _ (adds_nothing sections)
+alike_adds sections number false = refused _
 
-known_grows : (sections : List LooseSection) (number : ℕ) (found : Option LooseSection) (header : Header)
-    → Fine (λ pair. Grows sections pair.0) (numbered (entered_there sections number found (section_flags header.flags) header.kind header.entry_size))
-known_grows sections number None header = refused _
-known_grows sections number (Some section) header = alike_grows sections number (is_alike section (section_flags header.flags) header.kind header.entry_size)
+known_adds : (sections : List LooseSection) (number : ℕ) (found : Option LooseSection) (header : Header)
+    → Fine (λ pair. Adds sections pair.0) (numbered (entered_there sections number found (section_flags header.flags) header.kind header.entry_size))
+known_adds sections number None header = refused _
+known_adds sections number (Some section) header = alike_adds sections number (is_alike section (section_flags header.flags) header.kind header.entry_size)
 
-by_grows : (sections : List LooseSection) (number : Option ℕ) (name : List ℕ) (header : Header)
-    → Fine (λ pair. Grows sections pair.0) (numbered (entered_by sections number name (section_flags header.flags) header.kind header.entry_size))
-by_grows sections None name header = new_grows sections (new_section name (section_flags header.flags) header.kind header.entry_size) (nat_lt (length sections) 30003)
-by_grows sections (Some number) name header = known_grows sections number (slice_get sections number) header
+by_adds : (sections : List LooseSection) (number : Option ℕ) (name : List ℕ) (header : Header)
+    → Fine (λ pair. Adds sections pair.0) (numbered (entered_by sections number name (section_flags header.flags) header.kind header.entry_size))
+by_adds sections None name header = new_adds sections name header (nat_lt (length sections) 30003)
+by_adds sections (Some number) name header = known_adds sections number (slice_get sections number) header
 
-entered_grows : (sections : List LooseSection) (name : List ℕ) (header : Header) → Fine (λ pair. Grows sections pair.0) (entered_as sections name header)
+entered_adds : (sections : List LooseSection) (name : List ℕ) (header : Header) → Fine (λ pair. Adds sections pair.0) (entered_as sections name header)
 unfolding entered_as
-entered_grows sections name header = either (nat_lt (2 ^ 16) (length name)) (refused BadSection) (by_grows sections (section_number name sections) name header)
+entered_adds sections name header = either (nat_lt (2 ^ 16) (length name)) (refused BadSection) (by_adds sections (section_number name sections) name header)
 
 enter_steps : (pos : Pos) (words : SectionWords) (placed : Placed) → Steps placed (enter_words pos words placed)
 unfolding enter_words
 enter_steps pos words placed =
     after (entry_size_in (known_here placed) words.entry_size)
-    (λ size. after (header_by placed.sections words size) (λ header. step (entered_grows placed.sections words.name header)
+    (λ size. after (header_by placed.sections words size) (λ header. step (entered_adds placed.sections words.name header)
     (λ pair grows. after (name_trees pos (option_trees words.entry_size) placed.table)
     (λ table. made (with_table (with_current pair.1 (record placed { sections = pair.0 })) table) grows))))
 
@@ -118,12 +144,21 @@ unfolding popped
 popped_steps placed = back_steps _ placed
 
 -- data and space
+form_steps : (pos : Pos) (size : FieldSize) (terms : List Term) (form : Form) (placed : Placed) → Steps placed (put_by terms pos size form placed)
+form_steps pos size [] form placed = bytes_steps pos placed.current _ placed
+form_steps pos size (term ∷ terms) form placed = field_steps pos placed.current size form placed
+
+forms_steps : (pos : Pos) (size : FieldSize) (forms : List Form) (placed : Placed) → Steps placed (put_forms pos size forms placed)
+unfolding put_forms all_steps
+forms_steps pos size [] placed = made placed (still placed)
+forms_steps pos size (form ∷ forms) placed = grown placed (form_steps pos size form.terms form placed) (λ put. forms_steps pos size forms put)
+
 values_steps : (pos : Pos) (size : FieldSize) (words : DataWords) (placed : Placed) → Steps placed (put_data pos size words placed)
 unfolding put_data
 values_steps pos size words placed =
-    grown placed (push_steps pos placed.current (content.Bytes (data_of size words.forms)) placed)
-    (λ pushed. after (name_parts pos (here placed) (list_any (uses_dot (here placed)) words.forms) words.trees pushed.table)
-    (λ table. made (with_notes (cut_notes pos (count_by (is_cut size) words.forms)) (with_table pushed table)) (still pushed)))
+    grown placed (forms_steps pos size words.forms placed)
+    (λ put. after (name_parts pos (here placed) (list_any (uses_dot (here placed)) words.forms) words.trees put.table)
+    (λ table. made (with_notes (cut_notes pos (count_by (is_cut size) words.forms)) (with_table put table)) (still put)))
 
 data_steps : (pos : Pos) (size : FieldSize) (tokens : List SpelledToken) (placed : Placed) → Steps placed (place_data pos size tokens placed)
 unfolding place_data
@@ -131,7 +166,7 @@ data_steps pos size tokens placed = after (data_words (known_here placed) tokens
 
 strings_steps : (pos : Pos) (ended : Bool) (tokens : List SpelledToken) (placed : Placed) → Steps placed (place_strings pos ended tokens placed)
 unfolding place_strings
-strings_steps pos ended tokens placed = after (joined_strings ended (operands_of tokens)) (λ bytes. push_steps pos placed.current (plain_item bytes) placed)
+strings_steps pos ended tokens placed = after (joined_strings ended (operands_of tokens)) (λ bytes. bytes_steps pos placed.current bytes placed)
 
 item_steps : (pos : Pos) (trees : List Tree) (item : Content) (placed : Placed) → Steps placed (with_space_item pos trees item placed)
 item_steps pos trees item placed =
@@ -154,7 +189,7 @@ fill_steps pos tokens placed =
     (λ item. item_steps pos given.trees item placed)))
 
 -- symbols
-dot_steps : (dot : Bool) (before placed : Placed) → Grows before.sections placed.sections → Steps before (unless_dot dot placed)
+dot_steps : (dot : Bool) (before placed : Placed) → Adds before.sections placed.sections → Steps before (unless_dot dot placed)
 dot_steps true before placed grows = refused _
 dot_steps false before placed grows = made placed grows
 
@@ -235,10 +270,10 @@ lcomm_steps pos tokens placed =
 ident_steps : (pos : Pos) (tokens : List SpelledToken) (placed : Placed) → Steps placed (place_ident pos tokens placed)
 unfolding place_ident
 ident_steps pos tokens placed =
-    after (one_string tokens) (λ text. step (entered_grows placed.sections (codes ".comment") comment_header)
-    (λ pair grows. from pair grows (push_steps pos pair.1 (plain_item (comment_bytes (items_in pair.0 pair.1) text)) (record placed { sections = pair.0 }))))
+    after (one_string tokens) (λ text. step (entered_adds placed.sections (codes ".comment") comment_header)
+    (λ pair grows. from pair grows (bytes_steps pos pair.1 (comment_bytes (items_in pair.0 pair.1) text) (record placed { sections = pair.0 }))))
   where
-    from : (pair : List LooseSection × ℕ) {r : Result Placed PlaceCause} → Grows placed.sections pair.0 → Steps (record placed { sections = pair.0 }) r → Steps placed r
+    from : (pair : List LooseSection × ℕ) {r : Result Placed PlaceCause} → Adds placed.sections pair.0 → Steps (record placed { sections = pair.0 }) r → Steps placed r
     from pair grows later = on placed (record placed { sections = pair.0 }) _ grows later
 
 file_steps : (tokens : List SpelledToken) (placed : Placed) → Steps placed (place_file tokens placed)
@@ -284,7 +319,7 @@ directive_steps pos name tokens placed = found_steps _ pos tokens placed
 -- instructions
 row_steps : (pos : Pos) (row : Option Row) (operands : List SpelledToken) (placed : Placed) → Steps placed (place_row pos row operands placed)
 row_steps pos None operands placed = refused _
-row_steps pos (Some row) [] placed = push_steps pos placed.current _ placed
+row_steps pos (Some row) [] placed = bytes_steps pos placed.current _ placed
 row_steps pos (Some row) (token ∷ rest) placed = refused _
 
 instruction_steps : (pos : Pos) (name : List ℕ) (operands : List SpelledToken) (placed : Placed) → Steps placed (place_instruction pos name operands placed)
@@ -326,14 +361,20 @@ place_steps : (s : TokenStatement) (placed : Placed) → Steps placed (place s p
 unfolding place
 place_steps s placed = located_steps (pos_at s.file s.line) placed.notes placed _ (tokens_steps (pos_at s.file s.line) s.tokens placed)
 
-all_steps_grow : (statements : List TokenStatement) (placed : Placed) → Steps placed (place_all statements placed)
+statements_steps : (statements : List TokenStatement) (placed : Placed) → Steps placed (place_all statements placed)
 unfolding place_all
-all_steps_grow [] placed = made _ (still placed)
-all_steps_grow (s ∷ later) placed = grown placed (place_steps s placed) (all_steps_grow later)
+statements_steps [] placed = made _ (still placed)
+statements_steps (s ∷ later) placed = grown placed (place_steps s placed) (statements_steps later)
 
--- placing only adds items
+-- placing only adds to sections
+all_add : (statements : List TokenStatement) (before placed : Placed) → place_all statements before ≡ Ok placed → Adds before.sections placed.sections
+all_add statements before placed is = IfOk-at_ok (λ (made : Placed). Adds before.sections made.sections) is (statements_steps statements before).holds
+
 pub all_grow : (statements : List TokenStatement) (before placed : Placed) → place_all statements before ≡ Ok placed → Grows before.sections placed.sections
-all_grow statements before placed is = IfOk-at_ok (λ (made : Placed). Grows before.sections made.sections) is (all_steps_grow statements before).holds
+all_grow statements before placed is = (all_add statements before placed is).grows
+
+pub all_within : (statements : List TokenStatement) (before placed : Placed) → place_all statements before ≡ Ok placed → AreWithin before.sections → AreWithin placed.sections
+all_within statements before placed is = (all_add statements before placed is).within
 
 -- no fault of placing is that a file is too large
 not_of_reading : (fault : PlaceCause) → is_too_large (statement_fault fault) ≡ false

@@ -1,15 +1,12 @@
 -- A row is found where its slot leads: each row stands in the slot of its name.
-use Rattle.std.proofs.Common.{◌≡◌, ℕ, zero, suc, ◌+◌, ◌-◌, ◌<◌, ◌≤◌, ◌&&◌, Bool, true, false, cond, ltb, List, [], ◌∷◌, length, map, get_or, find, Option, None, Some, slice_get, refl, sym, ap, subst, ◌∙◌, arith}
+use Rattle.std.proofs.Common.{◌≡◌, ℕ, zero, suc, ◌+◌, ◌-◌, ◌<◌, ◌≤◌, ◌&&◌, Bool, true, false, cond, ltb, List, [], ◌∷◌, length, map, get_or, find, Option, None, Some, slice_get, refl, sym, ap, ◌∙◌, arith}
 use Rattle.std.specs.Char.{to_ascii_lowercase}
-use Rattle.std.specs.Str.{bytes_eq, str_to_ascii_lowercase}
+use Rattle.std.specs.Str.{str_to_ascii_lowercase}
 use Rattle.std.proofs.lemmas.Bool.{eqb-true, false≢true}
 use Rattle.std.proofs.lemmas.List.{length-map, get_or-map}
 use Rattle.std.proofs.lemmas.Option.{none-some, same_Some}
 use Rattle.std.proofs.lemmas.Slice.Eq.{bytes_eq-Decides}
-use Rattle.asm_place.specs.declared.directives.DirectiveRow.{DirectiveRow}
-use Rattle.asm_place.specs.declared.instructions.Row.{Row}
-use Rattle.asm_place.specs.Directives as directives
-use Rattle.asm_place.specs.Directives.{the_directives, the_directive_slots, directive_name, is_directive, directive_of}
+use Rattle.asm_place.specs.Directives.{the_directives, the_directive_slots, directive_name, is_directive}
 use Rattle.asm_place.specs.Rows.{the_rows, the_row_slots, name_of, has_name}
 use Rattle.asm_place.specs.Slots.{slot_of, small_slot, slot, row_in, all_in_slots}
 

@@ -3,8 +3,7 @@ use Rattle.std.proofs.Common.{Bool, true, false, cond, Result, Ok, Err}
 use Rattle.std.specs.Result.{IfOk}
 use Rattle.asm_base.specs.Refusals.{◌>>=◌}
 use Rattle.asm_place.specs.State.{Placed}
-use Rattle.asm_place.specs.Instructions.{Grows}
-use Rattle.asm_place.proofs.GrowthLemmas.{grows_not, grows_on}
+use Rattle.asm_place.proofs.GrowthLemmas.{Adds, adds_nothing, adds_on}
 
 -- what is known of what a step makes
 pub record Fine {A E : Type 0} (P : A → Type 0) (result : Result A E) : Type 0 where
@@ -12,7 +11,7 @@ pub record Fine {A E : Type 0} (P : A → Type 0) (result : Result A E) : Type 0
 
 -- a step from what was placed before
 abbrev pub Steps : {E : Type 0} → Placed → Result Placed E → Type 0
-Steps before = Fine (λ after. Grows before.sections after.sections)
+Steps before = Fine (λ after. Adds before.sections after.sections)
 
 pub made : {A E : Type 0} {P : A → Type 0} (x : A) → P x → Fine {E = E} P (Ok x)
 made x is = record { holds = is }
@@ -31,17 +30,17 @@ pub after : {A B E : Type 0} {Q : B → Type 0} (r : Result A E) {f : A → Resu
 after (Ok x) later = later x
 after (Err fault) later = refused fault
 
--- what has grown grows on
-pub on : {E : Type 0} (before between : Placed) (r : Result Placed E) → Grows before.sections between.sections → Steps between r → Steps before r
-on before between (Ok x) grown later = record { holds = grows_on before.sections between.sections x.sections grown later.holds }
+-- what is added to is added to once more
+pub on : {E : Type 0} (before between : Placed) (r : Result Placed E) → Adds before.sections between.sections → Steps between r → Steps before r
+on before between (Ok x) grown later = record { holds = adds_on before.sections between.sections x.sections grown later.holds }
 on before between (Err fault) grown later = refused fault
 
 pub grown : {E : Type 0} (before : Placed) {r : Result Placed E} {f : Placed → Result Placed E} → Steps before r → ((x : Placed) → Steps x (f x)) → Steps before (r >>= f)
 grown before {f = f} first later = step first (λ x is. on before x (f x) is (later x))
 
 -- the sections stay
-pub still : (placed : Placed) → Grows placed.sections placed.sections
-still placed = grows_not placed.sections
+pub still : (placed : Placed) → Adds placed.sections placed.sections
+still placed = adds_nothing placed.sections
 
 -- two branches, whatever the test says
 pub either : {A E : Type 0} {P : A → Type 0} (test : Bool) {r s : Result A E} → Fine P r → Fine P s → Fine P (cond test r s)

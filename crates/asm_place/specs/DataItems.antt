@@ -1,5 +1,5 @@
--- Items of data (GNU as manual, ".byte", ".short", ".long", ".quad"): the bytes of known values, fields for the others, and the notes of values that do not fit.
-use Rattle.std.specs.Prelude.{ℕ, not, Bool, false, List, [], ◌∷◌, fold, replicate}
+-- Data (GNU as manual, ".byte", ".short", ".long", ".quad"): the bytes of known values, fields for the others, and the notes of values that do not fit.
+use Rattle.std.specs.Prelude.{ℕ, not, Bool, false, List, [], ◌∷◌, Result, replicate}
 use Rattle.asm_base.specs.declared.faults.Note.TheVariants.{ValueTruncated}
 use Rattle.asm_base.specs.declared.notes.Noted.{Noted}
 use Rattle.asm_base.specs.declared.positions.Pos.{Pos}
@@ -7,20 +7,22 @@ use Rattle.asm_expr.specs.declared.forms.Term.{Term}
 use Rattle.asm_expr.specs.Forms.{Form}
 use Rattle.asm_frags.specs.declared.fields.FieldSize.{FieldSize}
 use Rattle.asm_frags.specs.Fields.{fits, low_bytes}
-use Rattle.asm_frags.specs.DataOf.{DataOf, no_data, with_bytes, with_field}
+use Rattle.asm_place.specs.declared.place_faults.PlaceCause.{PlaceCause}
+use Rattle.asm_place.specs.Results.{all_steps}
+use Rattle.asm_place.specs.State.{Placed, put_bytes, put_field}
 
 -- bytes for a form without names, and a field for another
-abbrev pub put_by : List Term → FieldSize → DataOf → Form → DataOf
-put_by [] size held form = with_bytes held (low_bytes size form.constant)
-put_by (term ∷ terms) size held form = with_field held size form
+abbrev pub put_by : List Term → Pos → FieldSize → Form → Placed → Result Placed PlaceCause
+put_by [] pos size form placed = put_bytes pos (low_bytes size form.constant) placed
+put_by (term ∷ terms) pos size form placed = put_field pos size form placed
 
--- a form more: bytes, or a field
-abbrev pub put_form : FieldSize → DataOf → Form → DataOf
-put_form size held form = put_by form.terms size held form
+-- a form more in the current section
+abbrev pub put_form : Pos → FieldSize → Form → Placed → Result Placed PlaceCause
+put_form pos size form placed = put_by form.terms pos size form placed
 
--- the item of these forms
-unfoldable pub data_of : FieldSize → List Form → DataOf
-data_of size forms = fold (put_form size) no_data forms
+-- one form after the other in the current section
+unfoldable pub put_forms : Pos → FieldSize → List Form → Placed → Result Placed PlaceCause
+put_forms pos size forms placed = all_steps (put_form pos size) forms placed
 
 -- a value that is known and does not fit
 abbrev pub cut_by : List Term → FieldSize → ℕ → Bool

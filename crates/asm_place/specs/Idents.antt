@@ -7,21 +7,15 @@ use Rattle.asm_place.specs.declared.place_faults.PlaceCause.TheVariants.{BadOper
 use Rattle.asm_base.specs.declared.positions.Pos.{Pos}
 use Rattle.asm_base.specs.Tokens.{SpelledToken}
 use Rattle.asm_expr.specs.declared.naming.Name.TheVariants as naming
-use Rattle.asm_frags.specs.declared.contents.Content.{Content}
-use Rattle.asm_frags.specs.declared.contents.Content.TheVariants as content
+use Rattle.asm_frags.specs.Writing.{LooseSection}
 use Rattle.asm_place.specs.declared.section_changes.Header.{Header}
 use Rattle.asm_base.specs.Refusals.{◌>>=◌}
 use Rattle.asm_place.specs.Tables.{file_named}
-use Rattle.asm_place.specs.Places.{LooseSection}
-use Rattle.asm_place.specs.State.{Placed, with_table, push_into}
+use Rattle.asm_place.specs.State.{Placed, with_table, put_bytes_into}
 use Rattle.asm_place.specs.Operands.{operands_of, string_of}
 use Rattle.asm_place.specs.Expressions.{no_more}
 use Rattle.asm_place.specs.SectionWords.{needed}
 use Rattle.asm_place.specs.SectionChanges.{entered_as}
-
--- bytes alone
-abbrev pub plain_item : List ℕ → Content
-plain_item bytes = content.Bytes (record { bytes = bytes; fields = [] })
 
 -- one string
 unfoldable pub one_string : List SpelledToken → Result (List ℕ) PlaceCause
@@ -43,7 +37,7 @@ comment_header = record { flags = 48; kind = 1; entry_size = 1 }
 unfoldable pub place_ident : Pos → List SpelledToken → Placed → Result Placed PlaceCause
 place_ident pos tokens placed =
     one_string tokens >>= λ text. entered_as placed.sections (codes ".comment") comment_header >>= λ pair.
-    push_into pos pair.1 (plain_item (comment_bytes (items_in pair.0 pair.1) text)) (record placed { sections = pair.0 })
+    put_bytes_into pos pair.1 (comment_bytes (items_in pair.0 pair.1) text) (record placed { sections = pair.0 })
 
 -- a string table can hold the name of a file, which may be empty
 abbrev pub file_name : List ℕ → Result (List ℕ) PlaceCause

@@ -1,14 +1,16 @@
--- Statements that are instructions, and where their items go.
-use Rattle.std.specs.Prelude.{◌≡◌, ℕ, ◌==◌, ◌&&◌, ◌++◌, false, not, List, [], ◌∷◌, find, if◌then◌else◌, Option, None, Some, slice_get, slice_set}
+-- Statements that are instructions, and where their bytes go.
+use Rattle.std.specs.Prelude.{◌≡◌, ℕ, ◌+◌, ◌≤◌, ◌==◌, ◌&&◌, ◌++◌, false, not, List, [], ◌∷◌, All, find, if◌then◌else◌, Option, None, Some, length, take, drop, slice_get, slice_set, slice_range}
+use Rattle.std.specs.Option.{option_map_or}
 use Rattle.asm_base.specs.Tokens.{SpelledToken}
+use Rattle.asm_base.specs.declared.positions.Pos.{Pos}
 use Rattle.asm_lines.specs.NextStatements.{TokenStatement}
-use Rattle.asm_frags.specs.SectionOf.{with_last_item}
+use Rattle.asm_frags.specs.declared.fields.Field.{Field}
+use Rattle.asm_frags.specs.PlainBytes.{field_end, IsBeside}
+use Rattle.asm_frags.specs.Writing.{LooseItem, LooseSection, ends_in_run, with_bytes}
 use Rattle.asm_place.specs.declared.instructions.Row.{Row}
 use Rattle.asm_place.specs.Rows.{the_rows, has_name}
 use Rattle.asm_place.specs.Operands.{is_name}
-use Rattle.asm_place.specs.Places.{Item, LooseSection}
 use Rattle.asm_place.specs.State.{Placed}
-use Rattle.asm_place.specs.Idents.{plain_item, items_in}
 use Rattle.asm_place.specs.Placing.{is_label, begins_with_dot}
 
 -- what stands behind the labels in front
@@ -28,27 +30,60 @@ row_written (name ∷ operand ∷ rest) = None
 abbrev pub instruction_of : TokenStatement → Option Row
 instruction_of s = row_written (behind_labels s.tokens)
 
--- how many items the section has that items go into
+-- how many items stand before plain bytes that are put last, the run that they belong to among them
+abbrev pub run_end : LooseSection → ℕ
+run_end section = if ends_in_run section.items then length section.items else length section.items + 1
+
+-- how many items stand before plain bytes that are put last in the section that statements put into
 abbrev pub next_item : Placed → ℕ
-next_item placed = items_in placed.sections placed.current
+next_item placed = option_map_or run_end (slice_get placed.sections placed.current) 0
 
--- each section is there later with its items first, and says of itself what it said
+-- how many plain bytes that section has
+abbrev pub next_offset : Placed → ℕ
+next_offset placed = option_map_or (λ section. length section.bytes) (slice_get placed.sections placed.current) 0
+
+-- the section with these bytes, fields and items more
+abbrev pub with_more : LooseSection → List ℕ → List Field → List LooseItem → LooseSection
+with_more section bytes fields items = record section { bytes = section.bytes ++ bytes; fields = section.fields ++ fields; items = section.items ++ items }
+
+-- the section is there later with its bytes, fields and items first, and says of itself what it said; fields and items that are more stand
+-- behind its bytes
+pub record IsContinued (section : LooseSection) (later : Option LooseSection) : Type 0 where
+  pub bytes : List ℕ
+  pub fields : List Field
+  pub items : List LooseItem
+  pub there : later ≡ Some (with_more section bytes fields items)
+  pub fields_behind : All (λ field. length section.bytes ≤ field.offset) fields
+  pub items_behind : All (λ item. length section.bytes ≤ item.offset) items
+
+-- each section is continued
 pub record Grows (before after : List LooseSection) : Type 0 where
-  pub kept : (number : ℕ) (section : LooseSection) → slice_get before number ≡ Some section
-      → (more : List Item) × (slice_get after number ≡ Some (record section { items = section.items ++ more }))
+  pub kept : (number : ℕ) (section : LooseSection) → slice_get before number ≡ Some section → IsContinued section (slice_get after number)
 
--- the item is last in the section of this number, which takes bytes; all else is as it was
-pub record IsPut (before after : List LooseSection) (number : ℕ) (item : Item) : Type 0 where
+-- each field of the section ends within its bytes, and each item stands within or behind them
+pub record IsWithin (section : LooseSection) : Type 0 where
+  pub fields : All (λ field. field_end field ≤ length section.bytes) section.fields
+  pub items : All (λ item. item.offset ≤ length section.bytes) section.items
+
+-- each section is so
+abbrev pub AreWithin : List LooseSection → Type 0
+AreWithin sections = All IsWithin sections
+
+-- the bytes of the statement at this place are put last in the section of this number, which takes bytes; all else is as it was
+pub record IsPut (before after : List LooseSection) (number : ℕ) (pos : Pos) (bytes : List ℕ) : Type 0 where
   pub section : LooseSection
   pub there : slice_get before number ≡ Some section
   pub takes_bytes : (section.kind == 8) ≡ false
-  pub put : after ≡ slice_set before number (with_last_item section item)
+  pub put : after ≡ slice_set before number (with_bytes pos bytes section)
 
--- an item of these bytes alone stands at this index of the section of this number, which takes bytes
-pub record StandsAt (sections : List LooseSection) (number index : ℕ) (bytes : List ℕ) : Type 0 where
+-- these bytes stand at this offset of the section of this number, which takes bytes; no field stands over them, so many items stand before
+-- them, and all other items stand behind them
+pub record StandsAt (sections : List LooseSection) (number item offset : ℕ) (bytes : List ℕ) : Type 0 where
   pub section : LooseSection
   pub found : slice_get sections number ≡ Some section
   pub takes_bytes : (section.kind == 8) ≡ false
-  pub item : Item
-  pub there : slice_get section.items index ≡ Some item
-  pub holds : item.content ≡ plain_item bytes
+  pub within : offset + length bytes ≤ length section.bytes
+  pub there : slice_range section.bytes offset (offset + length bytes) ≡ bytes
+  pub free : All (IsBeside offset (offset + length bytes)) section.fields
+  pub before : All (λ item. item.offset ≤ offset) (take item section.items)
+  pub behind : All (λ item. offset + length bytes ≤ item.offset) (drop item section.items)

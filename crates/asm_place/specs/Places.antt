@@ -1,4 +1,4 @@
--- Where the next item of a section goes, and what is known of names there.
+-- Where what is put into a section next goes, and what is known of names there.
 use Rattle.std.specs.Prelude.{ℕ, ◌+◌, ◌*◌, ◌^◌, ◌==◌, ◌&&◌, Bool, true, false, List, length, Option, None, Some, Result, Ok, slice_get, if◌then◌else◌}
 use Rattle.std.specs.List.{list_any}
 use Rattle.std.specs.Option.{option_map_or}
@@ -9,10 +9,8 @@ use Rattle.asm_expr.specs.declared.naming.Name.TheVariants.{Plain, Numeric, Plac
 use Rattle.asm_expr.specs.Forms.{Form}
 use Rattle.asm_expr.specs.Knowledge.{Told, label, Knowledge}
 use Rattle.asm_expr.specs.Trees.{Tree}
-use Rattle.asm_frags.specs.declared.phases.Loose.{Loose}
-use Rattle.asm_frags.specs.declared.items.Frag.{Frag}
-use Rattle.asm_frags.specs.SectionOf.{SectionOf}
 use Rattle.asm_frags.specs.KnownExtents.{extent_of}
+use Rattle.asm_frags.specs.Writing.{LooseSection}
 use Rattle.asm_symbols.specs.declared.entries.Spot.{Spot}
 use Rattle.asm_symbols.specs.declared.entries.Definition.TheVariants.{Label}
 use Rattle.asm_symbols.specs.SymbolMap.{SymbolMap, names, index_of}
@@ -22,31 +20,33 @@ use Rattle.asm_symbols.specs.Defining.{defined}
 use Rattle.asm_base.specs.Refusals.{◌>>=◌}
 use Rattle.asm_place.specs.Tables.{Table, change_named, name_tree, name_trees}
 
--- an item, and a section of items, before they have addresses
-abbrev pub Item : Type 0
-Item = Frag Loose (Unit {0})
-
--- a section before layout
-abbrev pub LooseSection : Type 0
-LooseSection = SectionOf Item
-
--- behind the items of a section: labels of one stretch have only items of one possible size between them
+-- behind the bytes and items of a section: labels of one stretch have only plain bytes and items of one possible size between them
 abbrev pub spot_in : ℕ → LooseSection → Spot
 spot_in number section =
     let extent = extent_of section.items in
-    record { section = number; item = length section.items; stretch = number * 2 ^ 32 + extent.breaks; at = extent.bytes }
+    record {
+      section = number;
+      item = length section.items;
+      offset = length section.bytes;
+      stretch = number * 2 ^ 32 + extent.breaks;
+      at = length section.bytes + extent.bytes;
+    }
 
--- behind the items of the section of this number
+-- the beginning of a section that is not there
+abbrev pub no_spot : ℕ → Spot
+no_spot number = record { section = number; item = 0; offset = 0; stretch = 0; at = 0 }
+
+-- behind the bytes and items of the section of this number
 unfoldable pub spot_at : List LooseSection → ℕ → Spot
-spot_at sections number = option_map_or (spot_in number) (slice_get sections number) (record { section = number; item = 0; stretch = 0; at = 0 })
+spot_at sections number = option_map_or (spot_in number) (slice_get sections number) (no_spot number)
 
 -- the name of the place itself
 abbrev pub here_name : Spot → Name
-here_name spot = Place spot.section spot.item
+here_name spot = Place spot.section spot.item spot.offset
 
 -- the name is that of this place
 abbrev pub is_here : Spot → Name → Bool
-is_here spot (Place section item) = (section == spot.section) && (item == spot.item)
+is_here spot (Place section item offset) = ((section == spot.section) && (item == spot.item)) && (offset == spot.offset)
 is_here spot (Plain text) = false
 is_here spot (Numeric number instance) = false
 

@@ -16,7 +16,6 @@ use Rattle.asm_expr.specs.Forms.{Form}
 use Rattle.asm_expr.specs.Knowledge.{Knowledge}
 use Rattle.asm_expr.specs.Trees.{Tree}
 use Rattle.asm_frags.specs.declared.contents.Content.{Content}
-use Rattle.asm_frags.specs.declared.contents.Content.TheVariants as content
 use Rattle.asm_frags.specs.declared.fields.FieldSize.{FieldSize}
 use Rattle.asm_symbols.specs.declared.entries.Definition.TheVariants.{Label}
 use Rattle.asm_symbols.specs.Defining.{defined}
@@ -30,16 +29,16 @@ use Rattle.asm_place.specs.Rows.{the_rows, has_name, bytes_of}
 use Rattle.asm_place.specs.ExprFaults.{in_statement}
 use Rattle.asm_place.specs.Tables.{Table, symbol_of, next_symbol, changed_by, name_trees}
 use Rattle.asm_place.specs.Places.{uses_dot, name_parts}
-use Rattle.asm_place.specs.State.{Placed, with_table, unless_dot, with_notes, here, known_here, push_item}
+use Rattle.asm_place.specs.State.{Placed, with_table, unless_dot, with_notes, here, known_here, put_bytes, push_item}
 use Rattle.asm_place.specs.Operands.{is_name, is_dot, is_mark, names_symbol, symbol_name, operands_of, each, joined_strings}
 use Rattle.asm_place.specs.Expressions.{expression_of, form_in, known_operands}
-use Rattle.asm_place.specs.DataItems.{data_of, is_cut, cut_notes}
+use Rattle.asm_place.specs.DataItems.{put_forms, is_cut, cut_notes}
 use Rattle.asm_place.specs.Spaces.{space_of, units_of, unit_size}
 use Rattle.asm_place.specs.SectionChanges.{with_current, place_section, place_pushed, popped}
 use Rattle.asm_place.specs.SymbolWords.{place_said, place_type, place_size}
 use Rattle.asm_place.specs.Assignments.{place_set, place_assignment}
 use Rattle.asm_place.specs.Commons.{place_comm, place_lcomm}
-use Rattle.asm_place.specs.Idents.{plain_item, place_ident, place_file}
+use Rattle.asm_place.specs.Idents.{place_ident, place_file}
 use Rattle.asm_place.specs.Directives.{directive_of}
 
 -- the operands of `.byte` and the others, and their forms
@@ -52,12 +51,12 @@ unfoldable pub data_words : Knowledge → List SpelledToken → Result DataWords
 data_words known tokens =
     each expression_of (operands_of tokens) >>= λ trees. each (form_in known) trees >>= λ forms. Ok (record { trees = trees; forms = forms })
 
--- an item of all values, of which those that are not known are fields, and a note for each that does not fit
+-- all values one after the other, of which those that are not known are fields, and a note for each that does not fit
 unfoldable pub put_data : Pos → FieldSize → DataWords → Placed → Result Placed PlaceCause
 put_data pos size words placed =
-    push_item pos (content.Bytes (data_of size words.forms)) placed >>= λ pushed.
-    name_parts pos (here placed) (list_any (uses_dot (here placed)) words.forms) words.trees pushed.table >>= λ table.
-    Ok (with_notes (cut_notes pos (count_by (is_cut size) words.forms)) (with_table pushed table))
+    put_forms pos size words.forms placed >>= λ put.
+    name_parts pos (here placed) (list_any (uses_dot (here placed)) words.forms) words.trees put.table >>= λ table.
+    Ok (with_notes (cut_notes pos (count_by (is_cut size) words.forms)) (with_table put table))
 
 -- `.byte` and the others
 unfoldable pub place_data : Pos → FieldSize → List SpelledToken → Placed → Result Placed PlaceCause
@@ -65,7 +64,7 @@ place_data pos size tokens placed = data_words (known_here placed) tokens >>= λ
 
 -- `.ascii` and the others: the bytes of all strings, each with a zero byte behind it where that is asked for
 unfoldable pub place_strings : Pos → Bool → List SpelledToken → Placed → Result Placed PlaceCause
-place_strings pos ended tokens placed = joined_strings ended (operands_of tokens) >>= λ bytes. push_item pos (plain_item bytes) placed
+place_strings pos ended tokens placed = joined_strings ended (operands_of tokens) >>= λ bytes. put_bytes pos bytes placed
 
 -- space, and the names of its operands
 abbrev pub with_item : Pos → List Tree → Content → Placed → Result Placed PlaceCause
@@ -133,7 +132,7 @@ place_directive pos name tokens placed = place_found (directive_of name) pos tok
 -- an instruction of this row, which takes no operands
 abbrev pub place_row : Pos → Option Row → List SpelledToken → Placed → Result Placed PlaceCause
 place_row pos None operands placed = Err UnknownMnemonic
-place_row pos (Some row) [] placed = push_item pos (plain_item (bytes_of row)) placed
+place_row pos (Some row) [] placed = put_bytes pos (bytes_of row) placed
 place_row pos (Some row) (token ∷ rest) placed = Err BadOperand
 
 -- an instruction by its name

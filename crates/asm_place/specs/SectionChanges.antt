@@ -1,4 +1,4 @@
--- Which section items go into (GNU as manual, ".text", ".data", ".bss", ".section", ".pushsection", ".popsection", ".previous").
+-- Which section statements put into (GNU as manual, ".text", ".data", ".bss", ".section", ".pushsection", ".popsection", ".previous").
 use Rattle.std.specs.Prelude.{ℕ, ◌-◌, ◌^◌, ◌==◌, nat_lt, Bool, true, false, List, [], ◌∷◌, ◌++◌, length, take, Option, None, Some, Result, Ok, Err, slice_get, option_and_then, if◌then◌else◌}
 use Rattle.asm_place.specs.declared.place_faults.PlaceCause.{PlaceCause}
 use Rattle.asm_place.specs.declared.place_faults.PlaceCause.TheVariants.{BadSection, OutOfRange}
@@ -15,7 +15,7 @@ use Rattle.asm_base.specs.Refusals.{◌>>=◌}
 use Rattle.asm_place.specs.Results.{if_some}
 use Rattle.asm_place.specs.LayerFaults.{section_fault}
 use Rattle.asm_place.specs.Tables.{name_trees}
-use Rattle.asm_place.specs.Places.{LooseSection}
+use Rattle.asm_frags.specs.Writing.{LooseSection}
 use Rattle.asm_place.specs.State.{Placed, with_table, known_here}
 use Rattle.asm_place.specs.Operands.{operands_of}
 use Rattle.asm_place.specs.Expressions.{form_in, constant_in}
@@ -23,7 +23,7 @@ use Rattle.asm_expr.specs.Arithmetic.{is_negative}
 use Rattle.asm_place.specs.SectionWords.{SectionWords, says_merge, section_words, said_flags, said_kind}
 use Rattle.asm_place.specs.SectionDefaults.{default_header}
 
--- items go into the section of this number from now on
+-- statements put into the section of this number from now on
 abbrev pub with_current : ℕ → Placed → Placed
 with_current number placed = record placed { current = number; previous = placed.current }
 
@@ -92,7 +92,7 @@ abbrev pub option_trees : Option Tree → List Tree
 option_trees None = []
 option_trees (Some tree) = tree ∷ []
 
--- items go into the section of these words, which is made if it is not there
+-- statements put into the section of these words, which is made if it is not there
 unfoldable pub enter_words : Pos → SectionWords → Placed → Result Placed PlaceCause
 enter_words pos words placed =
     entry_size_in (known_here placed) words.entry_size >>= λ size.
@@ -104,7 +104,7 @@ enter_words pos words placed =
 unfoldable pub place_section : Pos → List SpelledToken → Placed → Result Placed PlaceCause
 place_section pos tokens placed = section_words (operands_of tokens) >>= λ words. enter_words pos words placed
 
--- the section that items go into, and the one before it
+-- the section that statements put into, and the one before it
 abbrev pub entered_now : Placed → Entered
 entered_now placed = record { current = placed.current; previous = placed.previous }
 
@@ -113,7 +113,7 @@ unfoldable pub place_pushed : Pos → List SpelledToken → Placed → Result Pl
 place_pushed pos tokens placed =
     place_section pos tokens placed >>= λ made. Ok (record made { stack = made.stack ++ entered_now placed ∷ [] })
 
--- items go where they went when the entry was pushed
+-- statements put where they put when the entry was pushed
 abbrev pub back_to : Option Entered → Placed → Result Placed PlaceCause
 back_to None placed = Err BadSection
 back_to (Some entered) placed = Ok (record placed {

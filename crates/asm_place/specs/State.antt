@@ -5,16 +5,20 @@ use Rattle.asm_place.specs.declared.place_faults.PlaceCause.TheVariants.{BadSymb
 use Rattle.asm_base.specs.declared.notes.Noted.{Noted}
 use Rattle.asm_base.specs.declared.positions.Pos.{Pos}
 use Rattle.asm_expr.specs.Knowledge.{Knowledge}
+use Rattle.asm_expr.specs.Forms.{Form}
 use Rattle.asm_frags.specs.declared.contents.Content.{Content}
-use Rattle.asm_frags.specs.Sections.{first_sections, pushed}
+use Rattle.asm_frags.specs.declared.faults.FragCause.{FragCause}
+use Rattle.asm_frags.specs.declared.fields.FieldSize.{FieldSize}
+use Rattle.asm_frags.specs.Sections.{first_sections, put_into}
+use Rattle.asm_frags.specs.Writing.{LooseSection, new_item, bytes_put, field_put, item_put}
 use Rattle.asm_symbols.specs.declared.entries.Spot.{Spot}
 use Rattle.asm_place.specs.declared.stacks.Entered.{Entered}
 use Rattle.asm_base.specs.Refusals.{◌>>=◌}
 use Rattle.asm_place.specs.LayerFaults.{of_sections}
 use Rattle.asm_place.specs.Tables.{Table, no_table}
-use Rattle.asm_place.specs.Places.{Item, LooseSection, spot_at, known_at}
+use Rattle.asm_place.specs.Places.{spot_at, known_at}
 
--- the sections with their items, the symbols, the section that items go into and the one before it, those that `.popsection` comes back to
+-- the sections, the symbols, the section that statements put into and the one before it, those that `.popsection` comes back to
 -- with the last one at the end, and the notes; and whether no warning is to be made
 pub record Placed : Type 0 where
   pub sections : List LooseSection
@@ -25,7 +29,7 @@ pub record Placed : Type 0 where
   pub no_warn : Bool
   pub notes : List Noted
 
--- items go into `.text` at first
+-- statements put into `.text` at first
 abbrev pub nothing_placed : Bool → Placed
 nothing_placed no_warn = record {
   sections = first_sections;
@@ -50,7 +54,7 @@ unless_dot false placed = Ok placed
 abbrev pub with_notes : List Noted → Placed → Placed
 with_notes notes placed = record placed { notes = placed.notes ++ (if placed.no_warn then [] else notes) }
 
--- where the next item of the current section goes
+-- where what is put into the current section next goes
 abbrev pub here : Placed → Spot
 here placed = spot_at placed.sections placed.current
 
@@ -58,14 +62,31 @@ here placed = spot_at placed.sections placed.current
 abbrev pub known_here : Placed → Knowledge
 known_here placed = known_at placed.table.symbols (here placed)
 
--- an item of a statement
-abbrev pub item_of : Pos → Content → Item
-item_of pos content = record { pos = pos; content = content; address = tt }
+-- something is put into the section of this number
+abbrev pub put_section : (LooseSection → Result LooseSection FragCause) → ℕ → Placed → Result Placed PlaceCause
+put_section put number placed =
+    of_sections (put_into put placed.sections number) >>= λ sections. Ok (record placed { sections = sections })
 
--- the item last in the section of this number
+-- plain bytes last in the section of this number
+unfoldable pub put_bytes_into : Pos → ℕ → List ℕ → Placed → Result Placed PlaceCause
+put_bytes_into pos number bytes placed = put_section (bytes_put pos bytes) number placed
+
+-- a field last in the section of this number
+unfoldable pub put_field_into : Pos → ℕ → FieldSize → Form → Placed → Result Placed PlaceCause
+put_field_into pos number size form placed = put_section (field_put pos size form) number placed
+
+-- an item last in the section of this number
 unfoldable pub push_into : Pos → ℕ → Content → Placed → Result Placed PlaceCause
-push_into pos number content placed = of_sections (pushed placed.sections number (item_of pos content)) >>= λ sections. Ok (record placed { sections = sections })
+push_into pos number content placed = put_section (item_put (new_item pos content)) number placed
 
--- the item last in the current section
+-- plain bytes last in the current section
+abbrev pub put_bytes : Pos → List ℕ → Placed → Result Placed PlaceCause
+put_bytes pos bytes placed = put_bytes_into pos placed.current bytes placed
+
+-- a field last in the current section
+abbrev pub put_field : Pos → FieldSize → Form → Placed → Result Placed PlaceCause
+put_field pos size form placed = put_field_into pos placed.current size form placed
+
+-- an item last in the current section
 abbrev pub push_item : Pos → Content → Placed → Result Placed PlaceCause
 push_item pos content placed = push_into pos placed.current content placed

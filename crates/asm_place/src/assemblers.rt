@@ -1,4 +1,4 @@
-//! What the statements so far have placed, and the two steps of all: an item more, and a warning more.
+//! What the statements so far have placed, and the steps of all: bytes, a field or an item more, and a warning more.
 
 ghost use Rattle.std.specs.Prelude.{◌≡◌, ◌++◌, OnOk};
 ghost use Rattle.asm_place.specs.DataItems.{cut_notes};
@@ -8,7 +8,8 @@ use crate::places::{View, spot_at};
 use crate::stacks::Entered;
 use crate::tables::SymbolUses;
 use asm_base::{Note, Noted, Notes, Pos};
-use asm_frags::{Content, Frag, FragFault, Sections};
+use asm_expr::Linear;
+use asm_frags::{Content, FieldSize, Frag, FragFault, Sections};
 use asm_symbols::Spot;
 use std::alloc::{AllocError, Global};
 
@@ -18,7 +19,7 @@ pub struct Assembler {
     pub(crate) alloc: Global,
     pub(crate) sections: Sections,
     pub(crate) table: SymbolUses,
-    /// The section that items go into, and the one before it.
+    /// The section that statements put into, and the one before it.
     pub(crate) current: u32,
     pub(crate) previous: u32,
     /// What `.popsection` comes back to, the last at the end.
@@ -27,6 +28,8 @@ pub struct Assembler {
     pub(crate) no_warn: bool,
     /// The warnings so far.
     pub(crate) notes: Notes,
+    /// The bytes of a statement, which are put at once. The room is used again.
+    pub(crate) scratch: Vec<u8>,
 }
 
 /// The parts of what is placed.
@@ -56,7 +59,7 @@ impl Assembler {
     ghost use Rattle.asm_base.specs.declared.refusals.Refusal.TheVariants.{NoMemory};
     ghost use Rattle.asm_base.specs.Refusals.{Gives};
     ghost use Rattle.asm_place.specs.DataItems.{cut_notes};
-    ghost use Rattle.asm_place.specs.State.{nothing_placed, unless_dot, with_notes, here, push_into, push_item};
+    ghost use Rattle.asm_place.specs.State.{nothing_placed, unless_dot, with_notes, here, put_bytes_into, put_bytes, put_field, push_into, push_item};
     ghost use Rattle.asm_place.specs.PlacedBy.{placed_by, PlacesBy};
 
     /// Nothing is placed yet.
@@ -73,6 +76,7 @@ impl Assembler {
             stack: Vec::new(alloc),
             no_warn,
             notes: Notes::new(alloc),
+            scratch: Vec::new(alloc),
         })
     }
 
@@ -95,7 +99,7 @@ impl Assembler {
         }
     }
 
-    /// Where the next item of the current section goes.
+    /// Where what is put into the current section next goes.
     pub(crate) fn here(&self) -> Spot
         ensures { result ≡ here (placed_by self.now) }
     {
@@ -121,6 +125,50 @@ impl Assembler {
             Err(PlaceFault::Fault(PlaceCause::BadSymbolUse))
         } else {
             Ok(())
+        }
+    }
+
+    /// Puts the bytes of the statement last in the section of this number. `BadSection` comes where there is none too.
+    #[tactic(auto, unfolding(crate::specs::State::put_bytes_into))]
+    pub(crate) fn put_scratch_into(&mut self, pos: Pos, number: u32) -> Result<(), PlaceFault>
+        ensures placed { PlacesBy (put_bytes_into pos number self.old.scratch.items)
+            self.old self.new result }
+        ensures kept { self.new.notes ≡ self.old.notes }
+    {
+        if (number as usize) < self.sections.len() {
+            self.sections
+                .push_bytes(number, pos, self.scratch.as_slice())
+                .map_err(FragFault::raise)
+        } else {
+            Err(PlaceFault::Fault(PlaceCause::BadSection))
+        }
+    }
+
+    /// Puts the bytes of the statement last in the current section.
+    pub(crate) fn put_scratch(&mut self, pos: Pos) -> Result<(), PlaceFault>
+        ensures placed { PlacesBy (put_bytes pos self.old.scratch.items) self.old self.new result }
+        ensures kept { self.new.notes ≡ self.old.notes }
+    {
+        self.put_scratch_into(pos, self.current)
+    }
+
+    /// Puts a field last in the current section. `BadSection` comes where there is no section too.
+    #[tactic(auto, unfolding(crate::specs::State::put_field_into))]
+    pub(crate) fn put_field(
+        &mut self,
+        pos: Pos,
+        size: FieldSize,
+        form: Linear,
+    ) -> Result<(), PlaceFault>
+        ensures placed { PlacesBy (put_field pos size form) self.old self.new result }
+        ensures kept { self.new.notes ≡ self.old.notes }
+    {
+        if (self.current as usize) < self.sections.len() {
+            self.sections
+                .push_field(self.current, pos, size, form)
+                .map_err(FragFault::raise)
+        } else {
+            Err(PlaceFault::Fault(PlaceCause::BadSection))
         }
     }
 

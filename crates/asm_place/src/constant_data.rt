@@ -1,9 +1,8 @@
 //! Data of numbers alone: their bytes, without trees, forms or a list of operands.
 
-ghost use Rattle.std.specs.Prelude.{◌≡◌, ◌+◌, ◌≤◌, IfOk, OnOk};
+ghost use Rattle.std.specs.Prelude.{◌≡◌, ◌++◌, ◌≤◌, IfOk, OnOk};
 ghost use Rattle.std.specs.Prelude.{map};
 ghost use Rattle.asm_base.specs.Tokens.{spelled};
-ghost use Rattle.asm_frags.specs.DataOf.{with_bytes};
 ghost use Rattle.asm_frags.specs.Fields.{low_bytes};
 ghost use Rattle.asm_place.specs.ConstantData.{FindsData, cut_of};
 
@@ -11,24 +10,21 @@ use crate::assemblers::Assembler;
 use crate::operands::Operands;
 use crate::place_faults::PlaceFault;
 use asm_base::{Pos, Token};
-use asm_frags::{Content, Data, FieldSize};
+use asm_frags::FieldSize;
 use asm_operands::constant_operand;
-use std::alloc::{AllocError, Global};
+use std::alloc::AllocError;
 
-/// The bytes of numbers, and how many of these do not fit.
-#[derive(Drop)]
-pub(crate) struct ConstantData {
-    data: Data,
-    cut: usize,
-}
-
-/// Puts the bytes of a value last.
+/// Appends the bytes of a value.
 #[tactic(auto, unfolding(asm_frags::specs::Fields::low_bytes))]
-pub(crate) fn put_constant(held: &mut Data, size: FieldSize, value: u64) -> Result<(), AllocError>
-    ensures { OnOk result (held.new ≡ with_bytes held.old (low_bytes size value)) }
+pub(crate) fn append_constant(
+    out: &mut Vec<u8>,
+    size: FieldSize,
+    value: u64,
+) -> Result<(), AllocError>
+    ensures { OnOk result (out.new.items ≡ out.old.items ++ low_bytes size value) }
 {
     let bytes = value.to_le_bytes();
-    held.add_bytes(&bytes[..size.bytes()])
+    out.extend_from_slice(&bytes[..size.bytes()])
 }
 
 /// How many of one value do not fit.
@@ -39,43 +35,55 @@ fn cut_of(size: FieldSize, value: u64) -> usize
     if size.fits(value) { 0 } else { 1 }
 }
 
-/// The data of operands that are all numbers, or none where one of them is anything else.
+/// Makes the bytes of operands that are all numbers, and counts the values that do not fit, or answers none where one of them is
+/// anything else.
 #[tactic(auto, using(crate::proofs::ConstantDataLemmas::loop_end))]
 pub(crate) fn constant_data(
-    alloc: Global,
+    out: &mut Vec<u8>,
     size: FieldSize,
     tokens: &[Token],
-) -> Result<Option<ConstantData>, AllocError>
-    ensures { IfOk result (λ found. FindsData size (map spelled tokens.now) found) }
+) -> Result<Option<usize>, AllocError>
+    ensures { IfOk result (λ found. FindsData size (map spelled tokens.now) out.new.items found) }
 {
-    let mut data = Data::new(alloc);
+    out.clear();
     let mut cut = 0;
     for operand in Operands::new(tokens) {
         match constant_operand(operand) {
             None => return Ok(None),
             Some(value) => {
-                put_constant(&mut data, size, value)?;
+                append_constant(out, size, value)?;
                 cut += cut_of(size, value);
             }
         }
     }
-    Ok(Some(ConstantData { data, cut }))
+    Ok(Some(cut))
 }
 
 impl Assembler {
     ghost use Rattle.asm_base.specs.Refusals.{Gives};
     ghost use Rattle.asm_place.specs.Answers.{KeepsNotes};
-    ghost use Rattle.asm_place.specs.ConstantData.{put_constants};
+    ghost use Rattle.asm_place.specs.ConstantData.{put_any, put_constants};
     ghost use Rattle.asm_place.specs.PlacedBy.{placed_by, PlacesBy};
 
-    /// An item of numbers.
-    pub(crate) fn put_constants(&mut self, pos: Pos, found: ConstantData) -> Result<(), PlaceFault>
-        ensures placed { PlacesBy (put_constants pos found.data found.cut)
+    /// Puts the bytes of the statement last in the current section, where there are any.
+    fn put_any_scratch(&mut self, pos: Pos) -> Result<(), PlaceFault>
+        ensures placed { PlacesBy (put_any pos self.old.scratch.items) self.old self.new result }
+        ensures kept { self.new.notes ≡ self.old.notes }
+    {
+        if self.scratch.is_empty() {
+            Ok(())
+        } else {
+            self.put_scratch(pos)
+        }
+    }
+
+    /// Puts the bytes of numbers, so many of which do not fit.
+    pub(crate) fn put_constants(&mut self, pos: Pos, cut: usize) -> Result<(), PlaceFault>
+        ensures placed { PlacesBy (put_constants pos self.old.scratch.items cut)
             self.old self.new result }
         ensures kept { KeepsNotes result self.old.notes self.new.notes }
     {
-        let ConstantData { data, cut } = found;
-        self.push_item(pos, Content::Bytes(data))?;
+        self.put_any_scratch(pos)?;
         self.warn(pos, cut)?;
         Ok(())
     }

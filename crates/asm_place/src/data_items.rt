@@ -1,24 +1,24 @@
-//! Items of data: the bytes of known values, and fields for the others (GNU as manual, ".byte", ".short", ".long", ".quad").
+//! Data: the bytes of known values, and fields for the others (GNU as manual, ".byte", ".short", ".long", ".quad").
 
-ghost use Rattle.std.specs.Prelude.{◌≡◌, map, IfOk, OnOk};
+ghost use Rattle.std.specs.Prelude.{◌≡◌, map};
 ghost use Rattle.asm_base.specs.Tokens.{spelled};
 ghost use Rattle.asm_base.specs.Refusals.{GivesBy};
 ghost use Rattle.asm_place.specs.KnownIn.{known_in};
 ghost use Rattle.asm_place.specs.Placing.{data_words};
 ghost use Rattle.asm_place.specs.DataWordsIn.{data_words_in};
 ghost use Rattle.std.specs.List.{count_by};
-ghost use Rattle.asm_place.specs.DataItems.{put_form, data_of, is_cut};
+ghost use Rattle.asm_place.specs.DataItems.{is_cut};
 
 use crate::assemblers::Assembler;
-use crate::constant_data::{constant_data, put_constant};
+use crate::constant_data::{append_constant, constant_data};
 use crate::expressions::{expressions, forms};
 use crate::operands::Operands;
 use crate::place_faults::PlaceFault;
 use crate::places::{View, one_keeps_here};
 use asm_base::{Pos, Token};
 use asm_expr::{Expr, Linear};
-use asm_frags::{Content, Data, FieldSize};
-use std::alloc::{AllocError, Global};
+use asm_frags::FieldSize;
+use std::alloc::Global;
 
 /// Whether the value of a form is known and does not fit.
 fn is_cut(size: FieldSize, form: &Linear) -> bool
@@ -32,29 +32,6 @@ fn count_cut(size: FieldSize, forms: &[Linear]) -> usize
     ensures { result ≡ count_by (is_cut size) forms.now }
 {
     forms.iter().filter(|form| is_cut(size, form)).count()
-}
-
-/// Puts a form last: the bytes of a value that is known, or a field.
-fn put_form(held: &mut Data, size: FieldSize, form: Linear) -> Result<(), AllocError>
-    ensures { OnOk result (held.new ≡ put_form size held.old form) }
-{
-    if form.terms().is_empty() {
-        put_constant(held, size, form.constant())
-    } else {
-        held.add_field(size, form)
-    }
-}
-
-/// The item of these forms.
-#[tactic(auto, unfolding(crate::specs::DataItems::data_of))]
-fn data_of(alloc: Global, size: FieldSize, forms: Vec<Linear>) -> Result<Data, AllocError>
-    ensures { IfOk result (λ held. held ≡ data_of size forms.items) }
-{
-    let mut data = Data::new(alloc);
-    for form in forms {
-        put_form(&mut data, size, form)?;
-    }
-    Ok(data)
 }
 
 /// The operands of `.byte` and the others, and their forms.
@@ -80,11 +57,49 @@ impl Assembler {
     ghost use Rattle.asm_base.specs.Tokens.{spelled};
     ghost use Rattle.asm_base.specs.Refusals.{Gives};
     ghost use Rattle.asm_place.specs.Answers.{KeepsNotes};
+    ghost use Rattle.asm_frags.specs.Fields.{low_bytes};
+    ghost use Rattle.asm_place.specs.State.{put_bytes};
+    ghost use Rattle.asm_place.specs.DataItems.{put_form, put_forms};
     ghost use Rattle.asm_place.specs.Placing.{put_data, place_data};
     ghost use Rattle.asm_place.specs.DataWordsIn.{data_words_in};
     ghost use Rattle.asm_place.specs.PlacedBy.{placed_by, PlacesBy};
 
-    /// An item of all values, of which those that are not known are fields.
+    /// Puts the bytes of a value.
+    fn put_constant(&mut self, pos: Pos, size: FieldSize, value: u64) -> Result<(), PlaceFault>
+        ensures placed { PlacesBy (put_bytes pos (low_bytes size value))
+            self.old self.new result }
+        ensures kept { self.new.notes ≡ self.old.notes }
+    {
+        self.scratch.clear();
+        append_constant(&mut self.scratch, size, value)?;
+        self.put_scratch(pos)
+    }
+
+    /// Puts a form: the bytes of a value that is known, or a field.
+    fn put_form(&mut self, pos: Pos, size: FieldSize, form: Linear) -> Result<(), PlaceFault>
+        ensures placed { PlacesBy (put_form pos size form) self.old self.new result }
+        ensures kept { self.new.notes ≡ self.old.notes }
+    {
+        if form.terms().is_empty() {
+            self.put_constant(pos, size, form.constant())
+        } else {
+            self.put_field(pos, size, form)
+        }
+    }
+
+    /// Puts one form after the other.
+    #[tactic(auto, unfolding(crate::specs::DataItems::put_forms, crate::specs::Results::all_steps))]
+    fn put_forms(&mut self, pos: Pos, size: FieldSize, forms: Vec<Linear>) -> Result<(), PlaceFault>
+        ensures placed { PlacesBy (put_forms pos size forms.items) self.old self.new result }
+        ensures kept { self.new.notes ≡ self.old.notes }
+    {
+        for form in forms {
+            self.put_form(pos, size, form)?;
+        }
+        Ok(())
+    }
+
+    /// All values, of which those that are not known are fields.
     #[tactic(auto, unfolding(crate::specs::Placing::put_data))]
     fn put_data(&mut self, pos: Pos, size: FieldSize, words: DataWords) -> Result<(), PlaceFault>
         ensures placed { PlacesBy (put_data pos size (data_words_in words))
@@ -95,8 +110,7 @@ impl Assembler {
         let spot = self.here();
         let keeps = one_keeps_here(spot, &forms);
         let cut = count_cut(size, &forms);
-        let data = data_of(self.alloc, size, forms)?;
-        self.push_item(pos, Content::Bytes(data))?;
+        self.put_forms(pos, size, forms)?;
         self.table.name_parts(self.alloc, pos, spot, keeps, &exprs)?;
         self.warn(pos, cut)?;
         Ok(())
@@ -130,8 +144,8 @@ impl Assembler {
             self.old self.new result }
         ensures kept { KeepsNotes result self.old.notes self.new.notes }
     {
-        match constant_data(self.alloc, size, tokens)? {
-            Some(found) => self.put_constants(pos, found),
+        match constant_data(&mut self.scratch, size, tokens)? {
+            Some(cut) => self.put_constants(pos, cut),
             None => self.place_any_data(pos, size, tokens),
         }
     }

@@ -1,6 +1,6 @@
 //! Texts for `.comment`, and names of source files (GNU as manual, ".ident", ".file").
 
-ghost use Rattle.std.specs.Prelude.{◌≡◌, map, IfOk};
+ghost use Rattle.std.specs.Prelude.{◌≡◌, map, OnOk};
 ghost use Rattle.asm_base.specs.Tokens.{spelled};
 ghost use Rattle.asm_base.specs.Refusals.{GivesBy};
 ghost use Rattle.asm_place.specs.Idents as spec;
@@ -10,7 +10,6 @@ use crate::operands::Operands;
 use crate::place_faults::{PlaceCause, PlaceFault};
 use crate::section_changes::{Header, enter};
 use crate::section_words::needed_string;
-use crate::texts::plain_item;
 use crate::up_to_three::no_more;
 use asm_base::{Pos, Text, Token};
 use asm_expr::Name;
@@ -41,17 +40,17 @@ fn items_in(sections: &Sections, number: u32) -> usize
     }
 }
 
-/// The text and the zero byte behind it; the first one stands behind a zero byte.
-fn comment_bytes(alloc: Global, items: usize, text: &[u8]) -> Result<Vec<u8>, AllocError>
-    ensures { IfOk result (λ bytes. bytes.items ≡ spec.comment_bytes items text.now) }
+/// Makes the text and the zero byte behind it; the first one stands behind a zero byte.
+fn comment_bytes(out: &mut Vec<u8>, items: usize, text: &[u8]) -> Result<(), AllocError>
+    ensures { OnOk result (out.new.items ≡ spec.comment_bytes items text.now) }
 {
-    let mut bytes = Vec::new(alloc);
+    out.clear();
     if items == 0 {
-        bytes.push(0)?;
+        out.push(0)?;
     }
-    bytes.extend_from_slice(text)?;
-    bytes.push(0)?;
-    Ok(bytes)
+    out.extend_from_slice(text)?;
+    out.push(0)?;
+    Ok(())
 }
 
 /// The name, if a string table can hold it.
@@ -86,9 +85,9 @@ impl Assembler {
             entry_size: 1,
         };
         let number = enter(self.alloc, &mut self.sections, b".comment", header)?;
-        let bytes = comment_bytes(self.alloc, items_in(&self.sections, number), &text)?;
-        let item = plain_item(self.alloc, &bytes)?;
-        self.push_into(pos, number, item)
+        let items = items_in(&self.sections, number);
+        comment_bytes(&mut self.scratch, items, &text)?;
+        self.put_scratch_into(pos, number)
     }
 
     /// `.file`: the source file that the linker is told of.

@@ -1,16 +1,14 @@
 //! The instructions that have no operands, as one table, with its look-up by name and its encoder.
 
 ghost use Rattle.std.specs.Prelude.{◌≡◌, ◌++◌, ◌<◌, ◌≤◌, List, ℕ, Bool, Contains, find, length};
-ghost use Rattle.std.specs.Prelude.{option_map, IfOk, OnOk, IsTrue};
+ghost use Rattle.std.specs.Prelude.{option_map, OnOk, IsTrue};
 ghost use Rattle.std.specs.List.{list_all};
 ghost use Rattle.asm_place.specs.Rows.{the_rows, the_row_slots, name_of, has_name, has_whole_name, all_named_apart, bytes_of};
 ghost use Rattle.asm_place.specs.Reads.{Reads, all_apart};
 ghost use Rattle.asm_place.specs.Slots.{row_in};
-ghost use Rattle.asm_frags.specs.DataOf.{no_data, with_bytes};
 
 use crate::slots::slot;
-use asm_frags::Data;
-use std::alloc::{AllocError, Global};
+use std::alloc::AllocError;
 
 /// What an instruction does; several names or encodings may have one mnemonic.
 #[derive(Clone, Copy)]
@@ -201,8 +199,8 @@ const REX_W: u8 = 0x48;
 /// The byte before an opcode of the second map (Intel SDM, volume 2, section 2.1.2).
 const ESCAPE: u8 = 0x0f;
 
-/// Appends the row's bytes. After an `Err` the vector is only dropped.
-pub fn put_instruction(out: &mut Vec<u8>, row: &Row) -> Result<(), AllocError>
+/// Appends the row's bytes.
+pub(crate) fn put_instruction(out: &mut Vec<u8>, row: &Row) -> Result<(), AllocError>
     ensures { OnOk result (out.new.items ≡ out.old.items ++ bytes_of row.now) }
 {
     out.extend_from_slice(row.prefix.as_slice())?;
@@ -210,19 +208,6 @@ pub fn put_instruction(out: &mut Vec<u8>, row: &Row) -> Result<(), AllocError>
     out.extend_from_slice(row.escape.then_some(ESCAPE).as_slice())?;
     out.push(row.opcode)?;
     out.extend_from_slice(row.modrm.as_slice())
-}
-
-/// The row's bytes as the data of an item.
-pub(crate) fn instruction_data(alloc: Global, row: &Row) -> Result<Data, AllocError>
-    ensures { IfOk result (λ held. held ≡ with_bytes no_data (bytes_of row.now)) }
-{
-    let mut data = Data::new(alloc);
-    data.add_bytes(row.prefix.as_slice())?;
-    data.add_bytes(row.wide.then_some(REX_W).as_slice())?;
-    data.add_bytes(row.escape.then_some(ESCAPE).as_slice())?;
-    data.add_bytes(&[row.opcode])?;
-    data.add_bytes(row.modrm.as_slice())?;
-    Ok(data)
 }
 
 /// Each row's name ends where the spaces after it begin.

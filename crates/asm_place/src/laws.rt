@@ -1,25 +1,32 @@
 //! What holds of all that is placed.
 
-ghost use Rattle.std.specs.Prelude.{◌≡◌, ◌∷◌, ◌++◌, List, Some, Ok, Err, false};
+ghost use Rattle.std.specs.Prelude.{◌≡◌, ◌∷◌, ◌++◌, Bool, List, Some, Ok, Err, false};
 ghost use Rattle.asm_base.specs.declared.positions.Pos.{Pos};
 ghost use Rattle.asm_base.specs.Tokens.{SpelledToken};
 ghost use Rattle.asm_lines.specs.NextStatements.{TokenStatement};
 ghost use Rattle.asm_place.specs.declared.instructions.Row.{Row};
 ghost use Rattle.asm_place.specs.Rows.{bytes_of};
-ghost use Rattle.asm_place.specs.State.{Placed, item_of};
-ghost use Rattle.asm_place.specs.Idents.{plain_item};
+ghost use Rattle.asm_place.specs.State.{Placed, nothing_placed};
 ghost use Rattle.asm_place.specs.Placing.{place_tokens};
 ghost use Rattle.asm_place.specs.Sources.{place, place_all};
 ghost use Rattle.asm_lines.specs.Placing.{placed_in_order};
 ghost use Rattle.asm_place.specs.declared.place_faults.FaultAt.{FaultAt};
 ghost use Rattle.asm_place.specs.Faults.{is_file_too_large};
-ghost use Rattle.asm_place.specs.Instructions.{behind_labels, row_written, instruction_of, next_item, Grows, IsPut, StandsAt};
+ghost use Rattle.asm_place.specs.Instructions.{behind_labels, row_written, instruction_of, next_item, next_offset, Grows, AreWithin, IsPut, StandsAt};
 
-/// Placing only adds items.
+/// Placing only adds bytes, fields and items, behind those that are there.
 #[tactic(auto, using(crate::proofs::PlacingLaws::all_grow))]
 pub fn placing_grows()
     ensures { (statements : List TokenStatement) (before placed : Placed)
         → place_all statements before ≡ Ok placed → Grows before.sections placed.sections }
+{}
+
+/// Fields and items stand within the bytes of their section: so it is at the beginning, and placing keeps it so.
+pub fn placing_within()
+    ensures begins { (no_warn : Bool) → AreWithin (nothing_placed no_warn).sections }
+    ensures kept { (statements : List TokenStatement) (before placed : Placed)
+        → place_all statements before ≡ Ok placed → AreWithin before.sections
+        → AreWithin placed.sections }
 {}
 
 /// Statements that are placed as they are handed out are placed in order.
@@ -37,22 +44,23 @@ pub fn placing_is_not_reading()
         → place_all statements before ≡ Err stop → is_file_too_large stop.fault ≡ false }
 {}
 
-/// Where a statement is an instruction, its item is the next one of the current section, alone.
+/// Where a statement is an instruction, its bytes are put last in the current section, and nothing else.
 #[tactic(auto, using(crate::proofs::InstructionLaws::instruction_put))]
 pub fn instruction_stands()
     ensures { (pos : Pos) (tokens : List SpelledToken) (before placed : Placed) (row : Row)
         → row_written (behind_labels tokens) ≡ Some row
         → place_tokens pos tokens before ≡ Ok placed
-        → IsPut before.sections placed.sections before.current
-        (item_of pos (plain_item (bytes_of row))) }
+        → IsPut before.sections placed.sections before.current pos (bytes_of row) }
 {}
 
-/// The item of an instruction stands in what all statements place, as the next one where those before it end.
+/// The bytes of an instruction stand in what all statements place, where those before it end.
 #[tactic(auto, using(crate::proofs::InstructionLaws::instruction_there))]
 pub fn instruction_items()
     ensures { (front : List TokenStatement) (s : TokenStatement) (later : List TokenStatement)
         (before placed whole : Placed) (row : Row)
+        → AreWithin before.sections
         → place_all front before ≡ Ok placed → place_all (front ++ s ∷ later) before ≡ Ok whole
         → instruction_of s ≡ Some row
-        → StandsAt whole.sections placed.current (next_item placed) (bytes_of row) }
+        → StandsAt whole.sections placed.current (next_item placed) (next_offset placed)
+        (bytes_of row) }
 {}

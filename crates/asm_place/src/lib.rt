@@ -35,10 +35,11 @@ pub use directives::{
 };
 pub use instructions::{
     Mnemonic, ROWS, Row, find_row, instruction_length, names_apart, names_are_whole, one_reading,
-    put_instruction, rows, rows_apart, rows_read,
+    rows, rows_apart, rows_read,
 };
 pub use laws::{
     instruction_items, instruction_stands, placing_grows, placing_in_order, placing_is_not_reading,
+    placing_within,
 };
 pub use place_faults::{FaultAt, PlaceCause};
 pub use sources::StatementPlacer;

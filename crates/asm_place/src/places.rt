@@ -1,4 +1,4 @@
-//! Where the next item of a section goes, and what is known of names there.
+//! Where what is put into a section next goes, and what is known of names there.
 
 ghost use Rattle.std.specs.Prelude.{◌≡◌};
 ghost use Rattle.std.specs.List.{list_any};
@@ -9,7 +9,7 @@ use asm_expr::{Known, Linear, Look, Name};
 use asm_frags::Sections;
 use asm_symbols::{Spot, Symbols};
 
-/// Behind the items of the section of this number.
+/// Behind the bytes and items of the section of this number.
 #[tactic(auto, unfolding(crate::specs::Places::spot_at))]
 pub(crate) fn spot_at(sections: &Sections, number: u32) -> Spot
     ensures { result ≡ spot_at sections.now number }
@@ -17,16 +17,19 @@ pub(crate) fn spot_at(sections: &Sections, number: u32) -> Spot
     if (number as usize) < sections.len() {
         let section = sections.section(number);
         let extent = section.extent();
+        let offset = section.bytes().len() as u64;
         Spot {
             section: number,
             item: section.items().len() as u64,
+            offset,
             stretch: number as u64 * (1 << 32) + extent.breaks,
-            at: extent.bytes,
+            at: offset + extent.bytes,
         }
     } else {
         Spot {
             section: number,
             item: 0,
+            offset: 0,
             stretch: 0,
             at: 0,
         }
@@ -40,6 +43,7 @@ pub(crate) fn here_name(spot: Spot) -> Name
     Name::Place {
         section: spot.section,
         item: spot.item,
+        offset: spot.offset,
     }
 }
 
@@ -48,7 +52,11 @@ fn is_here(spot: Spot, name: &Name) -> bool
     ensures { result ≡ is_here spot name.now }
 {
     match name {
-        Name::Place { section, item } => *section == spot.section && *item == spot.item,
+        Name::Place {
+            section,
+            item,
+            offset,
+        } => *section == spot.section && *item == spot.item && *offset == spot.offset,
         _ => false,
     }
 }

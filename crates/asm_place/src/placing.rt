@@ -6,7 +6,7 @@ ghost use Rattle.asm_place.specs.Placing.{initial_number, is_too_wide, has_wide_
 
 use crate::assemblers::Assembler;
 use crate::directives::{Directive, InitialSection, directive_of};
-use crate::instructions::{Row, find_row, instruction_data};
+use crate::instructions::{Row, find_row, put_instruction};
 use crate::operands::{
     begins_assignment, begins_with_dot, begins_with_label, is_dot, is_name, is_number,
     names_symbol, symbol_name,
@@ -15,7 +15,6 @@ use crate::place_faults::{PlaceCause, PlaceFault};
 use crate::tables::SymbolUses;
 use asm_base::{Pos, Text, Token, TokenKind};
 use asm_expr::{Name, decimal_number};
-use asm_frags::Content;
 use asm_symbols::{Definition, SymId};
 use std::alloc::Global;
 
@@ -82,13 +81,12 @@ impl Assembler {
     ghost use Rattle.asm_base.specs.Refusals.{Gives};
     ghost use Rattle.asm_place.specs.Answers.{KeepsNotes};
     ghost use Rattle.asm_place.specs.SectionChanges.{with_current};
-    ghost use Rattle.asm_place.specs.State.{push_item};
-    ghost use Rattle.asm_place.specs.Idents.{plain_item};
+    ghost use Rattle.asm_place.specs.State.{put_bytes};
     ghost use Rattle.asm_place.specs.Rows.{bytes_of};
     ghost use Rattle.asm_place.specs.Placing.{bare, place_by, place_directive, place_instruction, place_body, place_label, place_unlabelled, place_labelled, place_tokens};
     ghost use Rattle.asm_place.specs.PlacedBy.{placed_by, PlacesBy};
 
-    /// A directive that stands alone, and lets items go into the section of this number.
+    /// A directive that stands alone, and lets statements put into the section of this number.
     fn place_change(&mut self, number: u32, tokens: &[Token]) -> Result<(), PlaceFault>
         ensures placed { PlacesBy
             (λ placed. bare (map spelled tokens.now) (Ok (with_current number placed)))
@@ -151,12 +149,12 @@ impl Assembler {
 
     /// An instruction of this row.
     fn put_row(&mut self, pos: Pos, row: &Row) -> Result<(), PlaceFault>
-        ensures placed { PlacesBy (push_item pos (plain_item (bytes_of row.now)))
-            self.old self.new result }
+        ensures placed { PlacesBy (put_bytes pos (bytes_of row.now)) self.old self.new result }
         ensures kept { self.new.notes ≡ self.old.notes }
     {
-        let data = instruction_data(self.alloc, row)?;
-        self.push_item(pos, Content::Bytes(data))
+        self.scratch.clear();
+        put_instruction(&mut self.scratch, row)?;
+        self.put_scratch(pos)
     }
 
     /// An instruction by its name, which takes no operands.
@@ -200,7 +198,7 @@ impl Assembler {
         }
     }
 
-    /// A label, by its token: it stands where the next item goes.
+    /// A label, by its token: it stands where what is put next goes.
     #[tactic(auto, unfolding(crate::specs::Placing::place_label))]
     fn place_label(&mut self, pos: Pos, token: &Token) -> Result<(), PlaceFault>
         ensures placed { PlacesBy (place_label pos (spelled token.now)) self.old self.new result }

@@ -1,4 +1,4 @@
-//! Which section items go into (GNU as manual, ".section", ".pushsection", ".popsection", ".previous").
+//! Which section statements put into (GNU as manual, ".section", ".pushsection", ".popsection", ".previous").
 
 ghost use Rattle.std.specs.Prelude.{◌≡◌, ◌≤◌, ◌^◌, length, map, option_map, option_copied, IfOk, IfSome, Ok};
 ghost use Rattle.asm_expr.specs.Trees.{tree_of};
@@ -191,7 +191,7 @@ impl Assembler {
     ghost use Rattle.asm_place.specs.SectionChanges.{with_current, enter_words, place_section, place_pushed, popped};
     ghost use Rattle.asm_place.specs.PlacedBy.{placed_by, PlacesBy};
 
-    /// Items go into the section of this number from now on.
+    /// Statements put into the section of this number from now on.
     pub(crate) fn set_current(&mut self, number: u32)
         ensures placed { placed_by self.new ≡ with_current number (placed_by self.old) }
         ensures kept { self.new.notes ≡ self.old.notes }
@@ -200,7 +200,7 @@ impl Assembler {
         self.current = number;
     }
 
-    /// Items go into the section of these words.
+    /// Statements put into the section of these words.
     #[tactic(auto, unfolding(crate::specs::SectionChanges::enter_words))]
     fn enter_words(&mut self, pos: Pos, words: SectionWords) -> Result<(), PlaceFault>
         ensures placed { PlacesBy (enter_words pos (words_in words)) self.old self.new result }

@@ -1,16 +1,17 @@
-//! Items of strings (GNU as manual, ".ascii", ".asciz", ".string"), and bytes alone.
+//! Strings (GNU as manual, ".ascii", ".asciz", ".string").
 
-ghost use Rattle.std.specs.Prelude.{◌≡◌, IfOk};
-ghost use Rattle.asm_base.specs.Refusals.{GivesBy};
-ghost use Rattle.asm_place.specs.Operands.{joined_strings, end_byte};
+ghost use Rattle.std.specs.Prelude.{◌≡◌, ◌++◌, map, OnOk};
+ghost use Rattle.asm_base.specs.Refusals.{Gives};
+ghost use Rattle.asm_base.specs.Strings as strings;
+ghost use Rattle.asm_base.specs.Tokens.{spelled};
+ghost use Rattle.asm_place.specs.Operands.{joined_strings, string_of, behind, end_byte};
 ghost use Rattle.asm_place.specs.OperandParts.{operands_left};
-ghost use Rattle.asm_place.specs.Idents.{plain_item};
 
 use crate::assemblers::Assembler;
-use crate::operands::{Operands, string_of};
-use crate::place_faults::PlaceFault;
-use asm_base::{Pos, Token};
-use asm_frags::{Content, Data};
+use crate::operands::Operands;
+use crate::place_faults::{PlaceCause, PlaceFault};
+use asm_base::{Pos, Token, TokenKind, string_value};
+use asm_expr::between_quotes;
 use std::alloc::{AllocError, Global};
 
 /// The zero byte that ends a string, where it is asked for.
@@ -20,28 +21,49 @@ fn end_byte(ended: bool) -> &'static [u8]
     if ended { &[0] } else { &[] }
 }
 
-/// The bytes that the strings of operands stand for, one after the other.
-#[tactic(auto, unfolding(crate::specs::Operands::joined_strings, crate::specs::Operands::behind))]
-fn joined_strings(alloc: Global, ended: bool, operands: Operands) -> Result<Vec<u8>, PlaceFault>
-    ensures { GivesBy (λ bytes. bytes.items) result
-        (joined_strings ended (operands_left operands.entry)) }
+/// Appends what the bytes between quotes stand for, which is themselves where no backslash is among them.
+#[tactic(auto, using(crate::proofs::PlainStrings::plain_value))]
+fn append_value(alloc: Global, out: &mut Vec<u8>, inner: &[u8]) -> Result<(), AllocError>
+    ensures { OnOk result (out.new.items ≡ out.old.items ++ strings.string_value inner.now) }
 {
-    let mut bytes = Vec::new(alloc);
-    for operand in operands {
-        let string = string_of(alloc, operand)?;
-        bytes.extend_from_slice(&string)?;
-        bytes.extend_from_slice(end_byte(ended))?;
+    if inner.contains(&b'\\') {
+        out.extend_from_slice(&string_value(alloc, inner)?)
+    } else {
+        out.extend_from_slice(inner)
     }
-    Ok(bytes)
 }
 
-/// An item of bytes alone.
-pub(crate) fn plain_item(alloc: Global, bytes: &[u8]) -> Result<Content, AllocError>
-    ensures { IfOk result (λ item. item ≡ plain_item bytes.now) }
+/// Appends what the string that an operand is stands for.
+#[tactic(auto, unfolding(crate::specs::Operands::string_of, crate::specs::Operands::behind))]
+fn append_string(alloc: Global, out: &mut Vec<u8>, operand: &[Token]) -> Result<(), PlaceFault>
+    ensures { Gives out.new.items result
+        (behind out.old.items (string_of (map spelled operand.now))) }
 {
-    let mut data = Data::new(alloc);
-    data.add_bytes(bytes)?;
-    Ok(Content::Bytes(data))
+    match operand {
+        [token] if token.kind == TokenKind::String => {
+            append_value(alloc, out, between_quotes(token.bytes))?;
+            Ok(())
+        }
+        _ => Err(PlaceFault::Fault(PlaceCause::BadOperand)),
+    }
+}
+
+/// Makes the bytes that the strings of operands stand for, one after the other.
+#[tactic(auto, unfolding(crate::specs::Operands::joined_strings, crate::specs::Operands::behind))]
+fn joined_strings(
+    alloc: Global,
+    out: &mut Vec<u8>,
+    ended: bool,
+    operands: Operands,
+) -> Result<(), PlaceFault>
+    ensures { Gives out.new.items result (joined_strings ended (operands_left operands.entry)) }
+{
+    out.clear();
+    for operand in operands {
+        append_string(alloc, out, operand)?;
+        out.extend_from_slice(end_byte(ended))?;
+    }
+    Ok(())
 }
 
 impl Assembler {
@@ -63,8 +85,7 @@ impl Assembler {
             self.old self.new result }
         ensures kept { self.new.notes ≡ self.old.notes }
     {
-        let bytes = joined_strings(self.alloc, ended, Operands::new(tokens))?;
-        let item = plain_item(self.alloc, &bytes)?;
-        self.push_item(pos, item)
+        joined_strings(self.alloc, &mut self.scratch, ended, Operands::new(tokens))?;
+        self.put_scratch(pos)
     }
 }

@@ -5,4 +5,5 @@ pub mod PlacingLemmas
 pub mod FirstLemmas
 pub mod SettlingLemmas
 pub mod LawLemmas
+pub mod StretchLemmas
 pub mod OneRanking

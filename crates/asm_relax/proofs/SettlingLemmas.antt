@@ -3,7 +3,7 @@ use Rattle.std.proofs.Common.{◌≡◌, ℕ, zero, suc, ◌+◌, List, [], ◌�
 use Rattle.std.specs.Prelude.{slice_index_or}
 use Rattle.asm_symbols.specs.SymbolMap.{SymbolMap}
 use Rattle.asm_frags.specs.declared.contents.Content.{Content}
-use Rattle.asm_frags.specs.declared.contents.Content.TheVariants.{Bytes, Fill, Align}
+use Rattle.asm_frags.specs.declared.contents.Content.TheVariants.{Run, Fill, Align}
 use Rattle.asm_frags.specs.declared.items.Frag.{Frag}
 use Rattle.asm_frags.specs.Contents.{size_at}
 use Rattle.asm_frags.specs.SectionOf.{SectionOf}
@@ -14,17 +14,17 @@ use Rattle.asm_relax.specs.Placing.{placed_from, placed_section}
 use Rattle.asm_relax.specs.Settling.{LaidSections, settled_sections, IsLaidOut}
 
 one_size : (content : Content) (level at : ℕ) → size_with content level at ≡ size_at content at
-one_size (Bytes held) level at = refl
+one_size Run level at = refl
 one_size (Fill held) level at = refl
 one_size (Align held) level at = refl
 
-placed_items : {P : Type 0} (levels : List ℕ) (at : ℕ) (items : List (Frag P ℕ)) → placed_from at items ≡ laid_from levels at items
+placed_items : {P : Type 0} (levels : List ℕ) (shift : ℕ) (items : List (Frag P ℕ)) → placed_from shift items ≡ laid_from levels shift items
 unfolding placed_from laid_from
-placed_items levels at [] = refl
-placed_items {P} levels at (item ∷ items) =
-    let same = one_size item.content (slice_index_or levels 0 0) at in
-    ap (λ (rest : List (Frag P ℕ)). item_with_address at item ∷ rest)
-    (rw same (placed_items (drop 1 levels) (at + size_at item.content at) items))
+placed_items levels shift [] = refl
+placed_items {P} levels shift (item ∷ items) =
+    let same = one_size item.content (slice_index_or levels 0 0) (item.offset + shift) in
+    ap (λ (rest : List (Frag P ℕ)). item_with_address (item.offset + shift) item ∷ rest)
+    (rw same (placed_items (drop 1 levels) (shift + size_at item.content (item.offset + shift)) items))
 
 placed_out : {P : Type 0} (levels : List ℕ) (sections : List (SectionOf (Frag P ℕ))) → map placed_section sections ≡ laid_out levels sections
 unfolding laid_out
@@ -53,7 +53,7 @@ one_level (item ∷ items) =
     rw (← first, later)
   where
     none_above : (content : Content) → 0 ≡ top content
-    none_above (Bytes held) = refl
+    none_above Run = refl
     none_above (Fill held) = refl
     none_above (Align held) = refl
 

@@ -1,5 +1,5 @@
 -- The meaning of names and the values of forms at the addresses of a layout.
-use Rattle.std.specs.Prelude.{ℕ, ◌+◌, ◌-◌, List, length, Option, None, Some, slice_get}
+use Rattle.std.specs.Prelude.{ℕ, ◌+◌, ◌-◌, ◌^◌, ◌==◌, List, length, Option, None, Some, slice_get, if◌then◌else◌}
 use Rattle.std.specs.Option.{option_map_or}
 use Rattle.asm_expr.specs.declared.naming.Name.{Name}
 use Rattle.asm_expr.specs.Forms.{Form, wrapped}
@@ -14,25 +14,29 @@ use Rattle.asm_frags.specs.Contents.{size_at}
 use Rattle.asm_frags.specs.SectionOf.{SectionOf}
 use Rattle.asm_relax.specs.Expanding.{expanded}
 
--- the address behind the item
-abbrev pub item_end : {P : Type 0} → Frag P ℕ → ℕ
-item_end item = wrapped (item.address + size_at item.content item.address)
+-- how far the plain bytes behind the item are moved by the items up to it
+abbrev pub shift_behind : {P : Type 0} → Frag P ℕ → ℕ
+shift_behind item = wrapped (wrapped (item.address + size_at item.content item.address) + (2 ^ 64 - item.offset))
 
--- `sh_size`: the address behind the last item
-unfoldable pub items_size : {P : Type 0} → List (Frag P ℕ) → ℕ
-items_size items = option_map_or item_end (slice_get items (length items - 1)) 0
+-- how far the plain bytes behind so many items are moved
+unfoldable pub shift_in : {P : Type 0} → List (Frag P ℕ) → ℕ → ℕ
+shift_in items before = if before == 0 then 0 else option_map_or shift_behind (slice_get items (before - 1)) 0
 
--- the address of the item at this index; behind the last item stands the section's end
-unfoldable pub address_in : {P : Type 0} → List (Frag P ℕ) → ℕ → ℕ
-address_in items index = option_map_or (λ item. item.address) (slice_get items index) (items_size items)
+-- the address of a place: so many items and so many plain bytes stand before it
+abbrev pub address_in : {P : Type 0} → List (Frag P ℕ) → ℕ → ℕ → ℕ
+address_in items item offset = wrapped (offset + shift_in items item)
 
--- the address of the item at this index of a section, and 0 where there is no such section
-unfoldable pub address_of : {P : Type 0} → List (SectionOf (Frag P ℕ)) → ℕ → ℕ → ℕ
-address_of sections section item = option_map_or (λ found. address_in found.items item) (slice_get sections section) 0
+-- `sh_size`: the address behind all plain bytes and items
+unfoldable pub section_size : {P : Type 0} → SectionOf (Frag P ℕ) → ℕ
+section_size section = address_in section.items (length section.items) (length section.bytes)
+
+-- the address of a place of a section, and 0 where there is no such section
+unfoldable pub address_of : {P : Type 0} → List (SectionOf (Frag P ℕ)) → ℕ → ℕ → ℕ → ℕ
+address_of sections section item offset = option_map_or (λ found. address_in found.items item offset) (slice_get sections section) 0
 
 -- a place is known as a label of its section at its address
 abbrev pub spot_told : {P : Type 0} → List (SectionOf (Frag P ℕ)) → Spot → Told
-spot_told sections spot = label spot.section (address_of sections spot.section spot.item)
+spot_told sections spot = label spot.section (address_of sections spot.section spot.item spot.offset)
 
 -- labels and space of this object are known by their places, and other symbols are not known
 abbrev pub final_meaning : {P : Type 0} → List (SectionOf (Frag P ℕ)) → Meaning → Told

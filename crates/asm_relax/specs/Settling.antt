@@ -1,10 +1,10 @@
 -- From the sections of a source to their layout.
 use Rattle.std.specs.Prelude.{◌≡◌, ℕ, List, Option, None, Some, Result, Ok, Err}
 use Rattle.asm_symbols.specs.SymbolMap.{SymbolMap}
-use Rattle.asm_frags.specs.declared.phases.Loose.{Loose}
 use Rattle.asm_frags.specs.declared.phases.Laid.{Laid}
 use Rattle.asm_frags.specs.declared.items.Frag.{Frag}
 use Rattle.asm_frags.specs.SectionOf.{SectionOf}
+use Rattle.asm_frags.specs.Writing.{LooseSection}
 use Rattle.asm_frags.specs.Substituting.{laid_sections}
 use Rattle.asm_relax.specs.declared.faults.LayoutFault.{LayoutFault}
 use Rattle.asm_relax.specs.Expanding.{expanded}
@@ -14,7 +14,7 @@ use Rattle.asm_relax.specs.RangeChecks.{first_fault}
 
 -- the sections of a source
 abbrev pub LooseSections : Type 0
-LooseSections = List (SectionOf (Frag Loose (Unit {0})))
+LooseSections = List LooseSection
 
 -- an item with an address
 abbrev pub LaidItem : Type 0

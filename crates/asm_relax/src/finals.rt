@@ -25,7 +25,7 @@ fn spot_look<'a>(sections: &Sections<Laid>, spot: &Spot) -> Look<'a>
 {
     Look::Label {
         stretch: u64::from(spot.section),
-        at: address_of(sections, spot.section, spot.item),
+        at: address_of(sections, spot.section, spot.item, spot.offset),
     }
 }
 
@@ -47,7 +47,7 @@ impl Known for FinalView<'_> {
 
     ghost counted = { λ _ _. 0 };
 
-    ghost place = { λ _. Place 0 0 };
+    ghost place = { λ _. Place 0 0 0 };
 
     #[tactic(auto, unfolding(crate::specs::Final::final_told))]
     fn look(&self, name: &Name) -> Look<'_> {
@@ -65,6 +65,7 @@ impl Known for FinalView<'_> {
         Name::Place {
             section: 0,
             item: 0,
+            offset: 0,
         }
     }
 }

@@ -1,12 +1,13 @@
 //! What holds of every layout.
 
-ghost use Rattle.std.specs.Prelude.{◌≡◌, ℕ, List, length, map, option_map, slice_get};
+ghost use Rattle.std.specs.Prelude.{◌≡◌, ℕ, ◌+◌, ◌<◌, ◌≤◌, ◌^◌, ◌++◌, List, All, length, map, option_map, slice_get};
 ghost use Rattle.asm_expr.specs.Forms.{wrapped};
 ghost use Rattle.asm_frags.specs.Addresses.{item_with_address};
-ghost use Rattle.asm_relax.specs.Final.{items_size};
-ghost use Rattle.asm_relax.specs.Layout.{laid_from, laid_out, without_addresses, IsInRow};
+ghost use Rattle.asm_frags.specs.KnownExtents.{extent_of};
+ghost use Rattle.asm_relax.specs.Final.{shift_in};
+ghost use Rattle.asm_relax.specs.Layout.{laid_from, shift_with, laid_out, without_addresses, IsInRow};
 ghost use Rattle.asm_relax.specs.Ranks.{Ranks, IsRanking};
-ghost use Rattle.asm_relax.specs.Placing.{placed_from, placed_section, address_behind};
+ghost use Rattle.asm_relax.specs.Placing.{placed_from, placed_section, shift_of};
 ghost use Rattle.asm_relax.specs.Settling.{LaidItem, LaidSections, settled_sections};
 
 /// The items of a section stand one behind the other, from address 0 on.
@@ -29,14 +30,33 @@ pub fn settled_is_placed()
     ensures { (sections : LaidSections) → settled_sections sections ≡ map placed_section sections }
 {}
 
-/// The address of an item is the sum of the sizes before it, and the size of a section that of all.
-#[tactic(auto, using(crate::proofs::LawLemmas::placed_get, crate::proofs::LawLemmas::placed_length, crate::proofs::LawLemmas::placed_size))]
+/// A place is moved by the sum of the sizes of the items before it, and so is the end of a section
+/// by that of all.
+#[tactic(auto, using(crate::proofs::LawLemmas::placed_get, crate::proofs::LawLemmas::placed_length, crate::proofs::LawLemmas::placed_shift))]
 pub fn sizes_add_up()
-    ensures item { (items : List LaidItem) (index : ℕ) → slice_get (placed_from 0 items) index
-        ≡ option_map (item_with_address (address_behind index 0 items)) (slice_get items index) }
+    ensures item { (items : List LaidItem) (index : ℕ)
+        → slice_get (placed_from 0 items) index
+        ≡ option_map (λ item. item_with_address (item.offset + shift_of index 0 items) item)
+        (slice_get items index) }
     ensures length { (items : List LaidItem) → length (placed_from 0 items) ≡ length items }
-    ensures size { (items : List LaidItem)
-        → items_size (placed_from 0 items) ≡ wrapped (address_behind (length items) 0 items) }
+    ensures shift { (items : List LaidItem) (before : ℕ) → before ≤ length items
+        → All (λ item. item.offset < 2 ^ 64) items
+        → shift_in (placed_from 0 items) before ≡ wrapped (shift_of before 0 items) }
+{}
+
+/// Two places of a section with as many breaks before them are as far apart in every layout as is
+/// known before it: the items between them move the second one by the bytes of their known extent.
+#[tactic(auto, using(crate::proofs::StretchLemmas::laid_get, crate::proofs::StretchLemmas::stretch_keeps_distance))]
+pub fn stretches_keep_distance()
+    ensures item { (levels : List ℕ) (items : List LaidItem) (index : ℕ)
+        → slice_get (laid_from levels 0 items) index
+        ≡ option_map (λ item. item_with_address (item.offset + shift_with levels index 0 items) item)
+        (slice_get items index) }
+    ensures distance { (levels : List ℕ) (before more : List LaidItem)
+        → (extent_of (before ++ more)).breaks ≡ (extent_of before).breaks
+        → shift_with levels (length (before ++ more)) 0 (before ++ more) + (extent_of before).bytes
+        ≡ shift_with levels (length before) 0 (before ++ more)
+        + (extent_of (before ++ more)).bytes }
 {}
 
 /// There is only one ranking: which items grow, and in which rounds, follows from what they need.

@@ -1,47 +1,59 @@
-//! The addresses of items, and the sizes of sections.
+//! The addresses of places, and the sizes of sections.
 
-ghost use Rattle.std.specs.Prelude.{◌≡◌};
-ghost use Rattle.asm_relax.specs.Final.{item_end, items_size, address_in, address_of};
+ghost use Rattle.std.specs.Prelude.{◌≡◌, length};
+ghost use Rattle.asm_relax.specs.Final as spec;
 
 use asm_frags::{Frag, Laid, Section, Sections, size};
 
-/// The address behind the item.
-pub(crate) fn item_end(item: &Frag<Laid>) -> u64
-    ensures { result ≡ item_end item.now }
+/// How far the plain bytes behind the item are moved by the items up to it.
+fn shift_behind(item: &Frag<Laid>) -> u64
+    ensures { result ≡ spec.shift_behind item.now }
 {
-    item.address.wrapping_add(size(&item.content, item.address))
+    item.address
+        .wrapping_add(size(&item.content, item.address))
+        .wrapping_sub(item.offset as u64)
 }
 
-/// `sh_size`: the address behind the last item.
-#[tactic(auto, unfolding(crate::specs::Final::items_size))]
+/// How far the plain bytes behind so many items are moved.
+#[tactic(auto, unfolding(crate::specs::Final::shift_in))]
+fn shift_in(items: &[Frag<Laid>], before: u64) -> u64
+    ensures { result ≡ spec.shift_in items.now before }
+{
+    if before == 0 {
+        return 0;
+    }
+    match items.get(before as usize - 1) {
+        Some(item) => shift_behind(item),
+        None => 0,
+    }
+}
+
+/// The address of a place: so many items and so many plain bytes stand before it.
+pub fn address_in(section: &Section<Laid>, item: u64, offset: u64) -> u64
+    ensures { result ≡ spec.address_in section.now.items item offset }
+{
+    offset.wrapping_add(shift_in(section.items(), item))
+}
+
+/// `sh_size`: the address behind all plain bytes and items.
+#[tactic(auto, unfolding(crate::specs::Final::section_size))]
 pub fn section_size(section: &Section<Laid>) -> u64
-    ensures { result ≡ items_size section.now.items }
+    ensures { result ≡ spec.section_size section.now }
 {
-    match section.items() {
-        [] => 0,
-        [.., last] => item_end(last),
-    }
+    address_in(
+        section,
+        section.items().len() as u64,
+        section.bytes().len() as u64,
+    )
 }
 
-/// The address of the item at this index, and behind the last item the section's end.
-#[tactic(auto, unfolding(crate::specs::Final::address_in))]
-fn address_in(section: &Section<Laid>, item: u64) -> u64
-    ensures { result ≡ address_in section.now.items item }
-{
-    match section.items().get(item as usize) {
-        Some(found) => found.address,
-        None => section_size(section),
-    }
-}
-
-/// The address of the item at this index of a section, and behind the last item the section's end. It is 0 where there
-/// is no such section.
+/// The address of a place of a section. It is 0 where there is no such section.
 #[tactic(auto, unfolding(crate::specs::Final::address_of))]
-pub fn address_of(sections: &Sections<Laid>, section: u32, item: u64) -> u64
-    ensures { result ≡ address_of sections.now section item }
+pub fn address_of(sections: &Sections<Laid>, section: u32, item: u64, offset: u64) -> u64
+    ensures { result ≡ spec.address_of sections.now section item offset }
 {
     if (section as usize) < sections.len() {
-        address_in(sections.section(section), item)
+        address_in(sections.section(section), item, offset)
     } else {
         0
     }

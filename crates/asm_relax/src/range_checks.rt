@@ -1,17 +1,14 @@
 //! The range checks of a layout: sections that are too large, and then fields that do not hold their values.
 
 ghost use Rattle.std.specs.Prelude.{◌≡◌, ◌<◌, ◌≤◌, option_map};
-ghost use Rattle.std.specs.List.{find};
-ghost use Rattle.asm_frags.specs.Contents.{fields_of};
-ghost use Rattle.asm_relax.specs.Final.{item_end};
+ghost use Rattle.std.specs.List.{position_or_len};
 ghost use Rattle.asm_relax.specs.Faults.{first_of};
-ghost use Rattle.asm_relax.specs.RangeChecks.{is_large, ends_large, large_section, misfit, field_misfit, item_misfit, section_misfit, first_fault};
+ghost use Rattle.asm_relax.specs.RangeChecks.{is_large, begins_late, first_large, large_section, misfit, field_misfit, section_misfit, first_fault};
 
 use crate::faults::LayoutFault;
 use crate::finals::laid_value;
-use crate::places::{item_end, section_size};
-use asm_base::Pos;
-use asm_frags::{Content, Field, Frag, Laid, Section, Sections};
+use crate::places::section_size;
+use asm_frags::{Field, Frag, Laid, Section, Sections};
 use asm_symbols::Symbols;
 
 /// The most bytes of a section.
@@ -24,11 +21,24 @@ fn is_large(end: u64) -> bool
     end > MOST_BYTES
 }
 
-/// The first item that ends past the most bytes of a section.
-fn first_large_item(items: &[Frag<Laid>]) -> Option<&Frag<Laid>>
-    ensures { option_map (λ item. item.now) result ≡ find ends_large items.now }
+/// How many items begin before the first one that begins behind more than the most bytes.
+fn begun_early(items: &[Frag<Laid>]) -> usize
+    ensures { result ≡ position_or_len begins_late items.now }
 {
-    items.iter().find(|item| is_large(item_end(item)))
+    for (index, item) in items.iter().enumerate() {
+        if is_large(item.address) {
+            return index;
+        }
+    }
+    items.len()
+}
+
+/// The item that ends, with its plain bytes, past the most bytes of a section: the one before the
+/// first that begins late, or the last one where none does.
+fn first_large(items: &[Frag<Laid>]) -> Option<&Frag<Laid>>
+    ensures { option_map (λ item. item.now) result ≡ first_large items.now }
+{
+    items.get(begun_early(items).saturating_sub(1))
 }
 
 /// The fault of a section that is too large, at the first item that ends past the most bytes.
@@ -39,7 +49,7 @@ fn large_section(section: &Section<Laid>) -> Option<LayoutFault>
     if !is_large(size) {
         return None;
     }
-    match first_large_item(section.items()) {
+    match first_large(section.items()) {
         Some(first) => Some(LayoutFault::SectionTooLarge {
             pos: first.pos,
             size,
@@ -62,48 +72,17 @@ fn first_large_section(sections: &[Section<Laid>]) -> Option<LayoutFault>
 }
 
 /// The fault of a field that has a value and does not hold it.
-fn field_misfit(
-    symbols: &Symbols,
-    sections: &Sections<Laid>,
-    pos: Pos,
-    field: &Field,
-) -> Option<LayoutFault>
-    ensures { result ≡ field_misfit symbols.now sections.now pos field.now }
+fn field_misfit(symbols: &Symbols, sections: &Sections<Laid>, field: &Field) -> Option<LayoutFault>
+    ensures { result ≡ field_misfit symbols.now sections.now field.now }
 {
     let distance = laid_value(symbols, sections, &field.form)?;
     if field.size.fits(distance) {
         return None;
     }
-    Some(LayoutFault::DistanceOutOfRange { pos, distance })
-}
-
-/// The fields of an item.
-fn fields_of(content: &Content) -> &[Field]
-    ensures { result.now ≡ fields_of content.now }
-{
-    match content {
-        Content::Bytes(held) => held.fields(),
-        Content::Fill(_) => &[],
-        Content::Align(_) => &[],
-    }
-}
-
-/// The fault of the first field of an item that does not hold its value.
-fn item_misfit(
-    symbols: &Symbols,
-    sections: &Sections<Laid>,
-    item: &Frag<Laid>,
-) -> Option<LayoutFault>
-    ensures { result ≡ item_misfit symbols.now sections.now item.now }
-{
-    let fields = fields_of(&item.content);
-    for field in fields {
-        let found = field_misfit(symbols, sections, item.pos, field);
-        if found.is_some() {
-            return found;
-        }
-    }
-    None
+    Some(LayoutFault::DistanceOutOfRange {
+        pos: field.pos,
+        distance,
+    })
 }
 
 /// The fault of the first field of a section that does not hold its value.
@@ -114,9 +93,9 @@ fn section_misfit(
 ) -> Option<LayoutFault>
     ensures { result ≡ section_misfit symbols.now sections.now section.now }
 {
-    let items = section.items();
-    for item in items {
-        let found = item_misfit(symbols, sections, item);
+    let fields = section.fields();
+    for field in fields {
+        let found = field_misfit(symbols, sections, field);
         if found.is_some() {
             return found;
         }

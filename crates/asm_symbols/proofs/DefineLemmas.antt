@@ -49,7 +49,7 @@ module _ (symbols : List Symbol) (at : ℕ) (old : Symbol) (there : slice_get sy
   counted_by (naming.Numeric number instance) (definition.Common size align) counts name sound = sound
   counted_by (naming.Numeric number instance) (definition.Space spot) counts name sound = sound
   counted_by (naming.Plain text) what counts name sound = sound
-  counted_by (naming.Place section item) what counts name sound = sound
+  counted_by (naming.Place section item offset) what counts name sound = sound
 
   -- what is no label is defined
   pub IsSound-defined : (what : Definition) (index : IndexedNames) (files : List Name) (counts : List (ℕ × ℕ)) (bytes : ℕ) → means_label old.meaning ≡ false

@@ -58,13 +58,13 @@ pub place_of-with_place : (index : IndexedNames) (name other : Name) (place : �
     → place_of (with_place index name place) other ≡ cond (same_name other name) (Some place) (place_of index other)
 place_of-with_place index (naming.Plain text) (naming.Plain others) place = lookup-insert bytes_eq same_bytes own_bytes index.texts text others place
 place_of-with_place index (naming.Plain text) (naming.Numeric c d) place = refl
-place_of-with_place index (naming.Plain text) (naming.Place c d) place = refl
+place_of-with_place index (naming.Plain text) (naming.Place c d p) place = refl
 place_of-with_place index (naming.Numeric a b) (naming.Plain others) place = refl
 place_of-with_place index (naming.Numeric a b) (naming.Numeric c d) place = lookup-insert numbered_eq same_numbered own_numbered index.numbered (Numeric a b) (Numeric c d) place
-place_of-with_place index (naming.Numeric a b) (naming.Place c d) place = lookup-insert numbered_eq same_numbered own_numbered index.numbered (Numeric a b) (Place c d) place
-place_of-with_place index (naming.Place a b) (naming.Plain others) place = refl
-place_of-with_place index (naming.Place a b) (naming.Numeric c d) place = lookup-insert numbered_eq same_numbered own_numbered index.numbered (Place a b) (Numeric c d) place
-place_of-with_place index (naming.Place a b) (naming.Place c d) place = lookup-insert numbered_eq same_numbered own_numbered index.numbered (Place a b) (Place c d) place
+place_of-with_place index (naming.Numeric a b) (naming.Place c d p) place = lookup-insert numbered_eq same_numbered own_numbered index.numbered (Numeric a b) (Place c d p) place
+place_of-with_place index (naming.Place a b o) (naming.Plain others) place = refl
+place_of-with_place index (naming.Place a b o) (naming.Numeric c d) place = lookup-insert numbered_eq same_numbered own_numbered index.numbered (Place a b o) (Numeric c d) place
+place_of-with_place index (naming.Place a b o) (naming.Place c d p) place = lookup-insert numbered_eq same_numbered own_numbered index.numbered (Place a b o) (Place c d p) place
 
 none_behind : (o : Option ℕ) → option_map (λ i. i + 1) o ≡ None → o ≡ None
 none_behind None is = refl

@@ -24,7 +24,7 @@ abbrev first_instance : Name
 first_instance = naming.Numeric 7 1
 
 abbrev spot : Spot
-spot = record { section = 1; item = 2; stretch = 3; at = 4 }
+spot = record { section = 1; item = 2; offset = 5; stretch = 3; at = 4 }
 
 -- the map with one symbol
 abbrev one : Name → SymbolMap

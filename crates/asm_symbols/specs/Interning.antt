@@ -12,7 +12,7 @@ use Rattle.asm_symbols.specs.SymbolMap.{SymbolMap, names, index_of}
 abbrev pub name_size : Name → ℕ
 name_size (naming.Plain text) = length text + 1
 name_size (naming.Numeric number instance) = 0
-name_size (naming.Place section item) = 0
+name_size (naming.Place section item offset) = 0
 
 -- the bytes that all names take
 abbrev pub names_size : SymbolMap → ℕ

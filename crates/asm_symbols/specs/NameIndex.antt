@@ -29,17 +29,17 @@ plain_entries entries = map plain_entry entries
 -- both are one name
 abbrev pub numbered_eq : Numbered → Numbered → Bool
 numbered_eq (Numeric number instance) (Numeric others last) = number == others && instance == last
-numbered_eq (Place section item) (Place others last) = section == others && item == last
+numbered_eq (Place section item offset) (Place others last bytes) = section == others && item == last && offset == bytes
 numbered_eq _ _ = false
 
 -- where the name stands
 abbrev pub place_of : IndexedNames → Name → Option ℕ
 place_of index (naming.Plain text) = lookup (bytes_eq text) index.texts
 place_of index (naming.Numeric number instance) = lookup (numbered_eq (Numeric number instance)) index.numbered
-place_of index (naming.Place section item) = lookup (numbered_eq (Place section item)) index.numbered
+place_of index (naming.Place section item offset) = lookup (numbered_eq (Place section item offset)) index.numbered
 
 -- the name stands here
 abbrev pub with_place : IndexedNames → Name → ℕ → IndexedNames
 with_place index (naming.Plain text) place = record index { texts = insert_entry bytes_eq index.texts text place }
 with_place index (naming.Numeric number instance) place = record index { numbered = insert_entry numbered_eq index.numbered (Numeric number instance) place }
-with_place index (naming.Place section item) place = record index { numbered = insert_entry numbered_eq index.numbered (Place section item) place }
+with_place index (naming.Place section item offset) place = record index { numbered = insert_entry numbered_eq index.numbered (Place section item offset) place }

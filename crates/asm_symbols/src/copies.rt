@@ -16,9 +16,14 @@ pub(crate) fn copied_name(alloc: Global, name: &Name) -> Result<Name, AllocError
             number: *number,
             instance: *instance,
         }),
-        Name::Place { section, item } => Ok(Name::Place {
+        Name::Place {
+            section,
+            item,
+            offset,
+        } => Ok(Name::Place {
             section: *section,
             item: *item,
+            offset: *offset,
         }),
     }
 }

@@ -2,12 +2,13 @@
 
 use asm_expr::{Linear, Name};
 
-/// The place of a label: an item of a section, the stretch that it stands in, and its distance
-/// from the beginning of the stretch.
+/// The place of a label: its section, how many items and how many plain bytes stand before it, the
+/// stretch that it stands in, and its distance from the beginning of the stretch.
 #[derive(Clone, Copy, PartialEq, Eq, Debug)]
 pub struct Spot {
     pub section: u32,
     pub item: u64,
+    pub offset: u64,
     pub stretch: u64,
     pub at: u64,
 }

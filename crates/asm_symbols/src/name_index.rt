@@ -10,9 +10,16 @@ use std::marker::Model;
 #[derive(Clone, Copy, PartialEq, Eq, Hash, Debug)]
 pub(crate) enum Numbered {
     /// An instance of a numeric label.
-    Numeric { number: u64, instance: u32 },
-    /// An item of a section.
-    Place { section: u32, item: u64 },
+    Numeric {
+        number: u64,
+        instance: u32,
+    },
+    /// A place of a section: so many items and so many plain bytes stand before it.
+    Place {
+        section: u32,
+        item: u64,
+        offset: u64,
+    },
 }
 
 /// Where each name stands.
@@ -61,11 +68,16 @@ impl NameIndex {
                     instance: *instance,
                 })
                 .copied(),
-            Name::Place { section, item } => self
+            Name::Place {
+                section,
+                item,
+                offset,
+            } => self
                 .numbered
                 .get(&Numbered::Place {
                     section: *section,
                     item: *item,
+                    offset: *offset,
                 })
                 .copied(),
         }
@@ -91,11 +103,16 @@ impl NameIndex {
                     place,
                 )?;
             }
-            Name::Place { section, item } => {
+            Name::Place {
+                section,
+                item,
+                offset,
+            } => {
                 self.numbered.insert(
                     Numbered::Place {
                         section: *section,
                         item: *item,
+                        offset: *offset,
                     },
                     place,
                 )?;

@@ -1,22 +1,22 @@
--- The fields of an item, one after the other.
-use Rattle.std.proofs.Common.{◌≡◌, ℕ, ◌+◌, ◌<◌, ◌≤◌, ◌&&◌, ◌||◌, Bool, true, false, cond, arith, nat_le, List, ◌∷◌, ◌++◌, length, get_or, drop, ◌-◌, take_all, length-drop, sym, ap, ◌∙◌, subst, append_assoc, Some, None, Option, [], refl}
+-- The fields of a section, one after the other.
+use Rattle.std.proofs.Common.{◌≡◌, ℕ, ◌+◌, ◌<◌, ◌≤◌, ◌&&◌, true, cond, arith, nat_le, List, ◌∷◌, ◌++◌, length, get_or, drop, ◌-◌, take_all, length-drop, sym, ap, ◌∙◌, subst, append_assoc, Some, None, Option, [], refl}
 use Rattle.std.specs.Prelude.{slice_range, filter_map}
-use Rattle.std.specs.List.{cons_option, list_any}
+use Rattle.std.specs.List.{cons_option}
 use Rattle.std.specs.Option.{option_to_list}
 use Rattle.std.proofs.Math.Nat.{le_of_eq}
 use Rattle.std.proofs.lemmas.List.{at_drop_more, at_drop_all}
 use Rattle.std.proofs.lemmas.Bool.Decides.{nat_tests}
 use Rattle.asm_frags.specs.declared.fields.Field.{Field}
 use Rattle.asm_frags.specs.Fields.{width}
-use Rattle.asm_frags.specs.DataOf.{field_end, IsBlank, FieldsStand}
+use Rattle.asm_frags.specs.PlainBytes.{field_end, IsBlank, FieldsStand}
+use Rattle.asm_frags.specs.SectionOf.{SectionOf}
 use Rattle.asm_symbols.specs.SymbolMap.{SymbolMap}
 use Rattle.elf_object.specs.Contents.{fits_behind, field_bytes, filled}
 use Rattle.asm_expr.specs.declared.forms.Term.{Term}
-use Rattle.asm_expr.specs.Forms.{wrapped}
 use Rattle.asm_expr.specs.Settled.{settled, constant_by}
 use Rattle.asm_relax.specs.Final.{final_told, laid_value}
-use Rattle.asm_relax.specs.Settling.{LaidSections}
-use Rattle.elf_object.specs.Relocations.{reference_by, field_relocation}
+use Rattle.asm_relax.specs.Settling.{LaidItem, LaidSections}
+use Rattle.elf_object.specs.Relocations.{reference_by, field_place, field_relocation}
 
 fits_here : (bytes : List ℕ) (from : ℕ) (field : Field) → from ≤ field.offset → IsBlank bytes field → fits_behind bytes from field ≡ true
 fits_here bytes from field later blank =
@@ -25,7 +25,7 @@ fits_here bytes from field later blank =
     ap (λ b. b && nat_le (field_end field) (length bytes)) first ∙ second
 
 -- the bytes of a field stand behind those before it
-filled_one : (map : SymbolMap) (sections : LaidSections) (bytes : List ℕ) (field : Field) (fields : List Field) (from : ℕ) → from ≤ field.offset → IsBlank bytes field
+pub filled_one : (map : SymbolMap) (sections : LaidSections) (bytes : List ℕ) (field : Field) (fields : List Field) (from : ℕ) → from ≤ field.offset → IsBlank bytes field
     → filled map sections bytes from (field ∷ fields)
     ≡ slice_range bytes from field.offset ++ (field_bytes map sections field ++ filled map sections bytes (field_end field) fields)
 unfolding filled
@@ -68,13 +68,12 @@ none_left map sections number place [] total value e = refl
 none_left map sections number place (term ∷ terms) total value e = absurd cc
 
 -- a field with a value has no relocation
-pub valued : (map : SymbolMap) (sections : LaidSections) (number address value : ℕ) (field : Field) → laid_value map sections field.form ≡ Some value
-    → field_relocation map sections number address field ≡ None
+pub valued : (map : SymbolMap) (sections : LaidSections) (number value : ℕ) (section : SectionOf LaidItem) (field : Field) → laid_value map sections field.form ≡ Some value
+    → field_relocation map sections number section field ≡ None
 unfolding laid_value field_relocation
-valued map sections number address value field e =
-    let place = wrapped (address + field.offset) in
+valued map sections number value section field e =
     let made = settled (final_told map sections) field.form in
-    rw (none_left map sections number place made.terms made.constant value e) refl
+    rw (none_left map sections number (field_place section field) made.terms made.constant value e) refl
 
 cons_is : {Y : Type 0} (one : Option Y) (rest : List Y) → cons_option one rest ≡ option_to_list one ++ rest
 cons_is None rest = refl
@@ -88,10 +87,3 @@ filter_step f xs i x out more whole inside is before put =
     let head : filter_map f (drop i xs) ≡ option_to_list (f x) ++ rest =
     at_drop_more (filter_map f) xs i x inside ∙ ap (λ y. filter_map f (y ∷ drop (i + 1) xs)) (sym is) ∙ cons_is (f x) rest in
     ap (λ ys. ys ++ rest) put ∙ append_assoc out (option_to_list (f x)) rest ∙ ap (λ ys. out ++ ys) (sym head) ∙ before
-
--- one that is not so leaves it to the others
-pub any_step : {X : Type 0} (p : X → Bool) (xs : List X) (i : ℕ) (x : X) (whole : Bool) → i < length xs → x ≡ get_or xs i x → p x ≡ false
-    → list_any p (drop i xs) ≡ whole → list_any p (drop (i + 1) xs) ≡ whole
-any_step p xs i x whole inside is not_so before =
-    let head : list_any p (drop i xs) ≡ (p x || list_any p (drop (i + 1) xs)) = at_drop_more (list_any p) xs i x inside ∙ ap (λ y. list_any p (y ∷ drop (i + 1) xs)) (sym is) in
-    ap (λ b. b || list_any p (drop (i + 1) xs)) (sym not_so) ∙ sym head ∙ before

@@ -1,12 +1,7 @@
--- Where the bytes of items stand in their section, and the bodies of sections in the file.
+-- Where the bodies of sections stand in the file, and pieces in their bodies.
 use Rattle.std.proofs.Common.{◌≡◌, ℕ, zero, suc, ◌+◌, ◌-◌, List, [], ◌∷◌, ◌++◌, Some, length, drop, sym, ap, ◌∙◌, arith, append_assoc, length-append}
 use Rattle.std.proofs.lemmas.List.{drop_at, length-replicate}
-use Rattle.std.specs.Prelude.{slice_get, flat_map}
-use Rattle.asm_frags.specs.declared.items.Frag.{Frag}
-use Rattle.asm_frags.specs.declared.phases.Laid.{Laid}
-use Rattle.asm_frags.specs.Contents.{size_at}
-use Rattle.asm_frags.specs.Addresses.{item_with_address}
-use Rattle.asm_relax.specs.Placing.{placed_from, address_behind}
+use Rattle.std.specs.Prelude.{slice_get}
 use Rattle.elf_object.specs.Sections.{SectionEntry, file_bytes}
 use Rattle.elf_object.specs.Image.{next_multiple, gap, body_from, bodies_from}
 use Rattle.elf_object.specs.Places.{PieceAt, body_offset}
@@ -27,27 +22,9 @@ stands_in bytes part piece at more outer inner = record {
       ∙ sym (append_assoc outer.front inner.front (piece ++ (inner.rest ++ outer.rest)));
 }
 
--- what stands in front of the rest of a list
-front_moves : (bytes a b c : List ℕ) → bytes ≡ a ++ (b ++ c) → bytes ≡ (a ++ b) ++ c
-front_moves bytes a b c e = e ∙ sym (append_assoc a b c)
-
+-- a piece stands where the front before it ends
 pub behind_front : (bytes front piece rest : List ℕ) (at : ℕ) → bytes ≡ front ++ (piece ++ rest) → length front ≡ at → PieceAt bytes at piece
 behind_front bytes front piece rest at e long = record { front = front; rest = rest; long = long; whole = e }
-
--- the bytes of an item stand at its address, where each item has as many as its size
-pub item_stands : (bytes_of : Frag Laid ℕ → List ℕ) → ((item : Frag Laid ℕ) → length (bytes_of item) ≡ size_at item.content item.address)
-    → (items : List (Frag Laid ℕ)) (i at : ℕ) (x : Frag Laid ℕ) (front bytes : List ℕ) → slice_get items i ≡ Some x → length front ≡ at
-    → bytes ≡ front ++ flat_map bytes_of (placed_from at items) → PieceAt bytes (address_behind i at items) (bytes_of (item_with_address (address_behind i at items) x))
-unfolding placed_from
-item_stands bytes_of sized [] i at x front bytes is long e = absurd cc
-item_stands bytes_of sized (y ∷ ys) zero at x front bytes is long e =
-    let same : y ≡ x = cc in
-    rw (← same) (behind_front bytes front (bytes_of (item_with_address at y)) (flat_map bytes_of (placed_from (at + size_at y.content at) ys)) at e long)
-item_stands bytes_of sized (y ∷ ys) (suc i) at x front bytes is long e =
-    let first = bytes_of (item_with_address at y) in
-    let size : length first ≡ size_at y.content at = sized (item_with_address at y) in
-    item_stands bytes_of sized ys i (at + size_at y.content at) x (front ++ first) bytes is (omega (arith, length-append front first))
-    (front_moves bytes front first (flat_map bytes_of (placed_from (at + size_at y.content at) ys)) e)
 
 gap_length : (alignment position : ℕ) → position + length (gap alignment position) ≡ next_multiple alignment position
 gap_length alignment position =
@@ -74,11 +51,3 @@ body_stands (t ∷ ts) more (suc n) position s front rest bytes is long e =
     let later = bodies_from (position + length body) (ts ++ more) in
     body_stands ts more n (position + length body) s (front ++ body) rest bytes is (length-append front body ∙ ap (λ n. n + length body) long)
     (e ∙ ap (λ (xs : List ℕ). front ++ xs) (append_assoc body later rest) ∙ sym (append_assoc front body (later ++ rest)))
-
--- the item of this index stands behind those before it
-pub placed_get : {P : Type 0} (xs : List (Frag P ℕ)) (i at : ℕ) (x : Frag P ℕ) → slice_get xs i ≡ Some x
-    → slice_get (placed_from at xs) i ≡ Some (item_with_address (address_behind i at xs) x)
-unfolding placed_from
-placed_get [] i at x is = absurd cc
-placed_get (y ∷ ys) zero at x is = let same : y ≡ x = cc in rw same
-placed_get (y ∷ ys) (suc i) at x is = placed_get ys i (at + size_at y.content at) x is

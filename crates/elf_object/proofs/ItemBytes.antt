@@ -1,4 +1,4 @@
--- An item has as many bytes as its size at its address says.
+-- As many bytes stand in the file as sizes say.
 use Rattle.std.proofs.Common.{◌≡◌, ℕ, ◌+◌, ◌-◌, ◌*◌, ◌%◌, ◌^◌, ◌≤◌, ◌&&◌, nat_le, Bool, true, false, cond, List, [], ◌∷◌, ◌++◌, length, drop, take, replicate, refl, ap, ◌∙◌, arith, length-append, length-drop}
 use Rattle.std.proofs.lemmas.List.{length-take, length-replicate}
 use Rattle.std.proofs.lemmas.List.Folds.{drop_split}
@@ -7,31 +7,33 @@ use Rattle.std.specs.Prelude.{slice_range, unwrap_or}
 use Rattle.std.specs.Int.{w32, to_le_bytes}
 use Rattle.asm_symbols.specs.SymbolMap.{SymbolMap}
 use Rattle.asm_frags.specs.declared.contents.Content.{Content}
-use Rattle.asm_frags.specs.declared.contents.Content.TheVariants.{Bytes, Fill, Align}
+use Rattle.asm_frags.specs.declared.contents.Content.TheVariants.{Run, Fill, Align}
 use Rattle.asm_frags.specs.declared.fields.Field.{Field}
 use Rattle.asm_frags.specs.declared.fields.FieldSize.{FieldSize}
 use Rattle.asm_frags.specs.declared.fields.FieldSize.TheVariants.{One, Two, Four, Eight}
-use Rattle.asm_frags.specs.DataOf.{FillOf, field_end}
-use Rattle.asm_frags.specs.Contents.{size_at, bytes_at, fields_of, unit_of, padding}
+use Rattle.asm_frags.specs.ItemParts.{FillOf}
+use Rattle.asm_frags.specs.PlainBytes.{field_end}
+use Rattle.asm_frags.specs.SectionOf.{SectionOf}
+use Rattle.asm_frags.specs.Contents.{size_at, bytes_at, unit_of, padding}
 use Rattle.asm_frags.proofs.Repeats.{length-repeated}
 use Rattle.asm_relax.specs.Final.{laid_value}
 use Rattle.asm_frags.specs.Fields.{width, low_bytes}
 use Rattle.asm_relax.specs.Settling.{LaidItem, LaidSections}
-use Rattle.elf_object.specs.Contents.{field_bytes, fits_behind, filled, item_bytes}
+use Rattle.elf_object.specs.Contents.{field_bytes, fits_behind, filled, plain_bytes}
 
 -- one of two, each of which has the property where it is taken
-one_of : {A : Type 0} (P : A → Type 0) (b : Bool) (x y : A) → (b ≡ true → P x) → (b ≡ false → P y) → P (cond b x y)
+pub one_of : {A : Type 0} (P : A → Type 0) (b : Bool) (x y : A) → (b ≡ true → P x) → (b ≡ false → P y) → P (cond b x y)
 one_of P true x y left right = left refl
 one_of P false x y left right = right refl
 
-both_true : (a b : Bool) → (a && b) ≡ true → (a ≡ true) × (b ≡ true)
+pub both_true : (a b : Bool) → (a && b) ≡ true → (a ≡ true) × (b ≡ true)
 both_true true b h = (refl, h)
 both_true false b h = absurd cc
 
-le_from : (m n : ℕ) → nat_le m n ≡ true → m ≤ n
+pub le_from : (m n : ℕ) → nat_le m n ≡ true → m ≤ n
 le_from m n h = grind (arith, nat_tests)
 
-low_length : (size : FieldSize) (value : ℕ) → length (low_bytes size value) ≡ width size
+pub low_length : (size : FieldSize) (value : ℕ) → length (low_bytes size value) ≡ width size
 unfolding low_bytes
 low_length One value = refl
 low_length Two value = refl
@@ -64,6 +66,10 @@ filled_length symbols laid bytes at (field ∷ fields) within =
     ))
     (λ none. omega (arith, length-drop at bytes))
 
+-- so there are as many plain bytes with the values of fields as without
+pub plain_long : (symbols : SymbolMap) (laid : LaidSections) (section : SectionOf LaidItem) → length (plain_bytes symbols laid section) ≡ length section.bytes
+plain_long symbols laid section = let whole = filled_length symbols laid section.bytes 0 section.fields (omega arith) in omega arith
+
 four_bytes : (value : ℕ) → length (to_le_bytes w32 value) ≡ 4
 four_bytes value = refl
 
@@ -74,16 +80,8 @@ length-unit fill =
     let four : length low ≡ 4 = four_bytes (fill.value % 2 ^ 32) in
     omega (arith, length-append (take fill.size low) (replicate (fill.size - 4) 0), length-take fill.size low, length-replicate {A = ℕ} (fill.size - 4) 0)
 
-length-at : (content : Content) (at : ℕ) → length (bytes_at content at) ≡ size_at content at
-length-at (Bytes held) at = refl
+-- an item has as many bytes as its size at its address says
+pub length-at : (content : Content) (at : ℕ) → length (bytes_at content at) ≡ size_at content at
+length-at Run at = refl
 length-at (Fill held) at = length-repeated held.count (unit_of held) ∙ ap (λ n. held.count * n) (length-unit held)
 length-at (Align held) at = length-replicate {A = ℕ} (padding (2 ^ held.log) at) 0
-
--- an item has as many bytes as it takes
-pub item_length : (symbols : SymbolMap) (laid : LaidSections) (item : LaidItem) → length (item_bytes symbols laid item) ≡ size_at item.content item.address
-unfolding item_bytes
-item_length symbols laid item =
-    let bytes = bytes_at item.content item.address in
-    let whole = filled_length symbols laid bytes 0 (fields_of item.content) (omega arith) in
-    let long = length-at item.content item.address in
-    omega arith

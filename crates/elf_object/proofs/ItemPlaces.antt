@@ -1,25 +1,35 @@
--- The bytes of items stand in the object.
-use Rattle.std.proofs.Common.{◌≡◌, ℕ, zero, suc, ◌+◌, ◌-◌, ◌<◌, ◌≤◌, List, [], ◌∷◌, ◌++◌, Some, length, map, refl, sym, ap, ◌∙◌, subst, arith, append_assoc}
+-- Plain bytes, the values of fields and the bytes of items stand in the object.
+use Rattle.std.proofs.Common.{◌≡◌, ℕ, zero, suc, ◌+◌, ◌-◌, ◌<◌, ◌≤◌, List, [], ◌∷◌, ◌++◌, Some, length, map, ◌^◌, ◌==◌, false, refl, sym, ap, ◌∙◌, subst, arith, append_assoc}
+use Rattle.std.proofs.Math.Dec.{eqb-suc-zero}
+use Rattle.std.proofs.Math.Nat.{mod-eq_of_lt}
 use Rattle.std.proofs.lemmas.List.{length-map}
+use Rattle.std.proofs.lemmas.List.Elements.{All-head, All-tail}
 use Rattle.std.proofs.lemmas.Option.{slice_get-map}
-use Rattle.std.specs.Prelude.{slice_get, slice_index_or, option_map, flat_map, codes}
+use Rattle.std.specs.Prelude.{All, take, slice_get, slice_index_or, option_map, unwrap_or, codes}
+use Rattle.asm_expr.specs.Forms.{wrapped}
+use Rattle.asm_frags.specs.declared.fields.Field.{Field}
+use Rattle.asm_frags.specs.Contents.{size_at, bytes_at}
+use Rattle.asm_frags.specs.Fields.{width}
+use Rattle.asm_frags.specs.PlainBytes.{field_end, FieldsStand}
 use Rattle.asm_frags.specs.SectionOf.{SectionOf}
 use Rattle.asm_frags.specs.Addresses.{item_with_address}
 use Rattle.asm_symbols.specs.SymbolMap.{SymbolMap}
-use Rattle.asm_relax.specs.Placing.{placed_from, address_behind}
+use Rattle.asm_relax.specs.Final.{shift_in, address_in, laid_value}
+use Rattle.asm_relax.specs.Placing.{placed_from, placed_section, shift_of}
 use Rattle.asm_relax.specs.Settling.{LaidItem, LaidSections}
 use Rattle.elf_object.specs.declared.relocations.Relocation.{Relocation}
 use Rattle.elf_object.specs.Fields.{half, word, xword}
-use Rattle.elf_object.specs.Contents.{item_bytes, items_bytes, relocations_from, relocations_of}
+use Rattle.elf_object.specs.Contents.{field_bytes, plain_bytes, interleaved, section_bytes, relocations_from, relocations_of}
 use Rattle.elf_object.specs.Image.{symbol_names, symbol_table_of, bodies_from, header_end, header_table, elf_header, file_of, all_names, with_names, file_with, before_names, file_sections, image_with, image_of}
 use Rattle.elf_object.specs.Naming.{named_of}
 use Rattle.elf_object.specs.Numbers.{NumbersOf, numbers_of, first_other}
-use Rattle.elf_object.specs.Places.{PieceAt, body_offset, section_offset, ItemsStand}
+use Rattle.elf_object.specs.Places.{PieceAt, body_offset, section_offset, moved, IsBetween, IsFiled, BytesStand, ValuesStand, ItemsStand, PlacesAreAddresses}
 use Rattle.elf_object.specs.Sections.{SectionEntry, file_bytes, source_section, symbol_section, string_section, with_relocations, header_count, next_header, entries_from, header_indices_from, header_indices}
 use Rattle.elf_object.specs.StringTable.{name_offsets, string_table_of}
 use Rattle.elf_object.specs.SymbolTable.{table_of}
-use Rattle.elf_object.proofs.FilePlaces.{stands_in, item_stands, body_stands, placed_get}
-use Rattle.elf_object.proofs.ItemBytes.{item_length}
+use Rattle.elf_object.proofs.FilePlaces.{stands_in, body_stands}
+use Rattle.elf_object.proofs.ItemBytes.{low_length, plain_long}
+use Rattle.elf_object.proofs.PlainPlaces.{piece_is, inside, plain_stands, value_stands, bytes_between, item_stands, placed_get}
 
 -- the header has 64 bytes
 pub header_length : (offset count : ℕ) → length (elf_header offset count) ≡ header_end
@@ -111,26 +121,117 @@ section_there symbols sections number section is =
     (entry_there (numbers_of symbols sections named) tables 1 held found number (source_section symbols sections section) got
     (length-map sections (source_section symbols sections) ∙ sym (found_long symbols sections 0 sections)))
 
--- the bytes of an item stand at its address in its section
-item_there : (symbols : SymbolMap) (sections : LaidSections) (items : List LaidItem) (index : ℕ) (item : LaidItem) → placed_from 0 items ≡ items
-    → slice_get items index ≡ Some item → PieceAt (items_bytes symbols sections items) item.address (item_bytes symbols sections item)
-unfolding items_bytes
-item_there symbols sections items index item row at =
-    let placed : item_with_address (address_behind index 0 items) item ≡ item = some_same _ _ (sym (placed_get items index 0 item at) ∙ ap (λ (xs : List LaidItem). slice_get xs index) row ∙ at) in
-    let stands = item_stands (item_bytes symbols sections) (item_length symbols sections) items index 0 item [] (flat_map (item_bytes symbols sections) items) at refl
-    (ap (flat_map (item_bytes symbols sections)) (sym row)) in
-    subst (λ (it : LaidItem). PieceAt (flat_map (item_bytes symbols sections) items) it.address (item_bytes symbols sections it)) placed stands
-  where
-    some_same : (x y : LaidItem) → Some x ≡ Some y → x ≡ y
-    some_same x y e = cc
-
-pub items_stand : ItemsStand
+-- the bytes of a section that takes bytes stand in the object
+section_stands : (symbols : SymbolMap) (sections : LaidSections) (number : ℕ) (section : SectionOf LaidItem) → IsFiled sections number section
+    → PieceAt (image_of symbols sections) (section_offset symbols sections number) (section_bytes symbols sections section)
 unfolding image_of image_with section_offset
-items_stand symbols sections number index section item there bits row at =
+section_stands symbols sections number section filed =
     let found = relocations_of symbols sections in
     let entry = source_section symbols sections section in
-    let body : file_bytes entry.content ≡ items_bytes symbols sections section.items = rw bits refl in
-    let outer : PieceAt (file_with (file_sections symbols sections found)) (section_offset symbols sections number) (items_bytes symbols sections section.items) =
-    rw (← body) (file_stands (file_sections symbols sections found) (slice_index_or (header_indices found) number 0 - 1) entry (section_there symbols sections number section there)) in
-    let inner = item_there symbols sections section.items index item (ap (λ (s : SectionOf LaidItem). s.items) row) at in
-    stands_in (image_of symbols sections) (items_bytes symbols sections section.items) (item_bytes symbols sections item) (section_offset symbols sections number) item.address outer inner
+    let body : file_bytes entry.content ≡ section_bytes symbols sections section = rw filed.takes_bytes refl in
+    rw (← body) (file_stands (file_sections symbols sections found) (slice_index_or (header_indices found) number 0 - 1) entry (section_there symbols sections number section filed.found))
+
+-- the items of a laid out section have their addresses
+items_laid : (section : SectionOf LaidItem) → placed_section section ≡ section → placed_from 0 section.items ≡ section.items
+items_laid section laid = ap (λ (s : SectionOf LaidItem). s.items) laid
+
+-- what stands in a section whose items are laid out
+in_section : (symbols : SymbolMap) (sections : LaidSections) (number place : ℕ) (section : SectionOf LaidItem) (piece : List ℕ) → IsFiled sections number section
+    → PieceAt (interleaved (plain_bytes symbols sections section) 0 (placed_from 0 section.items)) place piece
+    → PieceAt (image_of symbols sections) (section_offset symbols sections number + place) piece
+unfolding section_bytes
+in_section symbols sections number place section piece filed inner =
+    let outer = section_stands symbols sections number section filed in
+    stands_in (image_of symbols sections) (section_bytes symbols sections section) piece (section_offset symbols sections number) place outer
+    (subst (λ (items : List LaidItem). PieceAt (interleaved (plain_bytes symbols sections section) 0 items) place piece) (items_laid section filed.laid) inner)
+
+-- a piece of the plain bytes that no item parts stands in the object
+piece_between : (symbols : SymbolMap) (sections : LaidSections) (number count offset : ℕ) (section : SectionOf LaidItem) (piece : List ℕ) → IsFiled sections number section
+    → offset + length piece ≤ length section.bytes → PieceAt (plain_bytes symbols sections section) offset piece → IsBetween section.items count offset (offset + length piece)
+    → PieceAt (image_of symbols sections) (section_offset symbols sections number + moved section.items count offset) piece
+piece_between symbols sections number count offset section piece filed within there between =
+    let plain = plain_bytes symbols sections section in
+    let long = plain_long symbols sections section in
+    let stands = bytes_between plain section.items count offset (offset + length piece) (omega arith) (omega arith) between in
+    in_section symbols sections number (moved section.items count offset) section piece filed
+    (subst (λ (xs : List ℕ). PieceAt (interleaved plain 0 (placed_from 0 section.items)) (moved section.items count offset) xs) (piece_is plain offset piece there) stands)
+
+pub bytes_stand : BytesStand
+bytes_stand symbols sections number count offset section bytes filed begins is beside between =
+    let within = inside section.bytes offset bytes begins is in
+    let there = plain_stands symbols sections section.bytes section.fields 0 offset (offset + length bytes) [] (plain_bytes symbols sections section) refl refl
+    (omega arith) (omega arith) within beside in
+    piece_between symbols sections number count offset section bytes filed within
+    (subst (λ (xs : List ℕ). PieceAt (plain_bytes symbols sections section) offset xs) is there) between
+
+pub values_stand : ValuesStand
+values_stand symbols sections number index section field filed stand there between =
+    let value = field_bytes symbols sections field in
+    let long : length value ≡ width field.size = low_length field.size (unwrap_or (laid_value symbols sections field.form) 0) in
+    let end : field_end field ≡ field.offset + length value = ap (λ n. field.offset + n) (sym long) in
+    let within = field_inside section.bytes section.fields index 0 field stand there in
+    let found = value_stands symbols sections section.bytes section.fields index 0 field [] (plain_bytes symbols sections section) refl refl stand there in
+    piece_between symbols sections number field.item field.offset section value filed (subst (λ n. n ≤ length section.bytes) end within) found
+    (subst (λ n. IsBetween section.items field.item field.offset n) end between)
+  where
+    field_inside : (bytes : List ℕ) (fields : List Field) (index at : ℕ) (field : Field) → FieldsStand bytes at fields → slice_get fields index ≡ Some field → field_end field ≤ length bytes
+    field_inside bytes [] index at field stand there = absurd cc
+    field_inside bytes (one ∷ fields) zero at field stand there = let same : one ≡ field = cc in subst (λ (f : Field). field_end f ≤ length bytes) same stand.1.within
+    field_inside bytes (one ∷ fields) (suc index) at field stand there = field_inside bytes fields index (field_end one) field stand.2 there
+
+pub items_stand : ItemsStand
+items_stand symbols sections number index section item filed there within before =
+    let plain = plain_bytes symbols sections section in
+    let long = plain_long symbols sections section in
+    let place = item.offset + shift_of index 0 section.items in
+    let stands = item_stands plain section.items index item there (omega arith) before in
+    let same : item_with_address place item ≡ item = some_same (sym (placed_get section.items index 0 item there) ∙ ap (λ (xs : List LaidItem). slice_get xs index) (items_laid section filed.laid) ∙ there) in
+    let address : place ≡ item.address = ap (λ (x : LaidItem). x.address) same in
+    in_section symbols sections number item.address section (bytes_at item.content item.address) filed
+    (subst (λ n. PieceAt (interleaved plain 0 (placed_from 0 section.items)) n (bytes_at item.content n)) address stands)
+  where
+    some_same : {x y : LaidItem} → Some x ≡ Some y → x ≡ y
+    some_same e = cc
+
+-- an address less the plain bytes before it, and with others
+unwrapped : (own shift size offset : ℕ) → own ≤ offset → offset + (shift + size) < 2 ^ 64 → wrapped (offset + wrapped (wrapped (own + shift + size) + (2 ^ 64 - own))) ≡ offset + (shift + size)
+unwrapped own shift size offset behind low = omega arith
+
+shift_more : (before shift : ℕ) (items : List LaidItem) (item : LaidItem) → slice_get items before ≡ Some item
+    → shift_of (suc before) shift items ≡ shift_of before shift items + size_at item.content (item.offset + shift_of before shift items)
+shift_more before shift [] item there = absurd cc
+shift_more zero shift (one ∷ items) item there = let same : one ≡ item = cc in rw same refl
+shift_more (suc before) shift (one ∷ items) item there = shift_more before (shift + size_at one.content (one.offset + shift)) items item there
+
+-- the address of a place whose last item before it is there
+address_behind : (items : List LaidItem) (before offset : ℕ) (item : LaidItem) → slice_get items before ≡ Some item → item.offset ≤ offset → offset + shift_of (suc before) 0 items < 2 ^ 64
+    → address_in (placed_from 0 items) (suc before) offset ≡ offset + shift_of (suc before) 0 items
+unfolding shift_in
+address_behind items before offset item there behind low =
+    let shift = shift_of before 0 items in
+    let address = item.offset + shift in
+    let size = size_at item.content address in
+    let one : suc before - 1 ≡ before = omega arith in
+    let more : shift_of (suc before) 0 items ≡ shift + size = shift_more before 0 items item there in
+    let got : slice_get (placed_from 0 items) before ≡ Some (item_with_address address item) = placed_get items before 0 item there in
+    let some : (suc before == 0) ≡ false = eqb-suc-zero before in
+    rw (some, one, got, more) (unwrapped item.offset shift size offset behind (omega arith))
+
+pub places_are_addresses : PlacesAreAddresses
+unfolding shift_in
+places_are_addresses section zero offset laid within before low = rw (mod-eq_of_lt low) (omega arith)
+places_are_addresses section (suc count) offset laid within before low =
+    let last = item_of section.items count within in
+    let row = items_laid section laid in
+    ap (λ (xs : List LaidItem). address_in xs (suc count) offset) (sym row)
+    ∙ address_behind section.items count offset last.0 last.1 (in_front section.items count last.0 last.1 before) low
+  where
+    item_of : (items : List LaidItem) (index : ℕ) → suc index ≤ length items → (item : LaidItem) × (slice_get items index ≡ Some item)
+    item_of [] index within = absurd (omega arith)
+    item_of (one ∷ items) zero within = (one, refl)
+    item_of (one ∷ items) (suc index) within = item_of items index (omega arith)
+
+    in_front : (items : List LaidItem) (index : ℕ) (item : LaidItem) → slice_get items index ≡ Some item → All (λ item. item.offset ≤ offset) (take (suc index) items) → item.offset ≤ offset
+    in_front [] index item there all = absurd cc
+    in_front (one ∷ items) zero item there all = let same : one ≡ item = cc in subst (λ (x : LaidItem). x.offset ≤ offset) same (All-head (λ item. item.offset ≤ offset) one (take 0 items) all)
+    in_front (one ∷ items) (suc index) item there all = in_front items index item there (All-tail (λ item. item.offset ≤ offset) one (take (suc index) items) all)

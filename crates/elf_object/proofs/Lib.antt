@@ -5,12 +5,14 @@ mod AliasLemmas
 mod AliasSamples
 mod LoneNames
 mod FieldLemmas
+mod ItemLemmas
 mod MarkLemmas
 mod LayingLemmas
 mod ImageLemmas
 mod ObjectLemmas
 mod ItemBytes
 pub mod FilePlaces
+pub mod PlainPlaces
 pub mod ItemPlaces
 mod TableOrder
 mod Targets

@@ -1,6 +1,6 @@
 -- Loops over lists that put what they make of each element behind what they have.
 use Rattle.std.proofs.Common.{◌≡◌, ℕ, ◌+◌, ◌<◌, ◌≤◌, Bool, false, List, [], ◌∷◌, ◌++◌, length, get_or, drop, map, Option, sym, ap, ◌∙◌, append-nil, append_assoc}
-use Rattle.std.specs.Prelude.{find, flat_map}
+use Rattle.std.specs.Prelude.{find}
 use Rattle.std.proofs.lemmas.List.{at_drop_all, at_drop_more, map-append}
 use Rattle.asm_symbols.specs.declared.entries.Symbol.{Symbol}
 use Rattle.asm_symbols.specs.SymbolMap.{SymbolMap}
@@ -17,13 +17,6 @@ pub pushed : {X Y : Type 0} (view : X → Y) (out more : List X) (x : X) (y : Y)
 pushed view out more x y rest next whole is put front before =
     ap (λ xs. map view xs ++ next) put ∙ ap (λ ys. ys ++ next) (map-append view out (x ∷ [])) ∙ append_assoc (map view out) (view x ∷ []) next
     ∙ ap (λ z. map view out ++ (z ∷ next)) is ∙ ap (λ ys. map view out ++ ys) (sym front) ∙ before
-
--- what is made of one more element is appended
-pub flat_step : {X Y : Type 0} (f : X → List Y) (xs : List X) (i : ℕ) (x : X) (out more whole : List Y) → i < length xs → x ≡ get_or xs i x → more ≡ out ++ f x
-    → out ++ flat_map f (drop i xs) ≡ whole → more ++ flat_map f (drop (i + 1) xs) ≡ whole
-flat_step f xs i x out more whole inside is put before =
-    let rest = flat_map f (drop (i + 1) xs) in
-    ap (λ ys. ys ++ rest) put ∙ append_assoc out (f x) rest ∙ ap (λ ys. out ++ ys) (sym (next_is (flat_map f) xs i x inside is)) ∙ before
 
 -- one that is not so is passed
 pub find_step : {X Y : Type 0} (p : X → Bool) (g : Option X → Y) (xs : List X) (i : ℕ) (x : X) (whole : Y) → i < length xs → x ≡ get_or xs i x → p x ≡ false

@@ -1,13 +1,11 @@
 -- What relocations name is there.
-use Rattle.std.proofs.Common.{◌≡◌, ℕ, zero, suc, ◌+◌, ◌<◌, ◌&&◌, not, Bool, true, false, cond, List, [], ◌∷◌, ◌++◌, Option, None, Some, length, refl, ap, ◌∙◌, subst, arith}
-use Rattle.std.specs.Prelude.{slice_get, option_map, option_and_then, flat_map, filter_map}
+use Rattle.std.proofs.Common.{◌≡◌, ℕ, zero, suc, ◌+◌, ◌<◌, ◌&&◌, not, Bool, true, false, cond, List, [], ◌∷◌, Option, None, Some, length, refl, ap, ◌∙◌, subst, arith}
+use Rattle.std.specs.Prelude.{slice_get, option_map, option_and_then, filter_map}
 use Rattle.std.specs.List.{cons_option}
 use Rattle.asm_expr.specs.declared.forms.Term.{Term}
 use Rattle.asm_expr.specs.declared.naming.Name.{Name}
-use Rattle.asm_expr.specs.Forms.{wrapped}
 use Rattle.asm_expr.specs.Settled.{settled}
 use Rattle.asm_frags.specs.declared.fields.Field.{Field}
-use Rattle.asm_frags.specs.Contents.{fields_of}
 use Rattle.asm_frags.specs.SectionOf.{SectionOf}
 use Rattle.asm_symbols.specs.declared.entries.Symbol.{Symbol}
 use Rattle.asm_symbols.specs.declared.entries.Meaning.{Meaning}
@@ -22,8 +20,8 @@ use Rattle.elf_object.specs.declared.relocations.Relocation.{Relocation}
 use Rattle.elf_object.specs.declared.relocations.Target.{Target}
 use Rattle.elf_object.specs.declared.relocations.Target.TheVariants.{OfSection, OfSymbol}
 use Rattle.elf_object.specs.declared.symbol_values.SymbolValue.{SymbolValue}
-use Rattle.elf_object.specs.Contents.{filed_items, item_relocations, items_relocations, section_relocations, relocations_from}
-use Rattle.elf_object.specs.Relocations.{merge, symbol_reference, label_reference, meaning_reference, reference_at, reference_found, name_reference, own_address, less, reference, direct, relative, pair, is_plus, is_minus, reference_by, final_reference, relocation, field_relocation}
+use Rattle.elf_object.specs.Contents.{filed_fields, section_relocations, relocations_from}
+use Rattle.elf_object.specs.Relocations.{merge, symbol_reference, label_reference, meaning_reference, reference_at, reference_found, name_reference, own_address, less, reference, direct, relative, pair, is_plus, is_minus, reference_by, final_reference, relocation, field_place, field_relocation}
 use Rattle.elf_object.specs.SymbolValues.{has_flag, symbol_value_of}
 
 -- the section is there, or the symbol, and the symbol stands somewhere
@@ -52,10 +50,10 @@ chosen P false x y first second = second
 spot_sits : (map : SymbolMap) (sections : LaidSections) (index : ℕ) (local : Bool) (spot : Spot) (got : SymbolReference) → Sits map sections (OfSymbol index)
     → label_reference sections index local spot ≡ Some got → Sits map sections got.target
 spot_sits map sections index local spot got own is =
-    mapped (λ (section : SectionOf LaidItem). cond (local && not (has_flag merge section)) (symbol_reference (OfSection spot.section) (address_of sections spot.section spot.item)) (symbol_reference (OfSymbol index) 0))
+    mapped (λ (section : SectionOf LaidItem). cond (local && not (has_flag merge section)) (symbol_reference (OfSection spot.section) (address_of sections spot.section spot.item spot.offset)) (symbol_reference (OfSymbol index) 0))
     (slice_get sections spot.section) got is (λ section there made.
     subst (λ (a : SymbolReference). Sits map sections a.target) made
-    (chosen (λ (a : SymbolReference). Sits map sections a.target) (local && not (has_flag merge section)) (symbol_reference (OfSection spot.section) (address_of sections spot.section spot.item)) (symbol_reference (OfSymbol index) 0)
+    (chosen (λ (a : SymbolReference). Sits map sections a.target) (local && not (has_flag merge section)) (symbol_reference (OfSection spot.section) (address_of sections spot.section spot.item spot.offset)) (symbol_reference (OfSymbol index) 0)
     (got_inside sections spot.section section there) own))
 
 meaning_sits : (map : SymbolMap) (sections : LaidSections) (index : ℕ) (local : Bool) (symbol : Symbol) (what : Meaning) (got : SymbolReference) → slice_get map.symbols index ≡ Some symbol
@@ -117,21 +115,14 @@ terms_sit map sections number place (term ∷ []) total got is = one_of_two (is_
 terms_sit map sections number place (one ∷ other ∷ []) total got is = pair_sits map sections number place one other total got is
 terms_sit map sections number place (one ∷ other ∷ third ∷ more) total got is = absurd cc
 
-field_sits : (map : SymbolMap) (sections : LaidSections) (number address : ℕ) (field : Field) (r : Relocation) → field_relocation map sections number address field ≡ Some r
-    → Sits map sections r.target
+field_sits : (map : SymbolMap) (sections : LaidSections) (number : ℕ) (section : SectionOf LaidItem) (field : Field) (r : Relocation)
+    → field_relocation map sections number section field ≡ Some r → Sits map sections r.target
 unfolding field_relocation
-field_sits map sections number address field r is =
-    let place = wrapped (address + field.offset) in
+field_sits map sections number section field r is =
+    let place = field_place section field in
     let made = settled (final_told map sections) field.form in
     mapped (relocation place field.size) (final_reference map sections number place field.form) r is (λ found there same.
     subst (λ (x : Relocation). Sits map sections x.target) same (terms_sit map sections number place made.terms made.constant found there))
-
--- what stands in a joined list stands in one of the two
-in_append : {A : Type 0} {Goal : Type 0} (xs ys : List A) (i : ℕ) (x : A) → slice_get (xs ++ ys) i ≡ Some x → ((j : ℕ) → slice_get xs j ≡ Some x → Goal)
-    → ((j : ℕ) → slice_get ys j ≡ Some x → Goal) → Goal
-in_append [] ys i x is first second = second i is
-in_append (y ∷ xs) ys zero x is first second = first 0 is
-in_append (y ∷ xs) ys (suc i) x is first second = in_append xs ys i x is (λ j there. first (suc j) there) second
 
 in_cons : {A : Type 0} {Goal : Type 0} (one : Option A) (ys : List A) (i : ℕ) (x : A) → slice_get (cons_option one ys) i ≡ Some x → (one ≡ Some x → Goal)
     → ((j : ℕ) → slice_get ys j ≡ Some x → Goal) → Goal
@@ -139,29 +130,16 @@ in_cons None ys i x is first second = second i is
 in_cons (Some y) ys zero x is first second = first is
 in_cons (Some y) ys (suc i) x is first second = second i is
 
-fields_sit : (map : SymbolMap) (sections : LaidSections) (number address : ℕ) (fields : List Field) (i : ℕ) (r : Relocation)
-    → slice_get (filter_map (field_relocation map sections number address) fields) i ≡ Some r → Sits map sections r.target
-fields_sit map sections number address [] i r is = absurd cc
-fields_sit map sections number address (field ∷ fields) i r is =
-    in_cons (field_relocation map sections number address field) (filter_map (field_relocation map sections number address) fields) i r is
-    (field_sits map sections number address field r) (λ j there. fields_sit map sections number address fields j r there)
-
-item_sits : (map : SymbolMap) (sections : LaidSections) (number : ℕ) (item : LaidItem) (i : ℕ) (r : Relocation)
-    → slice_get (item_relocations map sections number item) i ≡ Some r → Sits map sections r.target
-unfolding item_relocations
-item_sits map sections number item i r is = fields_sit map sections number item.address (fields_of item.content) i r is
-
-items_sit : (map : SymbolMap) (sections : LaidSections) (number : ℕ) (items : List LaidItem) (i : ℕ) (r : Relocation)
-    → slice_get (flat_map (item_relocations map sections number) items) i ≡ Some r → Sits map sections r.target
-items_sit map sections number [] i r is = absurd cc
-items_sit map sections number (item ∷ items) i r is =
-    in_append (item_relocations map sections number item) (flat_map (item_relocations map sections number) items) i r is
-    (λ j there. item_sits map sections number item j r there) (λ j there. items_sit map sections number items j r there)
+fields_sit : (map : SymbolMap) (sections : LaidSections) (number : ℕ) (section : SectionOf LaidItem) (fields : List Field) (i : ℕ) (r : Relocation)
+    → slice_get (filter_map (field_relocation map sections number section) fields) i ≡ Some r → Sits map sections r.target
+fields_sit map sections number section [] i r is = absurd cc
+fields_sit map sections number section (field ∷ fields) i r is =
+    in_cons (field_relocation map sections number section field) (filter_map (field_relocation map sections number section) fields) i r is
+    (field_sits map sections number section field r) (λ j there. fields_sit map sections number section fields j r there)
 
 own_sits : (map : SymbolMap) (sections : LaidSections) (number : ℕ) (section : SectionOf LaidItem) (i : ℕ) (r : Relocation)
     → slice_get (section_relocations map sections number section) i ≡ Some r → Sits map sections r.target
-unfolding items_relocations
-own_sits map sections number section i r is = items_sit map sections number (filed_items section) i r is
+own_sits map sections number section i r is = fields_sit map sections number section (filed_fields section) i r is
 
 -- each relocation names what is there
 pub all_sit : (map : SymbolMap) (all : LaidSections) (number : ℕ) (sections : LaidSections) (k i : ℕ) (own : List Relocation) (r : Relocation)

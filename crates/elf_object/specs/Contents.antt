@@ -1,11 +1,11 @@
--- What the sections of an object hold: the bytes of their items with the values of fields in place, and the relocations of the other fields.
-use Rattle.std.specs.Prelude.{ℕ, ◌+◌, ◌==◌, ◌&&◌, ◌||◌, not, nat_le, Bool, List, [], ◌∷◌, ◌++◌, length, drop, slice_range, flat_map, filter_map, is_some, unwrap_or, if◌then◌else◌}
-use Rattle.std.specs.List.{list_any}
+-- What the sections of an object hold: plain bytes with the values of fields in place, the bytes of items between them, and the relocations of the other fields.
+use Rattle.std.specs.Prelude.{ℕ, ◌+◌, ◌==◌, ◌&&◌, ◌||◌, not, max, nat_le, Bool, true, false, List, [], ◌∷◌, ◌++◌, length, drop, slice_range, filter_map, is_some, unwrap_or, if◌then◌else◌}
 use Rattle.asm_frags.specs.declared.fields.Field.{Field}
-use Rattle.asm_frags.specs.Contents.{bytes_at, fields_of}
-use Rattle.asm_frags.specs.DataOf.{field_end}
+use Rattle.asm_frags.specs.Contents.{bytes_at}
+use Rattle.asm_frags.specs.PlainBytes.{field_end}
 use Rattle.asm_frags.specs.Fields.{low_bytes}
 use Rattle.asm_frags.specs.SectionOf.{SectionOf}
+use Rattle.asm_frags.specs.Writing.{is_run}
 use Rattle.asm_symbols.specs.SymbolMap.{SymbolMap}
 use Rattle.asm_relax.specs.Final.{laid_value}
 use Rattle.asm_relax.specs.Settling.{LaidItem, LaidSections}
@@ -27,41 +27,46 @@ filled map sections bytes at (field ∷ fields) =
     if fits_behind bytes at field then slice_range bytes at field.offset ++ (field_bytes map sections field ++ filled map sections bytes (field_end field) fields)
     else drop at bytes
 
--- the bytes of an item at its address
-unfoldable pub item_bytes : SymbolMap → LaidSections → LaidItem → List ℕ
-item_bytes map sections item = filled map sections (bytes_at item.content item.address) 0 (fields_of item.content)
+-- the plain bytes of a section with the values of its fields in place
+abbrev pub plain_bytes : SymbolMap → LaidSections → SectionOf LaidItem → List ℕ
+plain_bytes map sections section = filled map sections section.bytes 0 section.fields
 
--- the relocations of an item in the section of this number
-unfoldable pub item_relocations : SymbolMap → LaidSections → ℕ → LaidItem → List Relocation
-item_relocations map sections number item = filter_map (field_relocation map sections number item.address) (fields_of item.content)
+-- how many plain bytes stand before an item, where this many stand before the item in front of it
+abbrev pub reached : ℕ → LaidItem → ℕ
+reached from item = max from item.offset
 
--- the field has neither a value nor a relocation
-abbrev pub is_lost : SymbolMap → LaidSections → ℕ → ℕ → Field → Bool
-is_lost map sections number address field = not (is_some (laid_value map sections field.form) || is_some (field_relocation map sections number address field))
+-- what stands from this offset of the plain bytes on: the bytes of each item at its address, behind the plain bytes before it
+unfoldable pub interleaved : List ℕ → ℕ → List LaidItem → List ℕ
+interleaved bytes from [] = drop from bytes
+interleaved bytes from (item ∷ items) =
+    slice_range bytes from (reached from item) ++ (bytes_at item.content item.address ++ interleaved bytes (reached from item) items)
 
--- an item with such a field
-unfoldable pub has_lost : SymbolMap → LaidSections → ℕ → LaidItem → Bool
-has_lost map sections number item = list_any (is_lost map sections number item.address) (fields_of item.content)
+-- no item but one run: the plain bytes are all
+abbrev pub is_one_run : List LaidItem → Bool
+is_one_run [] = true
+is_one_run (item ∷ []) = is_run item.content
+is_one_run (item ∷ next ∷ items) = false
+
+-- the bytes of a section
+unfoldable pub section_bytes : SymbolMap → LaidSections → SectionOf LaidItem → List ℕ
+section_bytes map sections section = interleaved (plain_bytes map sections section) 0 section.items
+
+-- the field of the section of this number has neither a value nor a relocation
+abbrev pub is_lost : SymbolMap → LaidSections → ℕ → SectionOf LaidItem → Field → Bool
+is_lost map sections number section field =
+    not (is_some (laid_value map sections field.form) || is_some (field_relocation map sections number section field))
 
 -- SHT_NOBITS: the section takes no bytes in the file (gABI, chapter 4, "Sections")
 abbrev pub no_bits : ℕ
 no_bits = 8
 
--- the items whose bytes stand in the file
-abbrev pub filed_items : SectionOf LaidItem → List LaidItem
-filed_items section = if section.kind == no_bits then [] else section.items
+-- the fields whose bytes stand in the file
+abbrev pub filed_fields : SectionOf LaidItem → List Field
+filed_fields section = if section.kind == no_bits then [] else section.fields
 
--- the bytes of items, one behind the other, and their relocations by their places
-unfoldable pub items_bytes : SymbolMap → LaidSections → List LaidItem → List ℕ
-items_bytes map sections items = flat_map (item_bytes map sections) items
-
--- the relocations of items, by their places
-unfoldable pub items_relocations : SymbolMap → LaidSections → ℕ → List LaidItem → List Relocation
-items_relocations map sections number items = flat_map (item_relocations map sections number) items
-
--- the relocations of the section of this number
+-- the relocations of the section of this number, by their places
 abbrev pub section_relocations : SymbolMap → LaidSections → ℕ → SectionOf LaidItem → List Relocation
-section_relocations map sections number section = items_relocations map sections number (filed_items section)
+section_relocations map sections number section = filter_map (field_relocation map sections number section) (filed_fields section)
 
 -- the relocations of these sections, which have the numbers from this one on
 abbrev pub relocations_from : SymbolMap → LaidSections → ℕ → List (SectionOf LaidItem) → List (List Relocation)

@@ -5,6 +5,7 @@ use Rattle.asm_base.specs.declared.positions.Pos.{Pos}
 use Rattle.asm_base.specs.declared.refusals.Refusal.{Refusal}
 use Rattle.asm_base.specs.declared.refusals.Refusal.TheVariants.{Fault, NoMemory}
 use Rattle.asm_expr.specs.Forms.{Form}
+use Rattle.asm_frags.specs.declared.fields.Field.{Field}
 use Rattle.asm_frags.specs.SectionOf.{SectionOf}
 use Rattle.asm_symbols.specs.declared.entries.Symbol.{Symbol}
 use Rattle.asm_symbols.specs.declared.entries.Meaning.{Meaning}
@@ -17,7 +18,7 @@ use Rattle.elf_object.specs.declared.faults.ObjectCause.{ObjectCause}
 use Rattle.elf_object.specs.declared.searching.UnknownSize.{UnknownSize}
 use Rattle.elf_object.specs.declared.faults.ObjectCause.TheVariants.{UndefinedLocalSymbol, NoRelocation, SizeNotKnown}
 use Rattle.elf_object.specs.FileLocals.{is_file_local}
-use Rattle.elf_object.specs.Contents.{filed_items, has_lost}
+use Rattle.elf_object.specs.Contents.{filed_fields, is_lost}
 
 -- a symbol that is named and not defined
 abbrev pub is_undefined : Meaning → Bool
@@ -44,15 +45,15 @@ fault_of_first is_so fault symbols = if nat_lt (position_or_len is_so symbols) (
 abbrev pub undefined_fault : SymbolMap → Option ObjectCause
 undefined_fault map = fault_of_first is_undefined_local UndefinedLocalSymbol map.symbols
 
--- the first item with a field that has neither a value nor a relocation
-unfoldable pub items_fault : SymbolMap → LaidSections → ℕ → List LaidItem → Option ObjectCause
-items_fault map sections number items = option_map (λ item. NoRelocation item.pos) (find (has_lost map sections number) items)
+-- the fault of the first of these fields of the section of this number that has neither a value nor a relocation
+unfoldable pub fields_fault : SymbolMap → LaidSections → ℕ → SectionOf LaidItem → List Field → Option ObjectCause
+fields_fault map sections number section fields = option_map (λ field. NoRelocation field.pos) (find (is_lost map sections number section) fields)
 
--- the fault of the first item of the section with a field that has neither a value nor a relocation
+-- the fault of the first such field of the section
 abbrev pub field_fault_in : SymbolMap → LaidSections → ℕ → SectionOf LaidItem → Option ObjectCause
-field_fault_in map sections number section = items_fault map sections number (filed_items section)
+field_fault_in map sections number section = fields_fault map sections number section (filed_fields section)
 
--- the first of these sections with such an item; they have the numbers from this one on
+-- the fault of the first of these sections that has one; they have the numbers from this one on
 abbrev pub field_fault_from : SymbolMap → LaidSections → ℕ → List (SectionOf LaidItem) → Option ObjectCause
 field_fault_from map sections number [] = None
 field_fault_from map sections number (section ∷ more) = or_later (field_fault_in map sections number section) (field_fault_from map sections (number + 1) more)
@@ -78,7 +79,7 @@ first_unknown map sections index (symbol ∷ symbols) =
 abbrev pub size_fault : SymbolMap → LaidSections → Option ObjectCause
 size_fault map sections = option_map (λ found. SizeNotKnown found.symbol) (first_unknown map sections 0 map.symbols)
 
--- the first fault: symbols in the order in which they are first named, then fields in the order of sections and items, then sizes in
+-- the first fault: symbols in the order in which they are first named, then fields in the order of sections and offsets, then sizes in
 -- the order of their statements
 unfoldable pub object_fault : SymbolMap → LaidSections → Option ObjectCause
 object_fault map sections = or_later (undefined_fault map) (or_later (field_fault_from map sections 0 sections) (size_fault map sections))
@@ -88,7 +89,7 @@ abbrev pub IsDue : Refusal ObjectCause → Option ObjectCause → Type 0
 IsDue (Fault fault) due = due ≡ Some fault
 IsDue NoMemory due = Unit {0}
 
--- a fault is that of an item of this statement, which has a field that is lost; want of memory may come at any point
+-- a fault is that of a field of this statement that is lost; want of memory may come at any point
 abbrev pub IsLostAt : Pos → Bool → Refusal ObjectCause → Type 0
 IsLostAt pos lost (Fault fault) = (fault ≡ NoRelocation pos) × (lost ≡ true)
 IsLostAt pos lost NoMemory = Unit {0}

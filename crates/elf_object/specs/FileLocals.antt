@@ -8,4 +8,4 @@ use Rattle.asm_expr.specs.declared.naming.Name.TheVariants.{Plain, Numeric, Plac
 abbrev pub is_file_local : Name → Bool
 is_file_local (Plain text) = starts_with nat_eq text (codes ".L")
 is_file_local (Numeric number instance) = true
-is_file_local (Place section item) = true
+is_file_local (Place section item offset) = true

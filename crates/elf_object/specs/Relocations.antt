@@ -8,13 +8,14 @@ use Rattle.asm_expr.specs.Settled.{settled}
 use Rattle.asm_frags.specs.declared.fields.Field.{Field}
 use Rattle.asm_frags.specs.declared.fields.FieldSize.{FieldSize}
 use Rattle.asm_frags.specs.declared.fields.FieldSize.TheVariants.{One, Two, Four, Eight}
+use Rattle.asm_frags.specs.SectionOf.{SectionOf}
 use Rattle.asm_symbols.specs.declared.entries.Symbol.{Symbol}
 use Rattle.asm_symbols.specs.declared.entries.Meaning.{Meaning}
 use Rattle.asm_symbols.specs.declared.entries.Meaning.TheVariants as meaning
 use Rattle.asm_symbols.specs.declared.entries.Spot.{Spot}
 use Rattle.asm_symbols.specs.SymbolMap.{SymbolMap, names, index_of}
-use Rattle.asm_relax.specs.Final.{address_of, final_told}
-use Rattle.asm_relax.specs.Settling.{LaidSections}
+use Rattle.asm_relax.specs.Final.{address_in, address_of, final_told}
+use Rattle.asm_relax.specs.Settling.{LaidItem, LaidSections}
 use Rattle.elf_object.specs.declared.relocations.RelocationKind.{RelocationKind}
 use Rattle.elf_object.specs.declared.relocations.RelocationKind.TheVariants.{Direct64, Pc32, Direct32, Direct16, Pc16, Direct8, Pc8, Pc64}
 use Rattle.elf_object.specs.declared.relocations.Target.{Target}
@@ -58,7 +59,7 @@ symbol_reference target addend = record { target = target; addend = addend }
 -- a local symbol is named by its section, unless the linker may move what stands there
 abbrev pub label_reference : LaidSections → ℕ → Bool → Spot → Option SymbolReference
 label_reference sections index local spot =
-    option_map (λ section. if local && not (has_flag merge section) then symbol_reference (OfSection spot.section) (address_of sections spot.section spot.item)
+    option_map (λ section. if local && not (has_flag merge section) then symbol_reference (OfSection spot.section) (address_of sections spot.section spot.item spot.offset)
     else symbol_reference (OfSymbol index) 0) (slice_get sections spot.section)
 
 -- what a relocation names for a symbol of this meaning
@@ -150,11 +151,15 @@ lone_name (one ∷ other ∷ more) = None
 abbrev pub relocation : ℕ → FieldSize → Reference → Relocation
 relocation place size found = record { offset = place; kind = kind_for found.relative size; target = found.target; addend = found.addend }
 
--- the relocation of a field of an item at this address in the section of this number
-unfoldable pub field_relocation : SymbolMap → LaidSections → ℕ → ℕ → Field → Option Relocation
-field_relocation map sections number address field =
-    option_map (relocation (wrapped (address + field.offset)) field.size)
-    (final_reference map sections number (wrapped (address + field.offset)) field.form)
+-- the address of a field in its section
+abbrev pub field_place : SectionOf LaidItem → Field → ℕ
+field_place section field = address_in section.items field.item field.offset
+
+-- the relocation of a field of the section of this number
+unfoldable pub field_relocation : SymbolMap → LaidSections → ℕ → SectionOf LaidItem → Field → Option Relocation
+field_relocation map sections number section field =
+    option_map (relocation (field_place section field) field.size)
+    (final_reference map sections number (field_place section field) field.form)
 
 -- an entry of a section of relocations, where the target has this number in the symbol table (Elf64_Rela); r_info has the kind in
 -- its low half, and the number in its high half

@@ -3,12 +3,12 @@ use Rattle.std.specs.Prelude.{ℕ, ◌+◌, ◌==◌, List, [], ◌∷◌, ◌++
 use Rattle.asm_frags.specs.Alignments.{alignment_of_all}
 use Rattle.asm_frags.specs.SectionOf.{SectionOf}
 use Rattle.asm_symbols.specs.SymbolMap.{SymbolMap}
-use Rattle.asm_relax.specs.Final.{items_size}
+use Rattle.asm_relax.specs.Final.{section_size}
 use Rattle.asm_relax.specs.Settling.{LaidItem, LaidSections}
 use Rattle.elf_object.specs.declared.relocations.Relocation.{Relocation}
 use Rattle.elf_object.specs.Fields.{word, xword}
 use Rattle.elf_object.specs.Relocations.{relocation_entry}
-use Rattle.elf_object.specs.Contents.{no_bits, items_bytes}
+use Rattle.elf_object.specs.Contents.{no_bits, section_bytes}
 use Rattle.elf_object.specs.Numbers.{NumbersOf, target_number}
 
 -- what a section holds: bytes, or space that takes none in the file
@@ -53,7 +53,7 @@ source_section map sections section = record {
   entry_size = section.entry_size;
   link = 0;
   info = 0;
-  content = if section.kind == no_bits then nobits (items_size section.items) else stored (items_bytes map sections section.items);
+  content = if section.kind == no_bits then nobits (section_size section) else stored (section_bytes map sections section);
 }
 
 -- the bytes of relocations, by the numbers of their symbols

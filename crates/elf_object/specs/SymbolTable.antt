@@ -103,7 +103,7 @@ size_of map sections (Some made) = unwrap_or (field_value map sections made) 0
 abbrev pub text_of : Name → List ℕ
 text_of (Plain text) = text
 text_of (Numeric number instance) = []
-text_of (Place section item) = []
+text_of (Place section item offset) = []
 
 -- the entry of a symbol that stands there; an alias has its symbol's type and size where none is said of it
 abbrev pub entry_at : SymbolMap → LaidSections → Symbol → SymbolValue → SymbolEntry

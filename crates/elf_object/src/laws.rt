@@ -1,13 +1,34 @@
 //! Laws of the definitions.
 
 ghost use Rattle.elf_object.specs.FileLaws.{NamesStand, SectionsStand};
-ghost use Rattle.elf_object.specs.Places.{ItemsStand};
+ghost use Rattle.elf_object.specs.Places.{BytesStand, ValuesStand, ItemsStand, PlacesAreAddresses};
 ghost use Rattle.elf_object.specs.TableLaws.{LocalsFirst, TargetsStand};
 
-/// Where sections are laid out, the bytes of an item stand in the object at its address behind the beginning of its section.
+/// Where a section is laid out, plain bytes beside all fields, and between items, stand in the object as
+/// they were written, moved by the items before them.
+#[tactic(auto, using(crate::proofs::ItemPlaces::bytes_stand))]
+pub fn bytes_stand()
+    ensures { BytesStand }
+{}
+
+/// Where a section is laid out, the value of a field stands in the object at its place.
+#[tactic(auto, using(crate::proofs::ItemPlaces::values_stand))]
+pub fn values_stand()
+    ensures { ValuesStand }
+{}
+
+/// Where a section is laid out, the bytes of an item stand in the object at its address behind the
+/// beginning of its section.
 #[tactic(auto, using(crate::proofs::ItemPlaces::items_stand))]
 pub fn items_stand()
     ensures { ItemsStand }
+{}
+
+/// The place of a plain byte of a laid out section is the address that labels and relocations have,
+/// where addresses do not wrap.
+#[tactic(auto, using(crate::proofs::ItemPlaces::places_are_addresses))]
+pub fn places_are_addresses()
+    ensures { PlacesAreAddresses }
 {}
 
 /// The local symbols of the table stand first, and `sh_info` is the number of the first that is not local.

@@ -23,7 +23,10 @@ mod symbol_table;
 mod symbol_values;
 
 pub use faults::{ObjectCause, ObjectFault};
-pub use laws::{items_stand, locals_first, names_stand, sections_stand, targets_stand};
+pub use laws::{
+    bytes_stand, items_stand, locals_first, names_stand, places_are_addresses, sections_stand,
+    targets_stand, values_stand,
+};
 pub use object::Object;
 pub use reader::{
     HeaderTable, RelocationRecord, SectionHeader, SymbolRecord, header_table, relocation_at,

@@ -10,8 +10,8 @@ use crate::relocations::{Relocation, Target, kind_for};
 use crate::symbol_values::{Placement, binding_of, has_flag, is_local};
 use asm_base::NoMemory;
 use asm_expr::{Known, Linear, Look, Name, Term, copied_form, settled};
-use asm_frags::{Field, SectionFlags};
-use asm_relax::{FinalView, address_of};
+use asm_frags::{Field, Laid, Section, SectionFlags};
+use asm_relax::{FinalView, address_in, address_of};
 use asm_symbols::{Meaning, Spot, Symbol};
 use std::alloc::{AllocError, Global};
 
@@ -39,7 +39,7 @@ fn label_reference(at: Placement, index: usize, local: bool, spot: Spot) -> Opti
             if local && !has_flag(section, SectionFlags::MERGE) {
                 Some(SymbolReference {
                     target: Target::OfSection(spot.section as usize),
-                    addend: address_of(at.sections, spot.section, spot.item),
+                    addend: address_of(at.sections, spot.section, spot.item, spot.offset),
                 })
             } else {
                 Some(SymbolReference {
@@ -215,21 +215,21 @@ fn reference_of(
     }
 }
 
-/// The relocation of a field of an item at this address in the section of this number.
+/// The relocation of a field of the section of this number.
 #[tactic(auto, unfolding(crate::specs::Relocations::field_relocation))]
 pub(crate) fn field_relocation(
     alloc: Global,
     at: Placement,
-    section: usize,
-    address: u64,
+    number: usize,
+    section: &Section<Laid>,
     field: &Field,
 ) -> Result<Option<Relocation>, NoMemory>
     ensures { IfOk result (λ found. found
-        ≡ spec.field_relocation at.entry.symbols.now at.entry.sections.now section address
+        ≡ spec.field_relocation at.entry.symbols.now at.entry.sections.now number section.now
         field.now) }
 {
-    let place = address.wrapping_add(field.offset as u64);
-    match reference_of(alloc, at, section, place, &field.form)? {
+    let place = address_in(section, field.item as u64, field.offset as u64);
+    match reference_of(alloc, at, number, place, &field.form)? {
         Some(found) => Ok(Some(Relocation {
             offset: place,
             kind: kind_for(found.relative, field.size),

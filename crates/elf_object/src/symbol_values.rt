@@ -80,7 +80,7 @@ fn spot_value(at: Placement, spot: Spot) -> SymbolValue
 {
     SymbolValue {
         section: SymbolSection::InSection(u64::from(spot.section)),
-        value: address_of(at.sections, spot.section, spot.item),
+        value: address_of(at.sections, spot.section, spot.item, spot.offset),
     }
 }
 

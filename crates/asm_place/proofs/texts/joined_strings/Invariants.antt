@@ -5,4 +5,4 @@ use Rattle.asm_place.specs.OperandParts.{operands_left}
 use Rattle.asm_place.proofs.texts.joined_strings.Given as goal
 
 abbrev pub invariant-loop-operand : goal.invariant-loop-operand
-invariant-loop-operand l = behind l.bytes.items (joined_strings l.ended (operands_left l.operand-iterator)) ≡ joined_strings l.ended (operands_left l.initial.operand-iterator)
+invariant-loop-operand l = behind l.out.items (joined_strings l.ended (operands_left l.operand-iterator)) ≡ joined_strings l.ended (operands_left l.initial.operand-iterator)

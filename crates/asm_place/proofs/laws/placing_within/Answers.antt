@@ -1,0 +1,10 @@
+-- The first sections are so, and placing keeps it.
+use Rattle.asm_place.proofs.GrowthLemmas.{nothing_within}
+use Rattle.asm_place.proofs.PlacingLaws.{all_within}
+use Rattle.asm_place.proofs.laws.placing_within.Goals as goal
+
+pub returns-clause-begins : goal.returns-clause-begins
+returns-clause-begins c = nothing_within
+
+pub returns-clause-kept : goal.returns-clause-kept
+returns-clause-kept c = all_within

@@ -1,8 +1,0 @@
--- The fields so far hold their values.
-use Rattle.std.proofs.Common.{◌≡◌, drop}
-use Rattle.asm_relax.specs.Faults.{first_of}
-use Rattle.asm_relax.specs.RangeChecks.{field_misfit, item_misfit}
-use Rattle.asm_relax.proofs.range_checks.item_misfit.Given as goal
-
-abbrev pub invariant-loop-field : goal.invariant-loop-field
-invariant-loop-field l = first_of (field_misfit l.symbols l.sections l.item.pos) (drop l.field-index l.fields) ≡ item_misfit l.symbols l.sections l.item
