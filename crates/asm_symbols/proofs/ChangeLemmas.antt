@@ -6,6 +6,7 @@ use Rattle.asm_expr.specs.declared.naming.Name.TheVariants as naming
 use Rattle.asm_expr.specs.Names.{same_name}
 use Rattle.asm_symbols.specs.declared.entries.Symbol.{Symbol}
 use Rattle.asm_symbols.specs.SymbolMap.{names, changed}
+use Rattle.asm_symbols.specs.Assigning.{NoFormLeadsBack}
 use Rattle.asm_symbols.specs.NameIndex.{IndexedNames}
 use Rattle.asm_symbols.specs.Sound.{means_label, is_label_of, AreCounted, IsSound}
 
@@ -64,7 +65,7 @@ module _ (change : Symbol → Symbol) where
   }
 
   pub IsSound-changed : ((symbol : Symbol) → (change symbol).name ≡ symbol.name) → (index : IndexedNames) (symbols : List Symbol) (files : List Name) (counts : List (ℕ × ℕ)) (bytes at : ℕ)
-      → KeepsLabels symbols at → IsSound index symbols files counts bytes → IsSound index (changed change symbols at) files counts bytes
-  IsSound-changed keeps index symbols files counts bytes at labels sound =
+      → KeepsLabels symbols at → NoFormLeadsBack (changed change symbols at) → IsSound index symbols files counts bytes → IsSound index (changed change symbols at) files counts bytes
+  IsSound-changed keeps index symbols files counts bytes at labels forward sound =
       let same = names-changed keeps symbols at in
-      record { indexed = rw same sound.indexed; within = rw same sound.within; instances = AreCounted-changed keeps symbols counts at labels sound.instances }
+      record { indexed = rw same sound.indexed; within = rw same sound.within; instances = AreCounted-changed keeps symbols counts at labels sound.instances; forward = forward }

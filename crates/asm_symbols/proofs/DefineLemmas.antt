@@ -1,5 +1,5 @@
 -- The fields of a symbol map stay sound where a symbol is defined.
-use Rattle.std.proofs.Common.{◌≡◌, ℕ, zero, suc, ◌+◌, ◌==◌, Bool, true, false, cond, ◌||◌, List, [], ◌∷◌, nat_eq, Some, refl, sym, ◌∙◌, ◌<◌, length, get_or, set, Result, Ok, Err, ap, slice_get}
+use Rattle.std.proofs.Common.{◌≡◌, ℕ, zero, suc, ◌+◌, ◌==◌, Bool, true, false, cond, ◌||◌, List, [], ◌∷◌, nat_eq, None, Some, refl, sym, ◌∙◌, ◌<◌, length, get_or, set, Result, Ok, Err, ap, slice_get}
 use Rattle.std.proofs.lemmas.Bool.{eqb-true}
 use Rattle.std.proofs.lemmas.Option.{slice_get_read, same_Some}
 use Rattle.std.specs.List.{list_any}
@@ -15,10 +15,12 @@ use Rattle.asm_symbols.specs.declared.entries.Definition.TheVariants as definiti
 use Rattle.asm_symbols.specs.SymbolMap.{SymbolMap, changed, with_meaning}
 use Rattle.asm_symbols.specs.Counting.{counted, counts_after}
 use Rattle.asm_symbols.specs.Defining.{meant, redefined, defined}
+use Rattle.asm_symbols.specs.Assigning.{form_of}
 use Rattle.asm_symbols.specs.NameIndex.{IndexedNames}
 use Rattle.asm_symbols.specs.Sound.{means_label, is_label_of, AreCounted, IsSound}
 use Rattle.asm_symbols.proofs.SameNames.{own_name}
 use Rattle.asm_symbols.proofs.ChangeLemmas.{set_changed, IsSound-changed}
+use Rattle.asm_symbols.proofs.ForwardLemmas.{KeepsForm, forward_kept}
 use Rattle.asm_symbols.proofs.CountLemmas.{AreCounted-raised}
 
 or_true : (a b : Bool) → b ≡ true → (a || b) ≡ true
@@ -32,6 +34,12 @@ unfolding changed
 changed_passes change test [] at old is passes = cc
 changed_passes change test (symbol ∷ symbols) zero old is passes = let same : symbol ≡ old = cc in rw (same, passes)
 changed_passes change test (symbol ∷ symbols) (suc at) old is passes = or_true (test symbol) (list_any test (changed change symbols at)) (changed_passes change test symbols at old is passes)
+
+-- what a definition makes has no form
+formless : (what : Definition) → form_of (meant what) ≡ None
+formless (definition.Label spot) = refl
+formless (definition.Common size align) = refl
+formless (definition.Space spot) = refl
 
 module _ (symbols : List Symbol) (at : ℕ) (old : Symbol) (there : slice_get symbols at ≡ Some old) where
   defined_label : (spot : _) → list_any (is_label_of old.name) (changed (with_meaning (meant (definition.Label spot))) symbols at) ≡ true
@@ -51,12 +59,14 @@ module _ (symbols : List Symbol) (at : ℕ) (old : Symbol) (there : slice_get sy
   counted_by (naming.Plain text) what counts name sound = sound
   counted_by (naming.Place section item offset) what counts name sound = sound
 
-  -- what is no label is defined
-  pub IsSound-defined : (what : Definition) (index : IndexedNames) (files : List Name) (counts : List (ℕ × ℕ)) (bytes : ℕ) → means_label old.meaning ≡ false
+  -- what is no label and has no form is defined
+  pub IsSound-defined : (what : Definition) (index : IndexedNames) (files : List Name) (counts : List (ℕ × ℕ)) (bytes : ℕ) → means_label old.meaning ≡ false → form_of old.meaning ≡ None
       → IsSound index symbols files counts bytes → IsSound index (changed (with_meaning (meant what)) symbols at) files (counts_after old.name what counts) bytes
-  IsSound-defined what index files counts bytes plain sound =
-      let made = IsSound-changed (with_meaning (meant what)) (λ _. refl) index symbols files counts bytes at (λ symbol is label. let same : symbol ≡ old = cc in cc) sound in
-      record { indexed = made.indexed; within = made.within; instances = counted_by old.name what counts refl made.instances }
+  IsSound-defined what index files counts bytes plain unassigned sound =
+      let keeps : KeepsForm (with_meaning (meant what)) symbols at = λ symbol is. let same : symbol ≡ old = cc in formless what ∙ sym (rw same unassigned) in
+      let forward = forward_kept (with_meaning (meant what)) (λ _. refl) symbols at keeps sound.forward in
+      let made = IsSound-changed (with_meaning (meant what)) (λ _. refl) index symbols files counts bytes at (λ symbol is label. let same : symbol ≡ old = cc in cc) forward sound in
+      record { indexed = made.indexed; within = made.within; instances = counted_by old.name what counts refl made.instances; forward = forward }
 
 -- what is read twice at one place is one
 same_read : (symbols : List Symbol) (at : ℕ) (a b : Symbol) → at < length symbols → a ≡ get_or symbols at a → b ≡ get_or symbols at b → a ≡ b
@@ -71,9 +81,9 @@ pub there_before : {T E : Type 0} (D : Type 0) (before : Result T E) (value : T)
 there_before D (Ok there) value same = let is : value ≡ there = cc in ap Ok (sym is)
 there_before D (Err fault) value same = absurd same
 
--- only what is no label is defined, as the definition says
-redefined_then : (meaning : Meaning) (what : Definition) (made : Meaning) → redefined meaning what ≡ Ok made → (made ≡ meant what) × (means_label meaning ≡ false)
-redefined_then meaning.Undefined what made is = (cc, refl)
+-- only what is no label and has no form is defined, as the definition says
+redefined_then : (meaning : Meaning) (what : Definition) (made : Meaning) → redefined meaning what ≡ Ok made → (made ≡ meant what) × ((means_label meaning ≡ false) × (form_of meaning ≡ None))
+redefined_then meaning.Undefined what made is = (cc, (refl, refl))
 redefined_then (meaning.Label spot) what made is = cc
 redefined_then (meaning.Space spot) what made is = cc
 redefined_then (meaning.Common size align) what made is = cc
@@ -89,7 +99,7 @@ module _ (symbols : List Symbol) (at : ℕ) (first second third : Symbol) (there
       let parts = redefined_then first.meaning what made is in
       let same = same_read symbols at first second there one two in
       let write = set_changed (with_meaning (meant what)) symbols at third there three in
-      rw (grown, ← same, parts.0, write) (IsSound-defined symbols at first (slice_get_read symbols (length symbols) at first refl there one) what index files counts bytes parts.1 sound)
+      rw (grown, ← same, parts.0, write) (IsSound-defined symbols at first (slice_get_read symbols (length symbols) at first refl there one) what index files counts bytes parts.1.0 parts.1.1 sound)
 
   -- the map is the one that the definition says
   pub define_gives : (let map : SymbolMap = record { symbols = symbols; files = files; counts = counts; sizes = sizes } in

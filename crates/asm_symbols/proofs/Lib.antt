@@ -3,6 +3,7 @@ pub mod IndexLemmas
 pub mod SoundLemmas
 pub mod RoomLemmas
 pub mod ChangeLemmas
+pub mod ForwardLemmas
 pub mod WriteLemmas
 pub mod CountLemmas
 pub mod DefineLemmas

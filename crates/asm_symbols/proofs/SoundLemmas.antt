@@ -3,7 +3,7 @@ use Rattle.std.proofs.Common.{◌≡◌, ℕ, zero, suc, ◌+◌, ◌^◌, ◌<�
 use Rattle.std.specs.List.{list_any, sum_by}
 use Rattle.std.proofs.lemmas.List.Folds.{list_any-append}
 use Rattle.std.proofs.lemmas.List.Sums.{sum_by-append}
-use Rattle.std.proofs.lemmas.List.{map-append, length-map}
+use Rattle.std.proofs.lemmas.List.{length-map}
 use Rattle.asm_expr.specs.declared.naming.Name.{Name}
 use Rattle.asm_expr.specs.declared.naming.Name.TheVariants as naming
 use Rattle.asm_expr.specs.Names.{same_name}
@@ -13,6 +13,7 @@ use Rattle.asm_symbols.specs.Interning.{name_size, undefined}
 use Rattle.asm_symbols.specs.NameIndex.{IndexedNames, place_of, with_place}
 use Rattle.asm_symbols.specs.Sound.{IsIndexed, IsWithin, is_label_of, AreCounted, IsSound}
 use Rattle.asm_symbols.proofs.SameNames.{same_from_test}
+use Rattle.asm_symbols.proofs.ForwardLemmas.{names-push, forward_push}
 use Rattle.asm_symbols.proofs.IndexLemmas.{place_of-with_place, index_of-last, index_of-other, index_of-stays}
 
 -- what stands in a list with one more is one of the list, or the one more
@@ -36,9 +37,6 @@ module _ (index : IndexedNames) (ns : List Name) (name : Name) (sound : IsIndexe
     found = λ other. place_of-with_place index name other (length ns) ∙ found_by other (same_name other name) refl;
     apart = λ at other there. apart_by at other (one_of_more ns name other at there);
   }
-
-pub names-push : (symbols : List Symbol) (name : Name) → names (symbols ++ undefined name ∷ []) ≡ names symbols ++ name ∷ []
-names-push symbols name = map-append (λ (symbol : Symbol). symbol.name) symbols (undefined name ∷ [])
 
 sum_by-one : {X : Type 0} (f : X → ℕ) (xs : List X) (x : X) → sum_by f (xs ++ x ∷ []) ≡ sum_by f xs + f x
 sum_by-one f xs x = sum_by-append f xs (x ∷ []) ∙ omega arith
@@ -78,6 +76,7 @@ IsSound-name index symbols files counts bytes name sound new few small =
       indexed = rw (names-push, ← long) (IsIndexed-push index (names symbols) name sound.indexed new);
       within = rw names-push (IsWithin-name (names symbols) files bytes name sound.within (omega arith) small);
       instances = AreCounted-push symbols counts (undefined name) sound.instances;
+      forward = forward_push symbols name sound.forward;
     }
 
 -- the name of a file more
@@ -86,4 +85,4 @@ pub IsSound-file : (index : IndexedNames) (symbols : List Symbol) (files : List 
     → IsSound index symbols (files ++ name ∷ []) counts (bytes + name_size name)
 IsSound-file index symbols files counts bytes name sound few small =
     let long : length (names symbols) ≡ length symbols = simp length-map in
-    record { indexed = sound.indexed; within = IsWithin-file (names symbols) files bytes name sound.within (omega arith) small; instances = sound.instances }
+    record { indexed = sound.indexed; within = IsWithin-file (names symbols) files bytes name sound.within (omega arith) small; instances = sound.instances; forward = sound.forward }

@@ -58,6 +58,10 @@ pub data Leads (symbols : List Symbol) (form : Form) : ℕ → Type 0 where
   further : (middle index : ℕ) (next : Form) → Leads symbols form middle → form_at symbols middle ≡ Some next → NamesSymbol symbols next index
       → Leads symbols form index
 
+-- no symbol's form leads back to it
+abbrev pub NoFormLeadsBack : List Symbol → Type 0
+NoFormLeadsBack symbols = (index : ℕ) (form : Form) → form_at symbols index ≡ Some form → Leads symbols form index → ⊥
+
 -- the answer says whether the form leads to the symbol at this index
 abbrev pub TellsLeads : List Symbol → Form → ℕ → Bool → Type 0
 TellsLeads symbols form index true = Leads symbols form index

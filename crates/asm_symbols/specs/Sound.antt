@@ -11,6 +11,7 @@ use Rattle.asm_symbols.specs.declared.entries.Meaning.TheVariants as meaning
 use Rattle.asm_symbols.specs.SymbolMap.{names, index_of}
 use Rattle.asm_symbols.specs.Interning.{name_size}
 use Rattle.asm_symbols.specs.Counting.{counted}
+use Rattle.asm_symbols.specs.Assigning.{NoFormLeadsBack}
 use Rattle.asm_symbols.specs.NameIndex.{IndexedNames, place_of}
 
 -- no two places have one name
@@ -50,8 +51,9 @@ is_label_of name symbol = same_name name symbol.name && means_label symbol.meani
 pub record AreCounted (symbols : List Symbol) (counts : List (ℕ × ℕ)) : Type 0 where
   pub labels : (number instance : ℕ) → 0 < instance → instance ≤ counted counts number → list_any (is_label_of (naming.Numeric number instance)) symbols ≡ true
 
--- names are found by the index, keep the limits, and each counted instance is a label
+-- names are found by the index, keep the limits, each counted instance is a label, and no form leads back to its symbol
 pub record IsSound (index : IndexedNames) (symbols : List Symbol) (files : List Name) (counts : List (ℕ × ℕ)) (bytes : ℕ) : Type 0 where
   pub indexed : IsIndexed index (names symbols)
   pub within : IsWithin (names symbols) files bytes
   pub instances : AreCounted symbols counts
+  pub forward : NoFormLeadsBack symbols

@@ -34,8 +34,8 @@ fn form_fault_of(meaning: &Meaning, once: bool) -> Option<SymCause>
 
 impl Symbols {
     ghost use Rattle.std.specs.Prelude.{◌≡◌, ◌<◌, false, [], length, OnErr, IfOk, IfErr};
-    ghost use Rattle.asm_symbols.specs.SymbolMap.{names, with_symbol, with_meaning};
-    ghost use Rattle.asm_symbols.specs.Assigning.{form_fault_at, form_at, TellsLeads, Assigns};
+    ghost use Rattle.asm_symbols.specs.SymbolMap.{names};
+    ghost use Rattle.asm_symbols.specs.Assigning.{form_fault_at, form_at, with_form, Leads, TellsLeads, Assigns};
     ghost use Rattle.asm_base.specs.Refusals.{Gives};
     ghost use Rattle.asm_symbols.specs.Searching.{seen_unless, seen_with, seen_behind};
     ghost use Rattle.asm_symbols.specs.LeadsBack.{leads_back, assigned};
@@ -152,18 +152,20 @@ impl Symbols {
         if self.leads_back(&form, id)? {
             return Err(SymFault::Fault(SymCause::BadSymbolUse));
         }
-        self.redefine(id, Meaning::Assigned(form));
+        self.put_form(id, form);
         Ok(())
     }
 
-    /// The symbol, which is no label, is this from now on.
-    fn redefine(&mut self, id: SymId, meaning: Meaning)
+    /// The symbol, which is no label and to which the form does not lead, stands for the form from
+    /// now on.
+    fn put_form(&mut self, id: SymId, form: Linear)
         requires there { id < length self.old.symbols }
         requires plain { is_label_at self.old.symbols id ≡ false }
-        ensures value { self.new ≡ with_symbol (with_meaning meaning) self.old id }
+        requires forward { Leads self.old.symbols form id → ⊥ }
+        ensures value { self.new ≡ with_form self.old id form }
         ensures kept { length self.new.symbols ≡ length self.old.symbols }
     {
         let symbol = &mut self.symbols[id.index() as usize];
-        symbol.meaning = meaning;
+        symbol.meaning = Meaning::Assigned(form);
     }
 }

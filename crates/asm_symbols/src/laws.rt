@@ -15,7 +15,7 @@ ghost use Rattle.asm_symbols.specs.SymbolMap.{SymbolMap, names, with_symbol};
 ghost use Rattle.asm_symbols.specs.Interning.{names_size, named, with_file};
 ghost use Rattle.asm_symbols.specs.Counting.{next_named};
 ghost use Rattle.asm_symbols.specs.Defining.{defined};
-ghost use Rattle.asm_symbols.specs.Assigning.{with_form, Leads};
+ghost use Rattle.asm_symbols.specs.Assigning.{with_form, Leads, NoFormLeadsBack};
 ghost use Rattle.asm_symbols.specs.LeadsBack.{leads_back};
 ghost use Rattle.asm_symbols.specs.Attributes.{bound_as, bound, with_kind, with_next_size, with_visibility};
 ghost use Rattle.asm_symbols.specs.Order.{KeepsOrder};
@@ -42,6 +42,13 @@ pub fn names_are_few(map: &Symbols)
 /// The instances of a numeric label that are counted are labels.
 pub fn counted_are_labels(map: &Symbols)
     ensures { AreCounted map.now.symbols map.now.counts }
+{
+    let _ = &map.index;
+}
+
+/// No symbol's form leads back to it.
+pub fn no_form_leads_back(map: &Symbols)
+    ensures { NoFormLeadsBack map.now.symbols }
 {
     let _ = &map.index;
 }

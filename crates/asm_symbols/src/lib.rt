@@ -20,6 +20,7 @@ pub use entries::{Binding, Definition, Kind, Meaning, Spot, Symbol, Visibility};
 pub use faults::{SymCause, SymFault};
 pub use ids::SymId;
 pub use laws::{
-    counted_are_labels, leads_is_decided, names_are_apart, names_are_few, order_is_kept, weak_wins,
+    counted_are_labels, leads_is_decided, names_are_apart, names_are_few, no_form_leads_back,
+    order_is_kept, weak_wins,
 };
 pub use symbol_map::Symbols;

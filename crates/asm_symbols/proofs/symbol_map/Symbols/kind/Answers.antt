@@ -1,6 +1,7 @@
--- The symbol that is written keeps its name, and stays a label if it is one.
+-- The symbol that is written keeps its name and form, and stays a label if it is one.
 use Rattle.std.proofs.Common.{refl}
 use Rattle.asm_symbols.specs.Attributes.{with_kind}
+use Rattle.asm_symbols.proofs.ForwardLemmas.{forward_kept}
 use Rattle.asm_symbols.proofs.WriteLemmas.{written, written_sound}
 use Rattle.asm_symbols.proofs.symbol_map.Symbols.kind.Goals as goal
 
@@ -8,6 +9,7 @@ pub invariant_of-self : goal.invariant_of-self
 invariant_of-self c =
     let there = rw (← c.self.view_is, ← c.index.ensures) at c.requires in
     written_sound (with_kind c.args.kind) c.self.inside.symbols.items c.index.result c.index_mut-symbol.result.now there c.index_mut-symbol.ensures.value (λ _. refl) (λ _ _ is. is)
+    (forward_kept (with_kind c.args.kind) (λ _. refl) c.self.inside.symbols.items c.index.result (λ _ _. refl))
     c.self.inside.index c.self.inside.files.items c.self.inside.counts.entries c.self.inside.bytes c.self.invariant
 
 pub returns-clause-value : goal.returns-clause-value
