@@ -41,7 +41,7 @@ forward_kept change same symbols at keeps forward index form is leads =
     forward index form (kept index form is) (leads_kept symbols (changed change symbols at) form (names-changed change same symbols at) kept index leads)
 
 -- a form goes on to what a form leads to whose symbol it leads to
-leads_on : (symbols : List Symbol) (first : Form) (middle : ℕ) (next : Form) (last : ℕ) → Leads symbols first middle → form_at symbols middle ≡ Some next → Leads symbols next last → Leads symbols first last
+pub leads_on : (symbols : List Symbol) (first : Form) (middle : ℕ) (next : Form) (last : ℕ) → Leads symbols first middle → form_at symbols middle ≡ Some next → Leads symbols next last → Leads symbols first last
 leads_on symbols first middle next last leads is (straight index named) = further middle index next leads is named
 leads_on symbols first middle next last leads is (further other index then' more has named) = further other index then' (leads_on symbols first middle next other leads is more) has named
 
@@ -115,7 +115,7 @@ form_at-before [] name (suc index) form is = is
 form_at-before (symbol ∷ symbols) name zero form is = is
 form_at-before (symbol ∷ symbols) name (suc index) form is = form_at-before symbols name index form is
 
-form_within : (symbols : List Symbol) (index : ℕ) (form : Form) → form_at symbols index ≡ Some form → index < length symbols
+pub form_within : (symbols : List Symbol) (index : ℕ) (form : Form) → form_at symbols index ≡ Some form → index < length symbols
 form_within [] zero form is = cc
 form_within [] (suc index) form is = cc
 form_within (symbol ∷ symbols) zero form is = omega arith
