@@ -1,5 +1,8 @@
 -- The proofs of this crate.
+pub mod RankLemmas
 pub mod ExpandingLemmas
+pub mod ExpansionLemmas
+pub mod WayLemmas
 pub mod Changes
 pub mod PlacingLemmas
 pub mod FirstLemmas

@@ -1,12 +1,13 @@
--- The expansion of assigned symbols in forms: each is replaced by the form that it was assigned last, until none is left.
-use Rattle.std.specs.Prelude.{ℕ, zero, suc, Bool, List, [], ◌∷◌, length, Option, None, Some, is_some, if◌then◌else◌}
+-- The expansion of assigned symbols in forms: each is replaced by the expansion of the form that it was assigned last.
+use Rattle.std.specs.Prelude.{◌≡◌, ℕ, zero, suc, Bool, true, false, ◌&&◌, not, List, [], ◌∷◌, length, drop, Option, None, Some, is_some, option_map, slice_get, if◌then◌else◌}
+use Rattle.std.specs.Option.{option_flatten}
 use Rattle.std.specs.List.{list_any}
 use Rattle.asm_expr.specs.declared.naming.Name.{Name}
 use Rattle.asm_expr.specs.declared.forms.Term.{Term}
 use Rattle.asm_expr.specs.Forms.{Form, constant_form, name_form, plus_times}
 use Rattle.asm_symbols.specs.declared.entries.Symbol.{Symbol}
 use Rattle.asm_symbols.specs.SymbolMap.{SymbolMap, names, index_of}
-use Rattle.asm_symbols.specs.Assigning.{form_at}
+use Rattle.asm_symbols.specs.Assigning.{form_at, IsNamedIn}
 
 -- the form of the symbol at this index, where it is an assigned one
 abbrev pub assigned_at : List Symbol → Option ℕ → Option Form
@@ -17,27 +18,23 @@ assigned_at symbols (Some index) = form_at symbols index
 unfoldable pub assigned_form : SymbolMap → Name → Option Form
 assigned_form map name = assigned_at map.symbols (index_of name (names map.symbols))
 
--- the form of an assigned symbol, or else the name itself
-abbrev pub replaced_by : Name → Option Form → Form
-replaced_by name None = name_form name
-replaced_by name (Some form) = form
+-- the form that stands for a name, or else the name itself
+abbrev pub form_or_name : Name → Option Form → Form
+form_or_name name None = name_form name
+form_or_name name (Some form) = form
 
--- the form that replaces a name
-abbrev pub replacement : SymbolMap → Name → Form
-replacement map name = replaced_by name (assigned_form map name)
-
--- the form plus the term, with its name replaced
-abbrev pub plus_term : SymbolMap → Form → Term → Form
-plus_term map made term = plus_times made term.coefficient (replacement map term.name)
+-- what replaces a name: for an assigned symbol, what its last form becomes
+abbrev pub replacement : (Form → Form) → SymbolMap → Name → Form
+replacement becomes map name = form_or_name name (option_map becomes (assigned_form map name))
 
 -- the form plus the terms, with their names replaced
-unfoldable pub plus_terms : SymbolMap → Form → List Term → Form
-plus_terms map made [] = made
-plus_terms map made (term ∷ terms) = plus_terms map (plus_term map made term) terms
+unfoldable pub plus_terms : (Name → Form) → Form → List Term → Form
+plus_terms replaces made [] = made
+plus_terms replaces made (term ∷ terms) = plus_terms replaces (plus_times made term.coefficient (replaces term.name)) terms
 
--- the form with each of its assigned symbols replaced once
-abbrev pub expanded_once : SymbolMap → Form → Form
-expanded_once map made = plus_terms map (constant_form made.constant) made.terms
+-- the sum of the form's terms and its constant, with the names replaced
+abbrev pub with_replaced : (Name → Form) → Form → Form
+with_replaced replaces form = plus_terms replaces (constant_form form.constant) form.terms
 
 -- the term names an assigned symbol
 abbrev pub is_assigned : SymbolMap → Term → Bool
@@ -45,13 +42,70 @@ is_assigned map term = is_some (assigned_form map term.name)
 
 -- the form names an assigned symbol
 abbrev pub names_assigned : SymbolMap → Form → Bool
-names_assigned map made = list_any (is_assigned map) made.terms
+names_assigned map form = list_any (is_assigned map) form.terms
 
--- the form expanded at most this many times
+-- the form expanded, in assigned symbols that lead to one another so far at most
 unfoldable pub expanded_within : ℕ → SymbolMap → Form → Form
-expanded_within zero map made = made
-expanded_within (suc more) map made = if names_assigned map made then expanded_within more map (expanded_once map made) else made
+expanded_within zero map form = form
+expanded_within (suc more) map form = if names_assigned map form then with_replaced (replacement (λ next. expanded_within more map next) map) form else form
 
--- the form expanded until it names no assigned symbol: no chain of them is longer than the number of symbols
+-- the form with each assigned symbol replaced by the expansion of its form: no more of them than there are lead to one another
 unfoldable pub expanded : SymbolMap → Form → Form
-expanded map made = expanded_within (length map.symbols) map made
+expanded map form = expanded_within (suc (length map.symbols)) map form
+
+-- the expanded form of the symbol at this index, where it is an assigned one
+abbrev pub expansion_at : SymbolMap → ℕ → Option Form
+expansion_at map index = option_map (expanded map) (form_at map.symbols index)
+
+-- the form that is there for the symbol at this index
+abbrev pub entry_at : List (Option Form) → ℕ → Option Form
+entry_at forms index = option_flatten (slice_get forms index)
+
+-- each symbol has its expanded form, where it is an assigned one
+pub record AreExpansions (map : SymbolMap) (forms : List (Option Form)) : Type 0 where
+  pub each : (index : ℕ) → entry_at forms index ≡ expansion_at map index
+
+-- there is room for each symbol, and the forms that are there are expanded ones
+pub record ArePartly (map : SymbolMap) (forms : List (Option Form)) : Type 0 where
+  pub long : length forms ≡ length map.symbols
+  pub each : (index : ℕ) (form : Form) → entry_at forms index ≡ Some form → expansion_at map index ≡ Some form
+
+-- the form that is there for the name
+abbrev pub entry_by : List (Option Form) → Option ℕ → Option Form
+entry_by forms None = None
+entry_by forms (Some index) = entry_at forms index
+
+-- the form that is there for the symbol of the name
+unfoldable pub entry_of : SymbolMap → List (Option Form) → Name → Option Form
+entry_of map forms name = entry_by forms (index_of name (names map.symbols))
+
+-- the symbol is an assigned one whose expanded form is not there
+abbrev pub awaits : SymbolMap → List (Option Form) → ℕ → Bool
+awaits map forms index = is_some (form_at map.symbols index) && not (is_some (entry_at forms index))
+
+-- the symbol at this index, if it is such a one
+abbrev pub awaited_at : SymbolMap → List (Option Form) → Option ℕ → Option ℕ
+awaited_at map forms None = None
+awaited_at map forms (Some index) = if awaits map forms index then Some index else None
+
+-- the symbol of the name, if it is such a one
+unfoldable pub awaited : SymbolMap → List (Option Form) → Name → Option ℕ
+awaited map forms name = awaited_at map forms (index_of name (names map.symbols))
+
+-- the terms of the symbol at this index, if it is an assigned one
+abbrev pub terms_of : Option Form → List Term
+terms_of None = []
+terms_of (Some form) = form.terms
+
+-- the sum so far and the terms from this place on give the expanded form of the symbol
+abbrev pub Expands : SymbolMap → ℕ → ℕ → Form → Type 0
+Expands map index seen made = expansion_at map index ≡ Some (plus_terms (replacement (expanded map) map) made (drop seen (terms_of (form_at map.symbols index))))
+
+-- the form of the symbol names this other one, whose expanded form is not there
+pub record IsAwaited (map : SymbolMap) (forms : List (Option Form)) (index other : ℕ) : Type 0 where
+  pub named : IsNamedIn (terms_of (form_at map.symbols index)) (names map.symbols) other
+  pub missing : awaits map forms other ≡ true
+
+-- what is not awaited before is not awaited after
+abbrev pub KeepsForms : SymbolMap → List (Option Form) → List (Option Form) → Type 0
+KeepsForms map before after = (index : ℕ) → awaits map before index ≡ false → awaits map after index ≡ false

@@ -1,15 +1,17 @@
-//! The expansion of assigned symbols in forms: each is replaced by the form that it was assigned last, until none is left.
+//! The expansion of assigned symbols in forms: each is replaced by the expansion of the form that
+//! it was assigned last, until none is left.
 
-ghost use Rattle.std.specs.Prelude.{◌≡◌, IfOk, option_map};
-ghost use Rattle.asm_symbols.specs.Assigning.{form_of};
-ghost use Rattle.asm_relax.specs.Expanding.{assigned_form, plus_term, expanded_once, names_assigned, expanded};
+ghost use Rattle.std.specs.Prelude.{◌≡◌, ◌<◌, ◌≤◌, length, None, IsSome, IfOk, option_map};
+ghost use Rattle.asm_symbols.specs.Assigning.{form_of, form_at};
+ghost use Rattle.asm_relax.specs.Expanding.{assigned_form, names_assigned, expanded, terms_of, Expands};
 
 use asm_base::NoMemory;
 use asm_expr::{
     Linear, Name, Term, constant_form, copied_form, copied_name, name_form, plus_times,
 };
-use asm_symbols::{Meaning, Symbols};
+use asm_symbols::{Meaning, SymId, Symbols, no_form_leads_back};
 use std::alloc::Global;
+use std::marker::Model;
 
 /// The form of an assigned symbol.
 fn form_of(meaning: &Meaning) -> Option<&Linear>
@@ -18,6 +20,25 @@ fn form_of(meaning: &Meaning) -> Option<&Linear>
     match meaning {
         Meaning::Assigned(form) => Some(form),
         _ => None,
+    }
+}
+
+/// The form of the symbol at the index, where it is an assigned one.
+fn form_at(symbols: &Symbols, at: usize) -> Option<&Linear>
+    requires { at < length symbols.now.symbols }
+    ensures { option_map (λ form. form.now) result ≡ form_at symbols.now.symbols at }
+{
+    form_of(&symbols.as_slice()[at].meaning)
+}
+
+/// The terms of the form of the symbol at the index, where it is an assigned one.
+fn terms_at(symbols: &Symbols, at: usize) -> &[Term]
+    requires { at < length symbols.now.symbols }
+    ensures { result.now ≡ terms_of (form_at symbols.now.symbols at) }
+{
+    match form_at(symbols, at) {
+        Some(form) => form.terms(),
+        None => &[],
     }
 }
 
@@ -32,36 +53,6 @@ fn assigned_form<'a>(symbols: &'a Symbols, name: &Name) -> Option<&'a Linear>
     }
 }
 
-/// The form plus the term, with the term's name replaced by its form where it is an assigned symbol.
-fn plus_term(
-    alloc: Global,
-    symbols: &Symbols,
-    made: Linear,
-    term: &Term,
-) -> Result<Linear, NoMemory>
-    ensures { IfOk result (λ form. form ≡ plus_term symbols.now made term.now) }
-{
-    match assigned_form(symbols, &term.name) {
-        Some(form) => plus_times(alloc, made, term.coefficient, form),
-        None => {
-            let own = name_form(alloc, copied_name(alloc, &term.name)?)?;
-            plus_times(alloc, made, term.coefficient, &own)
-        }
-    }
-}
-
-/// The form with each of its assigned symbols replaced once.
-fn expand_once(alloc: Global, symbols: &Symbols, form: &Linear) -> Result<Linear, NoMemory>
-    ensures { IfOk result (λ made. made ≡ expanded_once symbols.now form.now) }
-{
-    let terms = form.terms();
-    let mut made = constant_form(alloc, form.constant());
-    for term in terms {
-        made = plus_term(alloc, symbols, made, term)?;
-    }
-    Ok(made)
-}
-
 /// Whether the form names an assigned symbol.
 fn names_assigned(symbols: &Symbols, form: &Linear) -> bool
     ensures { result ≡ names_assigned symbols.now form.now }
@@ -71,19 +62,263 @@ fn names_assigned(symbols: &Symbols, form: &Linear) -> bool
         .any(|term| assigned_form(symbols, &term.name).is_some())
 }
 
-/// The form expanded until it names no assigned symbol: no chain of them is longer than the number of symbols. A form
-/// without assigned symbols is only copied.
+/// A symbol whose form is being expanded: its index, how many terms of its form are expanded, and
+/// the sum of these and the form's constant.
+#[derive(Drop)]
+struct Visit {
+    symbol: usize,
+    seen: usize,
+    made: Linear,
+}
+
+/// The form of the symbol begins to be expanded. One that names no assigned symbol is copied, and
+/// no term is left.
+fn begun(alloc: Global, symbols: &Symbols, at: usize) -> Result<Visit, NoMemory>
+    requires there { at < length symbols.now.symbols }
+    requires assigned { IsSome (form_at symbols.now.symbols at) }
+    ensures symbol { IfOk result (λ visit. visit.symbol ≡ at) }
+    ensures value { IfOk result (λ visit. Expands symbols.now at visit.seen visit.made) }
+{
+    no_form_leads_back(symbols);
+    // The symbol is an assigned one.
+    let form = form_at(symbols, at).unwrap();
+    if names_assigned(symbols, form) {
+        return Ok(Visit {
+            symbol: at,
+            seen: 0,
+            made: constant_form(alloc, form.constant()),
+        });
+    }
+    let made = copied_form(alloc, form)?;
+    Ok(Visit {
+        symbol: at,
+        seen: form.terms().len(),
+        made,
+    })
+}
+
+/// The expanded forms of all assigned symbols: for each symbol none, or its expanded form.
+///
+/// Each symbol is expanded once: its terms are added one after the other, and where one names a
+/// symbol whose expanded form is not there, that symbol goes first and the sum so far waits. So a
+/// term of a symbol's form is looked up a fixed number of times, however many forms lead to it. The
+/// symbols that wait stand in a list on the heap, since a chain of them may be long.
+#[derive(Drop)]
+pub struct Expansions {
+    forms: Vec<Option<Box<Linear>>>,
+}
+
+impl Model for Expansions {
+    ghost use Rattle.std.specs.Prelude.{List, Option, map, option_map};
+    ghost use Rattle.asm_expr.specs.Forms.{Form};
+
+    ghost Value = { List (Option Form) };
+
+    ghost view = { λ made. map (option_map (λ form. form.value)) made.forms.items };
+}
+
+impl Expansions {
+    ghost use Rattle.std.specs.Prelude.{◌≡◌, ◌<◌, ◌≤◌, false, length, set, replicate, None, Some, option_map, IsNone, IfOk, OnOk, IfSome};
+    ghost use Rattle.asm_expr.specs.Forms.{plus_times};
+    ghost use Rattle.asm_symbols.specs.Assigning.{form_at};
+    ghost use Rattle.asm_relax.specs.Expanding.{expanded, form_or_name, entry_at, entry_of, awaits, awaited, terms_of, Expands, IsAwaited, AreExpansions, ArePartly, KeepsForms};
+
+    /// No form for any of so many symbols.
+    fn none(alloc: Global, count: usize) -> Result<Expansions, NoMemory>
+        ensures { IfOk result (λ made. made ≡ replicate count None) }
+    {
+        let mut forms = Vec::with_capacity(alloc, count)?;
+        for _ in 0..count {
+            forms.push(None)?;
+        }
+        Ok(Expansions { forms })
+    }
+
+    /// The form that is there for the symbol at the index.
+    fn entry_at(&self, at: usize) -> Option<&Linear>
+        ensures { option_map (λ form. form.now) result ≡ entry_at self.now at }
+    {
+        match self.forms.get(at) {
+            Some(Some(form)) => Some(form),
+            _ => None,
+        }
+    }
+
+    /// The expanded form of the symbol, where it is an assigned one.
+    pub fn of(&self, id: SymId) -> Option<&Linear>
+        ensures { option_map (λ form. form.now) result ≡ entry_at self.now id }
+    {
+        self.entry_at(id.index() as usize)
+    }
+
+    /// The form that is there for the symbol of the name.
+    #[tactic(auto, unfolding(crate::specs::Expanding::entry_of))]
+    fn entry_of(&self, symbols: &Symbols, name: &Name) -> Option<&Linear>
+        ensures { option_map (λ form. form.now) result ≡ entry_of symbols.now self.now name.now }
+    {
+        match symbols.find(name) {
+            Some(id) => self.of(id),
+            None => None,
+        }
+    }
+
+    /// Whether the symbol is an assigned one whose expanded form is not there.
+    fn awaits(&self, symbols: &Symbols, at: usize) -> bool
+        requires { at < length symbols.now.symbols }
+        ensures { result ≡ awaits symbols.now self.now at }
+    {
+        form_at(symbols, at).is_some() && self.entry_at(at).is_none()
+    }
+
+    /// The symbol of the name, if it is such a one.
+    #[tactic(auto, unfolding(crate::specs::Expanding::awaited))]
+    fn awaited(&self, symbols: &Symbols, name: &Name) -> Option<usize>
+        ensures { result ≡ awaited symbols.now self.now name.now }
+    {
+        let id = symbols.find(name)?;
+        let at = id.index() as usize;
+        if self.awaits(symbols, at) {
+            Some(at)
+        } else {
+            None
+        }
+    }
+
+    /// The form plus the term, with the form that is there for the term's name in its place.
+    fn plus_term(
+        &self,
+        alloc: Global,
+        symbols: &Symbols,
+        made: Linear,
+        term: &Term,
+    ) -> Result<Linear, NoMemory>
+        ensures { let found = entry_of symbols.now self.now term.now.name in
+            IfOk result (λ form. form
+            ≡ plus_times made term.now.coefficient (form_or_name term.now.name found)) }
+    {
+        match self.entry_of(symbols, &term.name) {
+            Some(form) => plus_times(alloc, made, term.coefficient, form),
+            None => {
+                let own = name_form(alloc, copied_name(alloc, &term.name)?)?;
+                plus_times(alloc, made, term.coefficient, &own)
+            }
+        }
+    }
+
+    /// Expands terms up to the first that names a symbol whose expanded form is not there, and
+    /// answers that symbol.
+    fn advance(
+        &self,
+        alloc: Global,
+        symbols: &Symbols,
+        visit: Visit,
+    ) -> Result<(Visit, Option<usize>), NoMemory>
+        requires there { visit.symbol < length symbols.now.symbols }
+        requires partly { ArePartly symbols.now self.now }
+        requires value { Expands symbols.now visit.symbol visit.seen visit.made }
+        ensures symbol { IfOk result (λ after. after.0.symbol ≡ visit.symbol) }
+        ensures value { IfOk result (λ after.
+            Expands symbols.now visit.symbol after.0.seen after.0.made) }
+        ensures awaited { IfOk result (λ after.
+            IfSome after.1 (IsAwaited symbols.now self.now visit.symbol)) }
+        ensures all { IfOk result (λ after. IsNone after.1
+            → length (terms_of (form_at symbols.now.symbols visit.symbol)) ≤ after.0.seen) }
+    {
+        let Visit {
+            symbol,
+            mut seen,
+            mut made,
+        } = visit;
+        let terms = terms_at(symbols, symbol);
+        while seen < terms.len() {
+            let term = &terms[seen];
+            if let Some(other) = self.awaited(symbols, &term.name) {
+                return Ok((Visit { symbol, seen, made }, Some(other)));
+            }
+            made = self.plus_term(alloc, symbols, made, term)?;
+            seen += 1;
+        }
+        Ok((Visit { symbol, seen, made }, None))
+    }
+
+    /// The form is there for the symbol at the index from now on.
+    fn put(&mut self, alloc: Global, at: usize, form: Linear) -> Result<(), NoMemory>
+        requires { at < length self.old }
+        ensures { OnOk result (self.new ≡ set self.old at (Some form)) }
+    {
+        let form = Box::new(alloc, form)?;
+        self.forms[at] = Some(form);
+        Ok(())
+    }
+
+    /// The expanded form of the symbol is there from now on, if it is an assigned one, and those
+    /// of the symbols that it needs.
+    fn fill(&mut self, alloc: Global, symbols: &Symbols, at: usize) -> Result<(), NoMemory>
+        requires there { at < length symbols.now.symbols }
+        requires partly { ArePartly symbols.now self.old }
+        ensures partly { OnOk result (ArePartly symbols.now self.new) }
+        ensures done { OnOk result (awaits symbols.now self.new at ≡ false) }
+        ensures kept { OnOk result (KeepsForms symbols.now self.old self.new) }
+    {
+        if !self.awaits(symbols, at) {
+            return Ok(());
+        }
+        no_form_leads_back(symbols);
+        let mut way = Vec::new(alloc);
+        way.push(begun(alloc, symbols, at)?)?;
+        'way: while let Some(visit) = way.pop() {
+            let (visit, awaited) = self.advance(alloc, symbols, visit)?;
+            match awaited {
+                Some(other) => {
+                    way.push(visit)?;
+                    way.push(begun(alloc, symbols, other)?)?;
+                }
+                None => self.put(alloc, visit.symbol, visit.made)?,
+            }
+        }
+        Ok(())
+    }
+
+    /// The expanded forms of the symbols.
+    pub fn new(alloc: Global, symbols: &Symbols) -> Result<Expansions, NoMemory>
+        ensures { IfOk result (AreExpansions symbols.now) }
+    {
+        let mut made = Expansions::none(alloc, symbols.len())?;
+        for at in 0..symbols.len() {
+            made.fill(alloc, symbols, at)?;
+        }
+        Ok(made)
+    }
+
+    /// The form expanded. One that names no assigned symbol is only copied.
+    pub fn expand(
+        &self,
+        alloc: Global,
+        symbols: &Symbols,
+        form: &Linear,
+    ) -> Result<Linear, NoMemory>
+        requires { AreExpansions symbols.now self.now }
+        ensures { IfOk result (λ made. made ≡ expanded symbols.now form.now) }
+    {
+        if !names_assigned(symbols, form) {
+            return Ok(copied_form(alloc, form)?);
+        }
+        no_form_leads_back(symbols);
+        let terms = form.terms();
+        let mut made = constant_form(alloc, form.constant());
+        for term in terms {
+            made = self.plus_term(alloc, symbols, made, term)?;
+        }
+        Ok(made)
+    }
+}
+
+/// The form expanded, for one form alone.
 pub fn expand_assigned(alloc: Global, symbols: &Symbols, form: &Linear) -> Result<Linear, NoMemory>
     ensures { IfOk result (λ made. made ≡ expanded symbols.now form.now) }
 {
-    let mut made = copied_form(alloc, form)?;
-    let mut left = symbols.len();
-    while left > 0 {
-        if !names_assigned(symbols, &made) {
-            return Ok(made);
-        }
-        made = expand_once(alloc, symbols, &made)?;
-        left -= 1;
+    if !names_assigned(symbols, form) {
+        return Ok(copied_form(alloc, form)?);
     }
-    Ok(made)
+    Expansions::new(alloc, symbols)?.expand(alloc, symbols, form)
 }

@@ -1,9 +1,12 @@
 //! What holds of every layout.
 
-ghost use Rattle.std.specs.Prelude.{◌≡◌, ℕ, ◌+◌, ◌<◌, ◌≤◌, ◌^◌, ◌++◌, List, All, length, map, option_map, slice_get};
-ghost use Rattle.asm_expr.specs.Forms.{wrapped};
+ghost use Rattle.std.specs.Prelude.{◌≡◌, true, false, ℕ, ◌+◌, ◌<◌, ◌≤◌, ◌^◌, ◌++◌, List, All, length, map, option_map, slice_get};
+ghost use Rattle.asm_expr.specs.Forms.{Form, wrapped};
+ghost use Rattle.asm_symbols.specs.SymbolMap.{SymbolMap};
+ghost use Rattle.asm_symbols.specs.Assigning.{NoFormLeadsBack};
 ghost use Rattle.asm_frags.specs.Addresses.{item_with_address};
 ghost use Rattle.asm_frags.specs.KnownExtents.{extent_of};
+ghost use Rattle.asm_relax.specs.Expanding.{replacement, with_replaced, names_assigned, expanded};
 ghost use Rattle.asm_relax.specs.Final.{shift_in};
 ghost use Rattle.asm_relax.specs.Layout.{laid_from, shift_with, laid_out, without_addresses, IsInRow};
 ghost use Rattle.asm_relax.specs.Ranks.{Ranks, IsRanking};
@@ -63,4 +66,16 @@ pub fn stretches_keep_distance()
 pub fn one_ranking()
     ensures { (need : List ℕ → List ℕ) (tops : List ℕ) (one other : Ranks)
         → IsRanking need tops one → IsRanking need tops other → one ≡ other }
+{}
+
+/// Where no form leads back to its symbol, an expanded form names no assigned symbol, and is the
+/// sum of the form's terms with each name replaced by the expansion of its own form.
+pub fn expansions_are_exact()
+    ensures left { (symbols : SymbolMap) (form : Form) → NoFormLeadsBack symbols.symbols
+        → names_assigned symbols (expanded symbols form) ≡ false }
+    ensures sum { (symbols : SymbolMap) (form : Form) → NoFormLeadsBack symbols.symbols
+        → names_assigned symbols form ≡ true
+        → expanded symbols form ≡ with_replaced (replacement (expanded symbols) symbols) form }
+    ensures none { (symbols : SymbolMap) (form : Form) → names_assigned symbols form ≡ false
+        → expanded symbols form ≡ form }
 {}

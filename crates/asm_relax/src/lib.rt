@@ -10,12 +10,12 @@ mod places;
 mod planning;
 mod range_checks;
 
-pub use expanding::expand_assigned;
+pub use expanding::{Expansions, expand_assigned};
 pub use faults::LayoutFault;
 pub use finals::{FinalView, final_form, laid_value};
 pub use laws::{
-    all_else_is_kept, items_stand_in_row, one_ranking, settled_is_placed, sizes_add_up,
-    stretches_keep_distance,
+    all_else_is_kept, expansions_are_exact, items_stand_in_row, one_ranking, settled_is_placed,
+    sizes_add_up, stretches_keep_distance,
 };
 pub use places::{address_in, address_of, section_size};
 pub use planning::{Plan, Settled};

@@ -1,0 +1,6 @@
+-- As many symbols as were counted have none.
+use Rattle.std.proofs.Common.{◌≡◌, None, replicate}
+use Rattle.asm_relax.proofs.expanding.Expansions.none.Given as goal
+
+abbrev pub invariant-loop : goal.invariant-loop
+invariant-loop l = l.forms.items ≡ replicate l.counter None
