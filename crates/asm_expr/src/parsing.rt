@@ -153,6 +153,7 @@ fn read_at(
 /// The expression at the front of these tokens, and how many of them it has.
 pub fn parse_front(alloc: Global, tokens: &[Token]) -> Result<(Expr, usize), ExprFault>
     ensures value { GivesBy (front_of tokens.now) result (reading 1 0 (map spelled tokens.now)) }
+    ensures grammar { IfOk result (λ found. IsFoundIn (map spelled tokens.now) 0 (read_tree found)) }
     ensures within { IfOk result (λ found. found.1 ≤ length tokens.now) }
 {
     let found = read_at(alloc, tokens, 0, 1, 0)?;
