@@ -24,6 +24,7 @@ pub mod QuotedTexts
 pub mod ShownLeaves
 pub mod ShownIsRead
 pub mod SettledLaws
+pub mod ReducedForms
 pub mod ByteLists
 pub mod FittingNumbers
 pub mod NamedTokens

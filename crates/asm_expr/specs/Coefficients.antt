@@ -1,11 +1,12 @@
 -- A form as a finite map from names to coefficients modulo 2^64.
-use Rattle.std.specs.Prelude.{◌≡◌, ℕ, ◌+◌, ◌-◌, ◌*◌, ◌^◌, ◌==◌, Bool, false, List, [], ◌∷◌, map, if◌then◌else◌, Option, Some, None}
+use Rattle.std.specs.Prelude.{◌≡◌, ℕ, ◌+◌, ◌-◌, ◌*◌, ◌^◌, ◌==◌, ◌&&◌, ◌||◌, Bool, true, false, not, List, [], ◌∷◌, map, if◌then◌else◌, Option, Some, None}
+use Rattle.std.specs.List.{list_all}
 use Rattle.asm_expr.specs.declared.naming.Name.{Name}
 use Rattle.asm_expr.specs.declared.forms.Term.{Term}
 use Rattle.asm_expr.specs.Names.{same_name}
 use Rattle.asm_expr.specs.declared.settling.Spot.{Spot}
 use Rattle.asm_expr.specs.Forms.{Form, wrapped, sum_of, difference_of}
-use Rattle.asm_expr.specs.Knowledge.{Told, absent, constant, label, form}
+use Rattle.asm_expr.specs.Knowledge.{Told, absent, constant, label, form, Knowledge}
 use Rattle.asm_expr.specs.Settled.{spot_of, stretch_sum, cancelled_number, settled}
 
 -- how often a name counts in the terms
@@ -53,3 +54,31 @@ numbers_in spots told (term ∷ terms) = times_number (cancelled_number spots (s
 pub record IsSettled (told : Name → Told) (made : Form) : Type 0 where
   pub coefficients : (own : Name) → coefficient (settled told made) own ≡ (if cancels told made own then 0 else coefficient made own)
   pub constant : wrapped (settled told made).constant ≡ wrapped (made.constant + numbers_in (map (spot_of told) made.terms) told made.terms)
+
+-- the name is among those of the terms
+abbrev pub is_among : Name → List Term → Bool
+is_among own [] = false
+is_among own (term ∷ terms) = same_name term.name own || is_among own terms
+
+-- no name stands twice among the terms
+abbrev pub are_apart : List Term → Bool
+are_apart [] = true
+are_apart (term ∷ terms) = not (is_among term.name terms) && are_apart terms
+
+-- the name of the term counts: its coefficient is not 0
+abbrev pub is_counted : Term → Bool
+is_counted term = not (wrapped term.coefficient == 0)
+
+-- each name of the form stands in it once, and counts
+pub record IsReduced (made : Form) : Type 0 where
+  pub apart : are_apart made.terms ≡ true
+  pub counted : list_all is_counted made.terms ≡ true
+
+-- the forms that are known of assigned symbols are reduced, as forms of expressions are
+abbrev pub KnowsReduced : Knowledge → Type 0
+KnowsReduced known = (own : Name) (made : Form) → known.told own ≡ form made → IsReduced made
+
+-- the form has no term exactly where the coefficient of every name is 0
+pub record IsEmptyExactly (made : Form) : Type 0 where
+  pub uncounted : made.terms ≡ [] → (own : Name) → coefficient made own ≡ 0
+  pub empty : ((own : Name) → coefficient made own ≡ 0) → made.terms ≡ []

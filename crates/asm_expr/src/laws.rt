@@ -6,8 +6,15 @@ ghost use Rattle.asm_base.specs.Tokens.{SpelledToken, tokens_of};
 ghost use Rattle.asm_expr.specs.Trees.{Tree};
 ghost use Rattle.asm_expr.specs.Reading.{ReadTree, reading_of};
 ghost use Rattle.asm_expr.specs.Forms.{Form};
-ghost use Rattle.asm_expr.specs.Coefficients.{AreAdded, IsSettled};
-ghost use Rattle.asm_expr.specs.Knowledge.{Told};
+ghost use Rattle.asm_expr.specs.Coefficients.{
+  AreAdded,
+  IsSettled,
+  IsReduced,
+  KnowsReduced,
+  IsEmptyExactly,
+};
+ghost use Rattle.asm_expr.specs.Knowledge.{Told, Knowledge};
+ghost use Rattle.asm_expr.specs.Linear.{linear};
 ghost use Rattle.asm_expr.specs.declared.naming.Name.{Name};
 ghost use Rattle.asm_expr.specs.Grammar.{IsTextOf, IsFoundIn, IsReadAs, operator_follows};
 ghost use Rattle.asm_expr.specs.Shown.{is_byte, IsShowable, IsReadBack};
@@ -45,6 +52,20 @@ pub fn coefficients_add()
 /// Settling takes out the labels of whole stretches that cancel, and nothing else.
 pub fn whole_stretches_cancel()
     ensures { (told : Name → Told) (made : Form) → IsSettled told made }
+{}
+
+/// In the form of an expression no name stands twice, and each counts. The forms of the assigned
+/// symbols that are known have to be as the forms of expressions are.
+pub fn names_of_a_form_are_apart()
+    ensures { (known : Knowledge) (tree : Tree) (made : Form)
+        → KnowsReduced known → linear known tree ≡ Ok made → IsReduced made }
+{}
+
+/// The form of an expression has no term exactly where the coefficient of every name is 0.
+#[tactic(auto, using(crate::proofs::ReducedForms::linear_empty))]
+pub fn a_form_is_empty()
+    ensures { (known : Knowledge) (tree : Tree) (made : Form)
+        → KnowsReduced known → linear known tree ≡ Ok made → IsEmptyExactly made }
 {}
 
 /// The shown text of an expression that has any text is read as the expression, whole; so is that
