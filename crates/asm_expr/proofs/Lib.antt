@@ -25,6 +25,7 @@ pub mod ShownLeaves
 pub mod ShownIsRead
 pub mod SettledLaws
 pub mod ReducedForms
+pub mod KeptValues
 pub mod ByteLists
 pub mod FittingNumbers
 pub mod NamedTokens

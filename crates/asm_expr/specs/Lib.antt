@@ -17,6 +17,7 @@ pub mod Reading
 pub mod Grammar
 pub mod Found
 pub mod Coefficients
+pub mod FormValues
 pub mod NamesOf
 pub mod Shown
 pub mod Showing

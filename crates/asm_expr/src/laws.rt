@@ -6,13 +6,8 @@ ghost use Rattle.asm_base.specs.Tokens.{SpelledToken, tokens_of};
 ghost use Rattle.asm_expr.specs.Trees.{Tree};
 ghost use Rattle.asm_expr.specs.Reading.{ReadTree, reading_of};
 ghost use Rattle.asm_expr.specs.Forms.{Form};
-ghost use Rattle.asm_expr.specs.Coefficients.{
-  AreAdded,
-  IsSettled,
-  IsReduced,
-  KnowsReduced,
-  IsEmptyExactly,
-};
+ghost use Rattle.asm_expr.specs.Coefficients.{AreAdded, IsSettled, IsReduced, KnowsReduced, IsEmptyExactly};
+ghost use Rattle.asm_expr.specs.FormValues.{KeepsValue};
 ghost use Rattle.asm_expr.specs.Knowledge.{Told, Knowledge};
 ghost use Rattle.asm_expr.specs.Linear.{linear};
 ghost use Rattle.asm_expr.specs.declared.naming.Name.{Name};
@@ -52,6 +47,13 @@ pub fn coefficients_add()
 /// Settling takes out the labels of whole stretches that cancel, and nothing else.
 pub fn whole_stretches_cancel()
     ensures { (told : Name → Told) (made : Form) → IsSettled told made }
+{}
+
+/// Settling leaves the value of a form as it was, wherever the stretches begin and whatever values
+/// the other names have. `whole_stretches_cancel` takes the numbers of labels from the definition
+/// that settling itself uses, and would hold of others too; by this law they are the right ones.
+pub fn cancelled_labels_keep_the_value()
+    ensures { (told : Name → Told) (made : Form) → KeepsValue told made }
 {}
 
 /// In the form of an expression no name stands twice, and each counts. The forms of the assigned
