@@ -14,6 +14,8 @@ pub mod Marks
 pub mod WrittenIsRead
 pub mod ReadIsWritten
 pub mod GrammarLaws
+pub mod FailsIsRefused
+pub mod RefusedFails
 pub mod Weights
 pub mod CoefficientLaws
 pub mod GatherLemmas

@@ -39,7 +39,7 @@ writes_looser _ low _ _ _ loose (enclosed most high tree opening closing inside 
     enclosed most low tree opening closing inside text is ends within spells
 
 -- what the reading of the tokens behind a token gives
-abbrev Below : List SpelledToken → Type 0
+abbrev pub Below : List SpelledToken → Type 0
 Below rest = (level depth : ℕ) (found : Reading) → depth ≤ 64 → level ≤ 7 → reading level depth rest ≡ Ok found → Ends (64 - depth) level rest found
 
 unopened_spells : (depth : ℕ) (token : SpelledToken) (rest : List SpelledToken) (op : Option UnaryOp) (found : Reading) → Below rest → depth ≤ 64 → prefix_of token ≡ op
@@ -86,7 +86,7 @@ closed_spells most level opening tokens tree (closing ∷ rest) inside found is 
         })
     by false ends step = cc
 
-operand_spells : (depth : ℕ) (token : SpelledToken) (rest : List SpelledToken) (found : Reading) → Below rest → depth ≤ 64
+pub operand_spells : (depth : ℕ) (token : SpelledToken) (rest : List SpelledToken) (found : Reading) → Below rest → depth ≤ 64
     → operand_of reading depth token rest ≡ Ok found → Spells (64 - depth) 7 (token ∷ rest) found
 unfolding operand_of
 operand_spells depth token rest found below few it = by (opens token) refl it
@@ -104,7 +104,7 @@ operand_spells depth token rest found below few it = by (opens token) refl it
     by false is step = unopened_spells depth token rest (prefix_of token) found below few refl step
 
 -- of two operators in a row that are read at one level, the second does not bind more tightly
-not_above : (level high : ℕ) (told : Option BinaryOp) (op : BinaryOp) → operator_from (high + 1) told ≡ None → operator_from level told ≡ Some op → level_of op ≤ high
+pub not_above : (level high : ℕ) (told : Option BinaryOp) (op : BinaryOp) → operator_from (high + 1) told ≡ None → operator_from level told ≡ Some op → level_of op ≤ high
 not_above level high None op none some = cc
 not_above level high (Some other) op none some = by (nat_le (high + 1) (level_of other)) refl none
   where

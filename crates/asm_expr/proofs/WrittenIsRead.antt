@@ -18,12 +18,12 @@ use Rattle.asm_expr.proofs.Marks.{leaf_opens_not, prefix_opens_not, closes_is_no
 use Rattle.asm_expr.proofs.ParsingLemmas.{whole_low, stops}
 
 -- the operand that a token begins
-choose : (token : SpelledToken) (rest : List SpelledToken) (depth : ℕ) (b : Bool) → opens token ≡ b
+pub choose : (token : SpelledToken) (rest : List SpelledToken) (depth : ℕ) (b : Bool) → opens token ≡ b
     → operand_of reading depth token rest ≡ cond b (deeper depth (reading 1 (depth + 1) rest >>= closed)) (unopened reading depth token rest (prefix_of token))
 unfolding operand_of
 choose token rest depth b is = ap (λ (b : Bool). cond b (deeper depth (reading 1 (depth + 1) rest >>= closed)) (unopened reading depth token rest (prefix_of token))) is
 
-under : (depth : ℕ) (inner : Read) → depth < 64 → deeper depth inner ≡ inner
+pub under : (depth : ℕ) (inner : Read) → depth < 64 → deeper depth inner ≡ inner
 under depth inner low = by (nat_lt depth 64) refl
   where
     by : (b : Bool) → nat_lt depth 64 ≡ b → cond b inner (Err ExpressionTooDeep) ≡ inner
@@ -83,7 +83,7 @@ binary_height : (op : BinaryOp) (left right : Tree) → height (binary op left r
 unfolding height
 binary_height op left right low = (omega arith, omega arith)
 
-looser : (op : BinaryOp) (token : SpelledToken) (rest : List SpelledToken) → operator_of token ≡ Some op → operator_in (level_of op + 1) (token ∷ rest) ≡ None
+pub looser : (op : BinaryOp) (token : SpelledToken) (rest : List SpelledToken) → operator_of token ≡ Some op → operator_in (level_of op + 1) (token ∷ rest) ≡ None
 unfolding operator_in
 looser op token rest is = ap (operator_from (level_of op + 1)) is ∙ from_none (level_of op + 1) op (omega arith)
 

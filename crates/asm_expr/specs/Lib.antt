@@ -16,6 +16,7 @@ pub mod Leaves
 pub mod Reading
 pub mod Grammar
 pub mod Found
+pub mod Failing
 pub mod Coefficients
 pub mod FormValues
 pub mod NamesOf

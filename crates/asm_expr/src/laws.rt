@@ -12,6 +12,8 @@ ghost use Rattle.asm_expr.specs.Knowledge.{Told, Knowledge};
 ghost use Rattle.asm_expr.specs.Linear.{linear};
 ghost use Rattle.asm_expr.specs.declared.naming.Name.{Name};
 ghost use Rattle.asm_expr.specs.Grammar.{IsTextOf, IsFoundIn, IsReadAs, operator_follows};
+ghost use Rattle.asm_expr.specs.Failing.{HasFaultExactly};
+ghost use Rattle.asm_expr.specs.declared.faults.ExprCause.{ExprCause};
 ghost use Rattle.asm_expr.specs.Shown.{is_byte, IsShowable, IsReadBack};
 
 use asm_base::one_value;
@@ -36,6 +38,12 @@ pub fn read_is_written()
 pub fn one_tree()
     ensures { (one other : Tree) (text : List SpelledToken)
         → IsTextOf one text → IsTextOf other text → one ≡ other }
+{}
+
+/// The reading of an expression has a fault exactly where the expression fails for it: at the first
+/// place from the left where no text of the grammar goes on, or where a text is beyond the limits.
+pub fn faults_of_an_expression()
+    ensures { (tokens : List SpelledToken) (cause : ExprCause) → HasFaultExactly tokens cause }
 {}
 
 /// Forms are maps from names to coefficients, which are added name by name.
