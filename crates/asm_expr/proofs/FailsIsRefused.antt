@@ -3,7 +3,7 @@ use Rattle.std.proofs.Common.{◌≡◌, ℕ, ◌+◌, ◌<◌, ◌≤◌, ◌||
 use Rattle.std.proofs.lemmas.Bool.Decides.{nat_tests}
 use Rattle.asm_base.specs.Tokens.{SpelledToken}
 use Rattle.asm_expr.specs.declared.faults.ExprCause.{ExprCause}
-use Rattle.asm_expr.specs.declared.faults.ExprCause.TheVariants.{BadExpression, ExpressionTooDeep}
+use Rattle.asm_expr.specs.declared.faults.ExprCause.TheVariants.{BadExpression, NumberTooWide, ExpressionTooDeep}
 use Rattle.asm_expr.specs.declared.trees.UnaryOp.{UnaryOp}
 use Rattle.asm_expr.specs.declared.trees.BinaryOp.{BinaryOp}
 use Rattle.asm_expr.specs.Trees.{Tree, unary, binary, height}
@@ -13,7 +13,7 @@ use Rattle.asm_expr.specs.Leaves.{leaf_of}
 use Rattle.asm_expr.specs.Reading.{Read, read, whole, closed_by, closed, deeper, unopened, operator_from, operator_at, follow, reading, reading_more}
 use Rattle.asm_expr.specs.Grammar.{Writes}
 use Rattle.asm_expr.specs.Found.{operator_in}
-use Rattle.asm_expr.specs.Failing.{closing_follows, Fails, ended, no_operand, too_open, after_prefix, prefix_high, in_parentheses, unclosed, after_operator, operator_high}
+use Rattle.asm_expr.specs.Failing.{closing_follows, Fails, ended, no_operand, too_wide, too_open, after_prefix, prefix_high, in_parentheses, unclosed, after_operator, operator_high}
 use Rattle.asm_expr.proofs.Fuel.{right_of, reading_none, reading_step, reading_more_step}
 use Rattle.asm_expr.proofs.Marks.{prefix_opens_not, from_some, in_higher, in_seven, in_one}
 use Rattle.asm_expr.proofs.ParsingLemmas.{whole_high, stops}
@@ -87,7 +87,8 @@ operator_gives most level depth op left token before behind tokens inner room ti
 
 pub refuses : (most level : ℕ) (tokens : List SpelledToken) (cause : ExprCause) → Fails most level tokens cause → (depth : ℕ) → most + depth ≡ 64 → reading level depth tokens ≡ Err cause
 refuses _ _ _ _ (ended most level) depth room = reading_none level depth
-refuses _ _ _ _ (no_operand most level token rest cause plain none is) depth room = leaf_refused level depth token rest cause plain none is
+refuses _ _ _ _ (no_operand most level token rest plain none is) depth room = leaf_refused level depth token rest BadExpression plain none is
+refuses _ _ _ _ (too_wide most level token rest plain none is) depth room = leaf_refused level depth token rest NumberTooWide plain none is
 refuses _ _ _ _ (too_open level token rest more) depth room = deep_refused level depth token rest (opens token) (prefix_of token) refl refl more (omega arith)
 refuses _ _ _ _ (after_prefix most level op token rest cause is fails) depth room =
     prefix_gives level depth op token rest (Err cause) is (omega arith) (refuses most 7 rest cause fails (depth + 1) (omega arith))

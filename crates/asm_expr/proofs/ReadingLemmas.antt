@@ -20,6 +20,15 @@ pub steps : {A B : Type 0} (first : Result A ExprCause) (next : A → Result B E
 steps (Ok middle) next last is = record { middle = middle; begins = refl; ends = is }
 steps (Err fault) next last is = cc
 
+-- of two steps that fail together, the first fails, or the second behind it
+pub data Broken {A B : Type 0} (first : Result A ExprCause) (next : A → Result B ExprCause) (cause : ExprCause) : Type 0 where
+  at_first : first ≡ Err cause → Broken first next cause
+  at_next : (middle : A) → first ≡ Ok middle → next middle ≡ Err cause → Broken first next cause
+
+pub broken : {A B : Type 0} (first : Result A ExprCause) (next : A → Result B ExprCause) (cause : ExprCause) → (first >>= next) ≡ Err cause → Broken first next cause
+broken (Ok middle) next cause is = at_next middle refl is
+broken (Err fault) next cause is = let same : fault ≡ cause = cc in at_first (ap Err same)
+
 pub whole_rest : (tree : Tree) (rest : List SpelledToken) (found : Reading) → whole tree rest ≡ Ok found → (found ≡ read tree rest) × (height tree ≤ 256)
 unfolding whole
 whole_rest tree rest found is = by (nat_lt 256 (height tree)) refl is

@@ -1,5 +1,5 @@
 -- An expression that the reading refuses fails, for the same cause.
-use Rattle.std.proofs.Common.{◌≡◌, ℕ, zero, suc, ◌+◌, ◌-◌, ◌<◌, ◌≤◌, Bool, true, false, cond, nat_lt, List, [], ◌∷◌, ◌++◌, Option, Some, None, Result, Ok, Err, length, refl, sym, ap, subst, ◌∙◌, arith, append_assoc}
+use Rattle.std.proofs.Common.{◌≡◌, ℕ, zero, suc, ◌+◌, ◌-◌, ◌<◌, ◌≤◌, Bool, true, false, cond, nat_lt, List, [], ◌∷◌, ◌++◌, Option, Some, None, Ok, Err, length, refl, sym, ap, subst, ◌∙◌, arith, append_assoc, inl, inr}
 use Rattle.std.proofs.lemmas.Bool.Decides.{nat_tests}
 use Rattle.asm_base.specs.Tokens.{SpelledToken}
 use Rattle.asm_expr.specs.declared.faults.ExprCause.{ExprCause}
@@ -13,21 +13,13 @@ use Rattle.asm_expr.specs.Leaves.{leaf_of}
 use Rattle.asm_expr.specs.Reading.{Reading, Read, read, whole, closed_by, closed, deeper, unopened, operand_of, operator_at, follow, reading, reading_more}
 use Rattle.asm_expr.specs.Grammar.{Writes, between}
 use Rattle.asm_expr.specs.Found.{operator_in}
-use Rattle.asm_expr.specs.Failing.{closing_follows, opens_more, Fails, ended, no_operand, too_open, after_prefix, prefix_high, in_parentheses, unclosed, after_operator, operator_high, HasFaultExactly}
-use Rattle.asm_expr.proofs.ReadingLemmas.{whole_rest}
+use Rattle.asm_expr.specs.Failing.{closing_follows, opens_more, Fails, ended, no_operand, too_wide, too_open, after_prefix, prefix_high, in_parentheses, unclosed, after_operator, operator_high, HasFaultExactly}
+use Rattle.asm_expr.proofs.ReadingLemmas.{whole_rest, Broken, at_first, at_next, broken}
 use Rattle.asm_expr.proofs.Fuel.{right_of, reading_takes, operand_takes_reading, reading_none, reading_step, reading_more_step, reading_more_none}
+use Rattle.asm_expr.proofs.LeafLemmas.{IsLeafFault, leaf_fault}
 use Rattle.asm_expr.proofs.Marks.{from_found, in_seven, one_in, level_few}
 use Rattle.asm_expr.proofs.ReadIsWritten.{writes_looser, at_spells, operand_spells, not_above}
 use Rattle.asm_expr.proofs.FailsIsRefused.{refuses}
-
--- of two steps that fail together, the first fails, or the second behind it
-pub data Broken {A B : Type 0} (first : Result A ExprCause) (next : A → Result B ExprCause) (cause : ExprCause) : Type 0 where
-  at_first : first ≡ Err cause → Broken first next cause
-  at_next : (middle : A) → first ≡ Ok middle → next middle ≡ Err cause → Broken first next cause
-
-broken : {A B : Type 0} (first : Result A ExprCause) (next : A → Result B ExprCause) (cause : ExprCause) → (first >>= next) ≡ Err cause → Broken first next cause
-broken (Ok middle) next cause is = at_next middle refl is
-broken (Err fault) next cause is = let same : fault ≡ cause = cc in at_first (ap Err same)
 
 same_cause : (one other : ExprCause) → (let failed : Read = Err one in failed ≡ Err other) → one ≡ other
 same_cause one other is = cc
@@ -92,9 +84,16 @@ parentheses_fail depth level token rest cause below low is (at_next middle begin
     subst (Fails (suc (64 - (depth + 1))) level (token ∷ rest)) c.0
     (unclosed (64 - (depth + 1)) level middle.tree token inner.spells.text middle.rest rest is inner.spells.writes inner.spells.low (one_in middle.rest inner.ends) c.1 inner.spells.stands)
 
+leaf_by : (depth level : ℕ) (token : SpelledToken) (rest : List SpelledToken) (cause : ExprCause) → opens token ≡ false → prefix_of token ≡ None → leaf_of token ≡ Err cause
+    → IsLeafFault cause → Fails (64 - depth) level (token ∷ rest) cause
+leaf_by depth level token rest cause plain none fails (inl bad) =
+    subst (Fails (64 - depth) level (token ∷ rest)) (sym bad) (no_operand (64 - depth) level token rest plain none (subst (λ (c : ExprCause). leaf_of token ≡ Err c) bad fails))
+leaf_by depth level token rest cause plain none fails (inr wide) =
+    subst (Fails (64 - depth) level (token ∷ rest)) (sym wide) (too_wide (64 - depth) level token rest plain none (subst (λ (c : ExprCause). leaf_of token ≡ Err c) wide fails))
+
 leaf_fails : (depth level : ℕ) (token : SpelledToken) (rest : List SpelledToken) (cause : ExprCause) → opens token ≡ false → prefix_of token ≡ None
     → Broken (leaf_of token) (λ tree. Ok (read tree rest)) cause → Fails (64 - depth) level (token ∷ rest) cause
-leaf_fails depth level token rest cause plain none (at_first fails) = no_operand (64 - depth) level token rest cause plain none fails
+leaf_fails depth level token rest cause plain none (at_first fails) = leaf_by depth level token rest cause plain none fails (leaf_fault token cause fails)
 leaf_fails depth level token rest cause plain none (at_next middle begins fails) = absurd cc
 
 more_by : (token : SpelledToken) (op : UnaryOp) → opens token ≡ false → prefix_of token ≡ Some op → opens_more token ≡ true

@@ -2,7 +2,7 @@
 use Rattle.std.specs.Prelude.{◌≡◌, ℕ, suc, ◌+◌, ◌<◌, ◌≤◌, ◌||◌, Bool, true, false, List, [], ◌∷◌, ◌++◌, is_some, Some, None, Err}
 use Rattle.asm_base.specs.Tokens.{SpelledToken}
 use Rattle.asm_expr.specs.declared.faults.ExprCause.{ExprCause}
-use Rattle.asm_expr.specs.declared.faults.ExprCause.TheVariants.{BadExpression, ExpressionTooDeep}
+use Rattle.asm_expr.specs.declared.faults.ExprCause.TheVariants.{BadExpression, NumberTooWide, ExpressionTooDeep}
 use Rattle.asm_expr.specs.declared.trees.UnaryOp.{UnaryOp}
 use Rattle.asm_expr.specs.declared.trees.BinaryOp.{BinaryOp}
 use Rattle.asm_expr.specs.Trees.{Tree, unary, binary, height}
@@ -25,9 +25,12 @@ opens_more token = opens token || is_some (prefix_of token)
 pub data Fails : (most level : ℕ) (tokens : List SpelledToken) (cause : ExprCause) → Type 0 where
   -- nothing stands where an operand has to
   ended : (most level : ℕ) → Fails most level [] BadExpression
-  -- the token is no operand, or its number is too wide
-  no_operand : (most level : ℕ) (token : SpelledToken) (rest : List SpelledToken) (cause : ExprCause) → opens token ≡ false → prefix_of token ≡ None
-      → leaf_of token ≡ Err cause → Fails most level (token ∷ rest) cause
+  -- the token begins no operand
+  no_operand : (most level : ℕ) (token : SpelledToken) (rest : List SpelledToken) → opens token ≡ false → prefix_of token ≡ None
+      → leaf_of token ≡ Err BadExpression → Fails most level (token ∷ rest) BadExpression
+  -- the number that the token spells is too wide
+  too_wide : (most level : ℕ) (token : SpelledToken) (rest : List SpelledToken) → opens token ≡ false → prefix_of token ≡ None
+      → leaf_of token ≡ Err NumberTooWide → Fails most level (token ∷ rest) NumberTooWide
   -- no construct more may be open
   too_open : (level : ℕ) (token : SpelledToken) (rest : List SpelledToken) → opens_more token ≡ true → Fails 0 level (token ∷ rest) ExpressionTooDeep
   -- the operand of a prefix operator fails
