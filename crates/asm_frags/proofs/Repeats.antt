@@ -61,7 +61,9 @@ repeated_alone count (byte ∷ next ∷ unit) alone = absurd (omega arith)
 repeated_sum : (first more : ℕ) (unit : List ℕ) → repeated (first + more) unit ≡ repeated first unit ++ repeated more unit
 unfolding repeated
 repeated_sum zero more unit = let none : zero + more ≡ more = omega arith in rw none refl
-repeated_sum (suc first) more unit = let next : suc first + more ≡ suc (first + more) = omega arith in rw next (ap (λ (bytes : List ℕ). unit ++ bytes) (repeated_sum first more unit) ∙ sym (append_assoc unit (repeated first unit) (repeated more unit)))
+repeated_sum (suc first) more unit =
+    let next : suc first + more ≡ suc (first + more) = omega arith in
+    rw next (ap (λ (bytes : List ℕ). unit ++ bytes) (repeated_sum first more unit) ∙ sym (append_assoc unit (repeated first unit) (repeated more unit)))
 
 -- blocks of units are so many units
 repeated_blocks : (blocks size : ℕ) (unit : List ℕ) → repeated blocks (repeated size unit) ≡ repeated (blocks * size) unit
@@ -78,9 +80,12 @@ units_in_blocks old one two new block unit count some first is copies rest =
     let blocks = count / 32 - 1 in
     let all : 32 + (blocks * 32 + count % 32) ≡ count = omega arith in
     let whole : repeated 32 unit ++ (repeated blocks block ++ repeated (count % 32) unit) ≡ repeated count unit =
-    rw (is, repeated_blocks) (ap (λ (bytes : List ℕ). repeated 32 unit ++ bytes) (sym (repeated_sum (blocks * 32) (count % 32) unit)) ∙ sym (repeated_sum 32 (blocks * 32 + count % 32) unit) ∙ ap (λ (n : ℕ). repeated n unit) all) in
+    rw (is, repeated_blocks)
+    (ap (λ (bytes : List ℕ). repeated 32 unit ++ bytes) (sym (repeated_sum (blocks * 32) (count % 32) unit))
+    ∙ sym (repeated_sum 32 (blocks * 32 + count % 32) unit) ∙ ap (λ (n : ℕ). repeated n unit) all) in
     rw (rest, copies, first) (append_assoc (old ++ repeated 32 unit) _ _ ∙ append_assoc old (repeated 32 unit) _ ∙ ap (λ (bytes : List ℕ). old ++ bytes) whole)
 
+-- what is taken behind the old bytes is what stands last
 taken_last : (old more : List ℕ) → take (length (old ++ more) - length old) (drop (length old) (old ++ more)) ≡ more
 taken_last old more =
     let long : length (old ++ more) - length old ≡ length more = omega (arith, length-append old more) in
