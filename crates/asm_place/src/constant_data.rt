@@ -24,7 +24,12 @@ pub(crate) fn append_constant(
     ensures { OnOk result (out.new.items ≡ out.old.items ++ low_bytes size value) }
 {
     let bytes = value.to_le_bytes();
-    out.extend_from_slice(&bytes[..size.bytes()])
+    match size {
+        FieldSize::One => out.extend_from_slice(&bytes[..1]),
+        FieldSize::Two => out.extend_from_slice(&bytes[..2]),
+        FieldSize::Four => out.extend_from_slice(&bytes[..4]),
+        FieldSize::Eight => out.extend_from_slice(&bytes),
+    }
 }
 
 /// How many of one value do not fit.

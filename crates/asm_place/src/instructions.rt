@@ -3,6 +3,7 @@
 ghost use Rattle.std.specs.Prelude.{◌≡◌, ◌++◌, ◌<◌, ◌≤◌, List, ℕ, Bool, Contains, find, length};
 ghost use Rattle.std.specs.Prelude.{option_map, OnOk, IsTrue};
 ghost use Rattle.std.specs.List.{list_all};
+ghost use Rattle.std.specs.Option.{option_to_list};
 ghost use Rattle.asm_place.specs.Rows.{the_rows, the_row_slots, name_of, has_name, has_whole_name, all_named_apart, bytes_of};
 ghost use Rattle.asm_place.specs.Reads.{Reads, all_apart};
 ghost use Rattle.asm_place.specs.Slots.{row_in};
@@ -199,15 +200,25 @@ const REX_W: u8 = 0x48;
 /// The byte before an opcode of the second map (Intel SDM, volume 2, section 2.1.2).
 const ESCAPE: u8 = 0x0f;
 
+/// Appends the byte, if there is one.
+fn append_if(out: &mut Vec<u8>, byte: Option<u8>) -> Result<(), AllocError>
+    ensures { OnOk result (out.new.items ≡ out.old.items ++ option_to_list byte) }
+{
+    if let Some(byte) = byte {
+        out.push(byte)?;
+    }
+    Ok(())
+}
+
 /// Appends the row's bytes.
 pub(crate) fn put_instruction(out: &mut Vec<u8>, row: &Row) -> Result<(), AllocError>
     ensures { OnOk result (out.new.items ≡ out.old.items ++ bytes_of row.now) }
 {
-    out.extend_from_slice(row.prefix.as_slice())?;
-    out.extend_from_slice(row.wide.then_some(REX_W).as_slice())?;
-    out.extend_from_slice(row.escape.then_some(ESCAPE).as_slice())?;
+    append_if(out, row.prefix)?;
+    append_if(out, row.wide.then_some(REX_W))?;
+    append_if(out, row.escape.then_some(ESCAPE))?;
     out.push(row.opcode)?;
-    out.extend_from_slice(row.modrm.as_slice())
+    append_if(out, row.modrm)
 }
 
 /// Each row's name ends where the spaces after it begin.
