@@ -25,10 +25,11 @@ pub(crate) fn append_constant(
 {
     let bytes = value.to_le_bytes();
     match size {
-        FieldSize::One => out.extend_from_slice(&bytes[..1]),
-        FieldSize::Two => out.extend_from_slice(&bytes[..2]),
-        FieldSize::Four => out.extend_from_slice(&bytes[..4]),
-        FieldSize::Eight => out.extend_from_slice(&bytes),
+        FieldSize::One => {
+            out.push(bytes[0])?;
+            Ok(())
+        }
+        _ => out.extend_from_slice(&bytes[..size.bytes()]),
     }
 }
 
