@@ -1,4 +1,5 @@
-//! What the statements so far have placed, and the steps of all: bytes, a field or an item more, and a warning more.
+//! What the statements so far have placed, and the steps of all: bytes, a field, an item or a
+//! warning more.
 
 ghost use Rattle.std.specs.Prelude.{◌≡◌, ◌++◌, OnOk};
 ghost use Rattle.asm_place.specs.DataItems.{cut_notes};
@@ -128,7 +129,8 @@ impl Assembler {
         }
     }
 
-    /// Puts the bytes of the statement last in the section of this number. `BadSection` comes where there is none too.
+    /// Puts the bytes of the statement last in the section of this number. `BadSection` comes where
+    /// there is none too.
     #[tactic(auto, unfolding(crate::specs::State::put_bytes_into))]
     pub(crate) fn put_scratch_into(&mut self, pos: Pos, number: u32) -> Result<(), PlaceFault>
         ensures placed { PlacesBy (put_bytes_into pos number self.old.scratch.items)

@@ -41,8 +41,8 @@ fn cut_of(size: FieldSize, value: u64) -> usize
     if size.fits(value) { 0 } else { 1 }
 }
 
-/// Makes the bytes of operands that are all numbers, and counts the values that do not fit, or answers none where one of them is
-/// anything else.
+/// Makes the bytes of operands that are all numbers, and counts the values that do not fit, or
+/// answers none where one of them is anything else.
 #[tactic(auto, using(crate::proofs::ConstantDataLemmas::loop_end))]
 pub(crate) fn constant_data(
     out: &mut Vec<u8>,

@@ -21,7 +21,8 @@ pub fn placing_grows()
         → place_all statements before ≡ Ok placed → Grows before.sections placed.sections }
 {}
 
-/// Fields and items stand within the bytes of their section: so it is at the beginning, and placing keeps it so.
+/// Fields and items stand within the bytes of their section: so it is at the beginning, and placing
+/// keeps it so.
 pub fn placing_within()
     ensures begins { (no_warn : Bool) → AreWithin (nothing_placed no_warn).sections }
     ensures kept { (statements : List TokenStatement) (before placed : Placed)

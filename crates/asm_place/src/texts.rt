@@ -21,7 +21,8 @@ fn end_byte(ended: bool) -> &'static [u8]
     if ended { &[0] } else { &[] }
 }
 
-/// Appends what the bytes between quotes stand for, which is themselves where no backslash is among them.
+/// Appends what the bytes between quotes stand for, which is themselves where no backslash is among
+/// them.
 #[tactic(auto, using(crate::proofs::PlainStrings::plain_value))]
 fn append_value(alloc: Global, out: &mut Vec<u8>, inner: &[u8]) -> Result<(), AllocError>
     ensures { OnOk result (out.new.items ≡ out.old.items ++ strings.string_value inner.now) }
