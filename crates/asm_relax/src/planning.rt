@@ -2,7 +2,7 @@
 
 ghost use Rattle.std.specs.Prelude.{◌≡◌};
 
-use crate::expanding::expand_assigned;
+use crate::expanding::Expansions;
 use crate::faults::LayoutFault;
 use crate::laying::lay_all;
 use crate::range_checks::first_fault;
@@ -14,19 +14,31 @@ use std::alloc::{AllocError, Global};
 use std::marker::Model;
 
 /// The expansion of assigned symbols, as the substitution of forms.
-#[derive(Clone, Copy)]
+#[derive(Drop)]
 struct AssignedExpansion<'a> {
     alloc: Global,
     symbols: &'a Symbols,
+    expansions: Expansions,
+}
+
+impl<'a> Model for AssignedExpansion<'a> {
+    ghost use Rattle.asm_symbols.specs.SymbolMap.{SymbolMap};
+    ghost use Rattle.asm_relax.specs.Expanding.{AreExpansions};
+
+    ghost Value = { SymbolMap };
+
+    ghost view = { λ expansion. expansion.symbols.now };
+
+    ghost invariant = { λ expansion. AreExpansions expansion.symbols.now expansion.expansions };
 }
 
 impl Substitution for AssignedExpansion<'_> {
     ghost use Rattle.asm_relax.specs.Expanding.{expanded};
 
-    ghost substitute = { λ expansion form. expanded expansion.symbols.now form };
+    ghost substitute = { λ symbols form. expanded symbols form };
 
     fn substitute(&self, form: &Linear) -> Result<Linear, FragFault> {
-        Ok(expand_assigned(self.alloc, self.symbols, form)?)
+        Ok(self.expansions.expand(self.alloc, self.symbols, form)?)
     }
 }
 
@@ -65,7 +77,11 @@ impl<'a> Plan<'a> {
     ) -> Result<Plan<'a>, NoMemory>
         ensures { IfOk result (λ plan. plan ≡ plan_of symbols.now sections) }
     {
-        let expansion = AssignedExpansion { alloc, symbols };
+        let expansion = AssignedExpansion {
+            alloc,
+            symbols,
+            expansions: Expansions::new(alloc, symbols)?,
+        };
         match sections.substituted(&expansion) {
             Ok(sections) => Ok(Plan { symbols, sections }),
             Err(_) => Err(AllocError),
