@@ -312,13 +312,3 @@ impl Expansions {
         Ok(made)
     }
 }
-
-/// The form expanded, for one form alone.
-pub fn expand_assigned(alloc: Global, symbols: &Symbols, form: &Linear) -> Result<Linear, NoMemory>
-    ensures { IfOk result (λ made. made ≡ expanded symbols.now form.now) }
-{
-    if !names_assigned(symbols, form) {
-        return Ok(copied_form(alloc, form)?);
-    }
-    Expansions::new(alloc, symbols)?.expand(alloc, symbols, form)
-}

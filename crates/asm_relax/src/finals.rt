@@ -2,9 +2,10 @@
 
 ghost use Rattle.std.specs.Prelude.{◌≡◌, IfOk};
 ghost use Rattle.asm_expr.specs.Knowledge.{told_by};
+ghost use Rattle.asm_relax.specs.Expanding.{AreExpansions};
 ghost use Rattle.asm_relax.specs.Final.{spot_told, final_meaning, final_form, laid_value};
 
-use crate::expanding::expand_assigned;
+use crate::expanding::Expansions;
 use crate::places::address_of;
 use asm_base::NoMemory;
 use asm_expr::{Known, Linear, Look, Name, settled, settled_value};
@@ -75,14 +76,16 @@ impl Known for FinalView<'_> {
 #[tactic(auto, unfolding(crate::specs::Final::final_form))]
 pub fn final_form(
     alloc: Global,
+    expansions: &Expansions,
     symbols: &Symbols,
     sections: &Sections<Laid>,
     form: &Linear,
 ) -> Result<Linear, NoMemory>
+    requires { AreExpansions symbols.now expansions.now }
     ensures { IfOk result (λ made. made ≡ final_form symbols.now sections.now form.now) }
 {
     let known = FinalView { symbols, sections };
-    match settled(alloc, &known, expand_assigned(alloc, symbols, form)?) {
+    match settled(alloc, &known, expansions.expand(alloc, symbols, form)?) {
         Ok(made) => Ok(made),
         Err(_) => Err(AllocError),
     }

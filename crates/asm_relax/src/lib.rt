@@ -10,7 +10,7 @@ mod places;
 mod planning;
 mod range_checks;
 
-pub use expanding::{Expansions, expand_assigned};
+pub use expanding::Expansions;
 pub use faults::LayoutFault;
 pub use finals::{FinalView, final_form, laid_value};
 pub use laws::{
