@@ -1,6 +1,7 @@
 //! The entries of the symbol table (gABI, chapter 4, "Symbol Table").
 
 ghost use Rattle.std.specs.Prelude.{◌≡◌, ◌<◌, IfOk, option_map};
+ghost use Rattle.asm_relax.specs.Expanding.{AreExpansions};
 ghost use Rattle.elf_object.specs.SymbolTable as spec;
 ghost use Rattle.elf_object.specs.Views.{symbol_view};
 
@@ -14,6 +15,7 @@ use crate::symbol_values::{
 use asm_base::NoMemory;
 use asm_expr::{Linear, Name};
 use asm_frags::{Laid, Sections};
+use asm_relax::Expansions;
 use asm_symbols::{Binding, Kind, Symbol, Visibility};
 use std::alloc::Global;
 
@@ -137,14 +139,20 @@ fn type_of(sections: &Sections<Laid>, section: SymbolSection, kind: Option<Kind>
 }
 
 /// The value of a size, and 0 where no size is said.
-fn size_of(alloc: Global, at: Placement, size: Option<&Linear>) -> Result<u64, NoMemory>
+fn size_of(
+    alloc: Global,
+    at: Placement,
+    expansions: &Expansions,
+    size: Option<&Linear>,
+) -> Result<u64, NoMemory>
+    requires { AreExpansions at.symbols.now expansions.now }
     ensures { IfOk result (λ bytes. bytes
         ≡ spec.size_of at.entry.symbols.now at.entry.sections.now (option_map
         (λ form. form.now) size.entry)) }
 {
     match size {
         None => Ok(0),
-        Some(form) => Ok(size_value(alloc, at, form)?.unwrap_or(0)),
+        Some(form) => Ok(size_value(alloc, at, expansions, form)?.unwrap_or(0)),
     }
 }
 
@@ -163,9 +171,11 @@ fn text_of(name: &Name) -> &[u8]
 fn entry_at<'a>(
     alloc: Global,
     at: Placement,
+    expansions: &Expansions,
     symbol: &'a Symbol,
     there: SymbolValue,
 ) -> Result<TableSymbol<'a>, NoMemory>
+    requires { AreExpansions at.symbols.now expansions.now }
     ensures { IfOk result (λ entry. symbol_view entry
         ≡ spec.entry_at at.entry.symbols.now at.entry.sections.now symbol.now there) }
 {
@@ -176,7 +186,7 @@ fn entry_at<'a>(
         visibility: symbol.visibility,
         section: there.section,
         value: there.value,
-        size: size_of(alloc, at, symbol_size(at.symbols, symbol))?,
+        size: size_of(alloc, at, expansions, symbol_size(at.symbols, symbol))?,
     })
 }
 
@@ -193,18 +203,20 @@ fn needs_naming(symbol: &Symbol, there: SymbolValue) -> bool
 pub(crate) fn listed<'a>(
     alloc: Global,
     at: Placement,
+    expansions: &Expansions,
     named: bool,
     symbol: &'a Symbol,
 ) -> Result<Option<TableSymbol<'a>>, NoMemory>
+    requires { AreExpansions at.symbols.now expansions.now }
     ensures { IfOk result (λ entry. option_map symbol_view entry
         ≡ spec.listed at.entry.symbols.now at.entry.sections.now named symbol.now) }
 {
-    match symbol_value_of(alloc, at, &symbol.meaning)? {
+    match symbol_value_of(alloc, at, expansions, &symbol.meaning)? {
         Some(there) => {
             if needs_naming(symbol, there) && !named {
                 return Ok(None);
             }
-            Ok(Some(entry_at(alloc, at, symbol, there)?))
+            Ok(Some(entry_at(alloc, at, expansions, symbol, there)?))
         }
         None => Ok(None),
     }

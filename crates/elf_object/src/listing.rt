@@ -1,6 +1,7 @@
 //! The symbols of the table in their order (gABI, chapter 4, "Symbol Table").
 
 ghost use Rattle.std.specs.Prelude.{◌≡◌, ◌++◌, [], ◌∷◌, length, map, option_map, IfOk, OnOk};
+ghost use Rattle.asm_relax.specs.Expanding.{AreExpansions};
 ghost use Rattle.elf_object.specs.Numbers.{first_other, numbers_of};
 ghost use Rattle.elf_object.specs.SymbolTable as spec;
 ghost use Rattle.elf_object.specs.Views.{symbol_view, named_view, numbers_view};
@@ -11,6 +12,7 @@ use crate::numbers::{Numbers, section_numbers, symbol_numbers};
 use crate::symbol_values::Placement;
 use asm_base::NoMemory;
 use asm_expr::Name;
+use asm_relax::Expansions;
 use asm_symbols::Symbol;
 use std::alloc::{AllocError, Global};
 
@@ -18,16 +20,18 @@ use std::alloc::{AllocError, Global};
 pub(crate) fn listed_symbols<'a>(
     alloc: Global,
     at: Placement,
+    expansions: &Expansions,
     marks: &[bool],
     symbols: &'a [Symbol],
 ) -> Result<Vec<Option<TableSymbol<'a>>>, NoMemory>
-    requires { length marks.now ≡ length symbols.now }
+    requires expanded { AreExpansions at.symbols.now expansions.now }
+    requires marks { length marks.now ≡ length symbols.now }
     ensures { IfOk result (λ all. map (option_map symbol_view) all.items
         ≡ spec.listed_by at.entry.symbols.now at.entry.sections.now marks.now symbols.now) }
 {
     let mut all = Vec::with_capacity(alloc, symbols.len())?;
     for (index, symbol) in symbols.iter().enumerate() {
-        all.push(listed(alloc, at, marks[index], symbol)?)?;
+        all.push(listed(alloc, at, expansions, marks[index], symbol)?)?;
     }
     Ok(all)
 }
@@ -123,7 +127,14 @@ pub(crate) fn list_symbols<'a>(
     ensures numbers { IfOk result (λ l. numbers_view l.numbers
         ≡ numbers_of at.entry.symbols.now at.entry.sections.now (named_view named.now)) }
 {
-    let all = listed_symbols(alloc, at, &named.symbols, at.symbols.as_slice())?;
+    let expansions = Expansions::new(alloc, at.symbols)?;
+    let all = listed_symbols(
+        alloc,
+        at,
+        &expansions,
+        &named.symbols,
+        at.symbols.as_slice(),
+    )?;
     let mut symbols = Vec::new(alloc);
     put_files(&mut symbols, at.symbols.files())?;
     let first_section = 1 + symbols.len();

@@ -2,12 +2,14 @@
 
 ghost use Rattle.std.specs.Prelude.{◌≡◌, ◌≤◌, length, IfOk};
 ghost use Rattle.std.specs.List.{position_or_len};
+ghost use Rattle.asm_relax.specs.Expanding.{AreExpansions};
 ghost use Rattle.elf_object.specs.Faults as spec;
 
 use crate::faults::ObjectCause;
 use crate::symbol_values::{Placement, is_file_local, size_value};
 use asm_base::NoMemory;
 use asm_expr::Linear;
+use asm_relax::Expansions;
 use asm_symbols::{Meaning, Symbol};
 use std::alloc::Global;
 
@@ -45,13 +47,19 @@ pub(crate) fn undefined_fault(at: Placement) -> Option<ObjectCause>
 }
 
 /// Whether the size is said and has no value.
-fn unknown_size(alloc: Global, at: Placement, size: &Option<Linear>) -> Result<bool, NoMemory>
+fn unknown_size(
+    alloc: Global,
+    at: Placement,
+    expansions: &Expansions,
+    size: &Option<Linear>,
+) -> Result<bool, NoMemory>
+    requires { AreExpansions at.symbols.now expansions.now }
     ensures { IfOk result (λ unknown. unknown
         ≡ spec.unknown_size at.entry.symbols.now at.entry.sections.now size.now) }
 {
     match size {
         None => Ok(false),
-        Some(form) => Ok(size_value(alloc, at, form)?.is_none()),
+        Some(form) => Ok(size_value(alloc, at, expansions, form)?.is_none()),
     }
 }
 
@@ -66,13 +74,15 @@ pub struct UnknownSize {
 fn unknown_at(
     alloc: Global,
     at: Placement,
+    expansions: &Expansions,
     index: usize,
     symbol: &Symbol,
 ) -> Result<Option<UnknownSize>, NoMemory>
+    requires { AreExpansions at.symbols.now expansions.now }
     ensures { IfOk result (λ found. found
         ≡ spec.unknown_at at.entry.symbols.now at.entry.sections.now index symbol.now) }
 {
-    if unknown_size(alloc, at, &symbol.size)? {
+    if unknown_size(alloc, at, expansions, &symbol.size)? {
         return Ok(Some(UnknownSize {
             symbol: index,
             statement: symbol.sized,
@@ -96,14 +106,16 @@ fn earlier(one: Option<UnknownSize>, other: Option<UnknownSize>) -> Option<Unkno
 fn first_unknown(
     alloc: Global,
     at: Placement,
+    expansions: &Expansions,
     symbols: &[Symbol],
 ) -> Result<Option<UnknownSize>, NoMemory>
+    requires { AreExpansions at.symbols.now expansions.now }
     ensures { IfOk result (λ found. found
         ≡ spec.first_unknown at.entry.symbols.now at.entry.sections.now 0 symbols.now) }
 {
     let mut found = None;
     for (index, symbol) in symbols.iter().enumerate() {
-        found = earlier(found, unknown_at(alloc, at, index, symbol)?);
+        found = earlier(found, unknown_at(alloc, at, expansions, index, symbol)?);
     }
     Ok(found)
 }
@@ -113,7 +125,8 @@ pub(crate) fn size_fault(alloc: Global, at: Placement) -> Result<Option<ObjectCa
     ensures { IfOk result (λ fault. fault
         ≡ spec.size_fault at.entry.symbols.now at.entry.sections.now) }
 {
-    match first_unknown(alloc, at, at.symbols.as_slice())? {
+    let expansions = Expansions::new(alloc, at.symbols)?;
+    match first_unknown(alloc, at, &expansions, at.symbols.as_slice())? {
         Some(found) => Ok(Some(ObjectCause::SizeNotKnown(found.symbol))),
         None => Ok(None),
     }

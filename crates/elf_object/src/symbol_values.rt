@@ -2,6 +2,7 @@
 
 ghost use Rattle.std.specs.Prelude.{◌≡◌, IfOk};
 ghost use Rattle.asm_expr.specs.Knowledge.{told_by};
+ghost use Rattle.asm_relax.specs.Expanding.{AreExpansions};
 ghost use Rattle.asm_relax.specs.Final.{field_value};
 ghost use Rattle.elf_object.specs.FileLocals.{is_file_local};
 ghost use Rattle.elf_object.specs.SymbolValues as spec;
@@ -9,7 +10,7 @@ ghost use Rattle.elf_object.specs.SymbolValues as spec;
 use asm_base::NoMemory;
 use asm_expr::{Known, Linear, Look, Name};
 use asm_frags::{Laid, Section, SectionFlags, Sections};
-use asm_relax::{FinalView, address_of, expand_assigned, final_form, laid_value};
+use asm_relax::{Expansions, FinalView, address_of, final_form, laid_value};
 use asm_symbols::{Binding, Meaning, Spot, Symbols};
 use bitflags::Flags;
 use std::alloc::Global;
@@ -88,8 +89,10 @@ fn spot_value(at: Placement, spot: Spot) -> SymbolValue
 pub(crate) fn symbol_value_of(
     alloc: Global,
     at: Placement,
+    expansions: &Expansions,
     meaning: &Meaning,
 ) -> Result<Option<SymbolValue>, NoMemory>
+    requires { AreExpansions at.symbols.now expansions.now }
     ensures { IfOk result (λ there. there
         ≡ spec.symbol_value_of at.entry.symbols.now at.entry.sections.now meaning.now) }
 {
@@ -104,7 +107,7 @@ pub(crate) fn symbol_value_of(
             value: *align,
         })),
         Meaning::Assigned(form) => {
-            let made = final_form(alloc, at.symbols, at.sections, form)?;
+            let made = final_form(alloc, expansions, at.symbols, at.sections, form)?;
             Ok(final_value(at, &made))
         }
     }
@@ -114,12 +117,14 @@ pub(crate) fn symbol_value_of(
 pub(crate) fn size_value(
     alloc: Global,
     at: Placement,
+    expansions: &Expansions,
     size: &Linear,
 ) -> Result<Option<u64>, NoMemory>
+    requires { AreExpansions at.symbols.now expansions.now }
     ensures { IfOk result (λ value. value
         ≡ field_value at.entry.symbols.now at.entry.sections.now size.now) }
 {
-    let made = expand_assigned(alloc, at.symbols, size)?;
+    let made = expansions.expand(alloc, at.symbols, size)?;
     Ok(laid_value(at.symbols, at.sections, &made))
 }
 

@@ -16,7 +16,7 @@ loop-index-preserved c =
     let symbol = c.index-symbols-index.result in
     pushed (option_map symbol_view) c.loop-index.all.items c.push.new.self.items c.in_ok-listed.field-0 (listed symbols sections mark symbol)
     (listed_by symbols sections (drop i marks) (drop i all)) (listed_by symbols sections (drop (i + 1) marks) (drop (i + 1) all)) _ c.in_ok-listed.ensures
-    c.in_ok-push.ensures.items (listed_next symbols sections marks all i mark symbol c.requires c.loop-index-test.true (search rules) c.index-symbols-index.is) c.loop-index.invariant
+    c.in_ok-push.ensures.items (listed_next symbols sections marks all i mark symbol c.requires.marks c.loop-index-test.true (search rules) c.index-symbols-index.is) c.loop-index.invariant
 
 pub returns : goal.returns
 returns c =
@@ -26,4 +26,4 @@ returns c =
     let all = c.args.symbols.now in
     let i = c.loop-index.index in
     all_pushed (map (option_map symbol_view) c.loop-index.all.items) (listed_by symbols sections (drop i marks) (drop i all)) _
-    (listed_none symbols sections marks all i c.requires c.loop-index-test.false) c.loop-index.invariant
+    (listed_none symbols sections marks all i c.requires.marks c.loop-index-test.false) c.loop-index.invariant
