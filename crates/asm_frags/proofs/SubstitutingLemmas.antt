@@ -70,14 +70,14 @@ behind_at_zero bytes items all sound is = rw is (All-map (λ (item : Frag Laid �
 
 module _ (substitute : Form → Form) where
   -- the field at the index has its substituted form
-  pub field_more : (all fields : List Field) (count : ℕ) (there old : Field) (form : Form) → count < length all
-      → fields ≡ front_changed (substituted_field substitute) all count → there ≡ get_or fields count old → old ≡ there → form ≡ substitute there.form
-      → set fields count (record { pos = there.pos; item = there.item; offset = there.offset; size = there.size; form = form }) ≡ front_changed (substituted_field substitute) all (count + 1)
-  field_more all fields count there old form within held is same made =
+  pub field_more : (all fields : List Field) (count : ℕ) (there old new : Field) → count < length all
+      → fields ≡ front_changed (substituted_field substitute) all count → there ≡ get_or fields count old → old ≡ there → new ≡ substituted_field substitute there
+      → set fields count new ≡ front_changed (substituted_field substitute) all (count + 1)
+  field_more all fields count there old new within held is same made =
       let found : there ≡ get_or (front_changed (substituted_field substitute) all count) count there =
       is ∙ ap (get_or fields count) same ∙ ap (λ (fs : List Field). get_or fs count there) held in
-      rw add-one (ap (λ (fs : List Field). set fs count (record { pos = there.pos; item = there.item; offset = there.offset; size = there.size; form = form })) held
-      ∙ ap (λ (f : Form). set (front_changed (substituted_field substitute) all count) count (record { pos = there.pos; item = there.item; offset = there.offset; size = there.size; form = f })) made
+      rw add-one (ap (λ (fs : List Field). set fs count new) held
+      ∙ ap (λ (f : Field). set (front_changed (substituted_field substitute) all count) count f) made
       ∙ front_changed_more (substituted_field substitute) all count there within found)
 
   stand-substituted : (bytes : List ℕ) (from : ℕ) (fields : List Field) → FieldsStand bytes from fields → FieldsStand bytes from (map (substituted_field substitute) fields)

@@ -7,21 +7,39 @@ ghost use Rattle.asm_base.specs.declared.refusals.Refusal.TheVariants.{NoMemory}
 
 use crate::faults::FragFault;
 use crate::fields::Field;
-use asm_expr::Linear;
+use asm_expr::{Linear, constant_form};
+use std::alloc::Global;
+use std::mem;
 
 /// A substitution of forms.
 pub trait Substitution {
     /// The form that replaces a form.
     ghost substitute: { Self → Form → Form };
 
-    /// The form that replaces this one.
-    fn substitute(&self, form: &Linear) -> Result<Linear, FragFault>
-        ensures ok { IfOk result (λ made. made ≡ substitute self.now form.now) }
+    /// The form that replaces this one, which may be handed back.
+    fn substitute(&self, form: Linear) -> Result<Linear, FragFault>
+        ensures ok { IfOk result (λ made. made ≡ substitute self.now form) }
         ensures memory { IfErr result (λ fault. fault ≡ NoMemory) };
+}
+
+/// Substitutes the form of the field.
+fn substitute_field<R: Substitution>(
+    alloc: Global,
+    field: &mut Field,
+    substitution: &R,
+) -> Result<(), FragFault>
+    ensures ok { OnOk result (
+        field.new ≡ substituted_field (R.substitute substitution.now) field.old) }
+    ensures memory { IfErr result (λ fault. fault ≡ NoMemory) }
+{
+    let form = mem::replace(&mut field.form, constant_form(alloc, 0));
+    field.form = substitution.substitute(form)?;
+    Ok(())
 }
 
 /// Substitutes the form of each field.
 pub(crate) fn substitute_fields<R: Substitution>(
+    alloc: Global,
     fields: &mut [Field],
     substitution: &R,
 ) -> Result<(), FragFault>
@@ -30,7 +48,7 @@ pub(crate) fn substitute_fields<R: Substitution>(
     ensures memory { IfErr result (λ fault. fault ≡ NoMemory) }
 {
     for field in fields.iter_mut() {
-        field.form = substitution.substitute(&field.form)?;
+        substitute_field(alloc, field, substitution)?;
     }
     Ok(())
 }

@@ -118,10 +118,10 @@ impl Model for Expansions {
 }
 
 impl Expansions {
-    ghost use Rattle.std.specs.Prelude.{◌≡◌, ◌<◌, ◌≤◌, false, length, set, replicate, None, Some, option_map, IsNone, IfOk, OnOk, IfSome};
+    ghost use Rattle.std.specs.Prelude.{◌≡◌, ◌<◌, ◌≤◌, true, false, length, set, replicate, None, Some, option_map, IsNone, IfOk, OnOk, IfSome};
     ghost use Rattle.asm_expr.specs.Forms.{plus_times};
     ghost use Rattle.asm_symbols.specs.Assigning.{form_at};
-    ghost use Rattle.asm_relax.specs.Expanding.{expanded, form_or_name, entry_at, entry_of, awaits, awaited, terms_of, Expands, IsAwaited, AreExpansions, ArePartly, KeepsForms};
+    ghost use Rattle.asm_relax.specs.Expanding.{names_assigned, expanded, form_or_name, entry_at, entry_of, awaits, awaited, terms_of, Expands, IsAwaited, AreExpansions, ArePartly, KeepsForms};
 
     /// No form for any of so many symbols.
     fn none(alloc: Global, count: usize) -> Result<Expansions, NoMemory>
@@ -290,19 +290,13 @@ impl Expansions {
         Ok(made)
     }
 
-    /// The form expanded. One that names no assigned symbol is only copied.
-    pub fn expand(
-        &self,
-        alloc: Global,
-        symbols: &Symbols,
-        form: &Linear,
-    ) -> Result<Linear, NoMemory>
-        requires { AreExpansions symbols.now self.now }
+    /// The sum of the terms and the constant of a form that names assigned symbols, with their
+    /// expanded forms in place of these.
+    fn sum_of(&self, alloc: Global, symbols: &Symbols, form: &Linear) -> Result<Linear, NoMemory>
+        requires expansions { AreExpansions symbols.now self.now }
+        requires assigned { names_assigned symbols.now form.now ≡ true }
         ensures { IfOk result (λ made. made ≡ expanded symbols.now form.now) }
     {
-        if !names_assigned(symbols, form) {
-            return Ok(copied_form(alloc, form)?);
-        }
         no_form_leads_back(symbols);
         let terms = form.terms();
         let mut made = constant_form(alloc, form.constant());
@@ -310,5 +304,17 @@ impl Expansions {
             made = self.plus_term(alloc, symbols, made, term)?;
         }
         Ok(made)
+    }
+
+    /// The form expanded. One that names no assigned symbol is handed back.
+    #[tactic(auto, using(crate::proofs::ExpandingLemmas::expanded_none))]
+    pub fn expand(&self, alloc: Global, symbols: &Symbols, form: Linear) -> Result<Linear, NoMemory>
+        requires { AreExpansions symbols.now self.now }
+        ensures { IfOk result (λ made. made ≡ expanded symbols.now form) }
+    {
+        if names_assigned(symbols, &form) {
+            return self.sum_of(alloc, symbols, &form);
+        }
+        Ok(form)
     }
 }

@@ -8,7 +8,7 @@ ghost use Rattle.asm_relax.specs.Final.{spot_told, final_meaning, final_form, la
 use crate::expanding::Expansions;
 use crate::places::address_of;
 use asm_base::NoMemory;
-use asm_expr::{Known, Linear, Look, Name, settled, settled_value};
+use asm_expr::{Known, Linear, Look, Name, copied_form, settled, settled_value};
 use asm_frags::{Laid, Sections};
 use asm_symbols::{Meaning, Spot, Symbols};
 use std::alloc::{AllocError, Global};
@@ -85,7 +85,8 @@ pub fn final_form(
     ensures { IfOk result (λ made. made ≡ final_form symbols.now sections.now form.now) }
 {
     let known = FinalView { symbols, sections };
-    match settled(alloc, &known, expansions.expand(alloc, symbols, form)?) {
+    let expanded = expansions.expand(alloc, symbols, copied_form(alloc, form)?)?;
+    match settled(alloc, &known, expanded) {
         Ok(made) => Ok(made),
         Err(_) => Err(AllocError),
     }

@@ -37,7 +37,7 @@ impl Substitution for AssignedExpansion<'_> {
 
     ghost substitute = { λ symbols form. expanded symbols form };
 
-    fn substitute(&self, form: &Linear) -> Result<Linear, FragFault> {
+    fn substitute(&self, form: Linear) -> Result<Linear, FragFault> {
         Ok(self.expansions.expand(self.alloc, self.symbols, form)?)
     }
 }

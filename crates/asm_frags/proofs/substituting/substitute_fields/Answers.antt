@@ -7,5 +7,5 @@ pub loop-field-preserved : goal.loop-field-preserved
 loop-field-preserved g c =
     let within : c.loop-field.field-index < length c.args.fields.now = search rules in
     field_more (g.R.Substitution.substitute c.args.substitution.now) c.args.fields.now c.loop-field.fields c.loop-field.field-index
-    (slice_index_or c.loop-field.fields c.loop-field.field-index c.field-item.result) c.field-item.result c.in_ok-field.field-0 within
-    c.loop-field.invariant refl c.field-item.is c.in_ok-field.ensures.ok
+    (slice_index_or c.loop-field.fields c.loop-field.field-index c.field-item.result) c.field-item.result c.substitute_field.new.field within
+    c.loop-field.invariant refl c.field-item.is (search rules)
