@@ -8,7 +8,7 @@ ghost use Rattle.elf_object.specs.FileLocals.{is_file_local};
 ghost use Rattle.elf_object.specs.SymbolValues as spec;
 
 use asm_base::NoMemory;
-use asm_expr::{Known, Linear, Look, Name};
+use asm_expr::{Known, Linear, Look, Name, copied_form};
 use asm_frags::{Laid, Section, SectionFlags, Sections};
 use asm_relax::{Expansions, FinalView, address_of, final_form, laid_value};
 use asm_symbols::{Binding, Meaning, Spot, Symbols};
@@ -124,7 +124,7 @@ pub(crate) fn size_value(
     ensures { IfOk result (λ value. value
         ≡ field_value at.entry.symbols.now at.entry.sections.now size.now) }
 {
-    let made = expansions.expand(alloc, at.symbols, size)?;
+    let made = expansions.expand(alloc, at.symbols, copied_form(alloc, size)?)?;
     Ok(laid_value(at.symbols, at.sections, &made))
 }
 
