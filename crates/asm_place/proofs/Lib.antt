@@ -10,6 +10,7 @@ pub mod GrowthLemmas
 pub mod PlainStrings
 pub mod PutTwice
 pub mod ConstantDataLemmas
+pub mod ConstantOperandsLemmas
 pub mod LabelLemmas
 pub mod Walks
 pub mod PlacingLaws

@@ -16,6 +16,7 @@ pub mod State
 pub mod Expressions
 pub mod UpToThreeTrees
 pub mod DataItems
+pub mod ConstantOperands
 pub mod Spaces
 pub mod SectionWords
 pub mod SaidWords

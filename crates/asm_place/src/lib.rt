@@ -5,6 +5,7 @@ mod assemblers;
 mod assignments;
 mod commons;
 mod constant_data;
+mod constant_operands;
 mod data_items;
 mod directives;
 mod expressions;

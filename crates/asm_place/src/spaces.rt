@@ -6,6 +6,7 @@ ghost use Rattle.asm_expr.specs.Arithmetic.{is_negative};
 ghost use Rattle.asm_place.specs.Spaces.{space_of, units_of, unit_size, default_log, said_log, log_of};
 
 use crate::assemblers::Assembler;
+use crate::constant_operands::constant_operands;
 use crate::operands::Operands;
 use crate::place_faults::{PlaceCause, PlaceFault};
 use crate::up_to_three::known_operands;
@@ -118,6 +119,7 @@ impl Assembler {
     ghost use Rattle.asm_base.specs.Tokens.{spelled};
     ghost use Rattle.asm_expr.specs.Trees.{tree_of};
     ghost use Rattle.asm_base.specs.Refusals.{Gives};
+    ghost use Rattle.asm_place.specs.ConstantOperands.{put_space_of, put_units_of};
     ghost use Rattle.asm_place.specs.Placing.{with_item, place_zero, place_skip, place_fill};
     ghost use Rattle.asm_place.specs.PlacedBy.{placed_by, PlacesBy};
 
@@ -131,9 +133,35 @@ impl Assembler {
         self.table.name_trees(self.alloc, pos, exprs)
     }
 
-    /// `.zero`: so many zeros.
+    /// So many bytes, whose operands name nothing.
+    fn put_space_of(&mut self, pos: Pos, count: u64, value: u64) -> Result<(), PlaceFault>
+        ensures placed { PlacesBy (put_space_of pos count value) self.old self.new result }
+        ensures kept { self.new.notes ≡ self.old.notes }
+    {
+        let item = space_of(count, value)?;
+        self.push_item(pos, item)
+    }
+
+    /// So many units, whose operands name nothing.
+    fn put_units_of(
+        &mut self,
+        pos: Pos,
+        count: u64,
+        size: Option<u64>,
+        value: u64,
+    ) -> Result<(), PlaceFault>
+        ensures placed { PlacesBy (put_units_of pos count size value) self.old self.new result }
+        ensures kept { self.new.notes ≡ self.old.notes }
+    {
+        let size = unit_size(size)?;
+        let item = units_of(count, size, value)?;
+        self.push_item(pos, item)
+    }
+
+    /// `.zero` of any operands.
+    #[inline(never)]
     #[tactic(auto, unfolding(crate::specs::Placing::place_zero))]
-    pub(crate) fn place_zero(&mut self, pos: Pos, tokens: &[Token]) -> Result<(), PlaceFault>
+    fn place_any_zero(&mut self, pos: Pos, tokens: &[Token]) -> Result<(), PlaceFault>
         ensures placed { PlacesBy (place_zero pos (map spelled tokens.now))
             self.old self.new result }
         ensures kept { self.new.notes ≡ self.old.notes }
@@ -143,9 +171,10 @@ impl Assembler {
         self.put_space(pos, &given.exprs, item)
     }
 
-    /// `.skip`, `.space`: so many bytes of a value.
+    /// `.skip`, `.space` of any operands.
+    #[inline(never)]
     #[tactic(auto, unfolding(crate::specs::Placing::place_skip))]
-    pub(crate) fn place_skip(&mut self, pos: Pos, tokens: &[Token]) -> Result<(), PlaceFault>
+    fn place_any_skip(&mut self, pos: Pos, tokens: &[Token]) -> Result<(), PlaceFault>
         ensures placed { PlacesBy (place_skip pos (map spelled tokens.now))
             self.old self.new result }
         ensures kept { self.new.notes ≡ self.old.notes }
@@ -155,9 +184,10 @@ impl Assembler {
         self.put_space(pos, &given.exprs, item)
     }
 
-    /// `.fill`: so many units of a value.
+    /// `.fill` of any operands.
+    #[inline(never)]
     #[tactic(auto, unfolding(crate::specs::Placing::place_fill))]
-    pub(crate) fn place_fill(&mut self, pos: Pos, tokens: &[Token]) -> Result<(), PlaceFault>
+    fn place_any_fill(&mut self, pos: Pos, tokens: &[Token]) -> Result<(), PlaceFault>
         ensures placed { PlacesBy (place_fill pos (map spelled tokens.now))
             self.old self.new result }
         ensures kept { self.new.notes ≡ self.old.notes }
@@ -166,5 +196,44 @@ impl Assembler {
         let size = unit_size(given.values.second)?;
         let item = units_of(given.values.first, size, given.values.third.unwrap_or(0))?;
         self.put_space(pos, &given.exprs, item)
+    }
+
+    /// `.zero`: so many zeros; at once where all operands are numbers.
+    pub(crate) fn place_zero(&mut self, pos: Pos, tokens: &[Token]) -> Result<(), PlaceFault>
+        ensures placed { PlacesBy (place_zero pos (map spelled tokens.now))
+            self.old self.new result }
+        ensures kept { self.new.notes ≡ self.old.notes }
+    {
+        match constant_operands(1, Operands::new(tokens)) {
+            Some(values) => self.put_space_of(pos, values.first, 0),
+            None => self.place_any_zero(pos, tokens),
+        }
+    }
+
+    /// `.skip`, `.space`: so many bytes of a value; at once where all operands are numbers.
+    pub(crate) fn place_skip(&mut self, pos: Pos, tokens: &[Token]) -> Result<(), PlaceFault>
+        ensures placed { PlacesBy (place_skip pos (map spelled tokens.now))
+            self.old self.new result }
+        ensures kept { self.new.notes ≡ self.old.notes }
+    {
+        match constant_operands(2, Operands::new(tokens)) {
+            Some(values) => self.put_space_of(pos, values.first, values.second.unwrap_or(0)),
+            None => self.place_any_skip(pos, tokens),
+        }
+    }
+
+    /// `.fill`: so many units of a value; at once where all operands are numbers.
+    pub(crate) fn place_fill(&mut self, pos: Pos, tokens: &[Token]) -> Result<(), PlaceFault>
+        ensures placed { PlacesBy (place_fill pos (map spelled tokens.now))
+            self.old self.new result }
+        ensures kept { self.new.notes ≡ self.old.notes }
+    {
+        match constant_operands(3, Operands::new(tokens)) {
+            Some(values) => {
+                let value = values.third.unwrap_or(0);
+                self.put_units_of(pos, values.first, values.second, value)
+            }
+            None => self.place_any_fill(pos, tokens),
+        }
     }
 }

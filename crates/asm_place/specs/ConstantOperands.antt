@@ -1,0 +1,61 @@
+-- One to three operands that are numbers alone, their values, and space that is made of these.
+use Rattle.std.specs.Prelude.{◌≡◌, ℕ, Bool, List, [], Option, None, Some, Result, Ok, option_map}
+use Rattle.std.specs.Option.{option_map_or}
+use Rattle.asm_base.specs.Tokens.{SpelledToken}
+use Rattle.asm_base.specs.Refusals.{◌>>=◌}
+use Rattle.asm_base.specs.declared.positions.Pos.{Pos}
+use Rattle.asm_expr.specs.Forms.{constant_form}
+use Rattle.asm_expr.specs.Knowledge.{Knowledge}
+use Rattle.asm_expr.specs.NamesOf.{names_of}
+use Rattle.asm_expr.specs.Trees.{Tree}
+use Rattle.asm_place.specs.declared.place_faults.PlaceCause.{PlaceCause}
+use Rattle.asm_place.specs.declared.up_to_three.UpToThree.{UpToThree}
+use Rattle.asm_place.specs.Expressions.{form_in, first_tree, next_tree_if, known_operands}
+use Rattle.asm_place.specs.Results.{if_some}
+use Rattle.asm_place.specs.Spaces.{space_of, units_of, unit_size}
+use Rattle.asm_place.specs.State.{Placed, push_item}
+use Rattle.asm_place.specs.Tables.{Table, name_trees}
+
+-- the first operand is a number, with these operands behind it
+pub record IsFirstConstant (operands behind : List (List SpelledToken)) (value : ℕ) : Type 0 where
+  pub tree : Tree
+  pub reads : first_tree operands ≡ Ok (tree, behind)
+  pub counts : (known : Knowledge) → form_in known tree ≡ Ok (constant_form value)
+  pub names : names_of tree ≡ []
+
+-- the next operand, where there may be one, is a number or is missing, with these operands behind it
+pub record IsNextConstant (may : Bool) (operands behind : List (List SpelledToken)) (value : Option ℕ) : Type 0 where
+  pub tree : Option Tree
+  pub reads : next_tree_if may operands ≡ Ok (tree, behind)
+  pub counts : (known : Knowledge) → if_some (form_in known) tree ≡ Ok (option_map constant_form value)
+  pub names : option_map_or names_of tree [] ≡ []
+
+-- these are the values of the operands, whatever is known, and the operands name nothing
+pub record AreConstants (most : ℕ) (operands : List (List SpelledToken)) (values : UpToThree ℕ) : Type 0 where
+  pub trees : List Tree
+  pub counts : (known : Knowledge) → known_operands known most operands ≡ Ok (record { trees = trees; values = values })
+  pub names : (pos : Pos) (table : Table) → name_trees pos trees table ≡ Ok table
+
+-- a value that is found is that of the first operand; where none is found nothing is said
+abbrev pub FindsFirst : List (List SpelledToken) → List (List SpelledToken) → Option ℕ → Type 0
+FindsFirst operands behind (Some value) = IsFirstConstant operands behind value
+FindsFirst operands behind None = Unit {0}
+
+-- the same of the next operand
+abbrev pub FindsNext : Bool → List (List SpelledToken) → List (List SpelledToken) → Option (Option ℕ) → Type 0
+FindsNext may operands behind (Some value) = IsNextConstant may operands behind value
+FindsNext may operands behind None = Unit {0}
+
+-- the same of all
+abbrev pub FindsConstants : ℕ → List (List SpelledToken) → Option (UpToThree ℕ) → Type 0
+FindsConstants most operands (Some values) = AreConstants most operands values
+FindsConstants most operands None = Unit {0}
+
+-- so many bytes of a value last in the current section
+abbrev pub put_space_of : Pos → ℕ → ℕ → Placed → Result Placed PlaceCause
+put_space_of pos count value placed = space_of count value >>= λ item. push_item pos item placed
+
+-- so many units of a size and a value last in the current section
+abbrev pub put_units_of : Pos → ℕ → Option ℕ → ℕ → Placed → Result Placed PlaceCause
+put_units_of pos count size value placed =
+    unit_size size >>= λ bytes. units_of count bytes value >>= λ item. push_item pos item placed
