@@ -14,7 +14,8 @@ use asm_frags::FieldSize;
 use asm_operands::constant_operand;
 use std::alloc::AllocError;
 
-/// Appends the bytes of a value.
+/// Appends the bytes of a value. Where the length is known no call copies them.
+#[inline(always)]
 #[tactic(auto, unfolding(asm_frags::specs::Fields::low_bytes))]
 pub(crate) fn append_constant(
     out: &mut Vec<u8>,
@@ -25,11 +26,10 @@ pub(crate) fn append_constant(
 {
     let bytes = value.to_le_bytes();
     match size {
-        FieldSize::One => {
-            out.push(bytes[0])?;
-            Ok(())
-        }
-        _ => out.extend_from_slice(&bytes[..size.bytes()]),
+        FieldSize::One => out.extend_from_slice(&bytes[..1]),
+        FieldSize::Two => out.extend_from_slice(&bytes[..2]),
+        FieldSize::Four => out.extend_from_slice(&bytes[..4]),
+        FieldSize::Eight => out.extend_from_slice(bytes.as_slice()),
     }
 }
 
@@ -41,8 +41,8 @@ fn cut_of(size: FieldSize, value: u64) -> usize
     if size.fits(value) { 0 } else { 1 }
 }
 
-/// Makes the bytes of operands that are all numbers, and counts the values that do not fit, or
-/// answers none where one of them is anything else.
+/// Makes the bytes of operands that are all numbers, and counts the values that do not fit, or answers none where one of them is
+/// anything else.
 #[tactic(auto, using(crate::proofs::ConstantDataLemmas::loop_end))]
 pub(crate) fn constant_data(
     out: &mut Vec<u8>,
