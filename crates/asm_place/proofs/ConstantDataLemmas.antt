@@ -13,7 +13,7 @@ use Rattle.asm_frags.specs.Fields.{low_bytes}
 use Rattle.asm_operands.specs.Constants.{IsConstant}
 use Rattle.asm_symbols.specs.declared.entries.Spot.{Spot}
 use Rattle.asm_place.specs.declared.place_faults.PlaceCause.{PlaceCause}
-use Rattle.asm_place.specs.ConstantData.{MakesData, cut_of, put_any, put_constants}
+use Rattle.asm_place.specs.ConstantData.{MakesData, IsLone, cut_of, put_any, put_lone, put_constants}
 use Rattle.asm_place.specs.DataItems.{put_forms, is_cut, cut_notes}
 use Rattle.asm_place.specs.ExprFaults.{in_statement}
 use Rattle.asm_place.specs.Expressions.{alone, expression_of, form_in}
@@ -23,7 +23,7 @@ use Rattle.asm_place.specs.Placing.{DataWords, data_words, put_data, place_data}
 use Rattle.asm_place.specs.Results.{all_steps}
 use Rattle.asm_place.specs.State.{Placed, with_table, with_notes, here, known_here, put_bytes}
 use Rattle.asm_place.specs.Tables.{Table, name_written, name_list, name_tree, name_trees}
-use Rattle.asm_place.proofs.PutTwice.{any_twice}
+use Rattle.asm_place.proofs.PutTwice.{any_twice, some_put}
 
 some_bytes : (size : FieldSize) (value : ℕ) → 1 ≤ length (low_bytes size value)
 unfolding low_bytes
@@ -138,3 +138,16 @@ module _ (pos : Pos) (size : FieldSize) (held : List ℕ) (cut : ℕ) where
       name_parts pos (here placed) (list_any (uses_dot (here placed)) made.forms) made.trees made_so.table >>= λ table.
       Ok (with_notes (cut_notes pos (count_by (is_cut size) made.forms)) (with_table made_so table))) (made.held pos placed)
       ∙ put_so (put_any pos held placed) (here placed) made.trees made.forms (made.names pos) (made.away (here placed)) (omega (arith, made.cut))))
+
+-- one number is placed as its bytes
+pub lone_places : (pos : Pos) (size : FieldSize) (value : ℕ) (tokens : List SpelledToken) (placed : Placed) → IsLone tokens value
+    → put_lone pos size value placed ≡ place_data pos size tokens placed
+lone_places pos size value tokens placed lone =
+    let low = low_bytes size value in
+    let cut = cut_of size value in
+    let none : 0 + cut ≡ cut = omega arith in
+    let more : MakesData size (tokens ∷ []) [] 0 low (0 + cut) = makes_more size tokens value [] [] low 0 (0 + cut) lone.one (makes_none size low (0 + cut)) in
+    let made : MakesData size (tokens ∷ []) [] 0 low cut = subst (λ n. MakesData size (tokens ∷ []) [] 0 low n) none more in
+    sym (constants_place pos size (low_bytes size value) (cut_of size value) tokens placed
+    (subst (λ operands. MakesData size operands [] 0 (low_bytes size value) (cut_of size value)) (sym lone.operands) made)
+    ∙ ap (λ put. put >>= λ made. Ok (with_notes (cut_notes pos (cut_of size value)) made)) (some_put pos (low_bytes size value) placed (some_bytes size value)))

@@ -99,7 +99,7 @@ bytes_twice pos one two placed =
     same_current pos two placed (of_sections (put_into (bytes_put pos one) placed.sections placed.current))
     ∙ put_twice (bytes_put pos one) (bytes_put pos two) (bytes_put pos (one ++ two)) (section_twice pos one two) placed.current placed
 
-some_put : (pos : Pos) (bytes : List ℕ) (placed : Placed) → 1 ≤ length bytes → put_any pos bytes placed ≡ put_bytes pos bytes placed
+pub some_put : (pos : Pos) (bytes : List ℕ) (placed : Placed) → 1 ≤ length bytes → put_any pos bytes placed ≡ put_bytes pos bytes placed
 some_put pos [] placed some = absurd (omega arith)
 some_put pos (byte ∷ bytes) placed some = refl
 

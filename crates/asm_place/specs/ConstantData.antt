@@ -8,7 +8,8 @@ use Rattle.asm_expr.specs.Forms.{Form}
 use Rattle.asm_expr.specs.Knowledge.{Knowledge}
 use Rattle.asm_expr.specs.Trees.{Tree}
 use Rattle.asm_frags.specs.declared.fields.FieldSize.{FieldSize}
-use Rattle.asm_frags.specs.Fields.{fits}
+use Rattle.asm_frags.specs.Fields.{fits, low_bytes}
+use Rattle.asm_operands.specs.Constants.{IsConstant}
 use Rattle.asm_symbols.specs.declared.entries.Spot.{Spot}
 use Rattle.asm_place.specs.declared.place_faults.PlaceCause.{PlaceCause}
 use Rattle.asm_place.specs.DataItems.{put_forms, is_cut, cut_notes}
@@ -42,6 +43,20 @@ pub record MakesData (size : FieldSize) (operands : List (List SpelledToken)) (b
 abbrev pub FindsData : FieldSize → List SpelledToken → List ℕ → Option ℕ → Type 0
 FindsData size tokens bytes (Some cut) = MakesData size (operands_of tokens) [] 0 bytes cut
 FindsData size tokens bytes None = Unit {0}
+
+-- the tokens are one operand, which is this number
+pub record IsLone (tokens : List SpelledToken) (value : ℕ) : Type 0 where
+  pub operands : operands_of tokens ≡ tokens ∷ []
+  pub one : IsConstant tokens value
+
+-- a value that is found is that of the one operand; where none is found nothing is said
+abbrev pub FindsLone : List SpelledToken → Option ℕ → Type 0
+FindsLone tokens (Some value) = IsLone tokens value
+FindsLone tokens None = Unit {0}
+
+-- the bytes of one number, and a note where it does not fit
+abbrev pub put_lone : Pos → FieldSize → ℕ → Placed → Result Placed PlaceCause
+put_lone pos size value placed = put_bytes pos (low_bytes size value) placed >>= λ put. Ok (with_notes (cut_notes pos (cut_of size value)) put)
 
 -- the bytes of numbers, and a note for each value that does not fit
 abbrev pub put_constants : Pos → List ℕ → ℕ → Placed → Result Placed PlaceCause

@@ -146,6 +146,21 @@ impl Assembler {
         }
     }
 
+    /// Puts these bytes last in the current section. `BadSection` comes where there is no section too.
+    #[tactic(auto, unfolding(crate::specs::State::put_bytes_into))]
+    pub(crate) fn put_bytes(&mut self, pos: Pos, bytes: &[u8]) -> Result<(), PlaceFault>
+        ensures placed { PlacesBy (put_bytes pos bytes.now) self.old self.new result }
+        ensures kept { self.new.notes ≡ self.old.notes }
+    {
+        if (self.current as usize) < self.sections.len() {
+            self.sections
+                .push_bytes(self.current, pos, bytes)
+                .map_err(FragFault::raise)
+        } else {
+            Err(PlaceFault::Fault(PlaceCause::BadSection))
+        }
+    }
+
     /// Puts the bytes of the statement last in the current section.
     pub(crate) fn put_scratch(&mut self, pos: Pos) -> Result<(), PlaceFault>
         ensures placed { PlacesBy (put_bytes pos self.old.scratch.items) self.old self.new result }

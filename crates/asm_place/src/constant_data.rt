@@ -4,10 +4,10 @@ ghost use Rattle.std.specs.Prelude.{◌≡◌, ◌++◌, ◌≤◌, IfOk, OnOk};
 ghost use Rattle.std.specs.Prelude.{map};
 ghost use Rattle.asm_base.specs.Tokens.{spelled};
 ghost use Rattle.asm_frags.specs.Fields.{low_bytes};
-ghost use Rattle.asm_place.specs.ConstantData.{FindsData, cut_of};
+ghost use Rattle.asm_place.specs.ConstantData.{FindsData, FindsLone, cut_of};
 
 use crate::assemblers::Assembler;
-use crate::operands::Operands;
+use crate::operands::{Operands, is_mark};
 use crate::place_faults::PlaceFault;
 use asm_base::{Pos, Token};
 use asm_frags::FieldSize;
@@ -17,11 +17,7 @@ use std::alloc::AllocError;
 /// Appends the bytes of a value. Where the length is known no call copies them.
 #[inline(always)]
 #[tactic(auto, unfolding(asm_frags::specs::Fields::low_bytes))]
-pub(crate) fn append_constant(
-    out: &mut Vec<u8>,
-    size: FieldSize,
-    value: u64,
-) -> Result<(), AllocError>
+fn append_constant(out: &mut Vec<u8>, size: FieldSize, value: u64) -> Result<(), AllocError>
     ensures { OnOk result (out.new.items ≡ out.old.items ++ low_bytes size value) }
 {
     let bytes = value.to_le_bytes();
@@ -65,10 +61,25 @@ pub(crate) fn constant_data(
     Ok(Some(cut))
 }
 
+/// The number that one token is, where it is all that is given. None says nothing of the operands.
+#[inline(always)]
+pub(crate) fn lone_constant(tokens: &[Token]) -> Option<u64>
+    ensures { FindsLone (map spelled tokens.now) result }
+{
+    if tokens.len() != 1 {
+        return None;
+    }
+    if is_mark(&tokens[0], b',') {
+        return None;
+    }
+    constant_operand(tokens)
+}
+
 impl Assembler {
     ghost use Rattle.asm_base.specs.Refusals.{Gives};
     ghost use Rattle.asm_place.specs.Answers.{KeepsNotes};
-    ghost use Rattle.asm_place.specs.ConstantData.{put_any, put_constants};
+    ghost use Rattle.asm_place.specs.ConstantData.{put_any, put_constants, put_lone};
+    ghost use Rattle.asm_place.specs.State.{put_bytes};
     ghost use Rattle.asm_place.specs.PlacedBy.{placed_by, PlacesBy};
 
     /// Puts the bytes of the statement last in the current section, where there are any.
@@ -81,6 +92,37 @@ impl Assembler {
         } else {
             self.put_scratch(pos)
         }
+    }
+
+    /// Puts the bytes of a value.
+    #[tactic(auto, unfolding(asm_frags::specs::Fields::low_bytes))]
+    pub(crate) fn put_constant(
+        &mut self,
+        pos: Pos,
+        size: FieldSize,
+        value: u64,
+    ) -> Result<(), PlaceFault>
+        ensures placed { PlacesBy (put_bytes pos (low_bytes size value))
+            self.old self.new result }
+        ensures kept { self.new.notes ≡ self.old.notes }
+    {
+        let bytes = value.to_le_bytes();
+        self.put_bytes(pos, &bytes[..size.bytes()])
+    }
+
+    /// Puts the bytes of one number, with a note where it does not fit.
+    pub(crate) fn put_lone(
+        &mut self,
+        pos: Pos,
+        size: FieldSize,
+        value: u64,
+    ) -> Result<(), PlaceFault>
+        ensures placed { PlacesBy (put_lone pos size value) self.old self.new result }
+        ensures kept { KeepsNotes result self.old.notes self.new.notes }
+    {
+        self.put_constant(pos, size, value)?;
+        self.warn(pos, cut_of(size, value))?;
+        Ok(())
     }
 
     /// Puts the bytes of numbers, so many of which do not fit.

@@ -10,7 +10,7 @@ ghost use Rattle.std.specs.List.{count_by};
 ghost use Rattle.asm_place.specs.DataItems.{is_cut};
 
 use crate::assemblers::Assembler;
-use crate::constant_data::{append_constant, constant_data};
+use crate::constant_data::{constant_data, lone_constant};
 use crate::expressions::{expressions, forms};
 use crate::operands::Operands;
 use crate::place_faults::PlaceFault;
@@ -57,23 +57,10 @@ impl Assembler {
     ghost use Rattle.asm_base.specs.Tokens.{spelled};
     ghost use Rattle.asm_base.specs.Refusals.{Gives};
     ghost use Rattle.asm_place.specs.Answers.{KeepsNotes};
-    ghost use Rattle.asm_frags.specs.Fields.{low_bytes};
-    ghost use Rattle.asm_place.specs.State.{put_bytes};
     ghost use Rattle.asm_place.specs.DataItems.{put_form, put_forms};
     ghost use Rattle.asm_place.specs.Placing.{put_data, place_data};
     ghost use Rattle.asm_place.specs.DataWordsIn.{data_words_in};
     ghost use Rattle.asm_place.specs.PlacedBy.{placed_by, PlacesBy};
-
-    /// Puts the bytes of a value.
-    fn put_constant(&mut self, pos: Pos, size: FieldSize, value: u64) -> Result<(), PlaceFault>
-        ensures placed { PlacesBy (put_bytes pos (low_bytes size value))
-            self.old self.new result }
-        ensures kept { self.new.notes ≡ self.old.notes }
-    {
-        self.scratch.clear();
-        append_constant(&mut self.scratch, size, value)?;
-        self.put_scratch(pos)
-    }
 
     /// Puts a form: the bytes of a value that is known, or a field.
     fn put_form(&mut self, pos: Pos, size: FieldSize, form: Linear) -> Result<(), PlaceFault>
@@ -133,8 +120,8 @@ impl Assembler {
         self.put_data(pos, size, words)
     }
 
-    /// `.byte` and the others: at once where all operands are numbers.
-    pub(crate) fn place_data(
+    /// Data of any operands: at once where all are numbers.
+    fn place_values(
         &mut self,
         pos: Pos,
         size: FieldSize,
@@ -147,6 +134,23 @@ impl Assembler {
         match constant_data(&mut self.scratch, size, tokens)? {
             Some(cut) => self.put_constants(pos, cut),
             None => self.place_any_data(pos, size, tokens),
+        }
+    }
+
+    /// `.byte` and the others: one number is put first of all.
+    pub(crate) fn place_data(
+        &mut self,
+        pos: Pos,
+        size: FieldSize,
+        tokens: &[Token],
+    ) -> Result<(), PlaceFault>
+        ensures placed { PlacesBy (place_data pos size (map spelled tokens.now))
+            self.old self.new result }
+        ensures kept { KeepsNotes result self.old.notes self.new.notes }
+    {
+        match lone_constant(tokens) {
+            Some(value) => self.put_lone(pos, size, value),
+            None => self.place_values(pos, size, tokens),
         }
     }
 }
