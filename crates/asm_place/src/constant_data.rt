@@ -22,7 +22,7 @@ fn append_constant(out: &mut Vec<u8>, size: FieldSize, value: u64) -> Result<(),
 {
     let bytes = value.to_le_bytes();
     match size {
-        FieldSize::One => out.extend_from_slice(&bytes[..1]),
+        FieldSize::One => Ok(out.push(bytes[0])?),
         FieldSize::Two => out.extend_from_slice(&bytes[..2]),
         FieldSize::Four => out.extend_from_slice(&bytes[..4]),
         FieldSize::Eight => out.extend_from_slice(bytes.as_slice()),
