@@ -10,6 +10,7 @@ use crate::up_to_three::UpToThree;
 use asm_operands::constant_operand;
 
 /// The value of the next operand, which has to be there.
+#[inline(always)]
 fn first_constant(operands: &mut Operands) -> Option<u64>
     ensures { FindsFirst (operands_left operands.old) (operands_left operands.new) result }
 {
@@ -17,6 +18,7 @@ fn first_constant(operands: &mut Operands) -> Option<u64>
 }
 
 /// The value of the next operand, which may be missing, where one may be there.
+#[inline(always)]
 fn next_constant_if(may: bool, operands: &mut Operands) -> Option<Option<u64>>
     ensures { FindsNext may (operands_left operands.old) (operands_left operands.new) result }
 {
