@@ -1,34 +1,26 @@
 -- Sections, laid out one behind the other.
-use Rattle.std.proofs.Common.{◌≡◌, ℕ, zero, suc, ◌+◌, ◌-◌, ◌<◌, List, [], ◌∷◌, ◌++◌, map, length, get_or, set, drop, replicate, refl, sym, ap, ◌∙◌, arith, append_assoc, append-nil, length-append}
+use Rattle.std.proofs.Common.{◌≡◌, ℕ, ◌+◌, ◌-◌, ◌*◌, ◌<◌, ◌≤◌, List, [], ◌∷◌, ◌++◌, map, length, get_or, drop, refl, sym, ap, ◌∙◌, arith, append_assoc, length-append}
 use Rattle.std.proofs.lemmas.List.{drop_more, length-map}
 use Rattle.std.specs.Global.{Vec}
 use Rattle.std.specs.Prelude.{codes}
+use Rattle.asm_frags.specs.Contents.{repeated}
+use Rattle.asm_frags.proofs.Repeats.{repeated-one, length-repeated}
 use Rattle.elf_object.specs.declared.sections.FileSection.{FileSection}
 use Rattle.elf_object.specs.Fields.{half, word, xword}
 use Rattle.elf_object.specs.Image.{null_header, next_multiple, gap, body_from, bodies_from, header_from, headers_from, header_end, header_table, elf_header, file_of, all_names, with_names, file_with}
 use Rattle.elf_object.specs.Sections.{SectionEntry, string_section}
 use Rattle.elf_object.specs.StringTable.{name_offsets, string_table_of}
-use Rattle.elf_object.specs.Views.{flat, section_view}
-
-pub flat_push : (pieces : List (Vec ℕ)) (piece : Vec ℕ) → flat (pieces ++ piece ∷ []) ≡ flat pieces ++ piece.items
-flat_push [] piece = append-nil piece.items
-flat_push (first ∷ pieces) piece = ap (λ (xs : List ℕ). first.items ++ xs) (flat_push pieces piece) ∙ sym (append_assoc first.items (flat pieces) piece.items)
-
--- bytes more at the last piece
-pub flat_last : (pieces : List (Vec ℕ)) (n : ℕ) (last : Vec ℕ) (old more : List ℕ) → n + 1 ≡ length pieces → old ≡ (get_or pieces n last).items → last.items ≡ old ++ more
-    → flat (set pieces n last) ≡ flat pieces ++ more
-flat_last [] n last old more long is longer = absurd (omega arith)
-flat_last (piece ∷ []) zero last old more long is longer =
-    rw (longer, is) (append_assoc piece.items more [] ∙ ap (λ (xs : List ℕ). piece.items ++ xs) (append-nil more) ∙ ap (λ (xs : List ℕ). xs ++ more) (sym (append-nil piece.items)))
-flat_last (piece ∷ []) (suc n) last old more long is longer = absurd (omega arith)
-flat_last (piece ∷ next ∷ pieces) zero last old more long is longer = absurd (omega arith)
-flat_last (piece ∷ next ∷ pieces) (suc n) last old more long is longer =
-    ap (λ (xs : List ℕ). piece.items ++ xs) (flat_last (next ∷ pieces) n last old more (omega arith) is longer) ∙ sym (append_assoc piece.items (flat (next ∷ pieces)) more)
+use Rattle.elf_object.specs.Views.{section_view}
 
 -- zeros up to a multiple are a gap
-pub gap_put : (pieces new : List (Vec ℕ)) (zeros : Vec ℕ) (alignment at end : ℕ) → flat new ≡ flat pieces ++ zeros.items → zeros.items ≡ replicate (end - at) 0
-    → end ≡ next_multiple alignment at → flat new ≡ flat pieces ++ gap alignment at
-gap_put pieces new zeros alignment at end pushed blank is = rw (pushed, blank, is) refl
+pub gap_put : (old new : List ℕ) (alignment at end : ℕ) → new ≡ old ++ repeated (end - at) (0 ∷ []) → end ≡ next_multiple alignment at → new ≡ old ++ gap alignment at
+gap_put old new alignment at end put is = rw (put, is, repeated-one) refl
+
+-- where the gap ends
+pub gap_ends : (old new : List ℕ) (at end : ℕ) → at ≤ end → at ≡ header_end + length old → new ≡ old ++ repeated (end - at) (0 ∷ []) → end ≡ header_end + length new
+gap_ends old new at end behind begins put =
+    let long : length new ≡ length old + (end - at) * 1 = ap length put ∙ length-append old (repeated (end - at) (0 ∷ [])) ∙ ap (λ n. length old + n) (length-repeated (end - at) (0 ∷ [])) in
+    omega arith
 
 -- where the body ends
 end_of : (old new body : List ℕ) (at end : ℕ) → at ≡ header_end + length old → end ≡ header_end + length new → new ≡ old ++ body → end ≡ at + length body
@@ -78,11 +70,11 @@ map_push [] last = refl
 map_push (s ∷ ss) last = ap (λ (xs : List SectionEntry). section_view s ∷ xs) (map_push ss last)
 
 -- the file of sections, and last the table of their names
-pub file_made : (sections shown pushed : List FileSection) (last : FileSection) (names header bytes : List ℕ) (pieces all : List (Vec ℕ)) (table : Vec ℕ) (end count : ℕ)
+pub file_made : (sections shown pushed : List FileSection) (last : FileSection) (names header bytes pieces all : List ℕ) (table : Vec ℕ) (end count : ℕ)
     → shown ≡ sections → bytes ≡ string_table_of (all_names (map section_view shown)) → names ≡ name_offsets (all_names (map section_view shown))
     → section_view last ≡ string_section (codes ".shstrtab") bytes → pushed ≡ sections ++ last ∷ [] → count ≡ length pushed + 1 → header ≡ elf_header end count
-    → end ≡ header_end + length (flat pieces) → flat pieces ≡ bodies_from header_end (map section_view pushed) → table.items ≡ header_table names (map section_view pushed)
-    → flat all ≡ flat pieces ++ table.items → header ++ flat all ≡ file_with (map section_view sections)
+    → end ≡ header_end + length pieces → pieces ≡ bodies_from header_end (map section_view pushed) → table.items ≡ header_table names (map section_view pushed)
+    → all ≡ pieces ++ table.items → header ++ all ≡ file_with (map section_view sections)
 unfolding with_names file_with
 file_made sections shown pushed last names header bytes pieces all table end count same texts offsets names_last more counts begins ends bodies headers put =
     let entries = map section_view pushed in
@@ -94,9 +86,9 @@ file_made sections shown pushed last names header bytes pieces all table end cou
     ap (λ (xs : List FileSection). map section_view xs) more ∙ map_push sections last
     ∙ ap (λ (s : SectionEntry). before ++ s ∷ []) (names_last ∙ ap (λ (bs : List ℕ). string_section (codes ".shstrtab") bs) text) in
     let long : length entries ≡ length pushed = length-map pushed section_view in
-    let first : header ++ flat all ≡ header ++ (flat pieces ++ table.items) = ap (λ (xs : List ℕ). header ++ xs) put in
-    let second : header ++ (flat pieces ++ table.items) ≡ file_of names entries =
-    file_parts names entries header (flat pieces) table.items end count begins ends (omega arith) bodies headers in
+    let first : header ++ all ≡ header ++ (pieces ++ table.items) = ap (λ (xs : List ℕ). header ++ xs) put in
+    let second : header ++ (pieces ++ table.items) ≡ file_of names entries =
+    file_parts names entries header pieces table.items end count begins ends (omega arith) bodies headers in
     let third : file_of names entries ≡ file_of (name_offsets (all_names before)) (with_names before) =
     ap (λ (ns : List ℕ). file_of ns entries) place ∙ ap (λ (ss : List SectionEntry). file_of (name_offsets (all_names before)) ss) whole in
     first ∙ second ∙ third

@@ -7,6 +7,7 @@ mod LoneNames
 mod FieldLemmas
 mod ItemLemmas
 mod MarkLemmas
+mod PieceLemmas
 mod LayingLemmas
 mod ImageLemmas
 mod ObjectLemmas

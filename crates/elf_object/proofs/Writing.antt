@@ -32,6 +32,11 @@ pub written-append : (a b : List ℕ) (made : Option Made) →
 written-append a b None = refl
 written-append a b (Some made) = ap Some (after_write-append a b made)
 
+-- nothing is written, told or not
+pub written_none : (made : Option Made) → option_map (after_write []) made ≡ made
+written_none None = refl
+written_none (Some made) = ap Some (after_write-nil made)
+
 -- a front of what is left is written after what stands before it
 pub written_on : (bytes piece : List ℕ) (at n : ℕ) (before now after : Option Made) →
     now ≡ option_map (after_write (take at bytes)) before →

@@ -10,6 +10,7 @@ pub mod Naming
 pub mod Aliases
 pub mod SymbolTable
 pub mod Numbers
+pub mod Pieces
 pub mod Sections
 pub mod Image
 pub mod Objects

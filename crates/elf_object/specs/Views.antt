@@ -1,6 +1,5 @@
 -- What the types of the program stand for.
-use Rattle.std.specs.Prelude.{◌≡◌, ℕ, ◌+◌, List, ◌++◌, flat_map, length}
-use Rattle.std.specs.Global.{Vec}
+use Rattle.std.specs.Prelude.{◌≡◌, ℕ, ◌+◌, List, ◌++◌, length}
 use Rattle.asm_frags.specs.Alignments.{alignment_of_all}
 use Rattle.elf_object.specs.declared.contents.HeldSection.{HeldSection}
 use Rattle.elf_object.specs.declared.entries.TableSymbol.{TableSymbol}
@@ -8,17 +7,19 @@ use Rattle.elf_object.specs.declared.naming.Named.{Named}
 use Rattle.elf_object.specs.declared.numbers.Numbers.{Numbers}
 use Rattle.elf_object.specs.declared.relocations.Relocation.{Relocation}
 use Rattle.elf_object.specs.declared.sections.Body.{Body}
-use Rattle.elf_object.specs.declared.sections.Body.TheVariants.{Bytes, NoBits}
+use Rattle.elf_object.specs.declared.sections.Body.TheVariants.{Bytes, Pieces, NoBits}
 use Rattle.elf_object.specs.declared.sections.FileSection.{FileSection}
 use Rattle.elf_object.specs.Image.{header_end}
 use Rattle.elf_object.specs.Naming.{NamedOf}
 use Rattle.elf_object.specs.Numbers.{NumbersOf}
+use Rattle.elf_object.specs.Pieces.{flat}
 use Rattle.elf_object.specs.Sections.{Content, stored, nobits, SectionEntry}
 use Rattle.elf_object.specs.SymbolTable.{SymbolEntry}
 
 -- what a section of the file holds
 abbrev pub content_view : Body → Content
 content_view (Bytes bytes) = stored bytes.items
+content_view (Pieces pieces) = stored (flat pieces.items)
 content_view (NoBits size) = nobits size
 
 -- a section of the file
@@ -71,10 +72,6 @@ numbers_view numbers = record { sections = numbers.sections.items; symbols = num
 abbrev pub named_view : Named → NamedOf
 named_view named = record { sections = named.sections.items; symbols = named.symbols.items }
 
--- pieces, one behind the other
-abbrev pub flat : List (Vec ℕ) → List ℕ
-flat pieces = flat_map (λ piece. piece.items) pieces
-
--- behind the ELF header the pieces end there
-abbrev pub ends_at : ℕ → List (Vec ℕ) → Type 0
-ends_at end pieces = end ≡ header_end + length (flat pieces)
+-- behind the ELF header these bytes end there
+abbrev pub ends_at : ℕ → List ℕ → Type 0
+ends_at end bytes = end ≡ header_end + length bytes

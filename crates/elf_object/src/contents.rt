@@ -6,16 +6,20 @@ ghost use Rattle.std.specs.Option.{option_to_list};
 ghost use Rattle.asm_frags.specs.Fields.{low_bytes};
 ghost use Rattle.elf_object.specs.Contents as spec;
 ghost use Rattle.elf_object.specs.Faults.{IsDue, IsLostAt, fields_fault, field_fault_in, field_fault_from};
+ghost use Rattle.elf_object.specs.Pieces.{flat};
 ghost use Rattle.elf_object.specs.Relocations.{field_relocation};
-ghost use Rattle.elf_object.specs.Sections.{source_section};
-ghost use Rattle.elf_object.specs.Views.{held_entry, relocations_in};
+ghost use Rattle.elf_object.specs.Sections.{source_section, stored};
+ghost use Rattle.elf_object.specs.Views.{content_view, held_entry, relocations_in};
 
 use crate::faults::{ObjectCause, ObjectFault};
+use crate::file_pieces::{Piece, Pieces, SMALL};
 use crate::references::field_relocation;
 use crate::relocations::Relocation;
 use crate::sections::Body;
 use crate::symbol_values::Placement;
-use asm_frags::{Content, Field, FieldSize, Frag, Laid, SHT_NOBITS, Section, put_bytes};
+use asm_frags::{
+    Content, Field, FieldSize, Frag, Laid, SHT_NOBITS, Section, TakesBytes, put_bytes,
+};
 use asm_relax::{laid_value, section_size};
 use std::alloc::{AllocError, Global};
 
@@ -104,27 +108,27 @@ fn file_fields(
     Ok(out)
 }
 
-/// The plain bytes with the bytes of these items between them; `room` bytes are expected.
+/// The pieces of the plain bytes with the bytes of these items between them; so much room is made.
 #[tactic(auto, unfolding(crate::specs::Contents::interleaved))]
 fn interleaved(
     alloc: Global,
     bytes: &[u8],
     items: &[Frag<Laid>],
     room: usize,
-) -> Result<Vec<u8>, AllocError>
+) -> Result<Vec<Piece>, AllocError>
     requires { All (λ item. item.offset ≤ length bytes.now) items.now }
-    ensures { IfOk result (λ all. all.items ≡ spec.interleaved bytes.now 0 items.now) }
+    ensures { IfOk result (λ all. flat all.items ≡ spec.interleaved bytes.now 0 items.now) }
 {
-    let mut out = Vec::with_capacity(alloc, room)?;
+    let mut out = Pieces::with_room(alloc, room)?;
     let mut from = 0;
     for item in items {
         let upto = from.max(item.offset);
-        out.extend_from_slice(&bytes[from..upto])?;
+        out.bytes(&bytes[from..upto])?;
         put_bytes(&item.content, item.address, &mut out)?;
         from = upto;
     }
-    out.extend_from_slice(&bytes[from..])?;
-    Ok(out)
+    out.bytes(&bytes[from..])?;
+    out.into_list()
 }
 
 /// Whether no item but one run is there, so that the plain bytes are all.
@@ -138,17 +142,24 @@ fn is_one_run(items: &[Frag<Laid>]) -> bool
     }
 }
 
-/// The bytes of a section that has these plain bytes.
-fn with_items(alloc: Global, section: &Section<Laid>, bytes: Vec<u8>) -> Result<Vec<u8>, AllocError>
+/// Room for plain bytes, as many in small items, and no more than the section has.
+fn room_for(section: &Section<Laid>, bytes: &[u8]) -> usize {
+    let few = bytes.len().saturating_mul(2).saturating_add(SMALL);
+    few.min(section_size(section) as usize)
+}
+
+/// What a section holds that has these plain bytes.
+fn with_items(alloc: Global, section: &Section<Laid>, bytes: Vec<u8>) -> Result<Body, AllocError>
     requires { length bytes.items ≡ length section.now.bytes }
-    ensures { IfOk result (λ all. all.items
-        ≡ spec.interleaved bytes.items 0 section.now.items) }
+    ensures { IfOk result (λ body. content_view body
+        ≡ stored (spec.interleaved bytes.items 0 section.now.items)) }
 {
     let items = section.items();
     if is_one_run(items) {
-        return Ok(bytes);
+        return Ok(Body::Bytes(bytes));
     }
-    interleaved(alloc, &bytes, items, section_size(section) as usize)
+    let room = room_for(section, &bytes);
+    Ok(Body::Pieces(interleaved(alloc, &bytes, items, room)?))
 }
 
 /// A section of the source with what it holds, and its relocations.
@@ -188,7 +199,7 @@ fn held_section<'a>(
     let Filed { bytes, relocations } = file_fields(alloc, at, number, section)?;
     Ok(HeldSection {
         source: section,
-        body: Body::Bytes(with_items(alloc, section, bytes)?),
+        body: with_items(alloc, section, bytes)?,
         relocations,
     })
 }

@@ -2,16 +2,19 @@
 
 ghost use Rattle.std.specs.Prelude.{◌≡◌, ◌+◌, ◌<◌, ◌≤◌, ◌++◌, map, length, vec_len, IfOk, IfSome, OnOk};
 ghost use Rattle.elf_object.specs.Image as spec;
+ghost use Rattle.elf_object.specs.Pieces.{flat};
 ghost use Rattle.elf_object.specs.StringTable.{string_table_of, name_offsets};
-ghost use Rattle.elf_object.specs.Views.{flat, section_view, ends_at};
+ghost use Rattle.elf_object.specs.Views.{section_view, ends_at};
 
 use crate::fields::{put_half, put_word, put_xword};
+use crate::file_pieces::{Piece, Pieces};
 use crate::offsets::{
     E_EHSIZE, E_MACHINE, E_SHENTSIZE, E_SHNUM, E_SHOFF, E_SHSTRNDX, E_TYPE, E_VERSION, EHDR_SIZE,
     SHDR_SIZE,
 };
-use crate::sections::{FileSection, section_header, string_section};
+use crate::sections::{Body, FileSection, section_header, string_section};
 use crate::string_table::{put_joined, put_name};
+use asm_frags::TakesBytes;
 use std::alloc::{AllocError, Global};
 
 /// The ELF header, where the header table has this offset and count, and the last section has the names (`Elf64_Ehdr`).
@@ -42,28 +45,10 @@ fn next_multiple(position: usize, alignment: u64) -> Option<usize>
     position.checked_next_multiple_of(alignment.max(1) as usize)
 }
 
-/// Pieces below this size are put together, so that a small file takes few writes, in bytes.
-const SMALL: usize = 4096;
-
-/// Appends bytes to the last piece where both are small, and else as a piece of their own, without copying them.
-fn put_piece(pieces: &mut Vec<Vec<u8>>, bytes: Vec<u8>) -> Result<(), AllocError>
-    ensures { OnOk result (flat pieces.new.items ≡ flat pieces.old.items ++ bytes.items) }
-{
-    if bytes.len() < SMALL {
-        if let Some(last) = pieces.last_mut() {
-            if last.len() < SMALL {
-                last.extend_from_slice(&bytes)?;
-                return Ok(());
-            }
-        }
-    }
-    Ok(pieces.push(bytes)?)
-}
-
 /// What stands behind the ELF header, as far as it is laid out, and the header table so far.
 #[derive(Drop)]
 struct Laid {
-    pieces: Vec<Vec<u8>>,
+    pieces: Pieces,
     /// Where the last piece ends in the file, in bytes.
     end: usize,
     headers: Vec<u8>,
@@ -72,56 +57,85 @@ struct Laid {
 impl Laid {
     ghost use Rattle.std.specs.Prelude.{◌≡◌, ◌+◌, ◌++◌, length, OnOk};
     ghost use Rattle.elf_object.specs.Image as spec;
+    ghost use Rattle.elf_object.specs.Pieces.{piece_bytes, flat};
     ghost use Rattle.elf_object.specs.Sections.{file_bytes};
-    ghost use Rattle.elf_object.specs.Views.{flat, section_view, content_view, ends_at};
+    ghost use Rattle.elf_object.specs.Views.{section_view, content_view, ends_at};
 
     /// Appends zeros up to a multiple of the alignment.
-    fn put_gap(&mut self, alloc: Global, alignment: u64) -> Result<(), AllocError>
-        requires { ends_at self.old.end self.old.pieces.items }
-        ensures pieces { OnOk result (flat self.new.pieces.items
-            ≡ flat self.old.pieces.items ++ spec.gap alignment self.old.end) }
+    fn put_gap(&mut self, alignment: u64) -> Result<(), AllocError>
+        requires { ends_at self.old.end self.old.pieces }
+        ensures pieces { OnOk result (self.new.pieces
+            ≡ self.old.pieces ++ spec.gap alignment self.old.end) }
         ensures end { OnOk result (self.new.end ≡ spec.next_multiple alignment self.old.end) }
-        ensures ends { OnOk result (ends_at self.new.end self.new.pieces.items) }
+        ensures ends { OnOk result (ends_at self.new.end self.new.pieces) }
         ensures kept { self.new.headers.items ≡ self.old.headers.items }
     {
-        // A file of 2^64 bytes can't be held.
+        // No file has 2^64 bytes.
         let end = next_multiple(self.end, alignment).ok_or(AllocError)?;
-        let zeros = vec![in alloc; 0; end - self.end]?;
-        put_piece(&mut self.pieces, zeros)?;
+        self.pieces.repeated(&[0], (end - self.end) as u64)?;
         self.end = end;
         Ok(())
     }
 
-    /// Appends bytes.
-    fn put_bytes(&mut self, bytes: Vec<u8>) -> Result<(), AllocError>
-        requires { ends_at self.old.end self.old.pieces.items }
-        ensures pieces { OnOk result (flat self.new.pieces.items
-            ≡ flat self.old.pieces.items ++ bytes.items) }
-        ensures ends { OnOk result (ends_at self.new.end self.new.pieces.items) }
+    /// Appends a piece.
+    fn put_piece(&mut self, piece: Piece) -> Result<(), AllocError>
+        requires { ends_at self.old.end self.old.pieces }
+        ensures pieces { OnOk result (self.new.pieces ≡ self.old.pieces ++ piece_bytes piece) }
+        ensures ends { OnOk result (ends_at self.new.end self.new.pieces) }
         ensures kept { self.new.headers.items ≡ self.old.headers.items }
     {
-        let end = self.end.checked_add(bytes.len()).ok_or(AllocError)?;
-        put_piece(&mut self.pieces, bytes)?;
+        let size = piece.len().ok_or(AllocError)?;
+        let end = self.end.checked_add(size).ok_or(AllocError)?;
+        self.pieces.put(piece)?;
         self.end = end;
         Ok(())
+    }
+
+    /// Appends pieces.
+    fn put_pieces(&mut self, pieces: Vec<Piece>) -> Result<(), AllocError>
+        requires { ends_at self.old.end self.old.pieces }
+        ensures pieces { OnOk result (self.new.pieces ≡ self.old.pieces ++ flat pieces.items) }
+        ensures ends { OnOk result (ends_at self.new.end self.new.pieces) }
+        ensures kept { self.new.headers.items ≡ self.old.headers.items }
+    {
+        for piece in pieces {
+            self.put_piece(piece)?;
+        }
+        Ok(())
+    }
+
+    /// Appends what a section holds in the file.
+    fn put_body(&mut self, body: Body) -> Result<(), AllocError>
+        requires { ends_at self.old.end self.old.pieces }
+        ensures pieces { OnOk result (self.new.pieces
+            ≡ self.old.pieces ++ file_bytes (content_view body)) }
+        ensures ends { OnOk result (ends_at self.new.end self.new.pieces) }
+        ensures kept { self.new.headers.items ≡ self.old.headers.items }
+    {
+        match body {
+            Body::Bytes(bytes) => self.put_piece(Piece::Bytes(bytes)),
+            Body::Pieces(pieces) => self.put_pieces(pieces),
+            Body::NoBits(_) => Ok(()),
+        }
     }
 
     /// Appends the body and the header of a section, whose name stands at this offset.
     #[tactic(auto, unfolding(crate::specs::Views::section_view))]
-    fn put(&mut self, alloc: Global, name: usize, section: FileSection) -> Result<(), AllocError>
-        requires { ends_at self.old.end self.old.pieces.items }
-        ensures pieces { OnOk result (flat self.new.pieces.items
-            ≡ flat self.old.pieces.items
+    fn put(&mut self, name: usize, section: FileSection) -> Result<(), AllocError>
+        requires { ends_at self.old.end self.old.pieces }
+        ensures pieces { OnOk result (self.new.pieces
+            ≡ self.old.pieces
             ++ spec.body_from self.old.end (section_view section.entry)) }
         ensures headers { OnOk result (self.new.headers.items
             ≡ self.old.headers.items
             ++ spec.header_from self.old.end name (section_view section.entry)) }
-        ensures ends { OnOk result (ends_at self.new.end self.new.pieces.items) }
+        ensures ends { OnOk result (ends_at self.new.end self.new.pieces) }
     {
-        self.put_gap(alloc, section.alignment)?;
-        self.headers
-            .extend_from_slice(&section_header(name, self.end as u64, &section))?;
-        self.put_bytes(section.body.into_bytes(alloc))
+        self.put_gap(section.alignment)?;
+        let size = section.body.size().ok_or(AllocError)?;
+        let header = section_header(name, self.end as u64, size, &section);
+        self.headers.extend_from_slice(&header)?;
+        self.put_body(section.body)
     }
 }
 
@@ -129,23 +143,23 @@ impl Laid {
 #[tactic(auto, unfolding(crate::specs::Image::header_table, crate::specs::Image::null_header))]
 fn lay_out(alloc: Global, names: &[usize], sections: Vec<FileSection>) -> Result<Laid, AllocError>
     requires { length names.now ≡ vec_len sections }
-    ensures pieces { IfOk result (λ l. flat l.pieces.items
+    ensures pieces { IfOk result (λ l. l.pieces
         ≡ spec.bodies_from spec.header_end (map section_view sections.entry.items)) }
     ensures headers { IfOk result (λ l. l.headers.items
         ≡ spec.header_table names.now (map section_view sections.entry.items)) }
-    ensures ends { IfOk result (λ l. ends_at l.end l.pieces.items) }
+    ensures ends { IfOk result (λ l. ends_at l.end l.pieces) }
 {
     let mut laid = Laid {
-        pieces: Vec::with_capacity(alloc, 2 * sections.len() + 2)?,
+        pieces: Pieces::with_room(alloc, 0)?,
         end: EHDR_SIZE,
         headers: vec![in alloc; 0; 64]?,
     };
     let mut index = 0;
     for section in sections {
-        laid.put(alloc, names[index], section)?;
+        laid.put(names[index], section)?;
         index += 1;
     }
-    laid.put_gap(alloc, 8)?;
+    laid.put_gap(8)?;
     Ok(laid)
 }
 
@@ -180,7 +194,7 @@ fn name_table(alloc: Global, sections: &[FileSection]) -> Result<NameTable, Allo
 #[derive(Drop)]
 pub(crate) struct File {
     pub(crate) header: [u8; 64],
-    pub(crate) pieces: Vec<Vec<u8>>,
+    pub(crate) pieces: Vec<Piece>,
 }
 
 /// The file of these sections, and last the table of their names.
@@ -196,6 +210,9 @@ pub(crate) fn laid_file(alloc: Global, sections: Vec<FileSection>) -> Result<Fil
     let laid = lay_out(alloc, &names.offsets, sections)?;
     let header = elf_header(laid.end, count);
     let mut pieces = laid.pieces;
-    put_piece(&mut pieces, laid.headers)?;
-    Ok(File { header, pieces })
+    pieces.put(Piece::Bytes(laid.headers))?;
+    Ok(File {
+        header,
+        pieces: pieces.into_list()?,
+    })
 }

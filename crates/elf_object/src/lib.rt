@@ -6,6 +6,7 @@ mod contents;
 mod entries;
 mod faults;
 mod fields;
+mod file_pieces;
 mod image;
 mod laws;
 mod listing;

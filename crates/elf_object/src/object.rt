@@ -4,13 +4,16 @@ ghost use Rattle.std.specs.Prelude.{◌≡◌, ℕ, ◌≤◌, ◌++◌, length,
 ghost use Rattle.asm_base.specs.Counts.{HasCause};
 ghost use Rattle.asm_base.specs.Output.{after_write};
 ghost use Rattle.asm_base.specs.Refusals.{Returns};
+ghost use Rattle.asm_frags.specs.Contents.{repeated};
 ghost use Rattle.elf_object.specs.Image.{image_with};
 ghost use Rattle.elf_object.specs.Objects.{object_of};
 ghost use Rattle.elf_object.specs.Sections.{source_section};
-ghost use Rattle.elf_object.specs.Views.{flat, held_entry, relocations_in};
+ghost use Rattle.elf_object.specs.Pieces.{piece_bytes, flat};
+ghost use Rattle.elf_object.specs.Views.{held_entry, relocations_in};
 
 use crate::contents::{HeldSection, held_sections};
 use crate::faults::ObjectFault;
+use crate::file_pieces::{Blocks, Piece, Repetition, zeros};
 use crate::image::{File, laid_file};
 use crate::listing::list_symbols;
 use crate::naming::named_by;
@@ -28,12 +31,12 @@ use std::marker::Model;
 #[derive(Drop)]
 pub struct Object {
     header: [u8; 64],
-    pieces: Vec<Vec<u8>>,
+    pieces: Vec<Piece>,
 }
 
 impl Model for Object {
     ghost use Rattle.std.specs.Prelude.{ℕ, List, ◌++◌};
-    ghost use Rattle.elf_object.specs.Views.{flat};
+    ghost use Rattle.elf_object.specs.Pieces.{flat};
 
     ghost Value = { List ℕ };
 
@@ -59,30 +62,73 @@ fn image<'a>(alloc: Global, at: Placement<'a>, held: Vec<HeldSection<'a>>) -> Re
     laid_file(alloc, sections)
 }
 
-/// Writes a piece: all of it, or a front of it where the output fails.
-fn write_piece<O: Output>(obj: &mut O, piece: &[u8]) -> Result<(), Failed>
+/// Writes bytes: all of them, or a front of them where the output fails.
+fn write_bytes<O: Output>(obj: &mut O, bytes: &[u8]) -> Result<(), Failed>
     ensures ok { OnOk result (O.made obj.new
-        ≡ option_map (after_write piece.now) (O.made obj.old)) }
-    ensures prefix { (n : ℕ) × (n ≤ length piece.now) × (O.made obj.new
-        ≡ option_map (after_write (take n piece.now)) (O.made obj.old)) }
+        ≡ option_map (after_write bytes.now) (O.made obj.old)) }
+    ensures prefix { (n : ℕ) × (n ≤ length bytes.now) × (O.made obj.new
+        ≡ option_map (after_write (take n bytes.now)) (O.made obj.old)) }
     ensures cause { HasCause (O.faults obj.old) (O.faults obj.new) result }
 {
     let mut at = 0;
-    'pieces: while at < piece.len() {
-        at += obj.write(&piece[at..])?;
+    'pieces: while at < bytes.len() {
+        at += obj.write(&bytes[at..])?;
     }
     Ok(())
 }
 
+/// Writes bytes `count` times: all of them, or a front of them where the output fails.
+fn write_repeated<O: Output>(obj: &mut O, bytes: &[u8], count: u64) -> Result<(), Failed>
+    ensures ok { OnOk result (O.made obj.new
+        ≡ option_map (after_write (repeated count bytes.now)) (O.made obj.old)) }
+    ensures prefix { (n : ℕ) × (n ≤ length (repeated count bytes.now)) × (O.made obj.new
+        ≡ option_map (after_write (take n (repeated count bytes.now))) (O.made obj.old)) }
+    ensures cause { HasCause (O.faults obj.old) (O.faults obj.new) result }
+{
+    for i in 0..count {
+        write_bytes(obj, bytes)?;
+    }
+    Ok(())
+}
+
+/// Writes a repetition in blocks: all of it, or a front of it where the output fails.
+#[inline(never)]
+fn write_repetition<O: Output>(obj: &mut O, held: &Repetition) -> Result<(), Failed>
+    ensures ok { OnOk result (O.made obj.new
+        ≡ option_map (after_write held.now) (O.made obj.old)) }
+    ensures prefix { (n : ℕ) × (n ≤ length held.now) × (O.made obj.new
+        ≡ option_map (after_write (take n held.now)) (O.made obj.old)) }
+    ensures cause { HasCause (O.faults obj.old) (O.faults obj.new) result }
+{
+    let mut block = zeros();
+    let Blocks { size, count, rest } = held.fill(&mut block);
+    write_repeated(obj, &block[..size], count)?;
+    write_bytes(obj, &block[..rest])
+}
+
+/// Writes a piece: all of it, or a front of it where the output fails.
+fn write_piece<O: Output>(obj: &mut O, piece: &Piece) -> Result<(), Failed>
+    ensures ok { OnOk result (O.made obj.new
+        ≡ option_map (after_write (piece_bytes piece.now)) (O.made obj.old)) }
+    ensures prefix { (n : ℕ) × (n ≤ length (piece_bytes piece.now)) × (O.made obj.new
+        ≡ option_map (after_write (take n (piece_bytes piece.now))) (O.made obj.old)) }
+    ensures cause { HasCause (O.faults obj.old) (O.faults obj.new) result }
+{
+    match piece {
+        Piece::Bytes(bytes) => write_bytes(obj, bytes),
+        Piece::Repeated(held) => write_repetition(obj, held),
+    }
+}
+
 /// Writes a header and the pieces behind it: all of them, or a front of them where the output fails.
-fn write_pieces<O: Output>(obj: &mut O, header: &[u8], pieces: &[Vec<u8>]) -> Result<(), Failed>
+fn write_pieces<O: Output>(obj: &mut O, header: &[u8], pieces: &[Piece]) -> Result<(), Failed>
     ensures ok { OnOk result (O.made obj.new
         ≡ option_map (after_write (header.now ++ flat pieces.now)) (O.made obj.old)) }
     ensures prefix { (n : ℕ) × (n ≤ length (header.now ++ flat pieces.now)) × (O.made obj.new
         ≡ option_map (after_write (take n (header.now ++ flat pieces.now))) (O.made obj.old)) }
     ensures cause { HasCause (O.faults obj.old) (O.faults obj.new) result }
 {
-    write_piece(obj, header)?;
+    write_bytes(obj, header)?;
     for piece in pieces {
         write_piece(obj, piece)?;
     }

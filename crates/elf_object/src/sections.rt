@@ -1,12 +1,13 @@
 //! Sections and their headers (gABI, chapter 4, "Sections").
 
-ghost use Rattle.std.specs.Prelude.{◌≡◌, ◌+◌, ◌*◌, ◌≤◌, ◌++◌, map, length, IfOk, OnOk};
+ghost use Rattle.std.specs.Prelude.{◌≡◌, ◌+◌, ◌*◌, ◌≤◌, ◌++◌, map, length, IfOk, IfSome, OnOk};
 ghost use Rattle.elf_object.specs.Relocations.{relocation_entry};
 ghost use Rattle.elf_object.specs.Sections as spec;
 ghost use Rattle.elf_object.specs.Views.{content_view, section_view, held_entry, relocations_in, numbers_view};
 
 use crate::contents::HeldSection;
 use crate::fields::{put_word, put_xword};
+use crate::file_pieces::{Piece, total};
 use crate::numbers::Numbers;
 use crate::offsets::{
     RELA_SIZE, SH_ADDRALIGN, SH_ENTSIZE, SH_FLAGS, SH_INFO, SH_LINK, SH_NAME, SH_OFFSET, SH_SIZE,
@@ -32,28 +33,20 @@ const SHF_INFO_LINK: u64 = 0x40;
 #[derive(Drop)]
 pub(crate) enum Body {
     Bytes(Vec<u8>),
+    Pieces(Vec<Piece>),
     /// Space of this size, which takes no bytes in the file (`SHT_NOBITS`).
     NoBits(u64),
 }
 
 impl Body {
-    /// The size in memory, in bytes.
-    pub(crate) fn size(&self) -> u64
-        ensures { result ≡ spec.content_size (content_view self.now) }
+    /// The size in memory in bytes, if below 2^64.
+    pub(crate) fn size(&self) -> Option<u64>
+        ensures { IfSome result (λ size. size ≡ spec.content_size (content_view self.now)) }
     {
         match self {
-            Body::Bytes(bytes) => bytes.len() as u64,
-            Body::NoBits(size) => *size,
-        }
-    }
-
-    /// The bytes in the file.
-    pub(crate) fn into_bytes(self, alloc: Global) -> Vec<u8>
-        ensures { result.items ≡ spec.file_bytes (content_view self) }
-    {
-        match self {
-            Body::Bytes(bytes) => bytes,
-            Body::NoBits(_) => Vec::new(alloc),
+            Body::Bytes(bytes) => Some(bytes.len() as u64),
+            Body::Pieces(pieces) => Some(total(pieces)? as u64),
+            Body::NoBits(size) => Some(*size),
         }
     }
 }
@@ -75,9 +68,10 @@ pub(crate) struct FileSection<'a> {
     pub(crate) body: Body,
 }
 
-/// The header of a section whose name and bytes stand at these offsets (`Elf64_Shdr`).
+/// The header of a section of this size whose name and bytes stand at these offsets (`Elf64_Shdr`).
 #[tactic(auto, unfolding(crate::specs::Fields::word, crate::specs::Fields::xword, crate::specs::Views::section_view))]
-pub(crate) fn section_header(name: usize, offset: u64, section: &FileSection) -> [u8; 64]
+pub(crate) fn section_header(name: usize, offset: u64, size: u64, section: &FileSection) -> [u8; 64]
+    requires { size ≡ spec.content_size (content_view section.now.body) }
     ensures { result ≡ spec.section_header name offset (section_view section.now) }
 {
     let mut header = [0; 64];
@@ -85,7 +79,7 @@ pub(crate) fn section_header(name: usize, offset: u64, section: &FileSection) ->
     put_word(&mut header[SH_TYPE..], u64::from(section.kind));
     put_xword(&mut header[SH_FLAGS..], section.flags);
     put_xword(&mut header[SH_OFFSET..], offset);
-    put_xword(&mut header[SH_SIZE..], section.body.size());
+    put_xword(&mut header[SH_SIZE..], size);
     put_word(&mut header[SH_LINK..], section.link);
     put_word(&mut header[SH_INFO..], section.info);
     put_xword(&mut header[SH_ADDRALIGN..], section.alignment);

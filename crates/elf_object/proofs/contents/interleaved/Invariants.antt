@@ -6,5 +6,5 @@ use Rattle.elf_object.proofs.contents.interleaved.Given as goal
 abbrev pub invariant-loop-item : goal.invariant-loop-item
 invariant-loop-item l = record {
   within : l.from ≤ length l.bytes;
-  left : l.out.items ++ interleaved l.bytes l.from (drop l.item-index l.items) ≡ interleaved l.bytes 0 l.items;
+  left : l.out ++ interleaved l.bytes l.from (drop l.item-index l.items) ≡ interleaved l.bytes 0 l.items;
 }

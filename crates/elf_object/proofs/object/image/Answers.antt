@@ -4,8 +4,9 @@ use Rattle.std.specs.Result.{IfOk}
 use Rattle.elf_object.specs.Image.{before_names, image_with, file_with}
 use Rattle.elf_object.specs.declared.contents.HeldSection.{HeldSection}
 use Rattle.elf_object.specs.Naming.{named_of}
+use Rattle.elf_object.specs.Pieces.{flat}
 use Rattle.elf_object.specs.Sections.{SectionEntry, next_header, header_indices}
-use Rattle.elf_object.specs.Views.{flat, held_entry, relocations_in, symbol_view, numbers_view, named_view}
+use Rattle.elf_object.specs.Views.{held_entry, relocations_in, symbol_view, numbers_view, named_view}
 use Rattle.elf_object.proofs.MarkLemmas.{named_long}
 use Rattle.elf_object.proofs.ImageLemmas.{sections_made}
 use Rattle.elf_object.proofs.object.image.Goals as goal

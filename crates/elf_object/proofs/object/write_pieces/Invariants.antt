@@ -1,7 +1,7 @@
 -- The pieces so far are written, and no call failed.
 use Rattle.std.proofs.Common.{◌≡◌, ◌++◌, take, option_map}
 use Rattle.asm_base.specs.Output.{after_write}
-use Rattle.elf_object.specs.Views.{flat}
+use Rattle.elf_object.specs.Pieces.{flat}
 use Rattle.elf_object.proofs.object.write_pieces.Given as goal
 
 abbrev pub invariant-loop-piece : goal.invariant-loop-piece

@@ -2,11 +2,11 @@
 use Rattle.std.proofs.Common.{arith}
 use Rattle.std.proofs.lemmas.Grind.{common_steps}
 use Rattle.elf_object.proofs.Writing.{written_on}
-use Rattle.elf_object.proofs.object.write_piece.Goals as goal
+use Rattle.elf_object.proofs.object.write_bytes.Goals as goal
 
 pub pieces-preserved : goal.pieces-preserved
 pieces-preserved g c = record {
   within = grind (arith, common_steps);
-  made = written_on c.args.piece.now _ c.pieces.at c.in_ok-at.field-0 _ _ _ c.pieces.invariant.made c.in_ok-at.ensures.ok (grind (arith, common_steps));
+  made = written_on c.args.bytes.now _ c.pieces.at c.in_ok-at.field-0 _ _ _ c.pieces.invariant.made c.in_ok-at.ensures.ok (grind (arith, common_steps));
   faults = grind (arith, common_steps);
 }
