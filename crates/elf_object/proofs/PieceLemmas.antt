@@ -1,11 +1,11 @@
 -- Pieces, and units that are repeated, in blocks.
-use Rattle.std.proofs.Common.{◌≡◌, ℕ, zero, suc, ◌+◌, ◌-◌, ◌*◌, ◌/◌, ◌%◌, ◌<◌, ◌≤◌, Option, None, Some, IfSome, List, [], ◌∷◌, ◌++◌, length, take, refl, ap, sym, ◌∙◌, arith, append_assoc, append-nil}
+use Rattle.std.proofs.Common.{◌≡◌, ℕ, zero, suc, ◌+◌, ◌-◌, ◌*◌, ◌/◌, ◌%◌, ◌<◌, ◌≤◌, Option, None, Some, IfSome, List, [], ◌∷◌, ◌++◌, length, take, get_or, replicate, refl, ap, sym, ◌∙◌, arith, append_assoc, append-nil}
 use Rattle.std.proofs.Math.Nat.{mod-lt, mul-le-mul_right}
 use Rattle.std.proofs.Math.Seq.{take-append_seam}
-use Rattle.std.proofs.lemmas.List.{length-take-le, take-take}
+use Rattle.std.proofs.lemmas.List.{length-replicate, length-take-le, take-take, take_all}
 use Rattle.std.proofs.lemmas.Nat.{div-add-mod'}
 use Rattle.asm_frags.specs.Contents.{repeated}
-use Rattle.asm_frags.proofs.Repeats.{length-repeated}
+use Rattle.asm_frags.proofs.Repeats.{length-repeated, repeated_alone}
 use Rattle.elf_object.specs.declared.file_pieces.Piece.{Piece}
 use Rattle.elf_object.specs.Pieces.{piece_bytes, flat}
 
@@ -21,6 +21,12 @@ pub product_long : (made : Option ℕ) (count size : ℕ) (unit held : List ℕ)
 product_long None count size unit held is fits product = product
 product_long (Some n) count size unit held is fits product =
     product ∙ ap (λ m. count * m) (sym (length-take-le size unit fits)) ∙ sym (length-repeated count (take size unit)) ∙ ap (λ xs. length xs) is
+
+-- a block of one byte is units of it
+pub filled_alone : (n : ℕ) (block unit : List ℕ) → length unit ≡ 1 → block ≡ replicate n (get_or unit 0 0) → take n block ≡ repeated n unit
+filled_alone n block unit alone is =
+    let long : length (replicate n (get_or unit 0 0)) ≡ n = length-replicate n (get_or unit 0 0) in
+    ap (take n) is ∙ take_all n (replicate n (get_or unit 0 0)) (omega arith) ∙ repeated_alone n unit alone
 
 -- so many units, and then so many more
 repeated_sum : (first more : ℕ) (unit : List ℕ) → repeated (first + more) unit ≡ repeated first unit ++ repeated more unit

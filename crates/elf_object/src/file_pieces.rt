@@ -25,8 +25,8 @@ struct Filled {
     size: usize,
 }
 
-/// Fills a block with as many whole units as it has room for.
-fn fill_units(block: &mut [u8], unit: &[u8]) -> Filled
+/// Fills a block with as many whole units as it has room for, one by one.
+fn fill_each(block: &mut [u8], unit: &[u8]) -> Filled
     requires some { 0 < length unit.now }
     requires room { length unit.now ≤ length block.old }
     ensures some { 0 < result.units }
@@ -42,6 +42,27 @@ fn fill_units(block: &mut [u8], unit: &[u8]) -> Filled
         units += 1;
     }
     Filled { units, size }
+}
+
+/// Fills a block with as many whole units as it has room for.
+#[tactic(auto, using(crate::proofs::PieceLemmas::filled_alone))]
+fn fill_units(block: &mut [u8], unit: &[u8]) -> Filled
+    requires some { 0 < length unit.now }
+    requires room { length unit.now ≤ length block.old }
+    ensures some { 0 < result.units }
+    ensures size { result.size ≡ result.units * length unit.now }
+    ensures within { result.size ≤ length block.new }
+    ensures units { take result.size block.new ≡ repeated result.units unit.now }
+{
+    if unit.len() == 1 {
+        block.fill(unit[0]);
+        Filled {
+            units: block.len() as u64,
+            size: block.len(),
+        }
+    } else {
+        fill_each(block, unit)
+    }
 }
 
 /// A repetition in a block: its first `size` bytes `count` times, and then its first `rest` bytes.

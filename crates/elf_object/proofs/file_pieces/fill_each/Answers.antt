@@ -2,7 +2,7 @@
 use Rattle.std.proofs.Common.{◌+◌, ◌-◌, ◌++◌, List, ℕ, length, take, refl, sym, ap, ◌∙◌, arith}
 use Rattle.std.proofs.lemmas.Slice.{take-put_mid}
 use Rattle.asm_frags.proofs.Repeats.{repeated_more, repeated_none}
-use Rattle.elf_object.proofs.file_pieces.fill_units.Goals as goal
+use Rattle.elf_object.proofs.file_pieces.fill_each.Goals as goal
 use borrow.Rule.Slice.PartMut.{same_len_mid}
 
 pub units-init : goal.units-init

@@ -1,7 +1,7 @@
 -- The units so far stand in front.
 use Rattle.std.proofs.Common.{◌≡◌, ◌*◌, ◌-◌, ◌≤◌, length, take}
 use Rattle.asm_frags.specs.Contents.{repeated}
-use Rattle.elf_object.proofs.file_pieces.fill_units.Given as goal
+use Rattle.elf_object.proofs.file_pieces.fill_each.Given as goal
 
 abbrev pub invariant-units : goal.invariant-units
 invariant-units l = record {
