@@ -1,8 +1,8 @@
 #!/usr/bin/env python3
 """Times build/as beside the machine's GNU as on large sources, and prints a table.
 
-Both assemble each source in turn, some times over. The table has the best wall time of each, of the whole program with its reading and
-writing, and the most memory that it had resident. Where a run does not exit with 0, the table says `failed`.
+Both assemble each source in turn, some times over. The table has the least processor time of each, of the whole program with its reading
+and writing, and the most memory that it had resident. Where a run does not exit with 0, the table says `failed`.
 
 This is no test: it does not look at the objects, claims nothing, and ends with 0 whatever it measures, also where there is no GNU as.
 """
@@ -14,7 +14,6 @@ import pathlib
 import shutil
 import subprocess
 import tempfile
-import time
 from collections.abc import Callable, Iterator
 from dataclasses import dataclass
 
@@ -84,12 +83,54 @@ def relocations() -> Iterator[str]:
         yield f"label_{n}:\t.quad label_{n >> 1}+8, outside_{n & 1023}\n\t.long outside_{n & 1023}-label_{n}\n"
 
 
-# Each function yields lines without end, the same ones at each run; its name begins those of its cases. The cases of data are so many
-# lines, the others so many MiB.
-SOURCES: list[Callable[[], Iterator[str]]] = [nops, byte_lists, expressions, symbols]
+def fills() -> Iterator[str]:
+    """`.zero` and `.fill` of 1 to 4,096 bytes."""
+    state = 1
+    while True:
+        state = (state * 1103515245 + 12345) % (1 << 31)
+        size, value = 1 + (state >> 8 & 4095), state >> 24 & 127
+        yield f"\t.zero {size}\n" if value < 64 else f"\t.fill {(size + 3) // 4}, 4, {value}\n"
+
+
+def sections() -> Iterator[str]:
+    """Sections of three lines each."""
+    for n in itertools.count():
+        yield f'\t.section .text.function_{n},"ax",@progbits\n\tnop\n\tret\n'
+
+
+def chain() -> Iterator[str]:
+    """Assigned symbols, each by the one before it; the first by a symbol of another object."""
+    for n in itertools.count():
+        yield f"\t.set link_{n + 1}, link_{n} + 1\n"
+
+
+def chain_back() -> Iterator[str]:
+    """Assigned symbols, each by the one that is assigned behind it."""
+    for n in itertools.count():
+        yield f"\t.set link_{n}, link_{n + 1} + 1\n"
+
+
+def sums() -> Iterator[str]:
+    """Assigned symbols, each the sum of the next two, which are assigned later."""
+    for n in itertools.count():
+        yield f"\t.set sum_{n}, sum_{n + 1} + sum_{n + 2}\n"
+
+
+def space() -> Iterator[str]:
+    """Sections that are one fill of 1 GiB each."""
+    for n in itertools.count():
+        yield f"\t.section .data.space_{n},\"aw\"\n\t.zero 1073741824\n"
+
+
+# Each function yields lines without end, the same ones at each run; its name begins those of its cases. The first have so many MiB,
+# the others so many lines.
+SOURCES_OF_TEXT: list[Callable[[], Iterator[str]]] = [nops, byte_lists, expressions, symbols]
 SIZES_IN_MIB = [1, 4, 16]
-SOURCES_OF_DATA: list[Callable[[], Iterator[str]]] = [data, relocations]
 SIZES_IN_LINES = [10_000, 100_000, 1_000_000]
+SOURCES_OF_LINES: list[tuple[Callable[[], Iterator[str]], list[int]]] = [
+    (data, SIZES_IN_LINES), (relocations, SIZES_IN_LINES), (fills, [100_000]), (sections, [60_000]), (chain, [100_000]), (chain_back, [100_000]),
+    (sums, [10_000]), (space, [16]),
+]
 
 
 @dataclass
@@ -112,7 +153,7 @@ def write_source(name: str, lines: Iterator[str], least: Size) -> Size:
 
 @dataclass
 class Measured:
-    """The best time and the most memory of some runs; or the word that stands for both in the table, and why."""
+    """The least processor time and the most memory of some runs; or the word that stands for both in the table, and why."""
     seconds: float = float("inf")
     memory: float = 0.0
     instead: str = ""
@@ -131,14 +172,13 @@ def start(command: list[str]) -> int:
 def run_once(command: list[str], measured: Measured, for_memory: bool) -> None:
     """Runs a program for its time or its memory. Memory counts from what the parent has, and Python has much: so a small shell starts
     the program and ends, and the program, an orphan, becomes a child of this process."""
-    before = time.perf_counter()
     if for_memory:
         os.waitpid(start(["/bin/sh", "-c", '"$@" &', "sh", *command]), 0)
         _, status, usage = os.wait4(-1, 0)
         measured.memory = usage.ru_maxrss / 1024
     else:
-        _, status, _ = os.wait4(start(command), 0)
-        measured.seconds = min(measured.seconds, time.perf_counter() - before)
+        _, status, usage = os.wait4(start(command), 0)
+        measured.seconds = min(measured.seconds, usage.ru_utime + usage.ru_stime)
     if status != 0:
         said = pathlib.Path("messages").read_text(errors="replace").splitlines()
         first = next((line for line in said if not line.endswith("Assembler messages:")), "no message")
@@ -168,13 +208,13 @@ def find_gnu() -> tuple[str | None, str]:
 
 
 def row_of(name: str, size: Size, ours: Measured, theirs: Measured) -> list[str]:
-    ratio = "-" if ours.instead or theirs.instead else f"{theirs.seconds / ours.seconds:.2f}"
+    ratio = "-" if ours.instead or theirs.instead else f"{ours.seconds / max(theirs.seconds, 1e-3):.2f}"
     times = [ours.shown(ours.seconds, 3), ours.shown(ours.seconds / size.lines * 1e9, 0), theirs.shown(theirs.seconds, 3), ratio]
     return [name, f"{size.bytes / MIB:.1f}", f"{size.lines}", *times, ours.shown(ours.memory, 1), theirs.shown(theirs.memory, 1)]
 
 
 def print_table(rows: list[list[str]], markdown: bool) -> None:
-    header = ["case", "MiB", "lines", "build/as s", "build/as ns/line", "GNU as s", "GNU as / build/as", "build/as memory", "GNU as memory"]
+    header = ["case", "MiB", "lines", "build/as s", "build/as ns/line", "GNU as s", "build/as / GNU as", "build/as memory", "GNU as memory"]
     widths = [max(map(len, column)) for column in zip(header, *rows)]
     rule = [["-" * widths[0]] + ["-" * (width - 1) + ":" for width in widths[1:]]] if markdown else []
     for row in [header] + rule + rows:
@@ -188,13 +228,13 @@ def main() -> None:
     parser.add_argument("--runs", metavar="N", type=int, default=5, help="how often each runs on a case (default 5)")
     parser.add_argument("--markdown", action="store_true", help="print the table as Markdown")
     options = parser.parse_args()
-    cases = {f"{source.__name__}-{mib}M": (source, Size(bytes=mib * MIB)) for source in SOURCES for mib in SIZES_IN_MIB}
-    cases |= {f"{source.__name__}-{lines}": (source, Size(lines=lines)) for source in SOURCES_OF_DATA for lines in SIZES_IN_LINES}
+    cases = {f"{source.__name__}-{mib}M": (source, Size(bytes=mib * MIB)) for source in SOURCES_OF_TEXT for mib in SIZES_IN_MIB}
+    cases |= {f"{source.__name__}-{lines}": (source, Size(lines=lines)) for source, sizes in SOURCES_OF_LINES for lines in sizes}
     chosen = {name: case for name, case in cases.items() if options.only in name}
     if options.runs < 1 or not chosen or not BUILT.exists():
         parser.error(f"build/as is built first, N is at least 1, and WORD stands in one of: {', '.join(cases)}")
     gnu, version = find_gnu()
-    print(f"{version}\nbest of {options.runs} wall times, memory in MiB\n", flush=True)
+    print(f"{version}\nleast of {options.runs} processor times, memory in MiB\n", flush=True)
     ctypes.CDLL(None).prctl(36, 1, 0, 0, 0)  # PR_SET_CHILD_SUBREAPER: orphans become children of this process
     rows, reasons = [], []
     with tempfile.TemporaryDirectory() as folder:
