@@ -128,7 +128,7 @@ SOURCES_OF_TEXT: list[Callable[[], Iterator[str]]] = [nops, byte_lists, expressi
 SIZES_IN_MIB = [1, 4, 16]
 SIZES_IN_LINES = [10_000, 100_000, 1_000_000]
 SOURCES_OF_LINES: list[tuple[Callable[[], Iterator[str]], list[int]]] = [
-    (data, SIZES_IN_LINES), (relocations, SIZES_IN_LINES), (fills, [100_000]), (sections, [60_000]), (chain, [100_000]), (chain_back, [100_000]),
+    (data, SIZES_IN_LINES), (relocations, SIZES_IN_LINES), (fills, [100_000]), (sections, [60_000]), (chain, [20_000]), (chain_back, [20_000]),
     (sums, [10_000]), (space, [16]),
 ]
 
