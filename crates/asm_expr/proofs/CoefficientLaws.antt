@@ -1,8 +1,6 @@
 -- The coefficients of a sum and of a difference of forms.
-use Rattle.std.proofs.Common.{◌≡◌, ℕ, ◌+◌, Bool, true, false, cond, List, [], ◌∷◌, map, refl, ap, arith}
-use Rattle.asm_expr.specs.declared.naming.Name.{Name}
+use Rattle.std.proofs.Common.{◌≡◌, ◌==◌, ℕ, ◌+◌, Bool, true, false, cond, List, [], ◌∷◌, map, refl, ap, arith}
 use Rattle.asm_expr.specs.declared.forms.Term.{Term}
-use Rattle.asm_expr.specs.Names.{same_name}
 use Rattle.asm_expr.specs.Forms.{Form, wrapped, with_terms, signed_term}
 use Rattle.asm_expr.specs.Coefficients.{counted_as, times, AreAdded}
 use Rattle.asm_expr.proofs.Weights.{IsWeight, weighed, with_terms_weighs, plain_weighs, minus_weighs}
@@ -15,15 +13,15 @@ count_none : (b : Bool) → wrapped (cond b 0 0) ≡ 0
 count_none true = refl
 count_none false = refl
 
-counts : (own : Name) → IsWeight (counted_as own)
+counts : (own : ℕ) → IsWeight (counted_as own)
 counts own = record {
-  none = λ name. count_none (same_name name own);
-  adds = λ name m n. count_adds (same_name name own) m n;
+  none = λ symbol. count_none (symbol == own);
+  adds = λ symbol m n. count_adds (symbol == own) m n;
 }
 
-times_weighs : (own : Name) (terms : List Term) → times own terms ≡ weighed (counted_as own) terms
+times_weighs : (own : ℕ) (terms : List Term) → times own terms ≡ weighed (counted_as own) terms
 times_weighs own [] = refl
-times_weighs own (term ∷ terms) = ap (λ (n : ℕ). counted_as own term.name term.coefficient + n) (times_weighs own terms)
+times_weighs own (term ∷ terms) = ap (λ (n : ℕ). counted_as own term.symbol term.coefficient + n) (times_weighs own terms)
 
 pub are_added : (one other : Form) → AreAdded one other
 are_added one other = record {

@@ -2,7 +2,6 @@
 use Rattle.std.proofs.Common.{◌≡◌, ℕ, ◌+◌, ◌*◌, ◌^◌, ◌==◌, Bool, true, false, cond, List, [], ◌∷◌, ◌++◌, map, fold, Option, Some, None, refl, sym, ap, arith, add-mul, mul-add, mul-zero, zero-mul, zero-add}
 use Rattle.std.proofs.lemmas.Bool.Decides.{Decides-eqb}
 use Rattle.std.proofs.lemmas.Nat.{mul-mod_first}
-use Rattle.asm_expr.specs.declared.naming.Name.{Name}
 use Rattle.asm_expr.specs.declared.forms.Term.{Term}
 use Rattle.asm_expr.specs.declared.settling.Spot.{Spot}
 use Rattle.asm_expr.specs.Forms.{Form, wrapped, constant_form}
@@ -113,16 +112,16 @@ abbrev put_by : Option ℕ → ℕ → ℕ → ℕ
 put_by None coefficient value = coefficient * value
 put_by (Some number) coefficient value = coefficient * number
 
-module _ (begins : ℕ → ℕ) (given : Name → ℕ) (told : Name → Told) (spots : List (Option Spot)) where
+module _ (begins : ℕ → ℕ) (given : ℕ → ℕ) (told : ℕ → Told) (spots : List (Option Spot)) where
   abbrev put_value : Option ℕ → Term → ℕ
-  put_value number term = put_by number term.coefficient (value_by begins given term.name (told term.name))
+  put_value number term = put_by number term.coefficient (value_by begins given term.symbol (told term.symbol))
 
   abbrev put_values : List Term → ℕ
   put_values [] = 0
   put_values (term ∷ terms) = put_value (cancelled_number spots (spot_of told term)) term + put_values terms
 
   value_push : (terms : List Term) (term : Term) → terms_value begins given told (terms ++ (term ∷ []))
-      ≡ terms_value begins given told terms + term.coefficient * value_by begins given term.name (told term.name)
+      ≡ terms_value begins given told terms + term.coefficient * value_by begins given term.symbol (told term.symbol)
   value_push [] term = omega arith
   value_push (first ∷ terms) term = let later = value_push terms term in omega arith
 
@@ -146,7 +145,7 @@ module _ (begins : ℕ → ℕ) (given : Name → ℕ) (told : Name → Told) (s
   label_value true coefficient stretch at = let parts = mul-add coefficient (begins stretch) at in omega arith
   label_value false coefficient stretch at = let none = mul-zero coefficient in omega arith
 
-  known_value : (known : Told) (own : Name) (coefficient : ℕ) → coefficient * value_by begins given own known
+  known_value : (known : Told) (own : ℕ) (coefficient : ℕ) → coefficient * value_by begins given own known
       ≡ put_by (cancelled_number spots (spot_by known coefficient)) coefficient (value_by begins given own known) + moved_one (masked spots begins) (spot_by known coefficient)
   known_value absent own coefficient = omega arith
   known_value (constant number) own coefficient = omega arith
@@ -156,11 +155,11 @@ module _ (begins : ℕ → ℕ) (given : Name → ℕ) (told : Name → Told) (s
   all_values : (terms : List Term) → terms_value begins given told terms ≡ put_values terms + moved_all (masked spots begins) (map (spot_of told) terms)
   all_values [] = omega arith
   all_values (term ∷ terms) =
-      let one = known_value (told term.name) term.name term.coefficient in
+      let one = known_value (told term.symbol) term.symbol term.coefficient in
       let later = all_values terms in
       omega arith
 
-pub keeps_value : (told : Name → Told) (made : Form) → KeepsValue told made
+pub keeps_value : (told : ℕ → Told) (made : Form) → KeepsValue told made
 unfolding settled
 keeps_value told made begins given =
     let spots = map (spot_of told) made.terms in

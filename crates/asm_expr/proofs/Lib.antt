@@ -33,3 +33,4 @@ pub mod FittingNumbers
 pub mod NamedTokens
 pub mod StringBytes
 pub mod GoodTokens
+pub mod DifferenceLemmas

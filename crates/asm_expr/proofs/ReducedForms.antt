@@ -1,12 +1,9 @@
--- In the form of an expression each name stands once, and counts.
+-- In the form of an expression each symbol stands once, and counts.
 use Rattle.std.proofs.Common.{◌≡◌, ℕ, ◌+◌, ◌-◌, ◌^◌, ◌==◌, Bool, true, false, not, cond, ◌&&◌, ◌||◌, List, [], ◌∷◌, ◌++◌, map, Option, Some, None, Result, Ok, refl, sym, ap, subst, arith, append_assoc, append-nil}
 use Rattle.std.proofs.lemmas.Bool.Decides.{nat_tests, Decides-eqb}
-use Rattle.std.proofs.lemmas.Slice.Eq.{bytes_eq-Decides}
 use Rattle.std.specs.List.{list_all}
 use Rattle.asm_base.specs.Refusals.{◌>>=◌}
 use Rattle.asm_expr.specs.declared.faults.ExprCause.{ExprCause}
-use Rattle.asm_expr.specs.declared.naming.Name.{Name}
-use Rattle.asm_expr.specs.declared.naming.Name.TheVariants.{Plain, Numeric, Place}
 use Rattle.asm_expr.specs.declared.forms.Term.{Term}
 use Rattle.asm_expr.specs.declared.settling.Spot.{Spot}
 use Rattle.asm_expr.specs.declared.trees.UnaryOp.{UnaryOp}
@@ -14,12 +11,11 @@ use Rattle.asm_expr.specs.declared.trees.UnaryOp.TheVariants.{Minus, Complement}
 use Rattle.asm_expr.specs.declared.trees.BinaryOp.{BinaryOp}
 use Rattle.asm_expr.specs.declared.trees.BinaryOp.TheVariants.{Add, Sub}
 use Rattle.asm_expr.specs.Trees.{Tree, number, name, here, unary, binary}
-use Rattle.asm_expr.specs.Names.{same_name}
 use Rattle.asm_expr.specs.Forms.{Form, wrapped, term_of, is_kept, constant_form, before_terms, with_term, with_terms, signed_term, joined, sum_of, difference_of}
 use Rattle.asm_expr.specs.Knowledge.{Told, absent, constant, label, form, Knowledge}
 use Rattle.asm_expr.specs.Settled.{spot_of, cancelled_number, put_one, put_all, settled}
 use Rattle.asm_expr.specs.Arithmetic.{complement, combined}
-use Rattle.asm_expr.specs.Linear.{name_of, form_by, form_of_name, constant_of, unary_form, constant_binary, binary_form, linear}
+use Rattle.asm_expr.specs.Linear.{form_by, form_of, constant_of, unary_form, constant_binary, binary_form, linear}
 use Rattle.asm_expr.specs.Coefficients.{times, is_among, are_apart, is_counted, IsReduced, KnowsReduced, IsEmptyExactly}
 use Rattle.asm_expr.proofs.ReadingLemmas.{steps}
 use Rattle.asm_expr.proofs.Weights.{same_is}
@@ -37,74 +33,64 @@ negated : (b : Bool) → not b ≡ true → b ≡ false
 negated true is = cc
 negated false is = refl
 
--- each name stands once among the terms, and counts
+-- each symbol stands once among the terms, and counts
 abbrev Reduced : List Term → Type 0
 Reduced terms = (are_apart terms ≡ true) × (list_all is_counted terms ≡ true)
 
--- names that differ also differ the other way round
-differ_back : (one other : Name) → same_name one other ≡ false → same_name other one ≡ false
-differ_back one other is = by (same_name other one) refl
-  where
-    by : (b : Bool) → same_name other one ≡ b → same_name other one ≡ false
-    by true test =
-        let same = same_is other one test in
-        let equal = rw same at test in
-        let differ = rw same at is in
-        absurd cc
-    by false test = test
+-- symbols that differ also differ the other way round
+differ_back : (one other : ℕ) → (one == other) ≡ false → (other == one) ≡ false
+differ_back one other is = grind (arith, nat_tests)
 
-same_self : (name : Name) → same_name name name ≡ true
-same_self (Plain text) = (bytes_eq-Decides text text).1 refl
-same_self (Numeric n instance) = grind (arith, nat_tests)
-same_self (Place section item offset) = grind (arith, nat_tests)
+same_self : (symbol : ℕ) → (symbol == symbol) ≡ true
+same_self symbol = grind (arith, nat_tests)
 
--- one term more brings no other name
-among_before : (b : Bool) (own : Name) (term : Term) (rest : List Term) → same_name term.name own ≡ false → is_among own rest ≡ false → is_among own (cond b (term ∷ rest) rest) ≡ false
+-- one term more brings no other symbol
+among_before : (b : Bool) (own : ℕ) (term : Term) (rest : List Term) → (term.symbol == own) ≡ false → is_among own rest ≡ false → is_among own (cond b (term ∷ rest) rest) ≡ false
 among_before true own term rest other none = rw other none
 among_before false own term rest other none = none
 
-among_step : (b : Bool) (own : Name) (term more : Term) (rest : List Term) → same_name term.name own ≡ false → is_among own rest ≡ false → is_among own (with_term rest more) ≡ false
-    → is_among own (cond b (before_terms (term_of term.name (wrapped (term.coefficient + more.coefficient))) rest) (term ∷ with_term rest more)) ≡ false
+among_step : (b : Bool) (own : ℕ) (term more : Term) (rest : List Term) → (term.symbol == own) ≡ false → is_among own rest ≡ false → is_among own (with_term rest more) ≡ false
+    → is_among own (cond b (before_terms (term_of term.symbol (wrapped (term.coefficient + more.coefficient))) rest) (term ∷ with_term rest more)) ≡ false
 among_step true own term more rest other none later =
-    among_before (is_kept (term_of term.name (wrapped (term.coefficient + more.coefficient)))) own (term_of term.name (wrapped (term.coefficient + more.coefficient))) rest other none
+    among_before (is_kept (term_of term.symbol (wrapped (term.coefficient + more.coefficient)))) own (term_of term.symbol (wrapped (term.coefficient + more.coefficient))) rest other none
 among_step false own term more rest other none later = rw other later
 
-among_with : (own : Name) (terms : List Term) (more : Term) → is_among own terms ≡ false → same_name more.name own ≡ false → is_among own (with_term terms more) ≡ false
+among_with : (own : ℕ) (terms : List Term) (more : Term) → is_among own terms ≡ false → (more.symbol == own) ≡ false → is_among own (with_term terms more) ≡ false
 unfolding with_term
 among_with own [] more none other = among_before (is_kept more) own more [] other refl
 among_with own (term ∷ rest) more none other =
-    let p = neither (same_name term.name own) (is_among own rest) none in
-    among_step (same_name term.name more.name) own term more rest p.0 p.1 (among_with own rest more p.1 other)
+    let p = neither (term.symbol == own) (is_among own rest) none in
+    among_step (term.symbol == more.symbol) own term more rest p.0 p.1 (among_with own rest more p.1 other)
 
 -- terms with one more stay reduced
-reduced_front : (term : Term) (rest : List Term) → is_counted term ≡ true → is_among term.name rest ≡ false → Reduced rest → Reduced (term ∷ rest)
+reduced_front : (term : Term) (rest : List Term) → is_counted term ≡ true → is_among term.symbol rest ≡ false → Reduced rest → Reduced (term ∷ rest)
 reduced_front term rest counts none all = (rw none all.0, rw counts all.1)
 
-reduced_before : (b : Bool) (term : Term) (rest : List Term) → (b ≡ true → is_counted term ≡ true) → is_among term.name rest ≡ false → Reduced rest → Reduced (cond b (term ∷ rest) rest)
+reduced_before : (b : Bool) (term : Term) (rest : List Term) → (b ≡ true → is_counted term ≡ true) → is_among term.symbol rest ≡ false → Reduced rest → Reduced (cond b (term ∷ rest) rest)
 reduced_before true term rest counts none all = reduced_front term rest (counts refl) none all
 reduced_before false term rest counts none all = all
 
-kept_counts : (name : Name) (n : ℕ) → is_kept (term_of name (wrapped n)) ≡ true → is_counted (term_of name (wrapped n)) ≡ true
+kept_counts : (name : ℕ) (n : ℕ) → is_kept (term_of name (wrapped n)) ≡ true → is_counted (term_of name (wrapped n)) ≡ true
 kept_counts own n is =
     let same : wrapped (wrapped n) ≡ wrapped n = omega arith in
     rw same is
 
-reduced_step : (b : Bool) (term more : Term) (rest : List Term) → same_name term.name more.name ≡ b → is_counted term ≡ true → is_among term.name rest ≡ false → Reduced rest
+reduced_step : (b : Bool) (term more : Term) (rest : List Term) → (term.symbol == more.symbol) ≡ b → is_counted term ≡ true → is_among term.symbol rest ≡ false → Reduced rest
     → Reduced (with_term rest more)
-    → Reduced (cond b (before_terms (term_of term.name (wrapped (term.coefficient + more.coefficient))) rest) (term ∷ with_term rest more))
+    → Reduced (cond b (before_terms (term_of term.symbol (wrapped (term.coefficient + more.coefficient))) rest) (term ∷ with_term rest more))
 reduced_step true term more rest is counts none all later =
-    reduced_before (is_kept (term_of term.name (wrapped (term.coefficient + more.coefficient)))) (term_of term.name (wrapped (term.coefficient + more.coefficient))) rest
-    (kept_counts term.name (term.coefficient + more.coefficient)) none all
+    reduced_before (is_kept (term_of term.symbol (wrapped (term.coefficient + more.coefficient)))) (term_of term.symbol (wrapped (term.coefficient + more.coefficient))) rest
+    (kept_counts term.symbol (term.coefficient + more.coefficient)) none all
 reduced_step false term more rest is counts none all later =
-    reduced_front term (with_term rest more) counts (among_with term.name rest more none (differ_back term.name more.name is)) later
+    reduced_front term (with_term rest more) counts (among_with term.symbol rest more none (differ_back term.symbol more.symbol is)) later
 
 reduced_with : (terms : List Term) (more : Term) → Reduced terms → is_counted more ≡ true → Reduced (with_term terms more)
 unfolding with_term
 reduced_with [] more all counts = reduced_before (is_kept more) more [] (λ is. counts) refl (refl, refl)
 reduced_with (term ∷ rest) more all counts =
-    let p = both (not (is_among term.name rest)) (are_apart rest) all.0 in
+    let p = both (not (is_among term.symbol rest)) (are_apart rest) all.0 in
     let q = both (is_counted term) (list_all is_counted rest) all.1 in
-    reduced_step (same_name term.name more.name) term more rest refl q.0 (negated (is_among term.name rest) p.0) (p.1, q.1) (reduced_with rest more (p.1, q.1) counts)
+    reduced_step (term.symbol == more.symbol) term more rest refl q.0 (negated (is_among term.symbol rest) p.0) (p.1, q.1) (reduced_with rest more (p.1, q.1) counts)
 
 reduced_all : (terms others : List Term) → Reduced terms → list_all is_counted others ≡ true → Reduced (with_terms terms others)
 unfolding with_terms
@@ -138,23 +124,23 @@ signed_counts minus (term ∷ terms) all =
     each true counts = turned_counts term.coefficient counts
 
 -- terms stay reduced where one is left out
-among_left : (own : Name) (before : List Term) (term : Term) (terms : List Term) → is_among own (before ++ (term ∷ terms)) ≡ false → is_among own (before ++ terms) ≡ false
-among_left own [] term terms none = (neither (same_name term.name own) (is_among own terms) none).1
+among_left : (own : ℕ) (before : List Term) (term : Term) (terms : List Term) → is_among own (before ++ (term ∷ terms)) ≡ false → is_among own (before ++ terms) ≡ false
+among_left own [] term terms none = (neither (term.symbol == own) (is_among own terms) none).1
 among_left own (first ∷ before) term terms none =
-    let p = neither (same_name first.name own) (is_among own (before ++ (term ∷ terms))) none in
+    let p = neither (first.symbol == own) (is_among own (before ++ (term ∷ terms))) none in
     rw p.0 (among_left own before term terms p.1)
 
 reduced_left : (before : List Term) (term : Term) (terms : List Term) → Reduced (before ++ (term ∷ terms)) → Reduced (before ++ terms)
 reduced_left [] term terms all =
-    ((both (not (is_among term.name terms)) (are_apart terms) all.0).1, (both (is_counted term) (list_all is_counted terms) all.1).1)
+    ((both (not (is_among term.symbol terms)) (are_apart terms) all.0).1, (both (is_counted term) (list_all is_counted terms) all.1).1)
 reduced_left (first ∷ before) term terms all =
-    let p = both (not (is_among first.name (before ++ (term ∷ terms)))) (are_apart (before ++ (term ∷ terms))) all.0 in
+    let p = both (not (is_among first.symbol (before ++ (term ∷ terms)))) (are_apart (before ++ (term ∷ terms))) all.0 in
     let q = both (is_counted first) (list_all is_counted (before ++ (term ∷ terms))) all.1 in
     reduced_front first (before ++ terms) q.0
-    (among_left first.name before term terms (negated (is_among first.name (before ++ (term ∷ terms))) p.0)) (reduced_left before term terms (p.1, q.1))
+    (among_left first.symbol before term terms (negated (is_among first.symbol (before ++ (term ∷ terms))) p.0)) (reduced_left before term terms (p.1, q.1))
 
 -- settling leaves terms out
-put_reduced : (spots : List (Option Spot)) (told : Name → Told) (made : Form) (terms : List Term) → Reduced (made.terms ++ terms) → Reduced (put_all spots told made terms).terms
+put_reduced : (spots : List (Option Spot)) (told : ℕ → Told) (made : Form) (terms : List Term) → Reduced (made.terms ++ terms) → Reduced (put_all spots told made terms).terms
 unfolding put_all
 put_reduced spots told made [] all = rw append-nil at all
 put_reduced spots told made (term ∷ terms) all =
@@ -164,7 +150,7 @@ put_reduced spots told made (term ∷ terms) all =
     by None = subst Reduced (sym (append_assoc made.terms (term ∷ []) terms)) all
     by (Some n) = reduced_left made.terms term terms all
 
-settled_reduced : (told : Name → Told) (made : Form) → Reduced made.terms → Reduced (settled told made).terms
+settled_reduced : (told : ℕ → Told) (made : Form) → Reduced made.terms → Reduced (settled told made).terms
 unfolding settled
 settled_reduced told made all = put_reduced (map (spot_of told) made.terms) told (constant_form made.constant) made.terms all
 
@@ -172,19 +158,19 @@ joined_reduced : (minus : Bool) (one other : Form) → Reduced one.terms → Red
 joined_reduced minus one other all more = reduced_all one.terms (map (signed_term minus) other.terms) all (signed_counts minus other.terms more.1)
 
 -- the forms of names and of operators
-name_reduced : (told : Name → Told) (own : Name) (known : Told) → ((made : Form) → known ≡ form made → IsReduced made) → Reduced (form_by told own known).terms
-name_reduced told own absent is = (refl, refl)
-name_reduced told own (constant n) is = (refl, refl)
-name_reduced told own (label stretch at) is = (refl, refl)
-name_reduced told own (form made) is = let r = is made refl in settled_reduced told made (r.apart, r.counted)
+symbol_reduced : (told : ℕ → Told) (own : ℕ) (known : Told) → ((made : Form) → known ≡ form made → IsReduced made) → Reduced (form_by told own known).terms
+symbol_reduced told own absent is = (refl, refl)
+symbol_reduced told own (constant n) is = (refl, refl)
+symbol_reduced told own (label stretch at) is = (refl, refl)
+symbol_reduced told own (form made) is = let r = is made refl in settled_reduced told made (r.apart, r.counted)
 
 constant_reduced : (n : ℕ) (made : Form) → (let given : Result Form ExprCause = Ok (constant_form n) in given ≡ Ok made) → Reduced made.terms
 constant_reduced n made is = let same : constant_form n ≡ made = cc in subst (λ (f : Form). Reduced f.terms) same (refl, refl)
 
-settled_is : (told : Name → Told) (made given : Form) → Reduced made.terms → (let settles : Result Form ExprCause = Ok (settled told made) in settles ≡ Ok given) → Reduced given.terms
+settled_is : (told : ℕ → Told) (made given : Form) → Reduced made.terms → (let settles : Result Form ExprCause = Ok (settled told made) in settles ≡ Ok given) → Reduced given.terms
 settled_is told made given all is = let same : settled told made ≡ given = cc in subst (λ (f : Form). Reduced f.terms) same (settled_reduced told made all)
 
-unary_reduced : (told : Name → Told) (op : UnaryOp) (one made : Form) → Reduced one.terms → unary_form told op one ≡ Ok made → Reduced made.terms
+unary_reduced : (told : ℕ → Told) (op : UnaryOp) (one made : Form) → Reduced one.terms → unary_form told op one ≡ Ok made → Reduced made.terms
 unfolding unary_form
 unary_reduced told Minus one made all is = settled_is told (difference_of (constant_form 0) one) made (joined_reduced true (constant_form 0) one (refl, refl) all) is
 unary_reduced told Complement one made all is =
@@ -198,7 +184,7 @@ constants_reduced op one other made is =
     let u = steps (combined op s.middle t.middle) (λ n. Ok (constant_form n)) made t.ends in
     constant_reduced u.middle made u.ends
 
-binary_reduced : (told : Name → Told) (op : BinaryOp) (one other made : Form) → Reduced one.terms → Reduced other.terms → binary_form told op one other ≡ Ok made → Reduced made.terms
+binary_reduced : (told : ℕ → Told) (op : BinaryOp) (one other made : Form) → Reduced one.terms → Reduced other.terms → binary_form told op one other ≡ Ok made → Reduced made.terms
 unfolding binary_form
 binary_reduced told Add one other made all more is = settled_is told (sum_of one other) made (joined_reduced false one other all more) is
 binary_reduced told Sub one other made all more is = settled_is told (difference_of one other) made (joined_reduced true one other all more) is
@@ -211,10 +197,10 @@ tree_reduced : (known : Knowledge) (tree : Tree) (made : Form) → KnowsReduced 
 unfolding linear
 tree_reduced known (number value) made knows is = constant_reduced value made is
 tree_reduced known (name written) made knows is =
-    terms_of_ok (form_of_name known.told (name_of known written)) made
-    (name_reduced known.told (name_of known written) (known.told (name_of known written)) (knows (name_of known written))) is
+    terms_of_ok (form_of known.told (known.meant written)) made
+    (symbol_reduced known.told (known.meant written) (known.told (known.meant written)) (knows (known.meant written))) is
 tree_reduced known here made knows is =
-    terms_of_ok (form_of_name known.told known.place) made (name_reduced known.told known.place (known.told known.place) (knows known.place)) is
+    terms_of_ok (form_of known.told known.place) made (symbol_reduced known.told known.place (known.told known.place) (knows known.place)) is
 tree_reduced known (unary op operand) made knows is =
     let s = steps (linear known operand) (unary_form known.told op) made is in
     unary_reduced known.told op s.middle made (tree_reduced known operand s.middle knows s.begins) s.ends
@@ -227,29 +213,29 @@ pub linear_reduced : (known : Knowledge) (tree : Tree) (made : Form) → KnowsRe
 linear_reduced known tree made knows is = let r = tree_reduced known tree made knows is in record { apart = r.0; counted = r.1 }
 
 -- a name that is not there counts 0 times
-none_counted : (own : Name) (terms : List Term) → is_among own terms ≡ false → times own terms ≡ 0
+none_counted : (own : ℕ) (terms : List Term) → is_among own terms ≡ false → times own terms ≡ 0
 none_counted own [] none = refl
 none_counted own (term ∷ terms) none =
-    let p = neither (same_name term.name own) (is_among own terms) none in
+    let p = neither (term.symbol == own) (is_among own terms) none in
     let later = none_counted own terms p.1 in
     rw (p.0, later) refl
 
 -- the first name counts
-front_counted : (term : Term) (terms : List Term) → Reduced (term ∷ terms) → wrapped (times term.name (term ∷ terms)) ≡ 0 → ⊥
+front_counted : (term : Term) (terms : List Term) → Reduced (term ∷ terms) → wrapped (times term.symbol (term ∷ terms)) ≡ 0 → ⊥
 front_counted term terms all zero =
-    let p = both (not (is_among term.name terms)) (are_apart terms) all.0 in
+    let p = both (not (is_among term.symbol terms)) (are_apart terms) all.0 in
     let q = both (is_counted term) (list_all is_counted terms) all.1 in
-    let later = none_counted term.name terms (negated (is_among term.name terms) p.0) in
-    let self = same_self term.name in
-    let alone : wrapped (term.coefficient + times term.name terms) ≡ 0 = rw self at zero in
+    let later = none_counted term.symbol terms (negated (is_among term.symbol terms) p.0) in
+    let self = same_self term.symbol in
+    let alone : wrapped (term.coefficient + times term.symbol terms) ≡ 0 = rw self at zero in
     let none : wrapped term.coefficient ≡ 0 = omega arith in
     let also : (wrapped term.coefficient == 0) ≡ true = (Decides-eqb (wrapped term.coefficient) 0).1 none in
     let against = negated (wrapped term.coefficient == 0) q.0 in
     cc
 
-uncounted_empty : (terms : List Term) → Reduced terms → ((own : Name) → wrapped (times own terms) ≡ 0) → terms ≡ []
+uncounted_empty : (terms : List Term) → Reduced terms → ((own : ℕ) → wrapped (times own terms) ≡ 0) → terms ≡ []
 uncounted_empty [] all none = refl
-uncounted_empty (term ∷ terms) all none = absurd (front_counted term terms all (none term.name))
+uncounted_empty (term ∷ terms) all none = absurd (front_counted term terms all (none term.symbol))
 
 pub linear_empty : (known : Knowledge) (tree : Tree) (made : Form) → KnowsReduced known → linear known tree ≡ Ok made → IsEmptyExactly made
 linear_empty known tree made knows is = record {

@@ -1,76 +1,49 @@
 -- What a list of terms weighs where each coefficient weighs what its name lets it, modulo 2^64.
-use Rattle.std.proofs.Common.{◌≡◌, ℕ, ◌+◌, ◌-◌, ◌^◌, ◌==◌, Bool, true, false, cond, ◌&&◌, List, [], ◌∷◌, map, refl, sym, ap, ◌∙◌, arith}
+use Rattle.std.proofs.Common.{◌≡◌, ℕ, ◌+◌, ◌-◌, ◌^◌, ◌==◌, Bool, true, false, cond, List, [], ◌∷◌, map, refl, sym, ap, ◌∙◌, arith}
 use Rattle.std.proofs.lemmas.Bool.Decides.{nat_tests}
-use Rattle.std.proofs.lemmas.Slice.Eq.{bytes_eq-Decides}
-use Rattle.asm_expr.specs.declared.naming.Name.{Name}
-use Rattle.asm_expr.specs.declared.naming.Name.TheVariants.{Plain, Numeric, Place}
 use Rattle.asm_expr.specs.declared.forms.Term.{Term}
-use Rattle.asm_expr.specs.Names.{same_name}
 use Rattle.asm_expr.specs.Forms.{wrapped, term_of, is_kept, before_terms, with_term, with_terms, signed_term}
 
--- names that are the same are equal
-both : (a b : Bool) → (a && b) ≡ true → (a ≡ true) × (b ≡ true)
-both true true is = (refl, refl)
-both true false is = cc
-both false b is = cc
-
-pub same_is : (one other : Name) → same_name one other ≡ true → one ≡ other
-same_is (Plain text) (Plain others) is = ap Plain ((bytes_eq-Decides text others).0 is)
-same_is (Plain text) (Numeric n i) is = cc
-same_is (Plain text) (Place n i o) is = cc
-same_is (Numeric n i) (Plain text) is = cc
-same_is (Numeric number instance) (Numeric others last) is =
-    let p = both (number == others) (instance == last) is in
-    let a : number ≡ others = grind (arith, nat_tests, p.0) in
-    let b : instance ≡ last = grind (arith, nat_tests, p.1) in
-    cc
-same_is (Numeric n i) (Place m j o) is = cc
-same_is (Place n i o) (Plain text) is = cc
-same_is (Place n i o) (Numeric m j) is = cc
-same_is (Place section item offset) (Place others last bytes) is =
-    let p = both (section == others && item == last) (offset == bytes) is in
-    let q = both (section == others) (item == last) p.0 in
-    let a : section ≡ others = grind (arith, nat_tests, q.0) in
-    let b : item ≡ last = grind (arith, nat_tests, q.1) in
-    let c : offset ≡ bytes = grind (arith, nat_tests, p.1) in
-    cc
+-- symbols that are the same are equal
+pub same_is : (one other : ℕ) → (one == other) ≡ true → one ≡ other
+same_is one other is = grind (arith, nat_tests)
 
 -- a weight of coefficients that adds up modulo 2^64
-pub record IsWeight (weight : Name → ℕ → ℕ) : Type 0 where
-  pub none : (name : Name) → wrapped (weight name 0) ≡ 0
-  pub adds : (name : Name) (a b : ℕ) → wrapped (weight name (wrapped (a + b))) ≡ wrapped (weight name a + weight name b)
+pub record IsWeight (weight : ℕ → ℕ → ℕ) : Type 0 where
+  pub none : (name : ℕ) → wrapped (weight name 0) ≡ 0
+  pub adds : (name : ℕ) (a b : ℕ) → wrapped (weight name (wrapped (a + b))) ≡ wrapped (weight name a + weight name b)
 
 -- the weight of all terms
-abbrev pub weighed : (Name → ℕ → ℕ) → List Term → ℕ
+abbrev pub weighed : (ℕ → ℕ → ℕ) → List Term → ℕ
 weighed weight [] = 0
-weighed weight (term ∷ terms) = weight term.name term.coefficient + weighed weight terms
+weighed weight (term ∷ terms) = weight term.symbol term.coefficient + weighed weight terms
 
-module _ (weight : Name → ℕ → ℕ) (is_weight : IsWeight weight) where
-  kept_weighs : (b : Bool) (term : Term) (rest : List Term) → is_kept term ≡ b → wrapped (weighed weight (cond b (term ∷ rest) rest)) ≡ wrapped (weight term.name term.coefficient + weighed weight rest)
+module _ (weight : ℕ → ℕ → ℕ) (is_weight : IsWeight weight) where
+  kept_weighs : (b : Bool) (term : Term) (rest : List Term) → is_kept term ≡ b → wrapped (weighed weight (cond b (term ∷ rest) rest)) ≡ wrapped (weight term.symbol term.coefficient + weighed weight rest)
   kept_weighs true term rest is = refl
   kept_weighs false term rest is =
       let zero : term.coefficient ≡ 0 = grind (arith, nat_tests) in
-      let none = is_weight.none term.name in
-      let same : weight term.name term.coefficient ≡ weight term.name 0 = ap (weight term.name) zero in
+      let none = is_weight.none term.symbol in
+      let same : weight term.symbol term.coefficient ≡ weight term.symbol 0 = ap (weight term.symbol) zero in
       omega arith
 
-  step : (b : Bool) (term more : Term) (rest : List Term) → same_name term.name more.name ≡ b → wrapped (weighed weight (with_term rest more)) ≡ wrapped (weighed weight rest + weight more.name more.coefficient)
-      → wrapped (weighed weight (cond b (before_terms (term_of term.name (wrapped (term.coefficient + more.coefficient))) rest) (term ∷ with_term rest more)))
-      ≡ wrapped (weight term.name term.coefficient + weighed weight rest + weight more.name more.coefficient)
+  step : (b : Bool) (term more : Term) (rest : List Term) → (term.symbol == more.symbol) ≡ b → wrapped (weighed weight (with_term rest more)) ≡ wrapped (weighed weight rest + weight more.symbol more.coefficient)
+      → wrapped (weighed weight (cond b (before_terms (term_of term.symbol (wrapped (term.coefficient + more.coefficient))) rest) (term ∷ with_term rest more)))
+      ≡ wrapped (weight term.symbol term.coefficient + weighed weight rest + weight more.symbol more.coefficient)
   step true term more rest is later =
-      let same = same_is term.name more.name is in
-      let adds = is_weight.adds term.name term.coefficient more.coefficient in
-      let weighs = kept_weighs (is_kept (term_of term.name (wrapped (term.coefficient + more.coefficient)))) (term_of term.name (wrapped (term.coefficient + more.coefficient))) rest refl in
-      let moved : weight more.name more.coefficient ≡ weight term.name more.coefficient = ap (λ (n : Name). weight n more.coefficient) (sym same) in
+      let same = same_is term.symbol more.symbol is in
+      let adds = is_weight.adds term.symbol term.coefficient more.coefficient in
+      let weighs = kept_weighs (is_kept (term_of term.symbol (wrapped (term.coefficient + more.coefficient)))) (term_of term.symbol (wrapped (term.coefficient + more.coefficient))) rest refl in
+      let moved : weight more.symbol more.coefficient ≡ weight term.symbol more.coefficient = ap (λ (n : ℕ). weight n more.coefficient) (sym same) in
       omega arith
   step false term more rest is later = omega arith
 
-  pub with_term_weighs : (terms : List Term) (more : Term) → wrapped (weighed weight (with_term terms more)) ≡ wrapped (weighed weight terms + weight more.name more.coefficient)
+  pub with_term_weighs : (terms : List Term) (more : Term) → wrapped (weighed weight (with_term terms more)) ≡ wrapped (weighed weight terms + weight more.symbol more.coefficient)
   unfolding with_term
   with_term_weighs [] more =
       let weighs = kept_weighs (is_kept more) more [] refl in
       omega arith
-  with_term_weighs (term ∷ rest) more = step (same_name term.name more.name) term more rest refl (with_term_weighs rest more)
+  with_term_weighs (term ∷ rest) more = step (term.symbol == more.symbol) term more rest refl (with_term_weighs rest more)
 
   pub with_terms_weighs : (terms others : List Term) → wrapped (weighed weight (with_terms terms others)) ≡ wrapped (weighed weight terms + weighed weight others)
   unfolding with_terms
@@ -82,9 +55,9 @@ module _ (weight : Name → ℕ → ℕ) (is_weight : IsWeight weight) where
 
   pub plain_weighs : (terms : List Term) → weighed weight (map (signed_term false) terms) ≡ weighed weight terms
   plain_weighs [] = refl
-  plain_weighs (term ∷ terms) = ap (λ (n : ℕ). weight term.name term.coefficient + n) (plain_weighs terms)
+  plain_weighs (term ∷ terms) = ap (λ (n : ℕ). weight term.symbol term.coefficient + n) (plain_weighs terms)
 
-  turned : (name : Name) (n : ℕ) → wrapped (weight name (wrapped (2 ^ 64 - wrapped n)) + weight name n) ≡ 0
+  turned : (name : ℕ) (n : ℕ) → wrapped (weight name (wrapped (2 ^ 64 - wrapped n)) + weight name n) ≡ 0
   turned name n =
       let adds = is_weight.adds name (wrapped (2 ^ 64 - wrapped n)) n in
       let zero : wrapped (wrapped (2 ^ 64 - wrapped n) + n) ≡ 0 = omega arith in
@@ -93,6 +66,6 @@ module _ (weight : Name → ℕ → ℕ) (is_weight : IsWeight weight) where
   pub minus_weighs : (terms : List Term) → wrapped (weighed weight (map (signed_term true) terms) + weighed weight terms) ≡ 0
   minus_weighs [] = refl
   minus_weighs (term ∷ terms) =
-      let one = turned term.name term.coefficient in
+      let one = turned term.symbol term.coefficient in
       let all = minus_weighs terms in
       omega arith

@@ -3,18 +3,17 @@ use Rattle.std.specs.Prelude.{◌≡◌, ℕ, Result, Ok}
 use Rattle.asm_base.specs.declared.refusals.Refusal.{Refusal}
 use Rattle.asm_base.specs.Refusals.{Returns}
 use Rattle.asm_expr.specs.declared.faults.ExprCause.{ExprCause}
-use Rattle.asm_expr.specs.declared.naming.Name.{Name}
 use Rattle.asm_expr.specs.declared.trees.Written.{Written}
 use Rattle.asm_expr.specs.declared.trees.UnaryOp.{UnaryOp}
 use Rattle.asm_expr.specs.declared.trees.BinaryOp.{BinaryOp}
 use Rattle.asm_expr.specs.Forms.{Form, constant_form}
 use Rattle.asm_expr.specs.Knowledge.{Told, Knowledge}
-use Rattle.asm_expr.specs.Linear.{name_of, form_of_name, unary_form, binary_form}
+use Rattle.asm_expr.specs.Linear.{form_of, unary_form, binary_form}
 use Rattle.asm_expr.specs.Following.{Follows, FollowsBoth}
 
 -- what is known by the members of a bound
-abbrev pub knowledge_by : {K : Type 0} → (K → Name → Told) → (K → ℕ → ℕ) → (K → Name) → K → Knowledge
-knowledge_by told counted place known = record { told = told known; counted = counted known; place = place known }
+abbrev pub knowledge_by : {K : Type 0} → (K → ℕ → Told) → (K → Written → ℕ) → (K → ℕ) → K → Knowledge
+knowledge_by told meant place known = record { told = told known; meant = meant known; place = place known }
 
 -- what is answered for a part of an expression
 abbrev pub Answer : Type 0
@@ -30,13 +29,13 @@ module _ {V : Type 0} (knows : V → Knowledge) where
   abbrev pub NumGives : V → ℕ → Answer → V → Type 0
   NumGives before value answer after = AnswersWanted before answer after (Ok (constant_form value))
 
-  -- a name answers what it stands for
+  -- a name answers what its symbol stands for
   abbrev pub NameGives : V → Written → Answer → V → Type 0
-  NameGives before written answer after = AnswersWanted before answer after (Ok (form_of_name (knows before).told (name_of (knows before) written)))
+  NameGives before written answer after = AnswersWanted before answer after (Ok (form_of (knows before).told ((knows before).meant written)))
 
-  -- the place of the statement answers what its name stands for
+  -- the place of the statement answers what its symbol stands for
   abbrev pub HereGives : V → Answer → V → Type 0
-  HereGives before answer after = AnswersWanted before answer after (Ok (form_of_name (knows before).told (knows before).place))
+  HereGives before answer after = AnswersWanted before answer after (Ok (form_of (knows before).told (knows before).place))
 
   -- a prefix operator answers the refusal of its operand, or the form
   abbrev pub UnaryGives : V → UnaryOp → Answer → Answer → V → Type 0

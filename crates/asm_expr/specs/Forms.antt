@@ -1,10 +1,8 @@
--- Linear forms: names with coefficients, and a constant, all modulo 2^64.
+-- Linear forms: symbols, by their numbers, with coefficients, and a constant, all modulo 2^64.
 use Rattle.std.specs.Prelude.{ℕ, ◌+◌, ◌-◌, ◌*◌, ◌%◌, ◌^◌, ◌==◌, Bool, true, false, not, List, [], ◌∷◌, map, if◌then◌else◌}
-use Rattle.asm_expr.specs.declared.naming.Name.{Name}
 use Rattle.asm_expr.specs.declared.forms.Term.{Term}
-use Rattle.asm_expr.specs.Names.{same_name}
 
--- a form as a value: its terms in the order in which names were mentioned, and its constant
+-- a form as a value: its terms in the order in which symbols were mentioned, and its constant
 pub record Form : Type 0 where
   pub terms : List Term
   pub constant : ℕ
@@ -13,9 +11,9 @@ pub record Form : Type 0 where
 abbrev pub wrapped : ℕ → ℕ
 wrapped n = n % 2 ^ 64
 
--- a name, and how often it counts
-abbrev pub term_of : Name → ℕ → Term
-term_of name coefficient = record { name = name; coefficient = coefficient }
+-- a symbol, and how often it counts
+abbrev pub term_of : ℕ → ℕ → Term
+term_of symbol coefficient = record { symbol = symbol; coefficient = coefficient }
 
 -- a term whose coefficient is 0 is left out
 abbrev pub is_kept : Term → Bool
@@ -25,19 +23,19 @@ is_kept term = not (term.coefficient == 0)
 abbrev pub constant_form : ℕ → Form
 constant_form n = record { terms = []; constant = n }
 
--- the form of a name, once
-abbrev pub name_form : Name → Form
-name_form name = record { terms = term_of name 1 ∷ []; constant = 0 }
+-- the form of a symbol, once
+abbrev pub symbol_form : ℕ → Form
+symbol_form symbol = record { terms = term_of symbol 1 ∷ []; constant = 0 }
 
 -- a term before the others, if it is kept
 abbrev pub before_terms : Term → List Term → List Term
 before_terms term rest = if is_kept term then (term ∷ rest) else rest
 
--- the terms and one more, whose coefficient goes to its name's where that is there
+-- the terms and one more, whose coefficient goes to its symbol's where that is there
 unfoldable pub with_term : List Term → Term → List Term
 with_term [] more = before_terms more []
 with_term (term ∷ rest) more =
-    if same_name term.name more.name then before_terms (term_of term.name (wrapped (term.coefficient + more.coefficient))) rest
+    if term.symbol == more.symbol then before_terms (term_of term.symbol (wrapped (term.coefficient + more.coefficient))) rest
     else (term ∷ with_term rest more)
 
 -- the terms and these others, one after the other
@@ -52,7 +50,7 @@ signed true n = wrapped (2 ^ 64 - wrapped n)
 
 -- the term, or minus the term
 abbrev pub signed_term : Bool → Term → Term
-signed_term minus term = term_of term.name (signed minus term.coefficient)
+signed_term minus term = term_of term.symbol (signed minus term.coefficient)
 
 -- the sum of two forms, of which the second is taken with this sign
 abbrev pub joined : Bool → Form → Form → Form
@@ -71,7 +69,7 @@ difference_of = joined true
 
 -- the term so many times
 abbrev pub scaled_term : ℕ → Term → Term
-scaled_term factor term = term_of term.name (wrapped (factor * term.coefficient))
+scaled_term factor term = term_of term.symbol (wrapped (factor * term.coefficient))
 
 -- the form plus so many times another
 unfoldable pub plus_times : Form → ℕ → Form → Form

@@ -1,11 +1,11 @@
--- What is known of names at a place.
+-- What is known of symbols and names at a place.
 use Rattle.std.specs.Prelude.{ℕ}
-use Rattle.asm_expr.specs.declared.naming.Name.{Name}
+use Rattle.asm_expr.specs.declared.trees.Written.{Written}
 use Rattle.asm_expr.specs.declared.knowledge.Look.{Look}
 use Rattle.asm_expr.specs.declared.knowledge.Look.TheVariants as look
 use Rattle.asm_expr.specs.Forms.{Form}
 
--- a name is known as nothing, a constant, a label of a stretch, or an assigned symbol's form
+-- a symbol is known as nothing, a constant, a label of a stretch, or an assigned symbol's form
 pub data Told : Type 0 where
   absent : Told
   constant : ℕ → Told
@@ -19,8 +19,9 @@ told_by (look.Constant number) = constant number
 told_by (look.Label stretch at) = label stretch at
 told_by (look.Form linear) = form linear.now
 
--- what is known at a place: of each name, how often each numeric label stands before it, and its own name
+-- what is known at a place: of each symbol, which symbol a name means there, and which one is the place itself; two names mean one symbol
+-- only where they are one name, and none means the symbol that is the place
 pub record Knowledge : Type 0 where
-  pub told : Name → Told
-  pub counted : ℕ → ℕ
-  pub place : Name
+  pub told : ℕ → Told
+  pub meant : Written → ℕ
+  pub place : ℕ

@@ -1,4 +1,4 @@
--- The names that a linear form speaks of.
+-- The names of symbols.
 use Rattle.std.specs.Prelude.{◌==◌, ◌&&◌, Bool, false}
 use Rattle.std.specs.Str.{bytes_eq}
 use Rattle.asm_expr.specs.declared.naming.Name.{Name}

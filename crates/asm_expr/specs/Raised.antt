@@ -6,5 +6,5 @@ use Rattle.asm_expr.specs.Forms.{wrapped, term_of, before_terms}
 -- the terms where the one at this place counts so much more, and is left out if it then counts 0
 unfoldable pub raised : List Term → ℕ → ℕ → List Term
 raised [] at by = []
-raised (term ∷ rest) zero by = before_terms (term_of term.name (wrapped (term.coefficient + by))) rest
+raised (term ∷ rest) zero by = before_terms (term_of term.symbol (wrapped (term.coefficient + by))) rest
 raised (term ∷ rest) (suc at) by = term ∷ raised rest at by

@@ -1,6 +1,6 @@
 -- Labels that cancel: those of one stretch whose coefficients sum to 0 modulo 2^64 are replaced by their places in it.
-use Rattle.std.specs.Prelude.{ℕ, ◌+◌, ◌*◌, ◌==◌, Bool, true, false, not, List, [], ◌∷◌, ◌++◌, map, sum_by, if◌then◌else◌, Option, Some, None}
-use Rattle.asm_expr.specs.declared.naming.Name.{Name}
+use Rattle.std.specs.Prelude.{ℕ, ◌+◌, ◌-◌, ◌*◌, ◌^◌, ◌==◌, Bool, true, false, not, List, [], ◌∷◌, ◌++◌, map, sum_by, if◌then◌else◌, Option, Some, None, is_none}
+use Rattle.std.specs.List.{list_all}
 use Rattle.asm_expr.specs.declared.forms.Term.{Term}
 use Rattle.asm_expr.specs.declared.settling.Spot.{Spot}
 use Rattle.asm_expr.specs.Forms.{Form, wrapped, constant_form}
@@ -13,9 +13,9 @@ spot_by absent coefficient = None
 spot_by (constant number) coefficient = None
 spot_by (form other) coefficient = None
 
--- a term as a label, by what its name is known as
-abbrev pub spot_of : (Name → Told) → Term → Option Spot
-spot_of told term = spot_by (told term.name) term.coefficient
+-- a term as a label, by what its symbol is known as
+abbrev pub spot_of : (ℕ → Told) → Term → Option Spot
+spot_of told term = spot_by (told term.symbol) term.coefficient
 
 -- how often the labels of this stretch count
 abbrev pub counted_in : ℕ → Option Spot → ℕ
@@ -37,12 +37,12 @@ put_one made term None = record { terms = made.terms ++ term ∷ []; constant = 
 put_one made term (Some number) = record { terms = made.terms; constant = wrapped (made.constant + wrapped (term.coefficient * number)) }
 
 -- the form and these terms more, or their numbers in place of them
-unfoldable pub put_all : List (Option Spot) → (Name → Told) → Form → List Term → Form
+unfoldable pub put_all : List (Option Spot) → (ℕ → Told) → Form → List Term → Form
 put_all spots told made [] = made
 put_all spots told made (term ∷ terms) = put_all spots told (put_one made term (cancelled_number spots (spot_of told term))) terms
 
 -- the form where numbers stand for the labels that cancel
-unfoldable pub settled : (Name → Told) → Form → Form
+unfoldable pub settled : (ℕ → Told) → Form → Form
 settled told made = put_all (map (spot_of told) made.terms) told (constant_form made.constant) made.terms
 
 -- no term, or one that counts: nothing can cancel
@@ -51,11 +51,20 @@ cannot_cancel [] = true
 cannot_cancel (only ∷ []) = not (wrapped only.coefficient == 0)
 cannot_cancel (first ∷ second ∷ others) = false
 
--- the constant of a form where no name is left
+-- no number stands for a term: none is a label whose stretch cancels
+abbrev pub nothing_cancels : (ℕ → Told) → List Term → Bool
+nothing_cancels told terms = list_all (λ term. is_none (cancelled_number (map (spot_of told) terms) (spot_of told term))) terms
+
+-- the constant of a form where no symbol is left
 abbrev pub constant_by : List Term → ℕ → Option ℕ
 constant_by [] total = Some total
 constant_by (term ∷ terms) total = None
 
--- the constant of a form, if no name is left in it
+-- the constant of a form, if no symbol is left in it
 abbrev pub constant_left : Form → Option ℕ
 constant_left made = constant_by made.terms made.constant
+
+-- how far a label stands behind another one of its stretch, modulo 2^64
+abbrev pub distance_by : Told → Told → Option ℕ
+distance_by (label stretch at) (label others origin) = if others == stretch then Some (wrapped (at + wrapped ((2 ^ 64 - 1) * origin))) else None
+distance_by _ _ = None

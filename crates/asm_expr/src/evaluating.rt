@@ -1,52 +1,35 @@
 //! The linear form of a part of an expression, by the forms of its operands.
 
-ghost use Rattle.std.specs.Prelude.{◌≡◌, Ok, IfOk};
+ghost use Rattle.std.specs.Prelude.{◌≡◌, true, Ok, IfOk};
 ghost use Rattle.asm_base.specs.Refusals.{Returns};
 ghost use Rattle.asm_expr.specs.Following.{Follows, FollowsBoth};
-ghost use Rattle.asm_expr.specs.Linear.{name_of, form_of_name, constant_of, unary_form, constant_binary, binary_form, value_of};
-ghost use Rattle.asm_expr.specs.Evaluating.{knowledge_by};
+ghost use Rattle.asm_expr.specs.Forms.{joined, symbol_form};
+ghost use Rattle.asm_expr.specs.Settled.{settled, distance_by};
+ghost use Rattle.asm_expr.specs.Linear.{form_of, constant_of, unary_form, constant_binary, binary_form, value_of};
 
 use crate::arithmetic::combined;
 use crate::faults::{ExprCause, ExprFault};
-use crate::forms::{Linear, constant_form, copied_form, name_form};
+use crate::forms::{Linear, Term, constant_form, copied_form, symbol_form, symbols_apart};
+use crate::ids::SymId;
 use crate::knowledge::{Known, Look};
-use crate::naming::{Name, copied_text};
 use crate::settling::settled;
 use crate::summing::joined;
 use crate::trees::{BinaryOp, UnaryOp, Written};
-use std::alloc::{AllocError, Global};
+use std::alloc::{AllocFailed, Global};
 
-/// The name that is meant.
-fn name_of<K: Known>(alloc: Global, known: &K, written: &Written) -> Result<Name, AllocError>
-    ensures { IfOk result (λ name.
-        name ≡ name_of (knowledge_by K.told K.counted K.place known.now) written.now) }
+/// What a symbol stands for.
+pub fn form_of<K: Known>(alloc: Global, known: &K, symbol: SymId) -> Result<Linear, ExprFault>
+    ensures { Returns result (Ok (form_of (K.told known.now) symbol)) }
 {
-    match written {
-        Written::Plain(text) => Ok(Name::Plain(copied_text(alloc, text)?)),
-        Written::Back(number) => Ok(Name::Numeric {
-            number: *number,
-            instance: known.count(*number),
-        }),
-        Written::Next(number) => Ok(Name::Numeric {
-            number: *number,
-            instance: known.count(*number).saturating_add(1),
-        }),
-    }
-}
-
-/// What a name stands for.
-fn form_of_name<K: Known>(alloc: Global, known: &K, name: Name) -> Result<Linear, ExprFault>
-    ensures { Returns result (Ok (form_of_name (K.told known.now) name)) }
-{
-    match known.look(&name) {
-        Look::Absent => Ok(name_form(alloc, name)?),
+    match known.look(symbol) {
+        Look::Absent => Ok(symbol_form(alloc, symbol)?),
         Look::Constant(number) => Ok(constant_form(alloc, number)),
-        Look::Label { .. } => Ok(name_form(alloc, name)?),
+        Look::Label { .. } => Ok(symbol_form(alloc, symbol)?),
         Look::Form(form) => settled(alloc, known, copied_form(alloc, form)?),
     }
 }
 
-/// The constant of a form that has no names.
+/// The constant of a form that has no symbols.
 fn constant_of(form: &Linear) -> Result<u64, ExprCause>
     ensures { result ≡ constant_of form.now }
 {
@@ -54,6 +37,56 @@ fn constant_of(form: &Linear) -> Result<u64, ExprCause>
         Ok(form.constant())
     } else {
         Err(ExprCause::NotASumOfSymbols)
+    }
+}
+
+/// The sum of two forms, of which the second is taken with this sign, with numbers for labels that
+/// cancel.
+pub fn settled_sum<K: Known>(
+    alloc: Global,
+    known: &K,
+    minus: bool,
+    one: Linear,
+    other: Linear,
+) -> Result<Linear, ExprFault>
+    ensures { Returns result (Ok (settled (K.told known.now) (joined minus one other))) }
+{
+    let made = joined(minus, one, other)?;
+    settled(alloc, known, made)
+}
+
+/// How far the one symbol stands behind the other, where both are labels of one stretch.
+fn distance<K: Known>(known: &K, one: SymId, other: SymId) -> Option<u64>
+    ensures { result ≡ distance_by (K.told known.now one) (K.told known.now other) }
+{
+    let Look::Label { stretch, at } = known.look(one) else {
+        return None;
+    };
+    match known.look(other) {
+        Look::Label {
+            stretch: others,
+            at: origin,
+        } if others == stretch => Some(at.wrapping_sub(origin)),
+        _ => None,
+    }
+}
+
+/// The difference of two symbols, with a number for labels that cancel.
+pub fn settled_difference<K: Known>(
+    alloc: Global,
+    known: &K,
+    one: SymId,
+    other: SymId,
+) -> Result<Linear, AllocFailed<Term>>
+    ensures { IfOk result (λ form. form
+        ≡ settled (K.told known.now) (joined true (symbol_form one) (symbol_form other))) }
+{
+    if one.index() == other.index() {
+        return Ok(constant_form(alloc, 0));
+    }
+    match distance(known, one, other) {
+        Some(number) => Ok(constant_form(alloc, number)),
+        None => symbols_apart(alloc, one, other),
     }
 }
 
@@ -123,18 +156,16 @@ pub(crate) fn named_form<K: Known>(
     known: &K,
     written: &Written,
 ) -> Result<Linear, ExprFault>
-    ensures { let name = name_of (knowledge_by K.told K.counted K.place known.now) written.now in
-        Returns result (Ok (form_of_name (K.told known.now) name)) }
+    ensures { Returns result (Ok (form_of (K.told known.now) (K.meant known.now written.now))) }
 {
-    let name = name_of(alloc, known, written)?;
-    form_of_name(alloc, known, name)
+    form_of(alloc, known, known.symbol(written))
 }
 
 /// The form of the place.
 pub(crate) fn here_form<K: Known>(alloc: Global, known: &K) -> Result<Linear, ExprFault>
-    ensures { Returns result (Ok (form_of_name (K.told known.now) (K.place known.now))) }
+    ensures { Returns result (Ok (form_of (K.told known.now) (K.place known.now))) }
 {
-    form_of_name(alloc, known, known.here())
+    form_of(alloc, known, known.here())
 }
 
 /// The form of a prefix operator, by the answer for its operand: a refusal goes on.
@@ -169,7 +200,7 @@ pub(crate) fn binary_answer<K: Known>(
     }
 }
 
-/// The constant of a form, which is known where the form has no names.
+/// The constant of a form, which is known where the form has no symbols.
 pub fn value_of(form: &Linear) -> Result<u64, ExprCause>
     ensures { result ≡ value_of form.now }
 {

@@ -1,38 +1,33 @@
-//! Linear forms: names with coefficients, and a constant, all modulo 2^64.
+//! Linear forms: symbols with coefficients, and a constant, all modulo 2^64.
 
-ghost use Rattle.std.specs.Prelude.{◌≡◌, IfOk, IsTrue};
+ghost use Rattle.std.specs.Prelude.{◌≡◌, ◌-◌, ◌^◌, false, [], ◌∷◌, IfOk, IsTrue};
 ghost use Rattle.std.specs.List.{list_all};
-ghost use Rattle.asm_expr.specs.declared.naming.Name.TheVariants.{Place};
-ghost use Rattle.asm_expr.specs.Forms.{is_kept, constant_form, name_form};
+ghost use Rattle.asm_expr.specs.Forms.{is_kept, term_of, constant_form, symbol_form, joined};
 
-use crate::naming::{Name, copied_name};
+use crate::ids::SymId;
 use smallvec::SmallVec;
 use std::alloc::{AllocError, AllocFailed, Global};
 use std::marker::Model;
 
-/// A name and how often it counts, modulo 2^64.
-#[derive(Drop)]
+/// A symbol and how often it counts, modulo 2^64.
+#[derive(Clone, Copy)]
 pub struct Term {
-    pub name: Name,
+    pub symbol: SymId,
     pub coefficient: u64,
 }
 
 impl Default for Term {
-    ghost is_default = { λ term. (term.name ≡ Place 0 0 0) × (term.coefficient ≡ 0) };
+    ghost is_default = { λ term. (term.symbol ≡ 0) × (term.coefficient ≡ 0) };
 
     fn default() -> Term {
         Term {
-            name: Name::Place {
-                section: 0,
-                item: 0,
-                offset: 0,
-            },
+            symbol: SymId::new(0),
             coefficient: 0,
         }
     }
 }
 
-/// A sum of names with coefficients, none of them 0, and a constant. Two terms need no allocation
+/// A sum of symbols with coefficients, none of them 0, and a constant. Two terms need no allocation
 /// of their own.
 #[derive(Drop)]
 pub struct Linear {
@@ -53,7 +48,7 @@ impl Model for Linear {
 }
 
 impl Linear {
-    /// The names with their coefficients, in the order in which they were mentioned.
+    /// The symbols with their coefficients, in the order in which they were mentioned.
     pub fn terms(&self) -> &[Term]
         ensures terms { result.now ≡ self.now.terms }
         ensures kept { IsTrue (list_all is_kept result.now) }
@@ -79,14 +74,48 @@ pub fn constant_form(alloc: Global, constant: u64) -> Linear
     }
 }
 
-/// The form of a name, once.
-pub fn name_form(alloc: Global, name: Name) -> Result<Linear, AllocFailed<Term>>
-    ensures { IfOk result (λ form. form ≡ name_form name) }
+/// The form of a symbol, once.
+pub fn symbol_form(alloc: Global, symbol: SymId) -> Result<Linear, AllocFailed<Term>>
+    ensures { IfOk result (λ form. form ≡ symbol_form symbol) }
 {
     let mut terms = SmallVec::new(alloc);
     terms.push(Term {
-        name,
+        symbol,
         coefficient: 1,
+    })?;
+    Ok(Linear { terms, constant: 0 })
+}
+
+/// The form of a symbol, once, and a number.
+pub fn symbol_and_number(
+    alloc: Global,
+    symbol: SymId,
+    number: u64,
+) -> Result<Linear, AllocFailed<Term>>
+    ensures { IfOk result (λ form. form ≡ joined false (symbol_form symbol) (constant_form number)) }
+{
+    let mut form = symbol_form(alloc, symbol)?;
+    form.constant = number;
+    Ok(form)
+}
+
+/// The first symbol less the second, which is another one.
+pub(crate) fn symbols_apart(
+    alloc: Global,
+    one: SymId,
+    other: SymId,
+) -> Result<Linear, AllocFailed<Term>>
+    ensures { IfOk result (λ form. form
+        ≡ record { terms = term_of one 1 ∷ term_of other (2 ^ 64 - 1) ∷ []; constant = 0 }) }
+{
+    let mut terms = SmallVec::new(alloc);
+    terms.push(Term {
+        symbol: one,
+        coefficient: 1,
+    })?;
+    terms.push(Term {
+        symbol: other,
+        coefficient: u64::MAX,
     })?;
     Ok(Linear { terms, constant: 0 })
 }
@@ -98,10 +127,7 @@ pub fn copied_form(alloc: Global, form: &Linear) -> Result<Linear, AllocError>
     let list = form.terms.as_slice();
     let mut terms: SmallVec<Term, 2> = SmallVec::new(alloc);
     for term in list {
-        terms.push(Term {
-            name: copied_name(alloc, &term.name)?,
-            coefficient: term.coefficient,
-        })?;
+        terms.push(*term)?;
     }
     Ok(Linear {
         terms,

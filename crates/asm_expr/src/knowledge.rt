@@ -1,13 +1,14 @@
-//! What is known of names at a place.
+//! What is known of symbols and names at a place.
 
 ghost use Rattle.std.specs.Prelude.{◌≡◌, ℕ};
-ghost use Rattle.asm_expr.specs.declared.naming.Name.{Name};
+ghost use Rattle.asm_expr.specs.declared.trees.Written.{Written};
 ghost use Rattle.asm_expr.specs.Knowledge.{Told, told_by};
 
 use crate::forms::Linear;
-use crate::naming::Name;
+use crate::ids::SymId;
+use crate::trees::Written;
 
-/// What a name is known as.
+/// What a symbol is known as.
 #[derive(Clone, Copy)]
 pub enum Look<'a> {
     /// Nothing is known.
@@ -19,26 +20,26 @@ pub enum Look<'a> {
     Form(&'a Linear),
 }
 
-/// What is known of names at the place of a statement.
+/// What is known of symbols and names at the place of a statement.
 pub trait Known {
-    /// What each name is known as.
-    ghost told: { Self → Name → Told };
+    /// What each symbol is known as.
+    ghost told: { Self → ℕ → Told };
 
-    /// How often each numeric label stands before the place.
-    ghost counted: { Self → ℕ → ℕ };
+    /// The symbol that a name means.
+    ghost meant: { Self → Written → ℕ };
 
-    /// The place.
-    ghost place: { Self → Name };
+    /// The symbol that the place is.
+    ghost place: { Self → ℕ };
 
-    /// What the name is known as.
-    fn look(&self, name: &Name) -> Look<'_>
-        ensures { told_by result ≡ told self.now name.now };
+    /// What the symbol is known as.
+    fn look(&self, symbol: SymId) -> Look<'_>
+        ensures { told_by result ≡ told self.now symbol };
 
-    /// How often the numeric label stands before the place.
-    fn count(&self, number: u64) -> u32
-        ensures { result ≡ counted self.now number };
+    /// The symbol that the name means.
+    fn symbol(&self, written: &Written) -> SymId
+        ensures { result ≡ meant self.now written.now };
 
-    /// The name of the place.
-    fn here(&self) -> Name
+    /// The symbol that the place is.
+    fn here(&self) -> SymId
         ensures { result ≡ place self.now };
 }

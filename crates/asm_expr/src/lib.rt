@@ -7,6 +7,7 @@ mod faults;
 mod folding;
 mod forms;
 mod gathering;
+mod ids;
 mod knowledge;
 mod laws;
 mod leaves;
@@ -23,18 +24,19 @@ mod visiting;
 mod visitors;
 
 pub use arithmetic::{combined, turned};
-pub use evaluating::value_of;
+pub use evaluating::{form_of, settled_difference, settled_sum, value_of};
 pub use faults::{ExprCause, ExprFault};
 pub use folding::fold;
-pub use forms::{Linear, Term, constant_form, copied_form, name_form};
+pub use forms::{Linear, Term, constant_form, copied_form, symbol_and_number, symbol_form};
 pub use gathering::{Names, names_of};
+pub use ids::SymId;
 pub use knowledge::{Known, Look};
 pub use laws::{
     coefficients_add, one_tree, read_is_written, shown_is_read, whole_stretches_cancel,
     written_is_read,
 };
 pub use leaves::{between_quotes, character_code, is_symbol_name};
-pub use naming::{Name, copied_name};
+pub use naming::Name;
 pub use numbers::{all_digits, decimal_number, spelled_number};
 pub use operators::{closes, level_of, opens, operator_from, operator_of, prefix_of};
 pub use parsing::{parse, parse_front};

@@ -3,7 +3,7 @@
 ghost use Rattle.std.specs.Prelude.{◌≡◌, ◌<◌, length, map, Ok, IfOk, IsTrue};
 ghost use Rattle.std.specs.List.{list_all};
 ghost use Rattle.asm_base.specs.Refusals.{Returns};
-ghost use Rattle.asm_expr.specs.Settled.{spot_of, counted_in, stretch_sum, cancelled_number, put_one, put_all, cannot_cancel, settled, constant_left};
+ghost use Rattle.asm_expr.specs.Settled.{spot_of, counted_in, stretch_sum, cancelled_number, put_one, put_all, cannot_cancel, nothing_cancels, settled, constant_left};
 ghost use Rattle.asm_expr.specs.Forms.{wrapped, is_kept, constant_form};
 
 use crate::faults::ExprFault;
@@ -24,7 +24,7 @@ pub(crate) struct Spot {
 fn spot_of<K: Known>(known: &K, term: &Term) -> Option<Spot>
     ensures { result ≡ spot_of (K.told known.now) term.now }
 {
-    match known.look(&term.name) {
+    match known.look(term.symbol) {
         Look::Label { stretch, at } => Some(Spot {
             stretch,
             at,
@@ -129,18 +129,6 @@ fn put_all<K: Known>(
     Ok(made)
 }
 
-/// The form where the labels of each stretch that cancel are replaced by their numbers.
-#[tactic(auto, unfolding(crate::specs::Settled::settled))]
-pub fn settled<K: Known>(alloc: Global, known: &K, form: Linear) -> Result<Linear, ExprFault>
-    ensures { Returns result (Ok (settled (K.told known.now) form)) }
-{
-    if cannot_cancel(form.terms.as_slice()) {
-        return Ok(form);
-    }
-    let Linear { terms, constant } = form;
-    put_all(alloc, known, terms, constant)
-}
-
 /// How often the labels of a stretch count in the terms.
 fn counted_among<K: Known>(known: &K, stretch: u64, terms: &[Term]) -> u64
     ensures { result ≡ wrapped (stretch_sum stretch (map (spot_of (K.told known.now)) terms.now)) }
@@ -165,7 +153,31 @@ fn cancelled_among<K: Known>(known: &K, terms: &[Term], term: &Term) -> Option<u
     }
 }
 
-/// The constant of the settled form, where no name is left in it. It takes no memory.
+/// Whether no label cancels.
+fn nothing_cancels<K: Known>(known: &K, terms: &[Term]) -> bool
+    ensures { result ≡ nothing_cancels (K.told known.now) terms.now }
+{
+    terms
+        .iter()
+        .all(|term| cancelled_among(known, terms, term).is_none())
+}
+
+/// The form where the labels of each stretch that cancel are replaced by their numbers.
+#[tactic(auto, unfolding(crate::specs::Settled::settled))]
+pub fn settled<K: Known>(alloc: Global, known: &K, form: Linear) -> Result<Linear, ExprFault>
+    ensures { Returns result (Ok (settled (K.told known.now) form)) }
+{
+    if cannot_cancel(form.terms.as_slice()) {
+        return Ok(form);
+    }
+    if nothing_cancels(known, form.terms.as_slice()) {
+        return Ok(form);
+    }
+    let Linear { terms, constant } = form;
+    put_all(alloc, known, terms, constant)
+}
+
+/// The constant of the settled form, where no symbol is left in it. It takes no memory.
 pub fn settled_value<K: Known>(known: &K, form: &Linear) -> Option<u64>
     ensures { result ≡ constant_left (settled (K.told known.now) form.now) }
 {

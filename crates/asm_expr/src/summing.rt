@@ -1,24 +1,23 @@
 //! Sums and differences of linear forms.
 
-ghost use Rattle.std.specs.Prelude.{◌≡◌, ◌<◌, ◌≤◌, length, map, IfOk};
+ghost use Rattle.std.specs.Prelude.{◌≡◌, ◌==◌, ◌<◌, ◌≤◌, length, map, IfOk};
 ghost use Rattle.std.specs.List.{position_or_len};
-ghost use Rattle.asm_expr.specs.Names.{same_name};
 ghost use Rattle.asm_expr.specs.Forms.{signed_term, scaled_term, with_term, with_terms, joined, plus_times};
 ghost use Rattle.asm_expr.specs.Raised.{raised};
 
 use crate::arithmetic::signed;
 use crate::forms::{Linear, Term};
-use crate::naming::{Name, copied_name, same_name};
+use crate::ids::SymId;
 use smallvec::SmallVec;
-use std::alloc::{AllocError, AllocFailed, Global};
+use std::alloc::AllocFailed;
 
-/// Where the name stands among the terms, or how many there are.
-fn place_of(terms: &[Term], name: &Name) -> usize
-    ensures value { result ≡ position_or_len (λ term. same_name term.name name.now) terms.now }
+/// Where the symbol stands among the terms, or how many there are.
+fn place_of(terms: &[Term], symbol: SymId) -> usize
+    ensures value { result ≡ position_or_len (λ term. term.symbol == symbol) terms.now }
     ensures within { result ≤ length terms.now }
 {
     for (index, term) in terms.iter().enumerate() {
-        if same_name(&term.name, name) {
+        if term.symbol.index() == symbol.index() {
             return index;
         }
     }
@@ -36,12 +35,21 @@ fn raised(
     ensures { IfOk result (λ all. all.items ≡ raised terms.items at by) }
 {
     let mut terms = terms;
-    let Term { name, coefficient } = terms.remove(at);
+    let Term {
+        symbol,
+        coefficient,
+    } = terms.remove(at);
     let coefficient = coefficient.wrapping_add(by);
     if coefficient == 0 {
         return Ok(terms);
     }
-    terms.insert(at, Term { name, coefficient })?;
+    terms.insert(
+        at,
+        Term {
+            symbol,
+            coefficient,
+        },
+    )?;
     Ok(terms)
 }
 
@@ -50,7 +58,7 @@ fn raised(
 fn with_term(terms: SmallVec<Term, 2>, more: Term) -> Result<SmallVec<Term, 2>, AllocFailed<Term>>
     ensures { IfOk result (λ all. all.items ≡ with_term terms.items more) }
 {
-    let at = place_of(terms.as_slice(), &more.name);
+    let at = place_of(terms.as_slice(), more.symbol);
     if at < terms.len() {
         return raised(terms, at, more.coefficient);
     }
@@ -62,6 +70,16 @@ fn with_term(terms: SmallVec<Term, 2>, more: Term) -> Result<SmallVec<Term, 2>, 
     Ok(terms)
 }
 
+/// The term, or minus the term.
+fn signed_term(minus: bool, term: &Term) -> Term
+    ensures { result ≡ signed_term minus term.now }
+{
+    Term {
+        symbol: term.symbol,
+        coefficient: signed(minus, term.coefficient),
+    }
+}
+
 /// The sum of two forms, of which the second is taken with this sign.
 pub(crate) fn joined(minus: bool, one: Linear, other: Linear) -> Result<Linear, AllocFailed<Term>>
     ensures { IfOk result (λ form. form ≡ joined minus one other) }
@@ -70,39 +88,29 @@ pub(crate) fn joined(minus: bool, one: Linear, other: Linear) -> Result<Linear, 
         mut terms,
         constant,
     } = one;
-    let Linear {
-        terms: mut others,
-        constant: more,
-    } = other;
-    while !others.is_empty() {
-        let Term { name, coefficient } = others.remove(0);
-        let coefficient = signed(minus, coefficient);
-        terms = with_term(terms, Term { name, coefficient })?;
+    let others = other.terms();
+    for term in others {
+        terms = with_term(terms, signed_term(minus, term))?;
     }
     Ok(Linear {
         terms,
-        constant: constant.wrapping_add(signed(minus, more)),
+        constant: constant.wrapping_add(signed(minus, other.constant())),
     })
 }
 
 /// The term so many times.
-fn scaled_term(alloc: Global, factor: u64, term: &Term) -> Result<Term, AllocError>
-    ensures { IfOk result (λ made. made ≡ scaled_term factor term.now) }
+fn scaled_term(factor: u64, term: &Term) -> Term
+    ensures { result ≡ scaled_term factor term.now }
 {
-    Ok(Term {
-        name: copied_name(alloc, &term.name)?,
+    Term {
+        symbol: term.symbol,
         coefficient: factor.wrapping_mul(term.coefficient),
-    })
+    }
 }
 
 /// The form plus so many times another. Only want of memory refuses it.
 #[tactic(auto, unfolding(crate::specs::Forms::plus_times))]
-pub fn plus_times(
-    alloc: Global,
-    made: Linear,
-    factor: u64,
-    other: &Linear,
-) -> Result<Linear, AllocError>
+pub fn plus_times(made: Linear, factor: u64, other: &Linear) -> Result<Linear, AllocFailed<Term>>
     ensures { IfOk result (λ form. form ≡ plus_times made factor other.now) }
 {
     let Linear {
@@ -111,7 +119,7 @@ pub fn plus_times(
     } = made;
     let others = other.terms();
     for term in others {
-        terms = with_term(terms, scaled_term(alloc, factor, term)?)?;
+        terms = with_term(terms, scaled_term(factor, term))?;
     }
     Ok(Linear {
         terms,

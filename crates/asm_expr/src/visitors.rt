@@ -31,19 +31,19 @@ impl<'a, K: Known> ExprFold for ToLinear<'a, K> {
     type Out = Result<Linear, ExprFault>;
 
     ghost num_gives = { NumGives (λ visitor.
-        knowledge_by K.told K.counted K.place visitor.known.now) };
+        knowledge_by K.told K.meant K.place visitor.known.now) };
 
     ghost name_gives = { NameGives (λ visitor.
-        knowledge_by K.told K.counted K.place visitor.known.now) };
+        knowledge_by K.told K.meant K.place visitor.known.now) };
 
     ghost here_gives = { HereGives (λ visitor.
-        knowledge_by K.told K.counted K.place visitor.known.now) };
+        knowledge_by K.told K.meant K.place visitor.known.now) };
 
     ghost unary_gives = { UnaryGives (λ visitor.
-        knowledge_by K.told K.counted K.place visitor.known.now) };
+        knowledge_by K.told K.meant K.place visitor.known.now) };
 
     ghost binary_gives = { BinaryGives (λ visitor.
-        knowledge_by K.told K.counted K.place visitor.known.now) };
+        knowledge_by K.told K.meant K.place visitor.known.now) };
 
     fn num(&mut self, value: u64) -> Result<Linear, ExprFault> {
         Ok(constant_form(self.alloc, value))
@@ -91,19 +91,19 @@ impl<'a, K: Known> ExprFold for KnownNow<'a, K> {
     type Out = Result<Linear, ExprFault>;
 
     ghost num_gives = { NumGives (λ visitor.
-        knowledge_by K.told K.counted K.place visitor.known.now) };
+        knowledge_by K.told K.meant K.place visitor.known.now) };
 
     ghost name_gives = { NameGives (λ visitor.
-        knowledge_by K.told K.counted K.place visitor.known.now) };
+        knowledge_by K.told K.meant K.place visitor.known.now) };
 
     ghost here_gives = { HereGives (λ visitor.
-        knowledge_by K.told K.counted K.place visitor.known.now) };
+        knowledge_by K.told K.meant K.place visitor.known.now) };
 
     ghost unary_gives = { UnaryGives (λ visitor.
-        knowledge_by K.told K.counted K.place visitor.known.now) };
+        knowledge_by K.told K.meant K.place visitor.known.now) };
 
     ghost binary_gives = { BinaryGives (λ visitor.
-        knowledge_by K.told K.counted K.place visitor.known.now) };
+        knowledge_by K.told K.meant K.place visitor.known.now) };
 
     fn num(&mut self, value: u64) -> Result<Linear, ExprFault> {
         Ok(constant_form(self.alloc, value))
@@ -146,7 +146,7 @@ impl<'a, K: Known> KnownNow<'a, K> {
 
 /// The linear form of an expression.
 pub fn linear_form<K: Known>(alloc: Global, expr: &Expr, known: &K) -> Result<Linear, ExprFault>
-    ensures { let knows = knowledge_by K.told K.counted K.place known.now in
+    ensures { let knows = knowledge_by K.told K.meant K.place known.now in
         Returns result (linear knows (tree_of expr.now)) }
 {
     let mut visitor = ToLinear { alloc, known };
@@ -155,7 +155,7 @@ pub fn linear_form<K: Known>(alloc: Global, expr: &Expr, known: &K) -> Result<Li
 
 /// The value of an expression, where it is known.
 pub fn known_value<K: Known>(alloc: Global, expr: &Expr, known: &K) -> Result<u64, ExprFault>
-    ensures { let knows = knowledge_by K.told K.counted K.place known.now in
+    ensures { let knows = knowledge_by K.told K.meant K.place known.now in
         Returns result (known_now knows (tree_of expr.now)) }
 {
     let mut visitor = KnownNow { alloc, known };

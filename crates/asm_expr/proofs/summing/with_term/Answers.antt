@@ -1,4 +1,4 @@
--- A name that is not there goes to the end, unless it counts 0.
+-- A symbol that is not there goes to the end, unless it counts 0.
 use Rattle.std.proofs.Common.{◌≤◌, length, sym, ◌∙◌, arith}
 use Rattle.asm_expr.proofs.Terms.{behind_none, behind_some}
 use Rattle.asm_expr.proofs.summing.with_term.Goals as goal

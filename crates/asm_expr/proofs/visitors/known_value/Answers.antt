@@ -10,14 +10,14 @@ use Rattle.asm_expr.proofs.visitors.known_value.Goals as goal
 pub returns-in-Ok : goal.returns-in-Ok
 returns-in-Ok g c =
     let first : KnownNow g.row.K.Denot = record { alloc = c.args.alloc; known = c.args.known } in
-    let known = knowledge_by g.K.Known.told g.K.Known.counted g.K.Known.place c.args.known.now in
-    let form = folds_linear (λ (visitor : KnownNow g.row.K.Denot). knowledge_by g.K.Known.told g.K.Known.counted g.K.Known.place visitor.known.now) (tree_of c.args.expr.now) first c.fold.result c.fold.new.visitor c.fold.ensures in
+    let known = knowledge_by g.K.Known.told g.K.Known.meant g.K.Known.place c.args.known.now in
+    let form = folds_linear (λ (visitor : KnownNow g.row.K.Denot). knowledge_by g.K.Known.told g.K.Known.meant g.K.Known.place visitor.known.now) (tree_of c.args.expr.now) first c.fold.result c.fold.new.visitor c.fold.ensures in
     value_given c.fold.result (linear known (tree_of c.args.expr.now)) c.in-Ok.form c.map_err.result c.in-Ok.is form.given
     (fault_raised c.value_of.result (value_of c.in-Ok.form) c.map_err.result c.value_of.ensures c.map_err.ensures.cases)
 
 pub returns : goal.returns
 returns g c =
     let first : KnownNow g.row.K.Denot = record { alloc = c.args.alloc; known = c.args.known } in
-    let known = knowledge_by g.K.Known.told g.K.Known.counted g.K.Known.place c.args.known.now in
-    let form = folds_linear (λ (visitor : KnownNow g.row.K.Denot). knowledge_by g.K.Known.told g.K.Known.counted g.K.Known.place visitor.known.now) (tree_of c.args.expr.now) first c.fold.result c.fold.new.visitor c.fold.ensures in
+    let known = knowledge_by g.K.Known.told g.K.Known.meant g.K.Known.place c.args.known.now in
+    let form = folds_linear (λ (visitor : KnownNow g.row.K.Denot). knowledge_by g.K.Known.told g.K.Known.meant g.K.Known.place visitor.known.now) (tree_of c.args.expr.now) first c.fold.result c.fold.new.visitor c.fold.ensures in
     value_fails c.fold.result (linear known (tree_of c.args.expr.now)) c.in-Err.refusal c.in-Err.is form.given
