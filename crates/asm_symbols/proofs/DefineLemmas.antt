@@ -64,7 +64,7 @@ module _ (symbols : List Symbol) (at : ℕ) (old : Symbol) (there : slice_get sy
       → IsSound index symbols files counts bytes → IsSound index (changed (with_meaning (meant what)) symbols at) files (counts_after old.name what counts) bytes
   IsSound-defined what index files counts bytes plain unassigned sound =
       let keeps : KeepsForm (with_meaning (meant what)) symbols at = λ symbol is. let same : symbol ≡ old = cc in formless what ∙ sym (rw same unassigned) in
-      let forward = forward_kept (with_meaning (meant what)) (λ _. refl) symbols at keeps sound.forward in
+      let forward = forward_kept (with_meaning (meant what)) symbols at keeps sound.forward in
       let made = IsSound-changed (with_meaning (meant what)) (λ _. refl) index symbols files counts bytes at (λ symbol is label. let same : symbol ≡ old = cc in cc) forward sound in
       record { indexed = made.indexed; within = made.within; instances = counted_by old.name what counts refl made.instances; forward = forward }
 

@@ -1,6 +1,8 @@
 -- The index of names, against the list of names.
-use Rattle.std.proofs.Common.{◌≡◌, ℕ, zero, suc, ◌+◌, Bool, true, false, cond, List, [], ◌∷◌, ◌++◌, length, Option, None, Some, refl, sym, ap, ◌∙◌, arith, true≢false, slice_get}
+use Rattle.std.proofs.Common.{◌≡◌, ℕ, zero, suc, ◌+◌, ◌<◌, Bool, true, false, cond, List, [], ◌∷◌, ◌++◌, length, Option, None, Some, refl, sym, ap, ◌∙◌, arith, true≢false, slice_get}
 use Rattle.std.specs.Option.{option_map}
+use Rattle.std.proofs.lemmas.Option.{slice_get_within}
+use Rattle.std.proofs.lemmas.List.{length-map}
 use Rattle.std.specs.Map.{lookup}
 use Rattle.std.specs.Str.{bytes_eq}
 use Rattle.std.specs.Global.{Vec}
@@ -9,7 +11,8 @@ use Rattle.asm_expr.specs.declared.naming.Name.{Name}
 use Rattle.asm_expr.specs.declared.naming.Name.TheVariants as naming
 use Rattle.asm_expr.specs.Names.{same_name}
 use Rattle.asm_symbols.specs.declared.name_index.Numbered.TheVariants.{Numeric, Place}
-use Rattle.asm_symbols.specs.SymbolMap.{index_of}
+use Rattle.asm_symbols.specs.declared.entries.Symbol.{Symbol}
+use Rattle.asm_symbols.specs.SymbolMap.{names, index_of}
 use Rattle.asm_symbols.specs.NameIndex.{IndexedNames, plain_entry, plain_entries, numbered_eq, place_of, with_place}
 use Rattle.asm_symbols.proofs.SameNames.{same_bytes, own_bytes, same_numbered, own_numbered, same_from_test, own_name}
 
@@ -113,6 +116,13 @@ found_first false name first ns at is later found = by (index_of name ns) refl f
     by (Some i) there found zero is = let none : i + 1 ≡ zero = cc in absurd (omega arith)
     by (Some i) there found (suc n) is = let one : i + 1 ≡ suc n = cc in let back : n ≡ i = omega arith in rw back (later i there)
 
-pub slice_get-index_of : (name : Name) (ns : List Name) (at : ℕ) → index_of name ns ≡ Some at → slice_get ns at ≡ Some name
+slice_get-index_of : (name : Name) (ns : List Name) (at : ℕ) → index_of name ns ≡ Some at → slice_get ns at ≡ Some name
 slice_get-index_of name [] at is = cc
 slice_get-index_of name (first ∷ ns) at is = found_first (same_name name first) name first ns at refl (slice_get-index_of name ns) is
+
+-- a name that is found stands within the symbols
+pub index_of-within : (name : Name) (symbols : List Symbol) (at : ℕ) → index_of name (names symbols) ≡ Some at → at < length symbols
+index_of-within name symbols at is =
+    let inside : at < length (names symbols) = slice_get_within (names symbols) at name (slice_get-index_of name (names symbols) at is) in
+    let long : length (names symbols) ≡ length symbols = simp length-map in
+    omega arith

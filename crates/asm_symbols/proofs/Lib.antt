@@ -1,7 +1,6 @@
 pub mod SameNames
 pub mod IndexLemmas
 pub mod SoundLemmas
-pub mod RoomLemmas
 pub mod ChangeLemmas
 pub mod ForwardLemmas
 pub mod WriteLemmas

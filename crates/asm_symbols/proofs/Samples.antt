@@ -1,5 +1,5 @@
 -- The definitions computed on small maps, for readers and as a guard against a definition that says nothing.
-use Rattle.std.proofs.Common.{◌≡◌, true, false, [], ◌∷◌, Some, None, Ok, Err, refl, codes}
+use Rattle.std.proofs.Common.{◌≡◌, ℕ, true, false, [], ◌∷◌, Some, None, Ok, Err, refl, codes}
 use Rattle.asm_expr.specs.declared.naming.Name.{Name}
 use Rattle.asm_expr.specs.declared.naming.Name.TheVariants as naming
 use Rattle.asm_expr.specs.Forms.{Form}
@@ -9,7 +9,7 @@ use Rattle.asm_symbols.specs.declared.entries.Binding.TheVariants.{Local, Global
 use Rattle.asm_symbols.specs.declared.faults.SymCause.TheVariants.{SymbolAlreadyDefined, BadSymbolUse}
 use Rattle.asm_symbols.specs.SymbolMap.{SymbolMap, nothing_named, changed, with_symbol}
 use Rattle.asm_base.specs.Refusals.{◌>>=◌}
-use Rattle.asm_symbols.specs.Interning.{with_name, named}
+use Rattle.asm_symbols.specs.Interning.{with_name, named, interned, number_of}
 use Rattle.asm_symbols.specs.Counting.{next_named, last_named}
 use Rattle.asm_symbols.specs.Defining.{defined}
 use Rattle.asm_symbols.specs.Assigning.{form_fault_at, with_form}
@@ -38,6 +38,15 @@ again = refl
 another : named (one word) first_instance ≡ Ok (with_name (one word) first_instance, 1)
 unfolding named
 another = refl
+
+-- where a name is interned that is a symbol's, the map stays and the number is the symbol's; another name gets the next number
+interned_again : (interned (one word) word ≡ one word) × (number_of (one word) word ≡ 0)
+unfolding interned number_of
+interned_again = (refl, refl)
+
+interned_another : (interned (one word) first_instance ≡ with_name (one word) first_instance) × (number_of (one word) first_instance ≡ 1)
+unfolding interned number_of
+interned_another = (refl, refl)
 
 -- `.weak w` and `.globl w` make w weak
 weak_stays : (bound (one word) 0 Weak >>= λ map. bound map 0 Global) ≡ Ok (with_symbol (with_binding Weak) (one word) 0)
@@ -76,31 +85,36 @@ here_refused = refl
 abbrev letters : SymbolMap
 letters = with_name (with_name (one (naming.Plain (codes "a"))) (naming.Plain (codes "b"))) (naming.Plain (codes "c"))
 
-abbrev of_name : Name → Form
-of_name name = record { terms = record { name = name; coefficient = 1 } ∷ []; constant = 0 }
+abbrev of_symbol : ℕ → Form
+of_symbol symbol = record { terms = record { symbol = symbol; coefficient = 1 } ∷ []; constant = 0 }
 
 abbrev of_number : Form
 of_number = record { terms = []; constant = 3 }
 
 -- `a=a`, `a=b` before `b=a`, and `a=b` before `b=c` and `c=a` lead back
-itself_refused : assigned letters 0 (of_name (naming.Plain (codes "a"))) false ≡ Err BadSymbolUse
+itself_refused : assigned letters 0 (of_symbol 0) false ≡ Err BadSymbolUse
 unfolding assigned leads_back searched seen_with form_fault_at changed
 itself_refused = refl
 
-two_refused : (assigned letters 0 (of_name (naming.Plain (codes "b"))) false >>= λ map. assigned map 1 (of_name (naming.Plain (codes "a"))) false) ≡ Err BadSymbolUse
+two_refused : (assigned letters 0 (of_symbol 1) false >>= λ map. assigned map 1 (of_symbol 0) false) ≡ Err BadSymbolUse
 unfolding assigned leads_back searched seen_with form_fault_at changed
 two_refused = refl
 
-three_refused : (assigned letters 0 (of_name (naming.Plain (codes "b"))) false >>= λ map. assigned map 1 (of_name (naming.Plain (codes "c"))) false
-    >>= λ map. assigned map 2 (of_name (naming.Plain (codes "a"))) false) ≡ Err BadSymbolUse
+three_refused : (assigned letters 0 (of_symbol 1) false >>= λ map. assigned map 1 (of_symbol 2) false
+    >>= λ map. assigned map 2 (of_symbol 0) false) ≡ Err BadSymbolUse
 unfolding assigned leads_back searched seen_with form_fault_at changed
 three_refused = refl
 
 -- `a=b` before `b=3` does not
-number_taken : (assigned letters 0 (of_name (naming.Plain (codes "b"))) false >>= λ map. assigned map 1 of_number false)
-    ≡ Ok (with_form (with_form letters 0 (of_name (naming.Plain (codes "b")))) 1 of_number)
+number_taken : (assigned letters 0 (of_symbol 1) false >>= λ map. assigned map 1 of_number false)
+    ≡ Ok (with_form (with_form letters 0 (of_symbol 1)) 1 of_number)
 unfolding assigned leads_back searched seen_with form_fault_at changed
 number_taken = refl
+
+-- a number that no symbol has is no other symbol's, and leads to itself alone
+no_symbol : (leads_back letters.symbols (of_symbol 9) 0 ≡ false) × (leads_back letters.symbols (of_symbol 9) 9 ≡ true)
+unfolding leads_back searched seen_with
+no_symbol = (refl, refl)
 
 -- `7:` defines the first instance, `7b` is that, and `7f` the second
 back_none : last_named (one first_instance) 7 ≡ None

@@ -1,14 +1,13 @@
 -- The symbols that were seen, and those that one more form names.
-use Rattle.std.proofs.Common.{◌≡◌, ℕ, zero, suc, ◌==◌, nat_eq, ◌⊎◌, inl, inr, Bool, true, false, cond, ◌||◌, List, [], ◌∷◌, ◌++◌, Option, None, Some, refl, sym, ap, ◌∙◌, slice_get, eq-eqb}
+use Rattle.std.proofs.Common.{◌≡◌, ℕ, zero, suc, ◌<◌, ◌==◌, nat_eq, nat_lt, ◌⊎◌, inl, inr, Bool, true, false, cond, ◌||◌, List, [], ◌∷◌, ◌++◌, None, Some, refl, sym, ap, ◌∙◌, arith, slice_get, eq-eqb}
 use Rattle.std.specs.List.{list_any}
 use Rattle.std.proofs.lemmas.Bool.{eqb-true}
+use Rattle.std.proofs.lemmas.Bool.Decides.{nat_tests}
 use Rattle.std.proofs.lemmas.List.Folds.{list_any-append}
 use Rattle.indexmap.specs.IndexSet.{insert_key}
-use Rattle.asm_expr.specs.declared.naming.Name.{Name}
 use Rattle.asm_expr.specs.declared.forms.Term.{Term}
-use Rattle.asm_symbols.specs.SymbolMap.{index_of}
 use Rattle.asm_symbols.specs.Assigning.{IsNamedIn}
-use Rattle.asm_symbols.specs.Searching.{seen_one, seen_with}
+use Rattle.asm_symbols.specs.Searching.{seen_then, seen_with}
 
 -- the index was seen
 abbrev pub Has : List ℕ → ℕ → Type 0
@@ -76,87 +75,89 @@ module _ (seen : List ℕ) (index : ℕ) where
   get_kept : (k v : ℕ) → slice_get seen k ≡ Some v → slice_get (insert_key nat_eq seen index) k ≡ Some v
   get_kept k v is = get_by (list_any (nat_eq index) seen) k v is
 
+-- what is seen after one term, which is not of the target
+record SeesOne (count index : ℕ) (seen new : List ℕ) : Type 0 where
+  pub kept : (k v : ℕ) → slice_get seen k ≡ Some v → slice_get new k ≡ Some v
+  pub has : (other : ℕ) → Has seen other → Has new other
+  pub own : index < count → Has new index
+  pub only : (other : ℕ) → Has new other → Has seen other ⊎ ((other ≡ index) × (index < count))
+
+below_false : (a b : ℕ) → nat_lt a b ≡ false → a < b → ⊥
+below_false a b is less = grind (arith, nat_tests)
+
+below_true : (a b : ℕ) → nat_lt a b ≡ true → a < b
+below_true a b is = grind (arith, nat_tests)
+
+sees_one : (count index : ℕ) (seen : List ℕ) (b : Bool) → nat_lt index count ≡ b → SeesOne count index seen (cond b (insert_key nat_eq seen index) seen)
+sees_one count index seen true is = record {
+  kept = get_kept seen index;
+  has = has_kept seen index;
+  own = λ less. has_inserted seen index;
+  only = λ other has. elim (only_inserted seen index other has) [ inl old ↦ inl old | inr same ↦ inr (same, below_true index count is) ];
+}
+sees_one count index seen false is = record {
+  kept = λ k v there. there;
+  has = λ other has. has;
+  own = λ less. absurd (below_false index count is less);
+  only = λ other has. inl has;
+}
+
 -- what is seen with the terms, where they do not name the target
-pub record Sees (ns : List Name) (target : ℕ) (terms : List Term) (seen new : List ℕ) : Type 0 where
+pub record Sees (count target : ℕ) (terms : List Term) (seen new : List ℕ) : Type 0 where
   pub kept : (k v : ℕ) → slice_get seen k ≡ Some v → slice_get new k ≡ Some v
   pub has : (index : ℕ) → Has seen index → Has new index
-  pub named : (index : ℕ) → IsNamedIn terms ns index → Has new index
-  pub only : (index : ℕ) → Has new index → Has seen index ⊎ IsNamedIn terms ns index
-  pub apart : IsNamedIn terms ns target → ⊥
+  pub named : (index : ℕ) → IsNamedIn terms index → index < count → Has new index
+  pub only : (index : ℕ) → Has new index → Has seen index ⊎ (IsNamedIn terms index × (index < count))
+  pub apart : IsNamedIn terms target → ⊥
 
-module _ (ns : List Name) (target : ℕ) where
+module _ (count target : ℕ) where
   -- the terms name the target
-  back_by : (term : Term) (terms : List Term) (seen : List ℕ) (o : Option ℕ) → index_of term.name ns ≡ o → ((more : List ℕ) → seen_with ns target terms more ≡ None → IsNamedIn terms ns target)
-      → seen_one o target (λ more. seen_with ns target terms more) seen ≡ None → IsNamedIn (term ∷ terms) ns target
-  back_by term terms seen None at later is = inr (later seen is)
-  back_by term terms seen (Some index) at later is = by (index == target) refl is
-    where
-      by : (b : Bool) → (index == target) ≡ b → cond b None (seen_with ns target terms (insert_key nat_eq seen index)) ≡ None → IsNamedIn (term ∷ terms) ns target
-      by true same is = inl (at ∙ ap Some (eqb-true index target same))
-      by false same is = inr (later (insert_key nat_eq seen index) is)
+  back_by : (term : Term) (terms : List Term) (seen more : List ℕ) (b : Bool) → (term.symbol == target) ≡ b → (seen_with count target terms more ≡ None → IsNamedIn terms target)
+      → seen_then (λ then'. seen_with count target terms then') (cond b None (Some more)) ≡ None → IsNamedIn (term ∷ terms) target
+  back_by term terms seen more true same later is = inl (eqb-true term.symbol target same)
+  back_by term terms seen more false same later is = inr (later is)
 
-  pub seen_back : (terms : List Term) (seen : List ℕ) → seen_with ns target terms seen ≡ None → IsNamedIn terms ns target
+  pub seen_back : (terms : List Term) (seen : List ℕ) → seen_with count target terms seen ≡ None → IsNamedIn terms target
   unfolding seen_with
   seen_back [] seen is = cc
-  seen_back (term ∷ terms) seen is = back_by term terms seen (index_of term.name ns) refl (seen_back terms) is
+  seen_back (term ∷ terms) seen is =
+      let more = cond (nat_lt term.symbol count) (insert_key nat_eq seen term.symbol) seen in
+      back_by term terms seen more (term.symbol == target) refl (seen_back terms more) is
 
   -- or the terms' symbols are seen with the others
-  named_by : (term : Term) (terms : List Term) (new : List ℕ) (index at : ℕ) → index_of term.name ns ≡ Some index → Has new index → ((other : ℕ) → IsNamedIn terms ns other → Has new other)
-      → IsNamedIn (term ∷ terms) ns at → Has new at
-  named_by term terms new index at is has later (inl first) = let same : at ≡ index = cc in rw same has
-  named_by term terms new index at is has later (inr rest) = later at rest
+  module _ (term : Term) (terms : List Term) (seen more new : List ℕ) (one : SeesOne count term.symbol seen more) (rest : Sees count target terms more new) where
+    named_both : (index : ℕ) → IsNamedIn (term ∷ terms) index → index < count → Has new index
+    named_both index (inl first) less = let there = rest.has term.symbol (one.own (rw first less)) in rw (← first) there
+    named_both index (inr later) less = rest.named index later less
 
-  none_named_by : (term : Term) (terms : List Term) (new : List ℕ) (at : ℕ) → index_of term.name ns ≡ None → (IsNamedIn terms ns at → Has new at) → IsNamedIn (term ∷ terms) ns at → Has new at
-  none_named_by term terms new at is later (inl first) = cc
-  none_named_by term terms new at is later (inr rest) = later rest
+    only_first : (index : ℕ) → Has seen index ⊎ ((index ≡ term.symbol) × (term.symbol < count)) → Has seen index ⊎ (IsNamedIn (term ∷ terms) index × (index < count))
+    only_first index (inl old) = inl old
+    only_first index (inr this) = inr (inl (sym this.0), rw this.0 this.1)
 
-  right_only : (term : Term) (terms : List Term) (seen : List ℕ) (index : ℕ) → Has seen index ⊎ IsNamedIn terms ns index → Has seen index ⊎ IsNamedIn (term ∷ terms) ns index
-  right_only term terms seen index (inl old) = inl old
-  right_only term terms seen index (inr rest) = inr (inr rest)
+    only_both : (index : ℕ) → Has more index ⊎ (IsNamedIn terms index × (index < count)) → Has seen index ⊎ (IsNamedIn (term ∷ terms) index × (index < count))
+    only_both index (inl old) = only_first index (one.only index old)
+    only_both index (inr later) = inr (inr later.0, later.1)
 
-  both_only : (term : Term) (terms : List Term) (seen : List ℕ) (index other : ℕ) → index_of term.name ns ≡ Some index → Has (insert_key nat_eq seen index) other ⊎ IsNamedIn terms ns other
-      → Has seen other ⊎ IsNamedIn (term ∷ terms) ns other
-  both_only term terms seen index other is (inl old) = elim (only_inserted seen index other old) [
-    | inl older ↦ inl older
-    | inr same ↦ inr (inl (is ∙ ap Some (sym same)))
-  ]
-  both_only term terms seen index other is (inr rest) = inr (inr rest)
+    apart_both : (term.symbol == target) ≡ false → IsNamedIn (term ∷ terms) target → ⊥
+    apart_both other (inl first) = let test : (term.symbol == target) ≡ true = eq-eqb term.symbol target first in cc
+    apart_both other (inr later) = rest.apart later
 
-  apart_none : (term : Term) (terms : List Term) → index_of term.name ns ≡ None → (IsNamedIn terms ns target → ⊥) → IsNamedIn (term ∷ terms) ns target → ⊥
-  apart_none term terms is later (inl first) = cc
-  apart_none term terms is later (inr rest) = later rest
+    sees_both : (term.symbol == target) ≡ false → Sees count target (term ∷ terms) seen new
+    sees_both other = record {
+      kept = λ k v there. rest.kept k v (one.kept k v there);
+      has = λ index has. rest.has index (one.has index has);
+      named = named_both;
+      only = λ index has. only_both index (rest.only index has);
+      apart = apart_both other;
+    }
 
-  apart_some : (term : Term) (terms : List Term) (index : ℕ) → index_of term.name ns ≡ Some index → (index == target) ≡ false → (IsNamedIn terms ns target → ⊥) → IsNamedIn (term ∷ terms) ns target → ⊥
-  apart_some term terms index is other later (inl first) = let same : index ≡ target = cc in let test : (index == target) ≡ true = eq-eqb index target same in cc
-  apart_some term terms index is other later (inr rest) = later rest
+  sees_by : (term : Term) (terms : List Term) (seen more new : List ℕ) (b : Bool) → (term.symbol == target) ≡ b → SeesOne count term.symbol seen more
+      → (seen_with count target terms more ≡ Some new → Sees count target terms more new)
+      → seen_then (λ then'. seen_with count target terms then') (cond b None (Some more)) ≡ Some new → Sees count target (term ∷ terms) seen new
+  sees_by term terms seen more new true same one later is = cc
+  sees_by term terms seen more new false same one later is = sees_both term terms seen more new one (later is) same
 
-  sees_by : (term : Term) (terms : List Term) (seen new : List ℕ) (o : Option ℕ) → index_of term.name ns ≡ o
-      → ((more : List ℕ) → seen_with ns target terms more ≡ Some new → Sees ns target terms more new)
-      → seen_one o target (λ more. seen_with ns target terms more) seen ≡ Some new → Sees ns target (term ∷ terms) seen new
-  sees_by term terms seen new None at later is =
-      let rest = later seen is in
-      record {
-        kept = rest.kept;
-        has = rest.has;
-        named = λ index. none_named_by term terms new index at (rest.named index);
-        only = λ index has. right_only term terms seen index (rest.only index has);
-        apart = apart_none term terms at rest.apart;
-      }
-  sees_by term terms seen new (Some index) at later is = by (index == target) refl is
-    where
-      by : (b : Bool) → (index == target) ≡ b → cond b None (seen_with ns target terms (insert_key nat_eq seen index)) ≡ Some new → Sees ns target (term ∷ terms) seen new
-      by true same is = cc
-      by false same is =
-          let rest = later (insert_key nat_eq seen index) is in
-          record {
-            kept = λ k v there. rest.kept k v (get_kept seen index k v there);
-            has = λ other has. rest.has other (has_kept seen index other has);
-            named = λ other. named_by term terms new index other at (rest.has index (has_inserted seen index)) rest.named;
-            only = λ other has. both_only term terms seen index other at (rest.only other has);
-            apart = apart_some term terms index at same rest.apart;
-          }
-
-  pub seen_sees : (terms : List Term) (seen new : List ℕ) → seen_with ns target terms seen ≡ Some new → Sees ns target terms seen new
+  pub seen_sees : (terms : List Term) (seen new : List ℕ) → seen_with count target terms seen ≡ Some new → Sees count target terms seen new
   unfolding seen_with
   seen_sees [] seen new is =
       let same : seen ≡ new = cc in
@@ -167,4 +168,6 @@ module _ (ns : List Name) (target : ℕ) where
         only = λ index has. inl (rw same has);
         apart = λ named. named;
       }
-  seen_sees (term ∷ terms) seen new is = sees_by term terms seen new (index_of term.name ns) refl (λ more then'. seen_sees terms more new then') is
+  seen_sees (term ∷ terms) seen new is =
+      let more = cond (nat_lt term.symbol count) (insert_key nat_eq seen term.symbol) seen in
+      sees_by term terms seen more new (term.symbol == target) refl (sees_one count term.symbol seen (nat_lt term.symbol count) refl) (seen_sees terms more new) is

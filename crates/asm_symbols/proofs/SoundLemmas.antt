@@ -1,9 +1,9 @@
 -- The fields of a symbol map stay sound where a name more comes.
-use Rattle.std.proofs.Common.{◌≡◌, ℕ, zero, suc, ◌+◌, ◌^◌, ◌<◌, ◌≤◌, ◌⊎◌, inl, inr, Bool, true, false, cond, ◌||◌, List, [], ◌∷◌, ◌++◌, length, None, Some, refl, sym, ap, ◌∙◌, arith, slice_get, length-append}
+use Rattle.std.proofs.Common.{◌≡◌, ℕ, zero, suc, ◌+◌, ◌^◌, ◌<◌, ◌⊎◌, inl, inr, Bool, true, false, cond, ◌||◌, List, [], ◌∷◌, ◌++◌, length, None, Some, refl, sym, ap, ◌∙◌, arith, slice_get, length-append}
 use Rattle.std.specs.List.{list_any, sum_by}
 use Rattle.std.proofs.lemmas.List.Folds.{list_any-append}
 use Rattle.std.proofs.lemmas.List.Sums.{sum_by-append}
-use Rattle.std.proofs.lemmas.List.{length-map}
+use Rattle.std.proofs.lemmas.List.{length-map, map-append}
 use Rattle.asm_expr.specs.declared.naming.Name.{Name}
 use Rattle.asm_expr.specs.declared.naming.Name.TheVariants as naming
 use Rattle.asm_expr.specs.Names.{same_name}
@@ -11,9 +11,9 @@ use Rattle.asm_symbols.specs.declared.entries.Symbol.{Symbol}
 use Rattle.asm_symbols.specs.SymbolMap.{names, index_of}
 use Rattle.asm_symbols.specs.Interning.{name_size, undefined}
 use Rattle.asm_symbols.specs.NameIndex.{IndexedNames, place_of, with_place}
-use Rattle.asm_symbols.specs.Sound.{IsIndexed, IsWithin, is_label_of, AreCounted, IsSound}
+use Rattle.asm_symbols.specs.Sound.{IsIndexed, AreNumbered, is_label_of, AreCounted, IsSound}
 use Rattle.asm_symbols.proofs.SameNames.{same_from_test}
-use Rattle.asm_symbols.proofs.ForwardLemmas.{names-push, forward_push}
+use Rattle.asm_symbols.proofs.ForwardLemmas.{forward_push}
 use Rattle.asm_symbols.proofs.IndexLemmas.{place_of-with_place, index_of-last, index_of-other, index_of-stays}
 
 -- what stands in a list with one more is one of the list, or the one more
@@ -44,45 +44,31 @@ sum_by-one f xs x = sum_by-append f xs (x ∷ []) ∙ omega arith
 length-one : {X : Type 0} (xs : List X) (x : X) → length (xs ++ x ∷ []) ≡ length xs + 1
 length-one xs x = length-append xs (x ∷ [])
 
-pub IsWithin-name : (ns files : List Name) (bytes : ℕ) (name : Name) → IsWithin ns files bytes → length ns + length files < 2 ^ 24 → bytes + name_size name ≤ 2 ^ 31
-    → IsWithin (ns ++ name ∷ []) files (bytes + name_size name)
-IsWithin-name ns files bytes name within few small =
+pub AreNumbered-name : (ns files : List Name) (bytes : ℕ) (name : Name) → AreNumbered ns files bytes → length ns + 1 < 2 ^ 32 → AreNumbered (ns ++ name ∷ []) files (bytes + name_size name)
+AreNumbered-name ns files bytes name within few =
     let total : bytes ≡ sum_by name_size ns + sum_by name_size files = within.total in
     let sum : sum_by name_size (ns ++ name ∷ []) ≡ sum_by name_size ns + name_size name = sum_by-one name_size ns name in
     let long : length (ns ++ name ∷ []) ≡ length ns + 1 = length-one ns name in
-    record { total = omega arith; few = omega arith; small = small }
-
-pub IsWithin-file : (ns files : List Name) (bytes : ℕ) (name : Name) → IsWithin ns files bytes → length ns + length files < 2 ^ 24 → bytes + name_size name ≤ 2 ^ 31
-    → IsWithin ns (files ++ name ∷ []) (bytes + name_size name)
-IsWithin-file ns files bytes name within few small =
-    let total : bytes ≡ sum_by name_size ns + sum_by name_size files = within.total in
-    let sum : sum_by name_size (files ++ name ∷ []) ≡ sum_by name_size files + name_size name = sum_by-one name_size files name in
-    let long : length (files ++ name ∷ []) ≡ length files + 1 = length-one files name in
-    record { total = omega arith; few = omega arith; small = small }
+    record { total = omega arith; few = omega arith; few_files = within.few_files }
 
 pub AreCounted-push : (symbols : List Symbol) (counts : List (ℕ × ℕ)) (symbol : Symbol) → AreCounted symbols counts → AreCounted (symbols ++ symbol ∷ []) counts
 AreCounted-push symbols counts symbol sound = record {
   labels = λ number instance some within. list_any-append (is_label_of (naming.Numeric number instance)) symbols (symbol ∷ []) ∙ ap (λ b. b || list_any (is_label_of (naming.Numeric number instance)) (symbol ∷ [])) (sound.labels number instance some within);
 }
 
+-- the names with one more
+names-push : (symbols : List Symbol) (name : Name) → names (symbols ++ undefined name ∷ []) ≡ names symbols ++ name ∷ []
+names-push symbols name = map-append (λ (symbol : Symbol). symbol.name) symbols (undefined name ∷ [])
+
 -- a symbol more
 pub IsSound-name : (index : IndexedNames) (symbols : List Symbol) (files : List Name) (counts : List (ℕ × ℕ)) (bytes : ℕ) (name : Name)
-    → IsSound index symbols files counts bytes → index_of name (names symbols) ≡ None
-    → length symbols + length files < 2 ^ 24 → bytes + name_size name ≤ 2 ^ 31
+    → IsSound index symbols files counts bytes → index_of name (names symbols) ≡ None → length symbols + 1 < 2 ^ 32
     → IsSound (with_place index name (length symbols)) (symbols ++ undefined name ∷ []) files counts (bytes + name_size name)
-IsSound-name index symbols files counts bytes name sound new few small =
+IsSound-name index symbols files counts bytes name sound new few =
     let long : length (names symbols) ≡ length symbols = simp length-map in
     record {
       indexed = rw (names-push, ← long) (IsIndexed-push index (names symbols) name sound.indexed new);
-      within = rw names-push (IsWithin-name (names symbols) files bytes name sound.within (omega arith) small);
+      within = rw names-push (AreNumbered-name (names symbols) files bytes name sound.within (omega arith));
       instances = AreCounted-push symbols counts (undefined name) sound.instances;
       forward = forward_push symbols name sound.forward;
     }
-
--- the name of a file more
-pub IsSound-file : (index : IndexedNames) (symbols : List Symbol) (files : List Name) (counts : List (ℕ × ℕ)) (bytes : ℕ) (name : Name)
-    → IsSound index symbols files counts bytes → length symbols + length files < 2 ^ 24 → bytes + name_size name ≤ 2 ^ 31
-    → IsSound index symbols (files ++ name ∷ []) counts (bytes + name_size name)
-IsSound-file index symbols files counts bytes name sound few small =
-    let long : length (names symbols) ≡ length symbols = simp length-map in
-    record { indexed = sound.indexed; within = IsWithin-file (names symbols) files bytes name sound.within (omega arith) small; instances = sound.instances; forward = sound.forward }

@@ -12,7 +12,7 @@ use Rattle.asm_symbols.specs.declared.entries.Meaning.{Meaning}
 use Rattle.asm_symbols.specs.declared.entries.Meaning.TheVariants as meaning
 use Rattle.asm_symbols.specs.declared.faults.SymCause.{SymCause}
 use Rattle.asm_symbols.specs.declared.faults.SymCause.TheVariants.{SymbolAlreadyDefined, BadSymbolUse}
-use Rattle.asm_symbols.specs.SymbolMap.{SymbolMap, names, index_of, with_symbol, with_meaning}
+use Rattle.asm_symbols.specs.SymbolMap.{SymbolMap, with_symbol, with_meaning}
 
 -- whether the name is `.`, which is the place of a statement
 abbrev pub is_dot : Name → Bool
@@ -43,19 +43,19 @@ form_of _ = None
 abbrev pub form_at : List Symbol → ℕ → Option Form
 form_at symbols index = option_and_then (λ symbol. form_of symbol.meaning) (slice_get symbols index)
 
--- one of the terms has the name of the symbol at this index
-abbrev pub IsNamedIn : List Term → List Name → ℕ → Type 0
-IsNamedIn [] ns index = ⊥
-IsNamedIn (term ∷ terms) ns index = (index_of term.name ns ≡ Some index) ⊎ IsNamedIn terms ns index
+-- one of the terms is of the symbol at this index
+abbrev pub IsNamedIn : List Term → ℕ → Type 0
+IsNamedIn [] index = ⊥
+IsNamedIn (term ∷ terms) index = (term.symbol ≡ index) ⊎ IsNamedIn terms index
 
 -- the form names the symbol at this index
-abbrev pub NamesSymbol : List Symbol → Form → ℕ → Type 0
-NamesSymbol symbols form index = IsNamedIn form.terms (names symbols) index
+abbrev pub NamesSymbol : Form → ℕ → Type 0
+NamesSymbol form index = IsNamedIn form.terms index
 
 -- the form leads to the symbol at this index: it names the symbol, or leads to an assigned one whose form does
 pub data Leads (symbols : List Symbol) (form : Form) : ℕ → Type 0 where
-  straight : (index : ℕ) → NamesSymbol symbols form index → Leads symbols form index
-  further : (middle index : ℕ) (next : Form) → Leads symbols form middle → form_at symbols middle ≡ Some next → NamesSymbol symbols next index
+  straight : (index : ℕ) → NamesSymbol form index → Leads symbols form index
+  further : (middle index : ℕ) (next : Form) → Leads symbols form middle → form_at symbols middle ≡ Some next → NamesSymbol next index
       → Leads symbols form index
 
 -- no symbol's form leads back to it

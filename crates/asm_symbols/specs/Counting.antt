@@ -1,11 +1,13 @@
 -- The instances of numeric labels, and the values of assigned symbols.
-use Rattle.std.specs.Prelude.{ℕ, ◌+◌, ◌-◌, ◌^◌, ◌==◌, nat_eq, min, List, [], ◌∷◌, Option, None, Some, Result, slice_get, unwrap_or, option_and_then, if◌then◌else◌, ℤ}
+use Rattle.std.specs.Prelude.{ℕ, ◌+◌, ◌-◌, ◌^◌, ◌==◌, nat_eq, min, Bool, true, not, List, [], ◌∷◌, Option, None, Some, Result, slice_get, unwrap_or, option_and_then, if◌then◌else◌, ℤ}
 use Rattle.std.specs.Int.{w64, cast_signed}
 use Rattle.std.specs.Map.{lookup}
 use Rattle.indexmap.specs.IndexMap.{insert_entry}
 use Rattle.asm_expr.specs.declared.naming.Name.{Name}
 use Rattle.asm_expr.specs.declared.naming.Name.TheVariants as naming
 use Rattle.asm_expr.specs.declared.forms.Term.{Term}
+use Rattle.asm_expr.specs.declared.trees.Written.{Written}
+use Rattle.asm_expr.specs.declared.trees.Written.TheVariants.{Plain, Back, Next}
 use Rattle.asm_symbols.specs.declared.entries.Meaning.{Meaning}
 use Rattle.asm_symbols.specs.declared.entries.Meaning.TheVariants as meaning
 use Rattle.asm_symbols.specs.declared.entries.Definition.{Definition}
@@ -28,6 +30,18 @@ counts_after _ _ counts = counts
 abbrev pub next_instance : ℕ → ℕ
 next_instance count = min (count + 1) (2 ^ 32 - 1)
 
+-- the name that is meant: `Nb` is the instance that is counted, and `Nf` the next one
+abbrev pub meant_name : List (ℕ × ℕ) → Written → Name
+meant_name counts (Plain text) = naming.Plain text
+meant_name counts (Back number) = naming.Numeric number (counted counts number)
+meant_name counts (Next number) = naming.Numeric number (next_instance (counted counts number))
+
+-- `Nb` means a label that came before; any other name may be a new one
+abbrev pub may_be_meant : List (ℕ × ℕ) → Written → Bool
+may_be_meant counts (Plain text) = true
+may_be_meant counts (Back number) = not (counted counts number == 0)
+may_be_meant counts (Next number) = true
+
 -- the map where the next instance of the numeric label is a symbol's name, and the symbol's index
 unfoldable pub next_named : SymbolMap → ℕ → Result (SymbolMap × ℕ) SymCause
 next_named map number = named map (naming.Numeric number (next_instance (counted map.counts number)))
@@ -39,12 +53,12 @@ last_named map number = last_by (counted map.counts number)
     last_by : ℕ → Option ℕ
     last_by count = if count == 0 then None else index_of (naming.Numeric number count) (names map.symbols)
 
--- the value of a form without names, as a signed number
+-- the value of a form without symbols, as a signed number
 abbrev pub constant_value : List Term → ℕ → Option ℤ
 constant_value [] constant = Some (cast_signed w64 constant)
 constant_value (term ∷ terms) constant = None
 
--- the value of an assigned symbol whose form has no names
+-- the value of an assigned symbol whose form is without symbols
 abbrev pub assigned_value : Meaning → Option ℤ
 assigned_value (meaning.Assigned form) = constant_value form.terms form.constant
 assigned_value _ = None

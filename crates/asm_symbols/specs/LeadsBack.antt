@@ -4,7 +4,7 @@ use Rattle.asm_expr.specs.Forms.{Form}
 use Rattle.asm_symbols.specs.declared.entries.Symbol.{Symbol}
 use Rattle.asm_symbols.specs.declared.faults.SymCause.{SymCause}
 use Rattle.asm_symbols.specs.declared.faults.SymCause.TheVariants.{BadSymbolUse}
-use Rattle.asm_symbols.specs.SymbolMap.{SymbolMap, names}
+use Rattle.asm_symbols.specs.SymbolMap.{SymbolMap}
 use Rattle.asm_symbols.specs.Assigning.{form_fault_at, form_at, with_form}
 use Rattle.asm_symbols.specs.Searching.{seen_with, seen_behind}
 
@@ -16,7 +16,7 @@ searched_on (Some seen) later = later seen
 -- the search looks behind the next symbol that was seen; where there is none, the symbol that is looked for is never named
 abbrev pub searched_next : Option ℕ → List Symbol → ℕ → List ℕ → (List ℕ → Bool) → Bool
 searched_next None symbols target seen later = false
-searched_next (Some middle) symbols target seen later = searched_on (seen_behind (names symbols) target (form_at symbols middle) seen) later
+searched_next (Some middle) symbols target seen later = searched_on (seen_behind (length symbols) target (form_at symbols middle) seen) later
 
 -- whether the target is named behind the symbols seen, from this place on; as many are looked behind as the first number says
 unfoldable pub searched : ℕ → List Symbol → ℕ → List ℕ → ℕ → Bool
@@ -25,7 +25,7 @@ searched (suc fuel) symbols target seen at = searched_next (slice_get seen at) s
 
 -- whether the form leads to the symbol at this index; no more symbols are seen than there are
 unfoldable pub leads_back : List Symbol → Form → ℕ → Bool
-leads_back symbols form target = searched_on (seen_with (names symbols) target form.terms []) (λ seen. searched (length symbols) symbols target seen 0)
+leads_back symbols form target = searched_on (seen_with (length symbols) target form.terms []) (λ seen. searched (length symbols) symbols target seen 0)
 
 -- what the fault for which the symbol takes no form, and whether the form leads back, make of a map
 abbrev pub assigned_by : Option SymCause → Bool → SymbolMap → Result SymbolMap SymCause

@@ -28,11 +28,11 @@ pub record IsIndexed (index : IndexedNames) (ns : List Name) : Type 0 where
   pub found : (name : Name) → place_of index name ≡ index_of name ns
   pub apart : AreFound ns
 
--- there are no more names, and no more bytes of them, than the limits allow
-pub record IsWithin (ns files : List Name) (bytes : ℕ) : Type 0 where
+-- the bytes of all names are counted, each symbol has a number of 32 bits, and there are at most 2^24 files
+pub record AreNumbered (ns files : List Name) (bytes : ℕ) : Type 0 where
   pub total : bytes ≡ sum_by name_size ns + sum_by name_size files
-  pub few : length ns + length files ≤ 2 ^ 24
-  pub small : bytes ≤ 2 ^ 31
+  pub few : length ns < 2 ^ 32
+  pub few_files : length files ≤ 2 ^ 24
 
 -- the symbol is a label
 abbrev pub means_label : Meaning → Bool
@@ -51,9 +51,9 @@ is_label_of name symbol = same_name name symbol.name && means_label symbol.meani
 pub record AreCounted (symbols : List Symbol) (counts : List (ℕ × ℕ)) : Type 0 where
   pub labels : (number instance : ℕ) → 0 < instance → instance ≤ counted counts number → list_any (is_label_of (naming.Numeric number instance)) symbols ≡ true
 
--- names are found by the index, keep the limits, each counted instance is a label, and no form leads back to its symbol
+-- names are found by the index, their bytes are counted, each counted instance is a label, and no form leads back to its symbol
 pub record IsSound (index : IndexedNames) (symbols : List Symbol) (files : List Name) (counts : List (ℕ × ℕ)) (bytes : ℕ) : Type 0 where
   pub indexed : IsIndexed index (names symbols)
-  pub within : IsWithin (names symbols) files bytes
+  pub within : AreNumbered (names symbols) files bytes
   pub instances : AreCounted symbols counts
   pub forward : NoFormLeadsBack symbols

@@ -5,9 +5,8 @@ ghost use Rattle.asm_symbols.specs.Assigning.{is_dot, form_fault_of};
 
 use crate::entries::Meaning;
 use crate::faults::{SymCause, SymFault};
-use crate::ids::SymId;
 use crate::symbol_map::Symbols;
-use asm_expr::{Linear, Name, Term};
+use asm_expr::{Linear, Name, SymId, Term};
 use indexmap::IndexSet;
 use std::alloc::Global;
 
@@ -34,7 +33,6 @@ fn form_fault_of(meaning: &Meaning, once: bool) -> Option<SymCause>
 
 impl Symbols {
     ghost use Rattle.std.specs.Prelude.{◌≡◌, ◌<◌, false, [], length, OnErr, IfOk, IfErr};
-    ghost use Rattle.asm_symbols.specs.SymbolMap.{names};
     ghost use Rattle.asm_symbols.specs.Assigning.{form_fault_at, form_at, with_form, Leads, TellsLeads, Assigns};
     ghost use Rattle.asm_base.specs.Refusals.{Gives};
     ghost use Rattle.asm_symbols.specs.Searching.{seen_unless, seen_with, seen_behind};
@@ -60,16 +58,17 @@ impl Symbols {
     #[tactic(auto, unfolding(crate::specs::Searching::seen_with))]
     fn see(&self, terms: &[Term], id: SymId, seen: &mut IndexSet<u32>) -> Result<bool, SymFault>
         ensures value { IfOk result (λ back.
-            seen_with (names self.now.symbols) id terms.now seen.old.keys
+            seen_with (length self.now.symbols) id terms.now seen.old.keys
             ≡ seen_unless back seen.new.keys) }
         ensures memory { IfErr result (λ fault. fault ≡ NoMemory) }
     {
         for term in terms {
-            if let Some(named) = self.find(&term.name) {
-                if named.index() == id.index() {
-                    return Ok(true);
-                }
-                seen.insert(named.index())?;
+            let index = term.symbol.index();
+            if index == id.index() {
+                return Ok(true);
+            }
+            if (index as usize) < self.symbols.len() {
+                seen.insert(index)?;
             }
         }
         Ok(false)
@@ -84,7 +83,7 @@ impl Symbols {
     ) -> Result<bool, SymFault>
         requires { middle < length self.now.symbols }
         ensures value { let form = form_at self.now.symbols middle in
-            IfOk result (λ back. seen_behind (names self.now.symbols) id form seen.old.keys
+            IfOk result (λ back. seen_behind (length self.now.symbols) id form seen.old.keys
             ≡ seen_unless back seen.new.keys) }
         ensures memory { IfErr result (λ fault. fault ≡ NoMemory) }
     {

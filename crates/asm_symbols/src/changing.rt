@@ -5,9 +5,8 @@ ghost use Rattle.asm_symbols.specs.Attributes.{rebound, bound_as, with_size};
 
 use crate::entries::{Binding, Kind, Meaning, Symbol, Visibility};
 use crate::faults::{SymCause, SymFault};
-use crate::ids::SymId;
 use crate::symbol_map::Symbols;
-use asm_expr::Linear;
+use asm_expr::{Linear, SymId};
 
 /// The binding of a symbol that may have one already.
 fn rebound(before: Option<Binding>, binding: Binding) -> Result<Binding, SymCause>

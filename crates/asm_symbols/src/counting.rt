@@ -4,11 +4,10 @@ ghost use Rattle.std.specs.Prelude.{◌≡◌};
 ghost use Rattle.asm_symbols.specs.Counting.{assigned_value};
 
 use crate::entries::Meaning;
-use crate::ids::SymId;
 use crate::symbol_map::Symbols;
-use asm_expr::Name;
+use asm_expr::{Name, SymId};
 
-/// The value of an assigned symbol whose form has no names.
+/// The value of an assigned symbol whose form is a number alone.
 fn assigned_value(meaning: &Meaning) -> Option<i64>
     ensures { result ≡ assigned_value meaning.now }
 {
@@ -43,7 +42,7 @@ impl Symbols {
         self.find(&Name::Numeric { number, instance })
     }
 
-    /// The value of the symbol, where it is known: an assigned symbol's whose form has no names.
+    /// The value of the symbol, where it is known: an assigned one whose form is a number alone.
     #[tactic(auto, unfolding(crate::specs::Counting::known_value))]
     pub fn known(&self, id: SymId) -> Option<i64>
         requires { id < length self.now.symbols }

@@ -7,9 +7,8 @@ ghost use Rattle.asm_base.specs.declared.refusals.Refusal.TheVariants.{NoMemory}
 
 use crate::entries::{Definition, Meaning};
 use crate::faults::{SymCause, SymFault};
-use crate::ids::SymId;
 use crate::symbol_map::Symbols;
-use asm_expr::Name;
+use asm_expr::{Name, SymId};
 use indexmap::IndexMap;
 
 /// What the definition makes of an undefined symbol.

@@ -1,6 +1,6 @@
 //! What holds of every symbol map and of every call.
 
-ghost use Rattle.std.specs.Prelude.{◌≡◌, ◌≤◌, ◌+◌, ◌^◌, true, length, ℕ, List, Ok, Err, Option, Some};
+ghost use Rattle.std.specs.Prelude.{◌≡◌, true, ℕ, List, Ok, Err, Option, Some};
 ghost use Rattle.asm_expr.specs.declared.naming.Name.{Name as NameValue};
 ghost use Rattle.asm_expr.specs.Forms.{Form};
 ghost use Rattle.asm_symbols.specs.declared.entries.Symbol.{Symbol as SymbolEntry};
@@ -12,7 +12,7 @@ ghost use Rattle.asm_symbols.specs.declared.entries.Kind.{Kind as KindValue};
 ghost use Rattle.asm_symbols.specs.declared.entries.Visibility.{Visibility as VisibilityValue};
 ghost use Rattle.asm_symbols.specs.declared.faults.SymCause.TheVariants.{BadSymbolUse};
 ghost use Rattle.asm_symbols.specs.SymbolMap.{SymbolMap, names, with_symbol};
-ghost use Rattle.asm_symbols.specs.Interning.{names_size, named, with_file};
+ghost use Rattle.asm_symbols.specs.Interning.{is_within_limits, named, interned, with_file};
 ghost use Rattle.asm_symbols.specs.Counting.{next_named};
 ghost use Rattle.asm_symbols.specs.Defining.{defined};
 ghost use Rattle.asm_symbols.specs.Assigning.{with_form, Leads, NoFormLeadsBack};
@@ -31,13 +31,19 @@ pub fn names_are_apart(map: &Symbols)
     let _ = &map.index;
 }
 
-/// There are at most 2^24 symbols and files, and at most 2^31 bytes of their names.
-pub fn names_are_few(map: &Symbols)
-    ensures few { length map.now.symbols + length map.now.files ≤ 2 ^ 24 }
-    ensures small { names_size map.now ≤ 2 ^ 31 }
-{
-    let _ = &map.index;
-}
+/// A call that names a symbol or a file where there is room for it keeps the limits.
+#[tactic(auto, unfolding(crate::specs::Interning::named, crate::specs::Interning::with_file, crate::specs::Counting::next_named))]
+pub fn limits_are_kept()
+    ensures name_of { (map made : SymbolMap) (name : NameValue) (at : ℕ)
+        → is_within_limits map ≡ true → named map name ≡ Ok (made, at)
+        → is_within_limits made ≡ true }
+    ensures numeric_next { (map made : SymbolMap) (number at : ℕ)
+        → is_within_limits map ≡ true → next_named map number ≡ Ok (made, at)
+        → is_within_limits made ≡ true }
+    ensures file { (map made : SymbolMap) (name : NameValue)
+        → is_within_limits map ≡ true → with_file map name ≡ Ok made
+        → is_within_limits made ≡ true }
+{}
 
 /// The instances of a numeric label that are counted are labels.
 pub fn counted_are_labels(map: &Symbols)
@@ -54,12 +60,13 @@ pub fn no_form_leads_back(map: &Symbols)
 }
 
 /// Every call keeps the order in which symbols were first named.
-#[tactic(auto, unfolding(crate::specs::Interning::named, crate::specs::Interning::with_file, crate::specs::Counting::next_named))]
+#[tactic(auto, unfolding(crate::specs::Interning::named, crate::specs::Interning::interned, crate::specs::Interning::with_file, crate::specs::Counting::next_named))]
 pub fn order_is_kept()
     ensures name_of { (map made : SymbolMap) (name : NameValue) (at : ℕ)
         → named map name ≡ Ok (made, at) → KeepsOrder map made }
     ensures numeric_next { (map made : SymbolMap) (number at : ℕ)
         → next_named map number ≡ Ok (made, at) → KeepsOrder map made }
+    ensures intern { (map : SymbolMap) (name : NameValue) → KeepsOrder map (interned map name) }
     ensures file { (map made : SymbolMap) (name : NameValue)
         → with_file map name ≡ Ok made → KeepsOrder map made }
     ensures define { (map made : SymbolMap) (at : ℕ) (what : DefinitionValue)

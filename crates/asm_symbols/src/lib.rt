@@ -9,18 +9,17 @@ mod counting;
 mod defining;
 mod entries;
 mod faults;
-mod ids;
 mod interning;
 mod laws;
 mod looking;
 mod name_index;
 mod symbol_map;
 
+pub use asm_expr::SymId;
 pub use entries::{Binding, Definition, Kind, Meaning, Spot, Symbol, Visibility};
 pub use faults::{SymCause, SymFault};
-pub use ids::SymId;
 pub use laws::{
-    counted_are_labels, leads_is_decided, names_are_apart, names_are_few, no_form_leads_back,
+    counted_are_labels, leads_is_decided, limits_are_kept, names_are_apart, no_form_leads_back,
     order_is_kept, weak_wins,
 };
 pub use symbol_map::Symbols;

@@ -1,4 +1,4 @@
-//! What a name is known as, for the linear forms of expressions.
+//! What a symbol is known as, for the linear forms of expressions.
 
 ghost use Rattle.std.specs.Prelude.{◌≡◌};
 ghost use Rattle.asm_expr.specs.Knowledge.{told_by};
@@ -6,7 +6,7 @@ ghost use Rattle.asm_symbols.specs.Looking.{meaning_told};
 
 use crate::entries::Meaning;
 use crate::symbol_map::Symbols;
-use asm_expr::{Look, Name};
+use asm_expr::{Look, SymId};
 
 /// What a symbol is known as that is this.
 fn look_of(meaning: &Meaning) -> Look<'_>
@@ -33,13 +33,13 @@ impl Symbols {
     ghost use Rattle.asm_expr.specs.Knowledge.{told_by};
     ghost use Rattle.asm_symbols.specs.Looking.{told};
 
-    /// What the name is known as.
+    /// What the symbol is known as.
     #[tactic(auto, unfolding(crate::specs::Looking::told))]
-    pub fn look(&self, name: &Name) -> Look<'_>
-        ensures { told_by result ≡ told self.now name.now }
+    pub fn look(&self, id: SymId) -> Look<'_>
+        ensures { told_by result ≡ told self.now id }
     {
-        match self.find(name) {
-            Some(id) => look_of(&self.symbol(id).meaning),
+        match self.symbols.get(id.index() as usize) {
+            Some(symbol) => look_of(&symbol.meaning),
             None => Look::Absent,
         }
     }

@@ -1,9 +1,8 @@
 //! The index of names: where each name stands in a list. A text is looked up by its slice.
 
-use crate::faults::SymFault;
 use asm_expr::Name;
 use indexmap::IndexMap;
-use std::alloc::Global;
+use std::alloc::{AllocError, Global};
 use std::marker::Model;
 
 /// A name that is numbers alone.
@@ -41,8 +40,8 @@ impl Model for NameIndex {
 }
 
 impl NameIndex {
-    ghost use Rattle.std.specs.Prelude.{◌≡◌, OnOk, OnErr, IfErr};
-    ghost use Rattle.asm_base.specs.declared.refusals.Refusal.TheVariants.{NoMemory};
+    ghost use Rattle.std.specs.Prelude.{◌≡◌, OnOk, OnErr};
+    ghost use Rattle.asm_expr.specs.declared.naming.Name.TheVariants.{Plain, Numeric, Place};
     ghost use Rattle.asm_symbols.specs.NameIndex.{no_names, place_of, with_place};
 
     /// No names.
@@ -55,38 +54,56 @@ impl NameIndex {
         }
     }
 
+    /// Where the text stands.
+    pub(crate) fn find_text(&self, text: &[u8]) -> Option<u32>
+        ensures { result ≡ place_of self.now (Plain text.now) }
+    {
+        self.texts.get(text).copied()
+    }
+
+    /// Where the instance of a numeric label stands.
+    pub(crate) fn find_numeric(&self, number: u64, instance: u32) -> Option<u32>
+        ensures { result ≡ place_of self.now (Numeric number instance) }
+    {
+        let numbered = Numbered::Numeric { number, instance };
+        self.numbered.get(&numbered).copied()
+    }
+
+    /// Where the place stands.
+    fn find_place(&self, section: u32, item: u64, offset: u64) -> Option<u32>
+        ensures { result ≡ place_of self.now (Place section item offset) }
+    {
+        let numbered = Numbered::Place {
+            section,
+            item,
+            offset,
+        };
+        self.numbered.get(&numbered).copied()
+    }
+
     /// Where the name stands.
     pub(crate) fn find(&self, name: &Name) -> Option<u32>
         ensures { result ≡ place_of self.now name.now }
     {
         match name {
-            Name::Plain(text) => self.texts.get(text.as_bytes()).copied(),
-            Name::Numeric { number, instance } => self
-                .numbered
-                .get(&Numbered::Numeric {
-                    number: *number,
-                    instance: *instance,
-                })
-                .copied(),
+            Name::Plain(text) => self.find_text(text.as_bytes()),
+            Name::Numeric { number, instance } => self.find_numeric(*number, *instance),
             Name::Place {
                 section,
                 item,
                 offset,
-            } => self
-                .numbered
-                .get(&Numbered::Place {
-                    section: *section,
-                    item: *item,
-                    offset: *offset,
-                })
-                .copied(),
+            } => self.find_place(*section, *item, *offset),
         }
     }
 
     /// The name stands here from now on.
-    pub(crate) fn insert(&mut self, alloc: Global, name: &Name, place: u32) -> Result<(), SymFault>
+    pub(crate) fn insert(
+        &mut self,
+        alloc: Global,
+        name: &Name,
+        place: u32,
+    ) -> Result<(), AllocError>
         ensures ok { OnOk result (self.new ≡ with_place self.old name.now place) }
-        ensures memory { IfErr result (λ fault. fault ≡ NoMemory) }
         ensures err { OnErr result (self.new ≡ self.old) }
     {
         match name {

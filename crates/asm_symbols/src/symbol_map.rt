@@ -1,9 +1,8 @@
 //! The symbol map, and what can be asked of it.
 
 use crate::entries::{Binding, Kind, Meaning, Symbol, Visibility};
-use crate::ids::SymId;
 use crate::name_index::NameIndex;
-use asm_expr::{Linear, Name};
+use asm_expr::{Linear, Name, SymId};
 use indexmap::IndexMap;
 use std::alloc::Global;
 use std::marker::Model;
@@ -42,6 +41,7 @@ impl Model for Symbols {
 
 impl Symbols {
     ghost use Rattle.std.specs.Prelude.{◌≡◌, ◌<◌, length, slice_get, Some, IfSome};
+    ghost use Rattle.asm_expr.specs.declared.naming.Name.TheVariants.{Plain, Numeric};
     ghost use Rattle.asm_symbols.specs.SymbolMap.{nothing_named, names, index_of};
     ghost use Rattle.asm_symbols.specs.Counting.{counted, last_named, known_value};
 
@@ -73,6 +73,28 @@ impl Symbols {
         ensures within { IfSome result (λ id. id < length self.now.symbols) }
     {
         match self.index.find(name) {
+            Some(place) => Some(SymId::new(place)),
+            None => None,
+        }
+    }
+
+    /// The symbol whose name is the text.
+    pub fn find_text(&self, text: &[u8]) -> Option<SymId>
+        ensures value { result ≡ index_of (Plain text.now) (names self.now.symbols) }
+        ensures within { IfSome result (λ id. id < length self.now.symbols) }
+    {
+        match self.index.find_text(text) {
+            Some(place) => Some(SymId::new(place)),
+            None => None,
+        }
+    }
+
+    /// The symbol of the instance of a numeric label.
+    pub fn find_numeric(&self, number: u64, instance: u32) -> Option<SymId>
+        ensures value { result ≡ index_of (Numeric number instance) (names self.now.symbols) }
+        ensures within { IfSome result (λ id. id < length self.now.symbols) }
+    {
+        match self.index.find_numeric(number, instance) {
             Some(place) => Some(SymId::new(place)),
             None => None,
         }

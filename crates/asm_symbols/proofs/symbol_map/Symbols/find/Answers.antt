@@ -1,6 +1,6 @@
 -- A symbol that is found is there.
 use Rattle.std.proofs.Common.{Some, sym, ap, ◌∙◌}
-use Rattle.asm_symbols.proofs.RoomLemmas.{index_of-within}
+use Rattle.asm_symbols.proofs.IndexLemmas.{index_of-within}
 use Rattle.asm_symbols.proofs.symbol_map.Symbols.find.Goals as goal
 
 pub returns-in-Some-clause-within : goal.returns-in-Some-clause-within

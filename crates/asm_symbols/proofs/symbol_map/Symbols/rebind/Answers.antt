@@ -9,7 +9,7 @@ pub invariant_of-self : goal.invariant_of-self
 invariant_of-self c =
     let there = rw (← c.self.view_is, ← c.index.ensures) at c.requires in
     written_sound (with_binding c.args.binding) c.self.inside.symbols.items c.index.result c.index_mut-symbol.result.now there c.index_mut-symbol.ensures.value (λ _. refl) (λ _ _ is. is)
-    (forward_kept (with_binding c.args.binding) (λ _. refl) c.self.inside.symbols.items c.index.result (λ _ _. refl))
+    (forward_kept (with_binding c.args.binding) c.self.inside.symbols.items c.index.result (λ _ _. refl))
     c.self.inside.index c.self.inside.files.items c.self.inside.counts.entries c.self.inside.bytes c.self.invariant
 
 pub returns-clause-value : goal.returns-clause-value

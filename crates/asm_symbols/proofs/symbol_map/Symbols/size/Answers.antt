@@ -10,7 +10,7 @@ invariant_of-self c =
     let there = rw (← c.self.view_is, ← c.index.ensures) at c.requires in
     rw c.set_size.ensures
     (written_sound (with_size c.args.size c.in-Some.number) c.self.inside.symbols.items c.index.result c.index_mut.result.now there c.index_mut.ensures.value (λ _. refl) (λ _ _ is. is)
-    (forward_kept (with_size c.args.size c.in-Some.number) (λ _. refl) c.self.inside.symbols.items c.index.result (λ _ _. refl))
+    (forward_kept (with_size c.args.size c.in-Some.number) c.self.inside.symbols.items c.index.result (λ _ _. refl))
     c.self.inside.index c.self.inside.files.items c.self.inside.counts.entries c.self.inside.bytes c.self.invariant)
 
 pub returns-clause-value : goal.returns-clause-value
