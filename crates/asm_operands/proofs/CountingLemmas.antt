@@ -95,7 +95,7 @@ stops level depth left (token ∷ rest) none (suc steps) few =
     (sym none)
 
 -- and goes on where one does
-goes : (level depth : ℕ) (op : BinaryOp) (left right : Tree) (token : SpelledToken) (rest behind : List SpelledToken) (found : Reading) → Some op ≡ operator_at level token
+pub goes : (level depth : ℕ) (op : BinaryOp) (left right : Tree) (token : SpelledToken) (rest behind : List SpelledToken) (found : Reading) → Some op ≡ operator_at level token
     → ReadsExpression (level_of op + 1) depth rest (read right behind) → height (binary op left right) ≤ 256 → length behind ≤ length rest
     → ReadsMore level depth (binary op left right) behind found → ReadsMore level depth left (token ∷ rest) found
 unfolding read_more

@@ -4,3 +4,4 @@ pub mod LeafLemmas
 pub mod TokenLists
 pub mod TreeCounts
 pub mod CountingLemmas
+pub mod SumLemmas

@@ -1,4 +1,5 @@
 -- The definitions that the contracts cite, in reading order.
 pub mod Constants
+pub mod Sums
 pub mod Numbers
 pub mod Counting

@@ -3,5 +3,7 @@
 
 mod constants;
 mod numbers;
+mod sums;
 
 pub use constants::constant_operand;
+pub use sums::{Addend, Sum, Summand, sum_operand};
