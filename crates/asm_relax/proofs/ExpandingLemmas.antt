@@ -1,14 +1,12 @@
 -- The expansion of assigned symbols: it has an equation without a bound, and no assigned symbol is left in it.
-use Rattle.std.proofs.Common.{◌≡◌, ℕ, zero, suc, ◌+◌, ◌<◌, ◌≤◌, inl, inr, Bool, true, false, cond, ◌||◌, List, [], ◌∷◌, length, map, Option, None, Some, is_some, refl, sym, ap, ◌∙◌, arith}
+use Rattle.std.proofs.Common.{◌≡◌, ℕ, zero, suc, ◌+◌, ◌<◌, ◌≤◌, inl, inr, Bool, true, false, cond, ◌||◌, ◌==◌, List, [], ◌∷◌, length, map, Option, None, Some, is_some, refl, sym, ap, ◌∙◌, arith}
 use Rattle.std.specs.List.{list_any}
 use Rattle.std.specs.Option.{option_map}
-use Rattle.asm_expr.specs.declared.naming.Name.{Name}
 use Rattle.asm_expr.specs.declared.forms.Term.{Term}
-use Rattle.asm_expr.specs.Names.{same_name}
 use Rattle.asm_expr.specs.Forms.{Form, constant_form, wrapped, term_of, is_kept, before_terms, with_term, with_terms, scaled_term, plus_times}
-use Rattle.asm_symbols.specs.SymbolMap.{SymbolMap, names, index_of}
+use Rattle.asm_symbols.specs.SymbolMap.{SymbolMap}
 use Rattle.asm_symbols.specs.Assigning.{form_at, IsNamedIn, NoFormLeadsBack}
-use Rattle.asm_relax.specs.Expanding.{assigned_at, assigned_form, form_or_name, replacement, plus_terms, with_replaced, is_assigned, names_assigned, expanded_within, expanded}
+use Rattle.asm_relax.specs.Expanding.{form_or_symbol, replacement, plus_terms, with_replaced, is_assigned, names_assigned, expanded_within, expanded}
 use Rattle.asm_relax.proofs.RankLemmas.{rank, rank_small, rank_falls}
 
 or_parts : (a b : Bool) → (a || b) ≡ false → (a ≡ false) × (b ≡ false)
@@ -19,49 +17,32 @@ or_none : (a b : Bool) → a ≡ false → b ≡ false → (a || b) ≡ false
 or_none a b one other = rw (one, other)
 
 module _ (all : SymbolMap) where
-  -- what replaces a name that is no assigned symbol is that name, whatever forms become
-  replaced_by : (one other : Form → Form) (name : Name) (o : Option Form) → ((form : Form) → o ≡ Some form → one form ≡ other form)
-      → form_or_name name (option_map one o) ≡ form_or_name name (option_map other o)
-  replaced_by one other name None same = refl
-  replaced_by one other name (Some form) same = same form refl
-
-  replaced_at : (one other : Form → Form) (name : Name) (o : Option ℕ) → ((index : ℕ) (form : Form) → o ≡ Some index → form_at all.symbols index ≡ Some form → one form ≡ other form)
-      → form_or_name name (option_map one (assigned_at all.symbols o)) ≡ form_or_name name (option_map other (assigned_at all.symbols o))
-  replaced_at one other name None same = refl
-  replaced_at one other name (Some index) same = replaced_by one other name (form_at all.symbols index) (λ form is. same index form refl is)
-
-  replaced_same : (one other : Form → Form) (name : Name)
-      → ((index : ℕ) (form : Form) → index_of name (names all.symbols) ≡ Some index → form_at all.symbols index ≡ Some form → one form ≡ other form)
-      → replacement one all name ≡ replacement other all name
-  unfolding assigned_form
-  replaced_same one other name same = replaced_at one other name (index_of name (names all.symbols)) same
+  -- what replaces a symbol that is no assigned one is that symbol, whatever forms become
+  replaced_same : (one other : Form → Form) (symbol : ℕ) (o : Option Form) → ((form : Form) → o ≡ Some form → one form ≡ other form)
+      → form_or_symbol symbol (option_map one o) ≡ form_or_symbol symbol (option_map other o)
+  replaced_same one other symbol None same = refl
+  replaced_same one other symbol (Some form) same = same form refl
 
   -- the forms of the symbols that are named decide
   plus_same : (one other : Form → Form) (terms : List Term) (made : Form)
-      → ((index : ℕ) (form : Form) → IsNamedIn terms (names all.symbols) index → form_at all.symbols index ≡ Some form → one form ≡ other form)
+      → ((index : ℕ) (form : Form) → IsNamedIn terms index → form_at all.symbols index ≡ Some form → one form ≡ other form)
       → plus_terms (replacement one all) made terms ≡ plus_terms (replacement other all) made terms
   unfolding plus_terms
   plus_same one other [] made same = refl
   plus_same one other (term ∷ terms) made same =
-      let first = replaced_same one other term.name (λ index form there is. same index form (inl there) is) in
+      let first = replaced_same one other term.symbol (form_at all.symbols term.symbol) (λ form is. same term.symbol form (inl refl) is) in
       ap (λ replaced. plus_terms (replacement one all) (plus_times made term.coefficient replaced) terms) first
-      ∙ plus_same one other terms (plus_times made term.coefficient (replacement other all term.name)) (λ index form named is. same index form (inr named) is)
+      ∙ plus_same one other terms (plus_times made term.coefficient (replacement other all term.symbol)) (λ index form named is. same index form (inr named) is)
 
-  -- a name that is no assigned symbol
-  unassigned_by : (o : Option ℕ) → ((index : ℕ) (form : Form) → o ≡ Some index → form_at all.symbols index ≡ Some form → ⊥) → is_some (assigned_at all.symbols o) ≡ false
+  -- a symbol that is no assigned one
+  unassigned_by : (o : Option Form) → ((form : Form) → o ≡ Some form → ⊥) → is_some o ≡ false
   unassigned_by None none = refl
-  unassigned_by (Some index) none = by (form_at all.symbols index) refl
-    where
-      by : (o : Option Form) → form_at all.symbols index ≡ o → is_some o ≡ false
-      by None is = refl
-      by (Some form) is = absurd (none index form refl is)
+  unassigned_by (Some form) none = absurd (none form refl)
 
-  names_none : (terms : List Term) → ((index : ℕ) (form : Form) → IsNamedIn terms (names all.symbols) index → form_at all.symbols index ≡ Some form → ⊥)
-      → list_any (is_assigned all) terms ≡ false
-  unfolding assigned_form
+  names_none : (terms : List Term) → ((index : ℕ) (form : Form) → IsNamedIn terms index → form_at all.symbols index ≡ Some form → ⊥) → list_any (is_assigned all) terms ≡ false
   names_none [] none = refl
   names_none (term ∷ terms) none =
-      or_none (is_assigned all term) (list_any (is_assigned all) terms) (unassigned_by (index_of term.name (names all.symbols)) (λ index form there is. none index form (inl there) is))
+      or_none (is_assigned all term) (list_any (is_assigned all) terms) (unassigned_by (form_at all.symbols term.symbol) (λ form is. none term.symbol form (inl refl) is))
       (names_none terms (λ index form named is. none index form (inr named) is))
 
   -- sums of terms that name no assigned symbol name none
@@ -71,9 +52,9 @@ module _ (all : SymbolMap) where
   before_clean term rest false one others = others
 
   with_term_by : (term more : Term) (rest : List Term) (b : Bool) → is_assigned all term ≡ false → list_any (is_assigned all) rest ≡ false → list_any (is_assigned all) (with_term rest more) ≡ false
-      → list_any (is_assigned all) (cond b (before_terms (term_of term.name (wrapped (term.coefficient + more.coefficient))) rest) (term ∷ with_term rest more)) ≡ false
+      → list_any (is_assigned all) (cond b (before_terms (term_of term.symbol (wrapped (term.coefficient + more.coefficient))) rest) (term ∷ with_term rest more)) ≡ false
   with_term_by term more rest true one others later =
-      before_clean (term_of term.name (wrapped (term.coefficient + more.coefficient))) rest (is_kept (term_of term.name (wrapped (term.coefficient + more.coefficient)))) one others
+      before_clean (term_of term.symbol (wrapped (term.coefficient + more.coefficient))) rest (is_kept (term_of term.symbol (wrapped (term.coefficient + more.coefficient)))) one others
   with_term_by term more rest false one others later = or_none (is_assigned all term) (list_any (is_assigned all) (with_term rest more)) one later
 
   with_term_clean : (terms : List Term) (more : Term) → list_any (is_assigned all) terms ≡ false → is_assigned all more ≡ false → list_any (is_assigned all) (with_term terms more) ≡ false
@@ -81,7 +62,7 @@ module _ (all : SymbolMap) where
   with_term_clean [] more none one = before_clean more [] (is_kept more) one refl
   with_term_clean (term ∷ terms) more none one =
       let parts = or_parts (is_assigned all term) (list_any (is_assigned all) terms) none in
-      with_term_by term more terms (same_name term.name more.name) parts.0 parts.1 (with_term_clean terms more parts.1 one)
+      with_term_by term more terms (term.symbol == more.symbol) parts.0 parts.1 (with_term_clean terms more parts.1 one)
 
   with_terms_clean : (terms others : List Term) (factor : ℕ) → list_any (is_assigned all) terms ≡ false → list_any (is_assigned all) others ≡ false
       → list_any (is_assigned all) (with_terms terms (map (scaled_term factor) others)) ≡ false
@@ -95,32 +76,19 @@ module _ (all : SymbolMap) where
   unfolding plus_times
   plus_clean made other factor none more = with_terms_clean made.terms other.terms factor none more
 
-  replacement_by : (becomes : Form → Form) (name : Name) (o : Option Form) → assigned_form all name ≡ o → ((form : Form) → o ≡ Some form → names_assigned all (becomes form) ≡ false)
-      → names_assigned all (form_or_name name (option_map becomes o)) ≡ false
-  replacement_by becomes name None is clean = rw is
-  replacement_by becomes name (Some form) is clean = clean form refl
-
-  named_here : (name : Name) (form : Form) → assigned_form all name ≡ Some form → (index : ℕ) × ((index_of name (names all.symbols) ≡ Some index) × (form_at all.symbols index ≡ Some form))
-  unfolding assigned_form
-  named_here name form is = by (index_of name (names all.symbols)) refl is
-    where
-      by : (o : Option ℕ) → index_of name (names all.symbols) ≡ o → assigned_at all.symbols o ≡ Some form → (index : ℕ) × ((index_of name (names all.symbols) ≡ Some index) × (form_at all.symbols index ≡ Some form))
-      by None there is = cc
-      by (Some index) there is = (index, (there, is))
-
-  replacement_clean : (becomes : Form → Form) (name : Name)
-      → ((index : ℕ) (form : Form) → index_of name (names all.symbols) ≡ Some index → form_at all.symbols index ≡ Some form → names_assigned all (becomes form) ≡ false)
-      → names_assigned all (replacement becomes all name) ≡ false
-  replacement_clean becomes name clean = replacement_by becomes name (assigned_form all name) refl (λ form is. let here = named_here name form is in clean here.0 form here.1.0 here.1.1)
+  replacement_clean : (becomes : Form → Form) (symbol : ℕ) (o : Option Form) → form_at all.symbols symbol ≡ o → ((form : Form) → o ≡ Some form → names_assigned all (becomes form) ≡ false)
+      → names_assigned all (form_or_symbol symbol (option_map becomes o)) ≡ false
+  replacement_clean becomes symbol None is clean = rw is
+  replacement_clean becomes symbol (Some form) is clean = clean form refl
 
   plus_terms_clean : (becomes : Form → Form) (terms : List Term) (made : Form) → names_assigned all made ≡ false
-      → ((index : ℕ) (form : Form) → IsNamedIn terms (names all.symbols) index → form_at all.symbols index ≡ Some form → names_assigned all (becomes form) ≡ false)
+      → ((index : ℕ) (form : Form) → IsNamedIn terms index → form_at all.symbols index ≡ Some form → names_assigned all (becomes form) ≡ false)
       → names_assigned all (plus_terms (replacement becomes all) made terms) ≡ false
   unfolding plus_terms
   plus_terms_clean becomes [] made none clean = none
   plus_terms_clean becomes (term ∷ terms) made none clean =
-      let first = replacement_clean becomes term.name (λ index form there is. clean index form (inl there) is) in
-      plus_terms_clean becomes terms (plus_times made term.coefficient (replacement becomes all term.name)) (plus_clean made (replacement becomes all term.name) term.coefficient none first)
+      let first = replacement_clean becomes term.symbol (form_at all.symbols term.symbol) refl (λ form is. clean term.symbol form (inl refl) is) in
+      plus_terms_clean becomes terms (plus_times made term.coefficient (replacement becomes all term.symbol)) (plus_clean made (replacement becomes all term.symbol) term.coefficient none first)
       (λ index form named is. clean index form (inr named) is)
 
   -- a form that names no assigned symbol
@@ -138,7 +106,7 @@ module _ (all : SymbolMap) where
   expanded_none form none = within_none (suc (length all.symbols)) form none
 
   module _ (forward : NoFormLeadsBack all.symbols) where
-    falls : (form : Form) (index : ℕ) (next : Form) → IsNamedIn form.terms (names all.symbols) index → form_at all.symbols index ≡ Some next → rank all.symbols next < rank all.symbols form
+    falls : (form : Form) (index : ℕ) (next : Form) → IsNamedIn form.terms index → form_at all.symbols index ≡ Some next → rank all.symbols next < rank all.symbols form
     falls form index next named is = rank_falls all.symbols forward form index next is named
 
     lowest : (form : Form) → rank all.symbols form ≤ 0 → names_assigned all form ≡ false
@@ -153,7 +121,7 @@ module _ (all : SymbolMap) where
         by (names_assigned all form) refl (λ index next named is. let less = falls form index next named is in exact bound next more (omega arith) (omega arith))
       where
         by : (b : Bool) → names_assigned all form ≡ b
-            → ((index : ℕ) (next : Form) → IsNamedIn form.terms (names all.symbols) index → form_at all.symbols index ≡ Some next → expanded_within more all next ≡ expanded_within bound all next)
+            → ((index : ℕ) (next : Form) → IsNamedIn form.terms index → form_at all.symbols index ≡ Some next → expanded_within more all next ≡ expanded_within bound all next)
             → expanded_within (suc more) all form ≡ expanded_within (suc bound) all form
         by false none later = within_none (suc more) form none ∙ sym (within_none (suc bound) form none)
         by true some later =
@@ -167,14 +135,14 @@ module _ (all : SymbolMap) where
     clean (suc bound) form low = by (names_assigned all form) refl (λ index next named is. let less = falls form index next named is in clean bound next (omega arith))
       where
         by : (b : Bool) → names_assigned all form ≡ b
-            → ((index : ℕ) (next : Form) → IsNamedIn form.terms (names all.symbols) index → form_at all.symbols index ≡ Some next → names_assigned all (expanded_within bound all next) ≡ false)
+            → ((index : ℕ) (next : Form) → IsNamedIn form.terms index → form_at all.symbols index ≡ Some next → names_assigned all (expanded_within bound all next) ≡ false)
             → names_assigned all (expanded_within (suc bound) all form) ≡ false
         by false none later = rw (within_none (suc bound) form none) none
         by true some later =
             rw (within_some bound form some)
             (plus_terms_clean (λ next. expanded_within bound all next) form.terms (constant_form form.constant) refl later)
 
-    -- the expansion of a form is the sum of its terms, with each name replaced by the expansion of its form
+    -- the expansion of a form is the sum of its terms, with each symbol replaced by the expansion of its form
     pub expanded_some : (form : Form) → names_assigned all form ≡ true → expanded all form ≡ with_replaced (replacement (expanded all) all) form
     unfolding expanded
     expanded_some form some =

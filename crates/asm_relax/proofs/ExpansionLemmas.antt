@@ -1,17 +1,16 @@
 -- How the expanded forms of symbols are made, each after those that it needs.
-use Rattle.std.proofs.Common.{◌≡◌, ◌≢◌, ℕ, zero, suc, ◌+◌, ◌<◌, ◌≤◌, ◌⊎◌, inl, inr, Bool, true, false, cond, nat_eq, ◌&&◌, not, List, [], ◌∷◌, length, map, set, replicate, Option, None, Some, is_some, IsSome, refl, sym, ap, ◌∙◌, arith, get_or, drop, drop-cons, length-drop, slice_get}
+use Rattle.std.proofs.Common.{◌≡◌, ◌≢◌, ℕ, zero, suc, ◌+◌, ◌<◌, ◌≤◌, ◌⊎◌, inl, inr, Bool, true, false, nat_eq, ◌&&◌, not, List, [], ◌∷◌, length, map, set, replicate, Option, None, Some, is_some, IsSome, refl, sym, ap, ◌∙◌, arith, get_or, drop, drop-cons, length-drop, slice_get}
+use Rattle.std.specs.List.{list_any}
 use Rattle.std.specs.Option.{option_map, option_flatten}
 use Rattle.std.proofs.lemmas.Bool.{eqb-true}
 use Rattle.std.proofs.lemmas.Bool.Decides.{nat_tests}
 use Rattle.std.proofs.lemmas.List.{nil_from_length, length-set, length-replicate}
-use Rattle.std.proofs.lemmas.Option.{same_Some}
-use Rattle.asm_expr.specs.declared.naming.Name.{Name}
 use Rattle.asm_expr.specs.declared.forms.Term.{Term}
 use Rattle.asm_expr.specs.Forms.{Form, constant_form, plus_times}
-use Rattle.asm_symbols.specs.SymbolMap.{SymbolMap, names, index_of}
+use Rattle.asm_symbols.specs.SymbolMap.{SymbolMap}
 use Rattle.asm_symbols.specs.Assigning.{form_at, IsNamedIn, NoFormLeadsBack}
 use Rattle.asm_symbols.proofs.ForwardLemmas.{form_within}
-use Rattle.asm_relax.specs.Expanding.{assigned_at, assigned_form, form_or_name, replacement, plus_terms, names_assigned, expanded, expansion_at, entry_at, entry_by, entry_of, awaits, awaited_at, awaited, terms_of, Expands, IsAwaited, AreExpansions, ArePartly, KeepsForms}
+use Rattle.asm_relax.specs.Expanding.{form_or_symbol, replacement, plus_terms, is_assigned, names_assigned, names_expanded, expanded, expansion_at, entry_at, awaits, terms_of, Expands, IsAwaited, AreExpansions, ArePartly, KeepsForms}
 use Rattle.asm_relax.proofs.ExpandingLemmas.{expanded_none, expanded_some}
 
 -- a store at one place
@@ -61,13 +60,13 @@ not_true false is = refl
 module _ (all : SymbolMap) where
   -- the next term is added
   plus_more : (terms : List Term) (at : ℕ) (item : Term) (made : Form) → at < length terms → item ≡ get_or terms at item
-      → plus_terms (replacement (expanded all) all) made (drop at terms) ≡ plus_terms (replacement (expanded all) all) (plus_times made item.coefficient (replacement (expanded all) all item.name)) (drop (at + 1) terms)
+      → plus_terms (replacement (expanded all) all) made (drop at terms) ≡ plus_terms (replacement (expanded all) all) (plus_times made item.coefficient (replacement (expanded all) all item.symbol)) (drop (at + 1) terms)
   unfolding plus_terms
   plus_more terms at item made inside is =
       let front = drop-cons terms at item inside in
       let one : suc at ≡ at + 1 = omega arith in
       ap (λ rest. plus_terms (replacement (expanded all) all) made rest) (front ∙ ap (λ term. term ∷ drop (suc at) terms) (sym is))
-      ∙ ap (λ n. plus_terms (replacement (expanded all) all) (plus_times made item.coefficient (replacement (expanded all) all item.name)) (drop n terms)) one
+      ∙ ap (λ n. plus_terms (replacement (expanded all) all) (plus_times made item.coefficient (replacement (expanded all) all item.symbol)) (drop n terms)) one
 
   -- no term is left
   plus_end : (terms : List Term) (at : ℕ) (made : Form) → length terms ≤ at → plus_terms (replacement (expanded all) all) made (drop at terms) ≡ made
@@ -107,50 +106,23 @@ module _ (all : SymbolMap) where
     pub entry_exact : ArePartly all forms → (index : ℕ) → awaits all forms index ≡ false → entry_at forms index ≡ expansion_at all index
     entry_exact partly index none = exact_by index (form_at all.symbols index) (entry_at forms index) (partly.each index) none
 
-    module _ (partly : ArePartly all forms) where
-      not_awaited : (index : ℕ) (b : Bool) → awaits all forms index ≡ b → cond b (Some index) None ≡ None → awaits all forms index ≡ false
-      not_awaited index true is none = cc
-      not_awaited index false is none = is
-
-      found_by : (o : Option ℕ) → awaited_at all forms o ≡ None → entry_by forms o ≡ option_map (expanded all) (assigned_at all.symbols o)
-      found_by None none = refl
-      found_by (Some index) none = entry_exact partly index (not_awaited index (awaits all forms index) refl none)
-
-      entry_found : (name : Name) → awaited all forms name ≡ None → entry_of all forms name ≡ option_map (expanded all) (assigned_form all name)
-      unfolding awaited entry_of assigned_form
-      entry_found name none = found_by (index_of name (names all.symbols)) none
-
-      -- a term whose name awaits no form is added
-      pub expands_step : (at seen : ℕ) (item : Term) (made new : Form) → seen < length (terms_of (form_at all.symbols at)) → item ≡ get_or (terms_of (form_at all.symbols at)) seen item
-          → awaited all forms item.name ≡ None → new ≡ plus_times made item.coefficient (form_or_name item.name (entry_of all forms item.name)) → Expands all at seen made → Expands all at (seen + 1) new
-      expands_step at seen item made new inside is none grown expands =
-          let found = entry_found item.name none in
-          let next : new ≡ plus_times made item.coefficient (replacement (expanded all) all item.name) = grown ∙ ap (λ o. plus_times made item.coefficient (form_or_name item.name o)) found in
-          expands ∙ ap Some (plus_more (terms_of (form_at all.symbols at)) seen item made inside is ∙ ap (λ m. plus_terms (replacement (expanded all) all) m (drop (seen + 1) (terms_of (form_at all.symbols at)))) (sym next))
+    -- a term whose symbol awaits no form is added
+    pub expands_step : ArePartly all forms → (at seen other : ℕ) (item : Term) (made new : Form) → seen < length (terms_of (form_at all.symbols at)) → item ≡ get_or (terms_of (form_at all.symbols at)) seen item
+        → other ≡ item.symbol → awaits all forms other ≡ false → new ≡ plus_times made item.coefficient (form_or_symbol item.symbol (entry_at forms item.symbol)) → Expands all at seen made → Expands all at (seen + 1) new
+    expands_step partly at seen other item made new inside is same none grown expands =
+        let found = entry_exact partly item.symbol (rw same at none) in
+        let next : new ≡ plus_times made item.coefficient (replacement (expanded all) all item.symbol) = grown ∙ ap (λ o. plus_times made item.coefficient (form_or_symbol item.symbol o)) found in
+        expands ∙ ap Some (plus_more (terms_of (form_at all.symbols at)) seen item made inside is ∙ ap (λ m. plus_terms (replacement (expanded all) all) m (drop (seen + 1) (terms_of (form_at all.symbols at)))) (sym next))
 
     -- the symbol that is awaited is named
-    named_at : (terms : List Term) (seen index : ℕ) (item : Term) → seen < length terms → item ≡ get_or terms seen item → index_of item.name (names all.symbols) ≡ Some index → IsNamedIn terms (names all.symbols) index
-    named_at [] seen index item inside is there = absurd (omega arith)
-    named_at (term ∷ terms) zero index item inside is there = inl (ap (λ t. index_of t.name (names all.symbols)) (sym is) ∙ there)
-    named_at (term ∷ terms) (suc seen) index item inside is there = inr (named_at terms seen index item (omega arith) is there)
-
-    awaited_by : (index : ℕ) (o : Option ℕ) → awaited_at all forms o ≡ Some index → (o ≡ Some index) × (awaits all forms index ≡ true)
-    awaited_by index None is = cc
-    awaited_by index (Some found) is = by (awaits all forms found) refl is
-      where
-        by : (b : Bool) → awaits all forms found ≡ b → cond b (Some found) None ≡ Some index → (Some found ≡ Some index) × (awaits all forms index ≡ true)
-        by true test same = let one : found ≡ index = same_Some found index same in (same, ap (awaits all forms) (sym one) ∙ test)
-        by false test same = cc
-
-    awaited_parts : (name : Name) (index : ℕ) → awaited all forms name ≡ Some index → (index_of name (names all.symbols) ≡ Some index) × (awaits all forms index ≡ true)
-    unfolding awaited
-    awaited_parts name index is = awaited_by index (index_of name (names all.symbols)) is
+    named_at : (terms : List Term) (seen : ℕ) (item : Term) → seen < length terms → item ≡ get_or terms seen item → IsNamedIn terms item.symbol
+    named_at [] seen item inside is = absurd (omega arith)
+    named_at (term ∷ terms) zero item inside is = inl (ap (λ t. t.symbol) (sym is))
+    named_at (term ∷ terms) (suc seen) item inside is = inr (named_at terms seen item (omega arith) is)
 
     pub is_awaited : (at seen other : ℕ) (item : Term) → seen < length (terms_of (form_at all.symbols at)) → item ≡ get_or (terms_of (form_at all.symbols at)) seen item
-        → awaited all forms item.name ≡ Some other → IsAwaited all forms at other
-    is_awaited at seen other item inside is found =
-        let parts = awaited_parts item.name other found in
-        record { named = named_at (terms_of (form_at all.symbols at)) seen other item inside is parts.0; missing = parts.1 }
+        → other ≡ item.symbol → awaits all forms other ≡ true → IsAwaited all forms at other
+    is_awaited at seen other item inside is same missing = record { named = rw same (named_at (terms_of (form_at all.symbols at)) seen item inside is); missing = missing }
 
     -- what is awaited is a symbol whose form is not there
     pub awaits_parts : (index : ℕ) → awaits all forms index ≡ true → IsSome (form_at all.symbols index) × (is_some (entry_at forms index) ≡ false)
@@ -209,18 +181,28 @@ module _ (all : SymbolMap) where
         none_by index None is = rw is
         none_by index (Some form) is = done index (form_within all.symbols index form is)
 
+    -- where all are there, they are those of the assigned symbols
+    is_there : (o : Option Form) → is_some (option_map (expanded all) o) ≡ is_some o
+    is_there None = refl
+    is_there (Some form) = refl
+
+    terms_there : AreExpansions all forms → (terms : List Term) → list_any (λ term. is_some (entry_at forms term.symbol)) terms ≡ list_any (is_assigned all) terms
+    terms_there exact [] = refl
+    terms_there exact (term ∷ terms) =
+        let first : is_some (entry_at forms term.symbol) ≡ is_assigned all term = ap is_some (exact.each term.symbol) ∙ is_there (form_at all.symbols term.symbol) in
+        let rest = terms_there exact terms in
+        rw (first, rest) refl
+
+    pub names_there : AreExpansions all forms → (form : Form) → names_expanded forms form ≡ names_assigned all form
+    names_there exact form = terms_there exact form.terms
+
     -- a term is added where all are there
     pub expand_step : AreExpansions all forms → (terms : List Term) (seen : ℕ) (item : Term) (made new whole : Form) → seen < length terms → item ≡ get_or terms seen item
-        → new ≡ plus_times made item.coefficient (form_or_name item.name (entry_of all forms item.name))
+        → new ≡ plus_times made item.coefficient (form_or_symbol item.symbol (entry_at forms item.symbol))
         → plus_terms (replacement (expanded all) all) made (drop seen terms) ≡ whole → plus_terms (replacement (expanded all) all) new (drop (seen + 1) terms) ≡ whole
-    unfolding entry_of assigned_form
     expand_step exact terms seen item made new whole inside is grown before =
-        let next : new ≡ plus_times made item.coefficient (replacement (expanded all) all item.name) = grown ∙ ap (λ o. plus_times made item.coefficient (form_or_name item.name o)) (by (index_of item.name (names all.symbols))) in
+        let next : new ≡ plus_times made item.coefficient (replacement (expanded all) all item.symbol) = grown ∙ ap (λ o. plus_times made item.coefficient (form_or_symbol item.symbol o)) (exact.each item.symbol) in
         ap (λ m. plus_terms (replacement (expanded all) all) m (drop (seen + 1) terms)) next ∙ sym (plus_more terms seen item made inside is) ∙ before
-      where
-        by : (o : Option ℕ) → entry_by forms o ≡ option_map (expanded all) (assigned_at all.symbols o)
-        by None = refl
-        by (Some index) = exact.each index
 
     pub expand_end : (terms : List Term) (seen : ℕ) (made whole : Form) → length terms ≤ seen → plus_terms (replacement (expanded all) all) made (drop seen terms) ≡ whole → made ≡ whole
     expand_end terms seen made whole all_seen before = sym (plus_end terms seen made all_seen) ∙ before

@@ -65,7 +65,7 @@ unfolding rank
 rank_small symbols form = count_small (leads_back symbols form) (length symbols)
 
 -- it falls from a form to those of the symbols that it names
-pub rank_falls : (symbols : List Symbol) → NoFormLeadsBack symbols → (form : Form) (at : ℕ) (next : Form) → form_at symbols at ≡ Some next → NamesSymbol symbols form at
+pub rank_falls : (symbols : List Symbol) → NoFormLeadsBack symbols → (form : Form) (at : ℕ) (next : Form) → form_at symbols at ≡ Some next → NamesSymbol form at
     → rank symbols next < rank symbols form
 unfolding rank
 rank_falls symbols forward form at next is named =

@@ -3,7 +3,7 @@ use Rattle.std.proofs.Common.{◌≡◌, ◌≢◌, ℕ, zero, suc, ◌+◌, ◌
 use Rattle.std.specs.Option.{option_map}
 use Rattle.std.proofs.lemmas.Option.{same_Some, slice_get_within}
 use Rattle.asm_expr.specs.Forms.{Form}
-use Rattle.asm_symbols.specs.SymbolMap.{SymbolMap, names}
+use Rattle.asm_symbols.specs.SymbolMap.{SymbolMap}
 use Rattle.asm_symbols.specs.Assigning.{form_at, IsNamedIn, NoFormLeadsBack}
 use Rattle.asm_symbols.proofs.SoundLemmas.{one_of_more}
 use Rattle.asm_relax.specs.declared.expanding.Visit.{Visit}
@@ -56,7 +56,7 @@ module _ (all : SymbolMap) where
   rank_of_small None = omega arith
   rank_of_small (Some form) = rank_small all.symbols form
 
-  falls_by : NoFormLeadsBack all.symbols → (one other : Option Form) (index : ℕ) → form_at all.symbols index ≡ other → is_some other ≡ true → IsNamedIn (terms_of one) (names all.symbols) index
+  falls_by : NoFormLeadsBack all.symbols → (one other : Option Form) (index : ℕ) → form_at all.symbols index ≡ other → is_some other ≡ true → IsNamedIn (terms_of one) index
       → rank_of other < rank_of one
   falls_by forward None other index is some named = absurd named
   falls_by forward (Some form) None index is some named = cc

@@ -2,43 +2,32 @@
 use Rattle.std.specs.Prelude.{◌≡◌, ℕ, zero, suc, Bool, true, false, ◌&&◌, not, List, [], ◌∷◌, length, drop, Option, None, Some, is_some, option_map, slice_get, if◌then◌else◌}
 use Rattle.std.specs.Option.{option_flatten}
 use Rattle.std.specs.List.{list_any}
-use Rattle.asm_expr.specs.declared.naming.Name.{Name}
 use Rattle.asm_expr.specs.declared.forms.Term.{Term}
-use Rattle.asm_expr.specs.Forms.{Form, constant_form, name_form, plus_times}
-use Rattle.asm_symbols.specs.declared.entries.Symbol.{Symbol}
-use Rattle.asm_symbols.specs.SymbolMap.{SymbolMap, names, index_of}
+use Rattle.asm_expr.specs.Forms.{Form, constant_form, symbol_form, plus_times}
+use Rattle.asm_symbols.specs.SymbolMap.{SymbolMap}
 use Rattle.asm_symbols.specs.Assigning.{form_at, IsNamedIn}
 
--- the form of the symbol at this index, where it is an assigned one
-abbrev pub assigned_at : List Symbol → Option ℕ → Option Form
-assigned_at symbols None = None
-assigned_at symbols (Some index) = form_at symbols index
+-- the form that stands for a symbol, or else the symbol itself
+abbrev pub form_or_symbol : ℕ → Option Form → Form
+form_or_symbol symbol None = symbol_form symbol
+form_or_symbol symbol (Some form) = form
 
--- the last form that the name was assigned
-unfoldable pub assigned_form : SymbolMap → Name → Option Form
-assigned_form map name = assigned_at map.symbols (index_of name (names map.symbols))
+-- what replaces a symbol: for an assigned one, what its last form becomes
+abbrev pub replacement : (Form → Form) → SymbolMap → ℕ → Form
+replacement becomes map symbol = form_or_symbol symbol (option_map becomes (form_at map.symbols symbol))
 
--- the form that stands for a name, or else the name itself
-abbrev pub form_or_name : Name → Option Form → Form
-form_or_name name None = name_form name
-form_or_name name (Some form) = form
-
--- what replaces a name: for an assigned symbol, what its last form becomes
-abbrev pub replacement : (Form → Form) → SymbolMap → Name → Form
-replacement becomes map name = form_or_name name (option_map becomes (assigned_form map name))
-
--- the form plus the terms, with their names replaced
-unfoldable pub plus_terms : (Name → Form) → Form → List Term → Form
+-- the form plus the terms, with their symbols replaced
+unfoldable pub plus_terms : (ℕ → Form) → Form → List Term → Form
 plus_terms replaces made [] = made
-plus_terms replaces made (term ∷ terms) = plus_terms replaces (plus_times made term.coefficient (replaces term.name)) terms
+plus_terms replaces made (term ∷ terms) = plus_terms replaces (plus_times made term.coefficient (replaces term.symbol)) terms
 
--- the sum of the form's terms and its constant, with the names replaced
-abbrev pub with_replaced : (Name → Form) → Form → Form
+-- the sum of the form's terms and its constant, with the symbols replaced
+abbrev pub with_replaced : (ℕ → Form) → Form → Form
 with_replaced replaces form = plus_terms replaces (constant_form form.constant) form.terms
 
--- the term names an assigned symbol
+-- the term is of an assigned symbol
 abbrev pub is_assigned : SymbolMap → Term → Bool
-is_assigned map term = is_some (assigned_form map term.name)
+is_assigned map term = is_some (form_at map.symbols term.symbol)
 
 -- the form names an assigned symbol
 abbrev pub names_assigned : SymbolMap → Form → Bool
@@ -61,6 +50,10 @@ expansion_at map index = option_map (expanded map) (form_at map.symbols index)
 abbrev pub entry_at : List (Option Form) → ℕ → Option Form
 entry_at forms index = option_flatten (slice_get forms index)
 
+-- the form names a symbol whose expanded form is there
+abbrev pub names_expanded : List (Option Form) → Form → Bool
+names_expanded forms form = list_any (λ term. is_some (entry_at forms term.symbol)) form.terms
+
 -- each symbol has its expanded form, where it is an assigned one
 pub record AreExpansions (map : SymbolMap) (forms : List (Option Form)) : Type 0 where
   pub each : (index : ℕ) → entry_at forms index ≡ expansion_at map index
@@ -70,27 +63,9 @@ pub record ArePartly (map : SymbolMap) (forms : List (Option Form)) : Type 0 whe
   pub long : length forms ≡ length map.symbols
   pub each : (index : ℕ) (form : Form) → entry_at forms index ≡ Some form → expansion_at map index ≡ Some form
 
--- the form that is there for the name
-abbrev pub entry_by : List (Option Form) → Option ℕ → Option Form
-entry_by forms None = None
-entry_by forms (Some index) = entry_at forms index
-
--- the form that is there for the symbol of the name
-unfoldable pub entry_of : SymbolMap → List (Option Form) → Name → Option Form
-entry_of map forms name = entry_by forms (index_of name (names map.symbols))
-
 -- the symbol is an assigned one whose expanded form is not there
 abbrev pub awaits : SymbolMap → List (Option Form) → ℕ → Bool
 awaits map forms index = is_some (form_at map.symbols index) && not (is_some (entry_at forms index))
-
--- the symbol at this index, if it is such a one
-abbrev pub awaited_at : SymbolMap → List (Option Form) → Option ℕ → Option ℕ
-awaited_at map forms None = None
-awaited_at map forms (Some index) = if awaits map forms index then Some index else None
-
--- the symbol of the name, if it is such a one
-unfoldable pub awaited : SymbolMap → List (Option Form) → Name → Option ℕ
-awaited map forms name = awaited_at map forms (index_of name (names map.symbols))
 
 -- the terms of the symbol at this index, if it is an assigned one
 abbrev pub terms_of : Option Form → List Term
@@ -103,7 +78,7 @@ Expands map index seen made = expansion_at map index ≡ Some (plus_terms (repla
 
 -- the form of the symbol names this other one, whose expanded form is not there
 pub record IsAwaited (map : SymbolMap) (forms : List (Option Form)) (index other : ℕ) : Type 0 where
-  pub named : IsNamedIn (terms_of (form_at map.symbols index)) (names map.symbols) other
+  pub named : IsNamedIn (terms_of (form_at map.symbols index)) other
   pub missing : awaits map forms other ≡ true
 
 -- what is not awaited before is not awaited after

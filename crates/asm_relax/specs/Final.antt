@@ -1,14 +1,13 @@
--- The meaning of names and the values of forms at the addresses of a layout.
-use Rattle.std.specs.Prelude.{ℕ, ◌+◌, ◌-◌, ◌^◌, ◌==◌, List, length, Option, None, Some, slice_get, if◌then◌else◌}
+-- The meaning of symbols and the values of forms at the addresses of a layout.
+use Rattle.std.specs.Prelude.{ℕ, ◌+◌, ◌-◌, ◌^◌, ◌==◌, List, length, Option, slice_get, if◌then◌else◌}
 use Rattle.std.specs.Option.{option_map_or}
-use Rattle.asm_expr.specs.declared.naming.Name.{Name}
 use Rattle.asm_expr.specs.Forms.{Form, wrapped}
 use Rattle.asm_expr.specs.Knowledge.{Told, absent, label}
 use Rattle.asm_expr.specs.Settled.{settled, constant_left}
 use Rattle.asm_symbols.specs.declared.entries.Meaning.{Meaning}
 use Rattle.asm_symbols.specs.declared.entries.Meaning.TheVariants as meaning
 use Rattle.asm_symbols.specs.declared.entries.Spot.{Spot}
-use Rattle.asm_symbols.specs.SymbolMap.{SymbolMap, names, index_of}
+use Rattle.asm_symbols.specs.SymbolMap.{SymbolMap}
 use Rattle.asm_frags.specs.declared.items.Frag.{Frag}
 use Rattle.asm_frags.specs.Contents.{size_at}
 use Rattle.asm_frags.specs.SectionOf.{SectionOf}
@@ -46,23 +45,18 @@ final_meaning sections (meaning.Common size align) = absent
 final_meaning sections (meaning.Space spot) = spot_told sections spot
 final_meaning sections (meaning.Assigned form) = absent
 
--- what the symbol at this index is known as
-abbrev pub final_at : {P : Type 0} → SymbolMap → List (SectionOf (Frag P ℕ)) → Option ℕ → Told
-final_at map sections None = absent
-final_at map sections (Some index) = option_map_or (λ symbol. final_meaning sections symbol.meaning) (slice_get map.symbols index) absent
-
--- what a name is known as in the layout
-unfoldable pub final_told : {P : Type 0} → SymbolMap → List (SectionOf (Frag P ℕ)) → Name → Told
-final_told map sections name = final_at map sections (index_of name (names map.symbols))
+-- what the symbol at this index is known as in the layout, and nothing where there is none
+unfoldable pub final_told : {P : Type 0} → SymbolMap → List (SectionOf (Frag P ℕ)) → ℕ → Told
+final_told map sections index = option_map_or (λ symbol. final_meaning sections symbol.meaning) (slice_get map.symbols index) absent
 
 -- a form in the layout: assigned symbols are expanded, and labels of one section that cancel are replaced by their addresses
 unfoldable pub final_form : {P : Type 0} → SymbolMap → List (SectionOf (Frag P ℕ)) → Form → Form
 final_form map sections made = settled (final_told map sections) (expanded map made)
 
--- the value in the layout of an expanded form, where all of its names cancel
+-- the value in the layout of an expanded form, where all of its symbols cancel
 unfoldable pub laid_value : {P : Type 0} → SymbolMap → List (SectionOf (Frag P ℕ)) → Form → Option ℕ
 laid_value map sections made = constant_left (settled (final_told map sections) made)
 
--- the value in the layout of a form, where all of its names cancel
+-- the value in the layout of a form, where all of its symbols cancel
 abbrev pub field_value : {P : Type 0} → SymbolMap → List (SectionOf (Frag P ℕ)) → Form → Option ℕ
 field_value map sections made = laid_value map sections (expanded map made)

@@ -3,12 +3,10 @@
 
 ghost use Rattle.std.specs.Prelude.{◌≡◌, ◌<◌, ◌≤◌, length, None, IsSome, IfOk, option_map};
 ghost use Rattle.asm_symbols.specs.Assigning.{form_of, form_at};
-ghost use Rattle.asm_relax.specs.Expanding.{assigned_form, names_assigned, expanded, terms_of, Expands};
+ghost use Rattle.asm_relax.specs.Expanding.{is_assigned, names_assigned, expanded, terms_of, Expands};
 
 use asm_base::NoMemory;
-use asm_expr::{
-    Linear, Name, Term, constant_form, copied_form, copied_name, name_form, plus_times,
-};
+use asm_expr::{Linear, Term, constant_form, copied_form, plus_times, symbol_form};
 use asm_symbols::{Meaning, SymId, Symbols, no_form_leads_back};
 use std::alloc::Global;
 use std::marker::Model;
@@ -25,15 +23,16 @@ fn form_of(meaning: &Meaning) -> Option<&Linear>
 
 /// The form of the symbol at the index, where it is an assigned one.
 fn form_at(symbols: &Symbols, at: usize) -> Option<&Linear>
-    requires { at < length symbols.now.symbols }
     ensures { option_map (λ form. form.now) result ≡ form_at symbols.now.symbols at }
 {
-    form_of(&symbols.as_slice()[at].meaning)
+    match symbols.as_slice().get(at) {
+        Some(symbol) => form_of(&symbol.meaning),
+        None => None,
+    }
 }
 
 /// The terms of the form of the symbol at the index, where it is an assigned one.
 fn terms_at(symbols: &Symbols, at: usize) -> &[Term]
-    requires { at < length symbols.now.symbols }
     ensures { result.now ≡ terms_of (form_at symbols.now.symbols at) }
 {
     match form_at(symbols, at) {
@@ -42,24 +41,18 @@ fn terms_at(symbols: &Symbols, at: usize) -> &[Term]
     }
 }
 
-/// The last form that the name was assigned.
-#[tactic(auto, unfolding(crate::specs::Expanding::assigned_form))]
-fn assigned_form<'a>(symbols: &'a Symbols, name: &Name) -> Option<&'a Linear>
-    ensures { option_map (λ form. form.now) result ≡ assigned_form symbols.now name.now }
+/// Whether the term is of an assigned symbol.
+fn is_assigned(symbols: &Symbols, term: &Term) -> bool
+    ensures { result ≡ is_assigned symbols.now term.now }
 {
-    match symbols.find(name) {
-        Some(id) => form_of(&symbols.symbol(id).meaning),
-        None => None,
-    }
+    form_at(symbols, term.symbol.index() as usize).is_some()
 }
 
 /// Whether the form names an assigned symbol.
 fn names_assigned(symbols: &Symbols, form: &Linear) -> bool
     ensures { result ≡ names_assigned symbols.now form.now }
 {
-    form.terms()
-        .iter()
-        .any(|term| assigned_form(symbols, &term.name).is_some())
+    form.terms().iter().any(|term| is_assigned(symbols, term))
 }
 
 /// A symbol whose form is being expanded: its index, how many terms of its form are expanded, and
@@ -121,7 +114,7 @@ impl Expansions {
     ghost use Rattle.std.specs.Prelude.{◌≡◌, ◌<◌, ◌≤◌, true, false, length, set, replicate, None, Some, option_map, IsNone, IfOk, OnOk, IfSome};
     ghost use Rattle.asm_expr.specs.Forms.{plus_times};
     ghost use Rattle.asm_symbols.specs.Assigning.{form_at};
-    ghost use Rattle.asm_relax.specs.Expanding.{names_assigned, expanded, form_or_name, entry_at, entry_of, awaits, awaited, terms_of, Expands, IsAwaited, AreExpansions, ArePartly, KeepsForms};
+    ghost use Rattle.asm_relax.specs.Expanding.{names_assigned, names_expanded, expanded, form_or_symbol, entry_at, awaits, terms_of, Expands, IsAwaited, AreExpansions, ArePartly, KeepsForms};
 
     /// No form for any of so many symbols.
     fn none(alloc: Global, count: usize) -> Result<Expansions, NoMemory>
@@ -151,62 +144,28 @@ impl Expansions {
         self.entry_at(id.index() as usize)
     }
 
-    /// The form that is there for the symbol of the name.
-    #[tactic(auto, unfolding(crate::specs::Expanding::entry_of))]
-    fn entry_of(&self, symbols: &Symbols, name: &Name) -> Option<&Linear>
-        ensures { option_map (λ form. form.now) result ≡ entry_of symbols.now self.now name.now }
-    {
-        match symbols.find(name) {
-            Some(id) => self.of(id),
-            None => None,
-        }
-    }
-
     /// Whether the symbol is an assigned one whose expanded form is not there.
     fn awaits(&self, symbols: &Symbols, at: usize) -> bool
-        requires { at < length symbols.now.symbols }
         ensures { result ≡ awaits symbols.now self.now at }
     {
         form_at(symbols, at).is_some() && self.entry_at(at).is_none()
     }
 
-    /// The symbol of the name, if it is such a one.
-    #[tactic(auto, unfolding(crate::specs::Expanding::awaited))]
-    fn awaited(&self, symbols: &Symbols, name: &Name) -> Option<usize>
-        ensures { result ≡ awaited symbols.now self.now name.now }
-    {
-        let id = symbols.find(name)?;
-        let at = id.index() as usize;
-        if self.awaits(symbols, at) {
-            Some(at)
-        } else {
-            None
-        }
-    }
-
-    /// The form plus the term, with the form that is there for the term's name in its place.
-    fn plus_term(
-        &self,
-        alloc: Global,
-        symbols: &Symbols,
-        made: Linear,
-        term: &Term,
-    ) -> Result<Linear, NoMemory>
-        ensures { let found = entry_of symbols.now self.now term.now.name in
+    /// The form plus the term, with the form that is there for the term's symbol in its place.
+    fn plus_term(&self, alloc: Global, made: Linear, term: &Term) -> Result<Linear, NoMemory>
+        ensures { let found = entry_at self.now term.now.symbol in
             IfOk result (λ form. form
-            ≡ plus_times made term.now.coefficient (form_or_name term.now.name found)) }
+            ≡ plus_times made term.now.coefficient (form_or_symbol term.now.symbol found)) }
     {
-        match self.entry_of(symbols, &term.name) {
-            Some(form) => plus_times(alloc, made, term.coefficient, form),
-            None => {
-                let own = name_form(alloc, copied_name(alloc, &term.name)?)?;
-                plus_times(alloc, made, term.coefficient, &own)
-            }
-        }
+        let sum = match self.of(term.symbol) {
+            Some(form) => plus_times(made, term.coefficient, form),
+            None => plus_times(made, term.coefficient, &symbol_form(alloc, term.symbol)?),
+        };
+        Ok(sum?)
     }
 
-    /// Expands terms up to the first that names a symbol whose expanded form is not there, and
-    /// answers that symbol.
+    /// Expands terms up to the first of a symbol whose expanded form is not there, and answers that
+    /// symbol.
     fn advance(
         &self,
         alloc: Global,
@@ -232,10 +191,11 @@ impl Expansions {
         let terms = terms_at(symbols, symbol);
         while seen < terms.len() {
             let term = &terms[seen];
-            if let Some(other) = self.awaited(symbols, &term.name) {
+            let other = term.symbol.index() as usize;
+            if self.awaits(symbols, other) {
                 return Ok((Visit { symbol, seen, made }, Some(other)));
             }
-            made = self.plus_term(alloc, symbols, made, term)?;
+            made = self.plus_term(alloc, made, term)?;
             seen += 1;
         }
         Ok((Visit { symbol, seen, made }, None))
@@ -301,18 +261,27 @@ impl Expansions {
         let terms = form.terms();
         let mut made = constant_form(alloc, form.constant());
         for term in terms {
-            made = self.plus_term(alloc, symbols, made, term)?;
+            made = self.plus_term(alloc, made, term)?;
         }
         Ok(made)
     }
 
+    /// Whether the form names a symbol whose expanded form is there.
+    fn names_expanded(&self, form: &Linear) -> bool
+        ensures { result ≡ names_expanded self.now form.now }
+    {
+        form.terms()
+            .iter()
+            .any(|term| self.of(term.symbol).is_some())
+    }
+
     /// The form expanded. One that names no assigned symbol is handed back.
-    #[tactic(auto, using(crate::proofs::ExpandingLemmas::expanded_none))]
+    #[tactic(auto, using(crate::proofs::ExpandingLemmas::expanded_none, crate::proofs::ExpansionLemmas::names_there))]
     pub fn expand(&self, alloc: Global, symbols: &Symbols, form: Linear) -> Result<Linear, NoMemory>
         requires { AreExpansions symbols.now self.now }
         ensures { IfOk result (λ made. made ≡ expanded symbols.now form) }
     {
-        if names_assigned(symbols, &form) {
+        if self.names_expanded(&form) {
             return self.sum_of(alloc, symbols, &form);
         }
         Ok(form)

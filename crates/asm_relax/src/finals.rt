@@ -1,14 +1,15 @@
-//! The meaning of names and the values of forms at the addresses of a layout.
+//! The meaning of symbols and the values of forms at the addresses of a layout.
 
 ghost use Rattle.std.specs.Prelude.{◌≡◌, IfOk};
 ghost use Rattle.asm_expr.specs.Knowledge.{told_by};
+ghost use Rattle.asm_expr.specs.Settled.{cannot_cancel, constant_left};
 ghost use Rattle.asm_relax.specs.Expanding.{AreExpansions};
 ghost use Rattle.asm_relax.specs.Final.{spot_told, final_meaning, final_form, laid_value};
 
 use crate::expanding::Expansions;
 use crate::places::address_of;
 use asm_base::NoMemory;
-use asm_expr::{Known, Linear, Look, Name, copied_form, settled, settled_value};
+use asm_expr::{Known, Linear, Look, SymId, Term, Written, copied_form, settled, settled_value};
 use asm_frags::{Laid, Sections};
 use asm_symbols::{Meaning, Spot, Symbols};
 use std::alloc::{AllocError, Global};
@@ -41,33 +42,28 @@ fn look_of<'a>(sections: &Sections<Laid>, meaning: &Meaning) -> Look<'a>
 }
 
 impl Known for FinalView<'_> {
-    ghost use Rattle.asm_expr.specs.declared.naming.Name.TheVariants.{Place};
     ghost use Rattle.asm_relax.specs.Final.{final_told};
 
-    ghost told = { λ view name. final_told view.symbols.now view.sections.now name };
+    ghost told = { λ view symbol. final_told view.symbols.now view.sections.now symbol };
 
-    ghost counted = { λ _ _. 0 };
+    ghost meant = { λ _ _. 0 };
 
-    ghost place = { λ _. Place 0 0 0 };
+    ghost place = { λ _. 0 };
 
     #[tactic(auto, unfolding(crate::specs::Final::final_told))]
-    fn look(&self, name: &Name) -> Look<'_> {
-        match self.symbols.find(name) {
-            Some(id) => look_of(self.sections, &self.symbols.symbol(id).meaning),
+    fn look(&self, symbol: SymId) -> Look<'_> {
+        match self.symbols.as_slice().get(symbol.index() as usize) {
+            Some(found) => look_of(self.sections, &found.meaning),
             None => Look::Absent,
         }
     }
 
-    fn count(&self, _number: u64) -> u32 {
-        0
+    fn symbol(&self, _written: &Written) -> SymId {
+        SymId::new(0)
     }
 
-    fn here(&self) -> Name {
-        Name::Place {
-            section: 0,
-            item: 0,
-            offset: 0,
-        }
+    fn here(&self) -> SymId {
+        SymId::new(0)
     }
 }
 
@@ -92,11 +88,36 @@ pub fn final_form(
     }
 }
 
-/// The value in a layout of an expanded form, where all of its names cancel. It takes no memory.
+/// Whether nothing can cancel in the terms: there is none, or one that counts.
+fn cannot_cancel(terms: &[Term]) -> bool
+    ensures { result ≡ cannot_cancel terms.now }
+{
+    match terms {
+        [] => true,
+        [only] => only.coefficient != 0,
+        _ => false,
+    }
+}
+
+/// The constant of a form, if no symbol is left in it.
+fn constant_left(form: &Linear) -> Option<u64>
+    ensures { result ≡ constant_left form.now }
+{
+    if form.terms().is_empty() {
+        Some(form.constant())
+    } else {
+        None
+    }
+}
+
+/// The value in a layout of an expanded form, where all of its symbols cancel. It takes no memory, and does not look
+/// at a symbol that stands alone, which never cancels.
 #[tactic(auto, unfolding(crate::specs::Final::laid_value))]
 pub fn laid_value(symbols: &Symbols, sections: &Sections<Laid>, form: &Linear) -> Option<u64>
     ensures { result ≡ laid_value symbols.now sections.now form.now }
 {
-    let known = FinalView { symbols, sections };
-    settled_value(&known, form)
+    if cannot_cancel(form.terms()) {
+        return constant_left(form);
+    }
+    settled_value(&FinalView { symbols, sections }, form)
 }

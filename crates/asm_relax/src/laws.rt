@@ -69,7 +69,7 @@ pub fn one_ranking()
 {}
 
 /// Where no form leads back to its symbol, an expanded form names no assigned symbol, and is the
-/// sum of the form's terms with each name replaced by the expansion of its own form.
+/// sum of the form's terms with each symbol replaced by the expansion of its own form.
 pub fn expansions_are_exact()
     ensures left { (symbols : SymbolMap) (form : Form) → NoFormLeadsBack symbols.symbols
         → names_assigned symbols (expanded symbols form) ≡ false }
