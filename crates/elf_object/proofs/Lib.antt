@@ -3,7 +3,7 @@ mod Writing
 mod LoopSteps
 mod AliasLemmas
 mod AliasSamples
-mod LoneNames
+mod LoneSymbols
 mod FieldLemmas
 mod ItemLemmas
 mod MarkLemmas

@@ -3,7 +3,6 @@ use Rattle.std.proofs.Common.{◌≡◌, ℕ, zero, suc, ◌+◌, ◌<◌, ◌&&
 use Rattle.std.specs.Prelude.{slice_get, option_map, option_and_then, filter_map}
 use Rattle.std.specs.List.{cons_option}
 use Rattle.asm_expr.specs.declared.forms.Term.{Term}
-use Rattle.asm_expr.specs.declared.naming.Name.{Name}
 use Rattle.asm_expr.specs.Settled.{settled}
 use Rattle.asm_frags.specs.declared.fields.Field.{Field}
 use Rattle.asm_frags.specs.SectionOf.{SectionOf}
@@ -11,7 +10,7 @@ use Rattle.asm_symbols.specs.declared.entries.Symbol.{Symbol}
 use Rattle.asm_symbols.specs.declared.entries.Meaning.{Meaning}
 use Rattle.asm_symbols.specs.declared.entries.Meaning.TheVariants as meaning
 use Rattle.asm_symbols.specs.declared.entries.Spot.{Spot}
-use Rattle.asm_symbols.specs.SymbolMap.{SymbolMap, names, index_of}
+use Rattle.asm_symbols.specs.SymbolMap.{SymbolMap}
 use Rattle.asm_relax.specs.Final.{address_of, final_told}
 use Rattle.asm_relax.specs.Settling.{LaidItem, LaidSections}
 use Rattle.elf_object.specs.declared.references.SymbolReference.{SymbolReference}
@@ -21,7 +20,7 @@ use Rattle.elf_object.specs.declared.relocations.Target.{Target}
 use Rattle.elf_object.specs.declared.relocations.Target.TheVariants.{OfSection, OfSymbol}
 use Rattle.elf_object.specs.declared.symbol_values.SymbolValue.{SymbolValue}
 use Rattle.elf_object.specs.Contents.{filed_fields, section_relocations, relocations_from}
-use Rattle.elf_object.specs.Relocations.{merge, symbol_reference, label_reference, meaning_reference, reference_at, reference_found, name_reference, own_address, less, reference, direct, relative, pair, is_plus, is_minus, reference_by, final_reference, relocation, field_place, field_relocation}
+use Rattle.elf_object.specs.Relocations.{merge, symbol_reference, label_reference, meaning_reference, reference_at, reference_found, own_address, less, reference, direct, relative, pair, is_plus, is_minus, reference_by, final_reference, relocation, field_place, field_relocation}
 use Rattle.elf_object.specs.SymbolValues.{has_flag, symbol_value_of}
 
 -- the section is there, or the symbol, and the symbol stands somewhere
@@ -74,26 +73,22 @@ meaning_sits map sections index local symbol (meaning.Common size align) got the
     some_same e = cc
 meaning_sits map sections index local symbol (meaning.Assigned form) got there means is = absurd cc
 
-found_sits : (map : SymbolMap) (sections : LaidSections) (found : Option ℕ) (got : SymbolReference) → reference_found map sections found ≡ Some got → Sits map sections got.target
-found_sits map sections None got is = absurd cc
-found_sits map sections (Some index) got is =
+found_sits : (map : SymbolMap) (sections : LaidSections) (index : ℕ) (got : SymbolReference) → reference_found map sections index ≡ Some got → Sits map sections got.target
+unfolding reference_found
+found_sits map sections index got is =
     then_got (reference_at sections index) (slice_get map.symbols index) got is (λ symbol there made. meaning_sits map sections index _ symbol symbol.meaning got there refl made)
 
-name_sits : (map : SymbolMap) (sections : LaidSections) (name : Name) (got : SymbolReference) → name_reference map sections name ≡ Some got → Sits map sections got.target
-unfolding name_reference
-name_sits map sections name got is = found_sits map sections (index_of name (names map.symbols)) got is
+direct_sits : (map : SymbolMap) (sections : LaidSections) (symbol total : ℕ) (got : Reference) → direct map sections symbol total ≡ Some got → Sits map sections got.target
+direct_sits map sections symbol total got is =
+    mapped (reference false total) (reference_found map sections symbol) got is (λ a there made.
+    subst (λ (r : Reference). Sits map sections r.target) made (found_sits map sections symbol a there))
 
-direct_sits : (map : SymbolMap) (sections : LaidSections) (name : Name) (total : ℕ) (got : Reference) → direct map sections name total ≡ Some got → Sits map sections got.target
-direct_sits map sections name total got is =
-    mapped (reference false total) (name_reference map sections name) got is (λ a there made.
-    subst (λ (r : Reference). Sits map sections r.target) made (name_sits map sections name a there))
-
-relative_sits : (map : SymbolMap) (sections : LaidSections) (number place : ℕ) (name from : Name) (total : ℕ) (got : Reference)
-    → relative map sections number place name from total ≡ Some got → Sits map sections got.target
-relative_sits map sections number place name from total got is =
-    then_got (λ address. option_map (reference true (less (total + place) address)) (name_reference map sections name)) (own_address number (final_told map sections from)) got is
-    (λ address own second. mapped (reference true (less (total + place) address)) (name_reference map sections name) got second (λ a there made.
-    subst (λ (r : Reference). Sits map sections r.target) made (name_sits map sections name a there)))
+relative_sits : (map : SymbolMap) (sections : LaidSections) (number place symbol from total : ℕ) (got : Reference)
+    → relative map sections number place symbol from total ≡ Some got → Sits map sections got.target
+relative_sits map sections number place symbol from total got is =
+    then_got (λ address. option_map (reference true (less (total + place) address)) (reference_found map sections symbol)) (own_address number (final_told map sections from)) got is
+    (λ address own second. mapped (reference true (less (total + place) address)) (reference_found map sections symbol) got second (λ a there made.
+    subst (λ (r : Reference). Sits map sections r.target) made (found_sits map sections symbol a there)))
 
 one_of_two : {A : Type 0} {Goal : Type 0} (b : Bool) (x y : Option A) (z : A) → cond b x y ≡ Some z → (x ≡ Some z → Goal) → (y ≡ Some z → Goal) → Goal
 one_of_two true x y z is first second = first is
@@ -105,13 +100,13 @@ nothing z is = absurd cc
 pair_sits : (map : SymbolMap) (sections : LaidSections) (number place : ℕ) (one other : Term) (total : ℕ) (got : Reference)
     → pair map sections number place one other total ≡ Some got → Sits map sections got.target
 pair_sits map sections number place one other total got is =
-    one_of_two (is_plus one && is_minus other) _ _ got is (relative_sits map sections number place one.name other.name total got)
-    (λ second. one_of_two (is_minus one && is_plus other) _ _ got second (relative_sits map sections number place other.name one.name total got) (nothing got))
+    one_of_two (is_plus one && is_minus other) _ _ got is (relative_sits map sections number place one.symbol other.symbol total got)
+    (λ second. one_of_two (is_minus one && is_plus other) _ _ got second (relative_sits map sections number place other.symbol one.symbol total got) (nothing got))
 
 terms_sit : (map : SymbolMap) (sections : LaidSections) (number place : ℕ) (terms : List Term) (total : ℕ) (got : Reference)
     → reference_by map sections number place terms total ≡ Some got → Sits map sections got.target
 terms_sit map sections number place [] total got is = absurd cc
-terms_sit map sections number place (term ∷ []) total got is = one_of_two (is_plus term) _ _ got is (direct_sits map sections term.name total got) (nothing got)
+terms_sit map sections number place (term ∷ []) total got is = one_of_two (is_plus term) _ _ got is (direct_sits map sections term.symbol total got) (nothing got)
 terms_sit map sections number place (one ∷ other ∷ []) total got is = pair_sits map sections number place one other total got is
 terms_sit map sections number place (one ∷ other ∷ third ∷ more) total got is = absurd cc
 

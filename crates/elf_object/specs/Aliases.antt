@@ -1,26 +1,25 @@
 -- Aliases: assigned symbols that stand for one other symbol (GNU as, ".set" and ".type").
 use Rattle.std.specs.Prelude.{ℕ, zero, suc, ◌==◌, length, Option, None, Some, slice_get, option_and_then, if◌then◌else◌}
 use Rattle.std.specs.Option.{option_or}
-use Rattle.asm_expr.specs.declared.naming.Name.{Name}
 use Rattle.asm_expr.specs.Forms.{Form}
 use Rattle.asm_symbols.specs.declared.entries.Kind.{Kind}
 use Rattle.asm_symbols.specs.declared.entries.Meaning.{Meaning}
 use Rattle.asm_symbols.specs.declared.entries.Symbol.{Symbol}
 use Rattle.asm_symbols.specs.Assigning.{form_of}
-use Rattle.asm_symbols.specs.SymbolMap.{SymbolMap, names, index_of}
-use Rattle.elf_object.specs.Relocations.{lone_name}
+use Rattle.asm_symbols.specs.SymbolMap.{SymbolMap}
+use Rattle.elf_object.specs.Relocations.{lone_symbol}
 
--- the name of a form that is one symbol and no number
-abbrev pub name_in : Form → Option Name
-name_in form = if form.constant == 0 then lone_name form.terms else None
+-- the symbol of a form that is one symbol and no number
+abbrev pub symbol_in : Form → Option ℕ
+symbol_in form = if form.constant == 0 then lone_symbol form.terms else None
 
 -- where the symbol stands that one of this meaning is an alias of
-abbrev pub alias_of : SymbolMap → Meaning → Option ℕ
-alias_of map meaning = option_and_then (λ name. index_of name (names map.symbols)) (option_and_then name_in (form_of meaning))
+abbrev pub alias_of : Meaning → Option ℕ
+alias_of meaning = option_and_then symbol_in (form_of meaning)
 
 -- where the symbol stands that the one at this index is an alias of
 abbrev pub alias_at : SymbolMap → ℕ → Option ℕ
-alias_at map index = option_and_then (λ symbol. alias_of map symbol.meaning) (slice_get map.symbols index)
+alias_at map index = option_and_then (λ symbol. alias_of symbol.meaning) (slice_get map.symbols index)
 
 -- what is said first, along a chain of at most so many symbols that begins at this index
 unfoldable pub said_along : {T : Type 0} → (Symbol → Option T) → SymbolMap → ℕ → Option ℕ → Option T
@@ -31,7 +30,7 @@ said_along said map (suc more) (Some index) =
 
 -- what is said of the symbol, or else first along the symbols that it is an alias of; no chain has more than there are
 abbrev pub said_of : {T : Type 0} → (Symbol → Option T) → SymbolMap → Symbol → Option T
-said_of said map symbol = option_or (said symbol) (said_along said map (length map.symbols) (alias_of map symbol.meaning))
+said_of said map symbol = option_or (said symbol) (said_along said map (length map.symbols) (alias_of symbol.meaning))
 
 -- an alias has its symbol's type where it has no `.type` of its own
 unfoldable pub symbol_kind : SymbolMap → Symbol → Option Kind

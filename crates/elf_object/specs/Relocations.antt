@@ -1,7 +1,6 @@
 -- The relocations of fields (psABI for AMD64, section 4.4, "Relocation").
 use Rattle.std.specs.Prelude.{ℕ, ◌+◌, ◌-◌, ◌^◌, ◌==◌, ◌&&◌, not, Bool, true, false, List, [], ◌∷◌, ◌++◌, Option, None, Some, slice_get, option_map, option_and_then, if◌then◌else◌}
 use Rattle.asm_expr.specs.declared.forms.Term.{Term}
-use Rattle.asm_expr.specs.declared.naming.Name.{Name}
 use Rattle.asm_expr.specs.Forms.{Form, wrapped}
 use Rattle.asm_expr.specs.Knowledge.{Told, absent, constant, label, form}
 use Rattle.asm_expr.specs.Settled.{settled}
@@ -13,7 +12,7 @@ use Rattle.asm_symbols.specs.declared.entries.Symbol.{Symbol}
 use Rattle.asm_symbols.specs.declared.entries.Meaning.{Meaning}
 use Rattle.asm_symbols.specs.declared.entries.Meaning.TheVariants as meaning
 use Rattle.asm_symbols.specs.declared.entries.Spot.{Spot}
-use Rattle.asm_symbols.specs.SymbolMap.{SymbolMap, names, index_of}
+use Rattle.asm_symbols.specs.SymbolMap.{SymbolMap}
 use Rattle.asm_relax.specs.Final.{address_in, address_of, final_told}
 use Rattle.asm_relax.specs.Settling.{LaidItem, LaidSections}
 use Rattle.elf_object.specs.declared.relocations.RelocationKind.{RelocationKind}
@@ -75,13 +74,8 @@ abbrev pub reference_at : LaidSections → ℕ → Symbol → Option SymbolRefer
 reference_at sections index symbol = meaning_reference sections index (is_local (binding_of symbol.meaning symbol.binding)) symbol.meaning
 
 -- what a relocation names for the symbol at this index, if there is one
-abbrev pub reference_found : SymbolMap → LaidSections → Option ℕ → Option SymbolReference
-reference_found map sections None = None
-reference_found map sections (Some index) = option_and_then (reference_at sections index) (slice_get map.symbols index)
-
--- what a relocation names for this name
-unfoldable pub name_reference : SymbolMap → LaidSections → Name → Option SymbolReference
-name_reference map sections name = reference_found map sections (index_of name (names map.symbols))
+unfoldable pub reference_found : SymbolMap → LaidSections → ℕ → Option SymbolReference
+reference_found map sections index = option_and_then (reference_at sections index) (slice_get map.symbols index)
 
 -- the address of a label of this section
 abbrev pub own_address : ℕ → Told → Option ℕ
@@ -99,37 +93,37 @@ abbrev pub reference : Bool → ℕ → SymbolReference → Reference
 reference relative number at = record { target = at.target; relative = relative; addend = wrapped (number + at.addend) }
 
 -- S + c
-abbrev pub direct : SymbolMap → LaidSections → Name → ℕ → Option Reference
-direct map sections name number = option_map (reference false number) (name_reference map sections name)
+abbrev pub direct : SymbolMap → LaidSections → ℕ → ℕ → Option Reference
+direct map sections symbol number = option_map (reference false number) (reference_found map sections symbol)
 
--- S + c - L, where L is a label of the section that the field stands in: from S the place of the field is taken, and added to c
-abbrev pub relative : SymbolMap → LaidSections → ℕ → ℕ → Name → Name → ℕ → Option Reference
-relative map sections number place name from total =
-    option_and_then (λ address. option_map (reference true (less (total + place) address)) (name_reference map sections name))
+-- S + c - L, where L is a label of the section of this number, in which the field stands at this place: from S the place is taken, and added to c
+abbrev pub relative : SymbolMap → LaidSections → ℕ → ℕ → ℕ → ℕ → ℕ → Option Reference
+relative map sections number place symbol from total =
+    option_and_then (λ address. option_map (reference true (less (total + place) address)) (reference_found map sections symbol))
     (own_address number (final_told map sections from))
 
--- the coefficient of a name that is taken away
+-- the coefficient of a symbol that is taken away
 abbrev pub minus_one : ℕ
 minus_one = 2 ^ 64 - 1
 
--- the name stands once in the sum
+-- the symbol stands once in the sum
 abbrev pub is_plus : Term → Bool
 is_plus term = term.coefficient == 1
 
--- the name is taken away
+-- the symbol is taken away
 abbrev pub is_minus : Term → Bool
 is_minus term = term.coefficient == minus_one
 
 -- two terms and a number
 abbrev pub pair : SymbolMap → LaidSections → ℕ → ℕ → Term → Term → ℕ → Option Reference
 pair map sections number place one other total =
-    if is_plus one && is_minus other then relative map sections number place one.name other.name total
-    else if is_minus one && is_plus other then relative map sections number place other.name one.name total else None
+    if is_plus one && is_minus other then relative map sections number place one.symbol other.symbol total
+    else if is_minus one && is_plus other then relative map sections number place other.symbol one.symbol total else None
 
 -- the reference of a form: one symbol and a number, or a symbol less a place of this section
 abbrev pub reference_by : SymbolMap → LaidSections → ℕ → ℕ → List Term → ℕ → Option Reference
 reference_by map sections number place [] total = None
-reference_by map sections number place (term ∷ []) total = if is_plus term then direct map sections term.name total else None
+reference_by map sections number place (term ∷ []) total = if is_plus term then direct map sections term.symbol total else None
 reference_by map sections number place (one ∷ other ∷ []) total = pair map sections number place one other total
 reference_by map sections number place (one ∷ other ∷ third ∷ more) total = None
 
@@ -141,11 +135,11 @@ reference_of map sections number place made = reference_by map sections number p
 abbrev pub final_reference : SymbolMap → LaidSections → ℕ → ℕ → Form → Option Reference
 final_reference map sections number place made = reference_of map sections number place (settled (final_told map sections) made)
 
--- the name that a form has alone
-abbrev pub lone_name : List Term → Option Name
-lone_name [] = None
-lone_name (term ∷ []) = if is_plus term then Some term.name else None
-lone_name (one ∷ other ∷ more) = None
+-- the symbol that a form has alone
+abbrev pub lone_symbol : List Term → Option ℕ
+lone_symbol [] = None
+lone_symbol (term ∷ []) = if is_plus term then Some term.symbol else None
+lone_symbol (one ∷ other ∷ more) = None
 
 -- the relocation of a field of this size at this offset
 abbrev pub relocation : ℕ → FieldSize → Reference → Relocation

@@ -31,7 +31,7 @@ label_value (form made) more = None
 -- what a form stands for at the end: a number, or a label and a number
 abbrev pub form_value : SymbolMap → LaidSections → List Term → ℕ → Option SymbolValue
 form_value map sections [] number = Some (symbol_value Absolute number)
-form_value map sections (term ∷ []) number = if term.coefficient == 1 then label_value (final_told map sections term.name) number else None
+form_value map sections (term ∷ []) number = if term.coefficient == 1 then label_value (final_told map sections term.symbol) number else None
 form_value map sections (first ∷ second ∷ more) number = None
 
 -- what a form stands for at the end

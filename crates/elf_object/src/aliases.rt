@@ -1,34 +1,38 @@
 //! Aliases: assigned symbols that stand for one other symbol (GNU as, ".set" and ".type").
 
-ghost use Rattle.std.specs.Prelude.{◌≡◌, ◌<◌, length, option_map, IfSome};
+ghost use Rattle.std.specs.Prelude.{◌≡◌, slice_get, option_map, option_and_then};
 ghost use Rattle.elf_object.specs.Aliases as spec;
 
-use crate::references::lone_name;
-use asm_expr::{Linear, Name};
+use crate::references::lone_symbol;
+use asm_expr::Linear;
 use asm_symbols::{Kind, Meaning, SymId, Symbol, Symbols};
 
-/// The name of a form that is one symbol and no number.
-fn name_in(form: &Linear) -> Option<&Name>
-    ensures { option_map (λ name. name.now) result ≡ spec.name_in form.now }
+/// The symbol of a form that is one symbol and no number.
+fn symbol_in(form: &Linear) -> Option<SymId>
+    ensures { result ≡ spec.symbol_in form.now }
 {
     if form.constant() != 0 {
         return None;
     }
-    lone_name(form.terms())
+    lone_symbol(form.terms())
 }
 
 /// Where the symbol stands that one of this meaning is an alias of.
-fn alias_of(symbols: &Symbols, meaning: &Meaning) -> Option<SymId>
-    ensures value { result ≡ spec.alias_of symbols.now meaning.now }
-    ensures within { IfSome result (λ id. id < length symbols.now.symbols) }
+fn alias_of(meaning: &Meaning) -> Option<SymId>
+    ensures { result ≡ spec.alias_of meaning.now }
 {
-    let Meaning::Assigned(form) = meaning else {
-        return None;
-    };
-    match name_in(form) {
-        Some(name) => symbols.find(name),
-        None => None,
+    match meaning {
+        Meaning::Assigned(form) => symbol_in(form),
+        _ => None,
     }
+}
+
+/// The symbol that stands there, if one does.
+fn symbol_at(symbols: &Symbols, id: Option<SymId>) -> Option<&Symbol>
+    ensures { option_map (λ symbol. symbol.now) result
+        ≡ option_and_then (slice_get symbols.now.symbols) id }
+{
+    symbols.as_slice().get(id?.index() as usize)
 }
 
 /// The kind of a symbol: its own, or else that of the symbol that it is an alias of.
@@ -39,17 +43,16 @@ pub(crate) fn symbol_kind(symbols: &Symbols, symbol: &Symbol) -> Option<Kind>
     if let Some(kind) = symbol.kind {
         return Some(kind);
     }
-    let mut next = alias_of(symbols, &symbol.meaning);
+    let mut next = alias_of(&symbol.meaning);
     let mut left = symbols.len();
     while left > 0 {
-        let Some(id) = next else {
+        let Some(found) = symbol_at(symbols, next) else {
             return None;
         };
-        let found = symbols.symbol(id);
         if let Some(kind) = found.kind {
             return Some(kind);
         }
-        next = alias_of(symbols, &found.meaning);
+        next = alias_of(&found.meaning);
         left -= 1;
     }
     None
@@ -63,17 +66,16 @@ pub(crate) fn symbol_size<'a>(symbols: &'a Symbols, symbol: &'a Symbol) -> Optio
     if let Some(size) = &symbol.size {
         return Some(size);
     }
-    let mut next = alias_of(symbols, &symbol.meaning);
+    let mut next = alias_of(&symbol.meaning);
     let mut left = symbols.len();
     while left > 0 {
-        let Some(id) = next else {
+        let Some(found) = symbol_at(symbols, next) else {
             return None;
         };
-        let found = symbols.symbol(id);
         if let Some(size) = &found.size {
             return Some(size);
         }
-        next = alias_of(symbols, &found.meaning);
+        next = alias_of(&found.meaning);
         left -= 1;
     }
     None

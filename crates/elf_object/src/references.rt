@@ -1,6 +1,6 @@
 //! What relocations refer to: the forms of fields that the linker can work out.
 
-ghost use Rattle.std.specs.Prelude.{◌≡◌, IfOk, option_map};
+ghost use Rattle.std.specs.Prelude.{◌≡◌, IfOk};
 ghost use Rattle.asm_expr.specs.Knowledge.{told_by};
 ghost use Rattle.asm_expr.specs.Settled.{settled};
 ghost use Rattle.asm_relax.specs.Final.{final_told};
@@ -9,7 +9,7 @@ ghost use Rattle.elf_object.specs.Relocations as spec;
 use crate::relocations::{Relocation, Target, kind_for};
 use crate::symbol_values::{Placement, binding_of, has_flag, is_local};
 use asm_base::NoMemory;
-use asm_expr::{Known, Linear, Look, Name, Term, copied_form, settled};
+use asm_expr::{Known, Linear, Look, SymId, Term, copied_form, settled};
 use asm_frags::{Field, Laid, Section, SectionFlags};
 use asm_relax::{FinalView, address_in, address_of};
 use asm_symbols::{Meaning, Spot, Symbol};
@@ -67,13 +67,14 @@ fn reference_at(at: Placement, index: usize, symbol: &Symbol) -> Option<SymbolRe
     }
 }
 
-/// What a relocation names for this name.
-#[tactic(auto, unfolding(crate::specs::Relocations::name_reference))]
-fn name_reference(at: Placement, name: &Name) -> Option<SymbolReference>
-    ensures { result ≡ spec.name_reference at.entry.symbols.now at.entry.sections.now name.now }
+/// What a relocation names for this symbol, if it is there.
+#[tactic(auto, unfolding(crate::specs::Relocations::reference_found))]
+fn reference_found(at: Placement, id: SymId) -> Option<SymbolReference>
+    ensures { result ≡ spec.reference_found at.entry.symbols.now at.entry.sections.now id }
 {
-    match at.symbols.find(name) {
-        Some(id) => reference_at(at, id.index() as usize, at.symbols.symbol(id)),
+    let index = id.index() as usize;
+    match at.symbols.as_slice().get(index) {
+        Some(symbol) => reference_at(at, index, symbol),
         None => None,
     }
 }
@@ -100,10 +101,10 @@ fn reference_to(relative: bool, number: u64, to: SymbolReference) -> Reference
 }
 
 /// S + c.
-fn direct(at: Placement, name: &Name, number: u64) -> Option<Reference>
-    ensures { result ≡ spec.direct at.entry.symbols.now at.entry.sections.now name.now number }
+fn direct(at: Placement, id: SymId, number: u64) -> Option<Reference>
+    ensures { result ≡ spec.direct at.entry.symbols.now at.entry.sections.now id number }
 {
-    match name_reference(at, name) {
+    match reference_found(at, id) {
         Some(to) => Some(reference_to(false, number, to)),
         None => None,
     }
@@ -114,12 +115,12 @@ fn relative(
     at: Placement,
     section: usize,
     place: u64,
-    name: &Name,
-    from: &Name,
+    id: SymId,
+    from: SymId,
     constant: u64,
 ) -> Option<Reference>
-    ensures { result ≡ spec.relative at.entry.symbols.now at.entry.sections.now section place
-        name.now from.now constant }
+    ensures { result ≡ spec.relative at.entry.symbols.now at.entry.sections.now section place id
+        from constant }
 {
     let view = FinalView {
         symbols: at.symbols,
@@ -127,20 +128,20 @@ fn relative(
     };
     let address = own_address(section, view.look(from))?;
     let number = constant.wrapping_add(place).wrapping_sub(address);
-    match name_reference(at, name) {
+    match reference_found(at, id) {
         Some(to) => Some(reference_to(true, number, to)),
         None => None,
     }
 }
 
-/// Whether the term stands for its name.
+/// Whether the term stands for its symbol.
 fn is_plus(term: &Term) -> bool
     ensures { result ≡ spec.is_plus term.now }
 {
     term.coefficient == 1
 }
 
-/// Whether the term's name is taken away.
+/// Whether the term's symbol is taken away.
 fn is_minus(term: &Term) -> bool
     ensures { result ≡ spec.is_minus term.now }
 {
@@ -160,9 +161,9 @@ fn pair(
         other.now constant }
 {
     if is_plus(one) && is_minus(other) {
-        relative(at, section, place, &one.name, &other.name, constant)
+        relative(at, section, place, one.symbol, other.symbol, constant)
     } else if is_minus(one) && is_plus(other) {
-        relative(at, section, place, &other.name, &one.name, constant)
+        relative(at, section, place, other.symbol, one.symbol, constant)
     } else {
         None
     }
@@ -174,18 +175,18 @@ fn reference_by(at: Placement, section: usize, place: u64, form: &Linear) -> Opt
         form.now }
 {
     match form.terms() {
-        [term] if is_plus(term) => direct(at, &term.name, form.constant()),
+        [term] if is_plus(term) => direct(at, term.symbol, form.constant()),
         [one, other] => pair(at, section, place, one, other, form.constant()),
         _ => None,
     }
 }
 
-/// The name that a form has alone.
-pub(crate) fn lone_name(terms: &[Term]) -> Option<&Name>
-    ensures { option_map (λ name. name.now) result ≡ spec.lone_name terms.now }
+/// The symbol that a form has alone.
+pub(crate) fn lone_symbol(terms: &[Term]) -> Option<SymId>
+    ensures { result ≡ spec.lone_symbol terms.now }
 {
     match terms {
-        [term] if is_plus(term) => Some(&term.name),
+        [term] if is_plus(term) => Some(term.symbol),
         _ => None,
     }
 }
@@ -201,9 +202,9 @@ fn reference_of(
     ensures { IfOk result (λ found. found
         ≡ spec.final_reference at.entry.symbols.now at.entry.sections.now section place form.now) }
 {
-    // A name alone is the common case, and takes no memory.
-    if let Some(name) = lone_name(form.terms()) {
-        return Ok(direct(at, name, form.constant()));
+    // A symbol alone is the common case: none cancels it, and the form is not copied.
+    if let Some(symbol) = lone_symbol(form.terms()) {
+        return Ok(direct(at, symbol, form.constant()));
     }
     let view = FinalView {
         symbols: at.symbols,

@@ -69,7 +69,7 @@ fn final_value(at: Placement, form: &Linear) -> Option<SymbolValue>
                 symbols: at.symbols,
                 sections: at.sections,
             };
-            label_value(view.look(&term.name), form.constant())
+            label_value(view.look(term.symbol), form.constant())
         }
         _ => None,
     }
