@@ -1,29 +1,34 @@
 -- Data of numbers alone is what its statement places.
-use Rattle.std.proofs.Common.{◌≡◌, ℕ, ◌+◌, ◌≤◌, false, cond, List, [], ◌∷◌, ◌++◌, length, Result, Ok, Err, refl, sym, ap, subst, ◌∙◌, arith, length-append}
+use Rattle.std.proofs.Common.{◌≡◌, ℕ, ◌+◌, ◌≤◌, Bool, false, cond, List, [], ◌∷◌, ◌++◌, length, Result, Ok, Err, refl, sym, ap, subst, ◌∙◌, arith, length-append}
 use Rattle.std.specs.List.{list_any, count_by}
 use Rattle.std.proofs.lemmas.List.Sums.{sum_by-cons}
 use Rattle.asm_base.specs.Tokens.{SpelledToken}
 use Rattle.asm_base.specs.Refusals.{◌>>=◌}
 use Rattle.asm_base.specs.declared.positions.Pos.{Pos}
 use Rattle.asm_expr.specs.Forms.{constant_form, Form}
-use Rattle.asm_expr.specs.Trees.{Tree}
 use Rattle.asm_frags.specs.declared.fields.FieldSize.{FieldSize}
 use Rattle.asm_frags.specs.declared.fields.FieldSize.TheVariants.{One, Two, Four, Eight}
 use Rattle.asm_frags.specs.Fields.{low_bytes}
+use Rattle.asm_frags.specs.Sections.{put_into}
+use Rattle.asm_frags.specs.Writing.{LooseSection, bytes_put}
 use Rattle.asm_operands.specs.Constants.{IsConstant}
 use Rattle.asm_symbols.specs.declared.entries.Spot.{Spot}
 use Rattle.asm_place.specs.declared.place_faults.PlaceCause.{PlaceCause}
+use Rattle.asm_place.specs.declared.tables.Naming.{Naming}
+use Rattle.asm_place.specs.ConstantOperands.{no_naming}
 use Rattle.asm_place.specs.ConstantData.{MakesData, IsLone, cut_of, put_any, put_lone, put_constants}
 use Rattle.asm_place.specs.DataItems.{put_forms, is_cut, cut_notes}
 use Rattle.asm_place.specs.ExprFaults.{in_statement}
 use Rattle.asm_place.specs.Expressions.{alone, expression_of, form_in}
+use Rattle.asm_place.specs.LayerFaults.{of_sections}
 use Rattle.asm_place.specs.Operands.{operands_of, each}
-use Rattle.asm_place.specs.Places.{uses_dot, name_parts, name_here}
-use Rattle.asm_place.specs.Placing.{DataWords, data_words, put_data, place_data}
+use Rattle.asm_place.specs.Places.{uses_place, name_here, end_naming}
+use Rattle.asm_place.specs.Placing.{put_data, data_of, place_data}
 use Rattle.asm_place.specs.Results.{all_steps}
-use Rattle.asm_place.specs.State.{Placed, with_table, with_notes, here, known_here, put_bytes}
-use Rattle.asm_place.specs.Tables.{Table, name_written, name_list, name_tree, name_trees}
+use Rattle.asm_place.specs.State.{Placed, with_table, with_notes, with_names, here, known_here, put_bytes, put_bytes_into}
+use Rattle.asm_place.specs.Tables.{naming_of, allowed}
 use Rattle.asm_place.proofs.PutTwice.{any_twice, some_put}
+use Rattle.asm_place.proofs.NameLemmas.{one_nothing, none_nothing, more_nothing, none_allowed, nothing_named}
 
 some_bytes : (size : FieldSize) (value : ℕ) → 1 ≤ length (low_bytes size value)
 unfolding low_bytes
@@ -46,14 +51,14 @@ one_in_front pos size value forms (Err fault) = refl
 
 -- no operand makes nothing more
 makes_none : (size : FieldSize) (held : List ℕ) (cut : ℕ) → MakesData size [] held cut held cut
-unfolding each name_trees all_steps
+unfolding each
 makes_none size held cut = record {
   trees = [];
   forms = [];
   reads = refl;
   counts = λ known. refl;
-  names = λ pos table. refl;
-  away = λ spot. refl;
+  names = none_nothing;
+  away = λ place. refl;
   held = λ pos placed. none_behind pos size (put_any pos held placed);
   cut = omega arith;
 }
@@ -62,7 +67,7 @@ makes_none size held cut = record {
 makes_more : (size : FieldSize) (operand : List SpelledToken) (value : ℕ) (rest : List (List SpelledToken)) (before after : List ℕ) (cut cut_after : ℕ)
     → IsConstant operand value → MakesData size rest (before ++ low_bytes size value) (cut + cut_of size value) after cut_after
     → MakesData size (operand ∷ rest) before cut after cut_after
-unfolding each expression_of form_in name_trees name_tree name_list all_steps
+unfolding each expression_of form_in
 makes_more size operand value rest before after cut cut_after one later = record {
   trees = one.tree ∷ later.trees;
   forms = constant_form value ∷ later.forms;
@@ -72,10 +77,8 @@ makes_more size operand value rest before after cut cut_after one later = record
   counts = λ known.
       ap (λ made. in_statement made >>= λ first. each (form_in known) later.trees >>= λ others. Ok (first ∷ others)) (one.counts known)
       ∙ ap (λ made. made >>= λ others. Ok (constant_form value ∷ others)) (later.counts known);
-  names = λ pos table.
-      ap (λ names. all_steps (name_written pos) names table >>= all_steps (name_tree pos) later.trees) one.names
-      ∙ later.names pos table;
-  away = λ spot. later.away spot;
+  names = more_nothing (one.tree ∷ []) later.trees (one_nothing one.tree one.names) later.names;
+  away = λ place. later.away place;
   held = λ pos placed.
       one_in_front pos size value later.forms (put_any pos before placed)
       ∙ (ap (λ put. put >>= put_forms pos size later.forms) (any_twice pos before (low_bytes size value) placed (some_bytes size value)) ∙ later.held pos placed);
@@ -110,34 +113,52 @@ still_few size value before held cut more is one few =
     let bytes : length held ≡ length before + length (low_bytes size value) = ap length is ∙ length-append before (low_bytes size value) in
     omega (arith, some_bytes size value)
 
+-- the symbols stay where bytes are put
+module _ (placed : Placed) (one other : Placed → Result Placed PlaceCause) (same : (put : Placed) → put.table ≡ placed.table → one put ≡ other put) where
+  sections_same : (put : Result (List LooseSection) PlaceCause) → ((put >>= λ sections. Ok (record placed { sections = sections })) >>= one)
+      ≡ ((put >>= λ sections. Ok (record placed { sections = sections })) >>= other)
+  sections_same (Ok sections) = same (record placed { sections = sections }) refl
+  sections_same (Err fault) = refl
+
+  any_same : (pos : Pos) (bytes : List ℕ) → (put_any pos bytes placed >>= one) ≡ (put_any pos bytes placed >>= other)
+  unfolding put_bytes_into
+  any_same pos [] = same placed refl
+  any_same pos (byte ∷ bytes) = sections_same (of_sections (put_into (bytes_put pos (byte ∷ bytes)) placed.sections placed.current))
+
 -- operands that make data from the beginning are placed as that data
 module _ (pos : Pos) (size : FieldSize) (held : List ℕ) (cut : ℕ) where
-  put_so : (put : Result Placed PlaceCause) (spot : Spot) (trees : List Tree) (forms : List Form)
-      → ((table : Table) → name_trees pos trees table ≡ Ok table) → list_any (uses_dot spot) forms ≡ false → count_by (is_cut size) forms ≡ cut
-      → (put >>= λ made. name_parts pos spot (list_any (uses_dot spot) forms) trees made.table >>= λ table.
-      Ok (with_notes (cut_notes pos (count_by (is_cut size) forms)) (with_table made table)))
-      ≡ (put >>= λ made. Ok (with_notes (cut_notes pos cut) made))
-  unfolding name_parts name_here
-  put_so (Err fault) spot trees forms names away count = refl
-  put_so (Ok made) spot trees forms names away count =
-      ap (λ keeps. (name_trees pos trees made.table >>= name_here pos spot keeps) >>= λ table.
-      Ok (with_notes (cut_notes pos (count_by (is_cut size) forms)) (with_table made table))) away
-      ∙ (ap (λ table. (table >>= name_here pos spot false) >>= λ table.
-      Ok (with_notes (cut_notes pos (count_by (is_cut size) forms)) (with_table made table))) (names made.table)
-      ∙ ap (λ n. Ok (with_notes (cut_notes pos n) made)) count)
+  -- names that are nothing's end nothing
+  end_so : (naming : Naming) (spot : Spot) (keeps : Bool) (forms : List Form) (put : Placed) → allowed naming put.table ≡ Ok put.table → keeps ≡ false
+      → count_by (is_cut size) forms ≡ cut
+      → (end_naming pos naming spot keeps put.table >>= λ table. Ok (with_notes (cut_notes pos (count_by (is_cut size) forms)) (with_table put table)))
+      ≡ Ok (with_notes (cut_notes pos cut) put)
+  unfolding name_here
+  end_so naming spot keeps forms put may away count =
+      ap (λ may. (may >>= name_here pos spot keeps) >>= λ table. Ok (with_notes (cut_notes pos (count_by (is_cut size) forms)) (with_table put table))) may
+      ∙ (ap (λ keeps. name_here pos spot keeps put.table >>= λ table. Ok (with_notes (cut_notes pos (count_by (is_cut size) forms)) (with_table put table))) away
+      ∙ ap (λ n. Ok (with_notes (cut_notes pos n) put)) count)
+
+  put_so : (forms : List Form) (placed : Placed) → (put_any pos [] placed >>= put_forms pos size forms) ≡ put_any pos held placed
+      → list_any (uses_place (known_here placed).place) forms ≡ false → count_by (is_cut size) forms ≡ cut
+      → put_data pos size (no_naming placed.table) forms placed ≡ put_constants pos held cut placed
+  unfolding put_data
+  put_so forms placed puts away count =
+      ap (λ put. put >>= λ made.
+      end_naming pos (no_naming placed.table) (here placed) (list_any (uses_place (known_here placed).place) forms) made.table >>= λ table.
+      Ok (with_notes (cut_notes pos (count_by (is_cut size) forms)) (with_table made table))) puts
+      ∙ any_same placed _ (λ made. Ok (with_notes (cut_notes pos cut) made))
+      (λ made still. end_so (no_naming placed.table) (here placed) (list_any (uses_place (known_here placed).place) forms) forms made
+      (subst (λ table. allowed (no_naming table) made.table ≡ Ok made.table) still (none_allowed made.table)) away count) pos held
 
   pub constants_place : (tokens : List SpelledToken) (placed : Placed) → MakesData size (operands_of tokens) [] 0 held cut
       → place_data pos size tokens placed ≡ put_constants pos held cut placed
-  unfolding place_data data_words put_data
+  unfolding place_data
   constants_place tokens placed made =
-      ap (λ read. (read >>= λ trees. each (form_in (known_here placed)) trees >>= λ forms. Ok (record { trees = trees; forms = forms }))
-      >>= λ (words : DataWords). put_data pos size words placed) made.reads
-      ∙ (ap (λ counted. (counted >>= λ forms. Ok (record { trees = made.trees; forms = forms })) >>= λ (words : DataWords). put_data pos size words placed)
-      (made.counts (known_here placed))
-      ∙ (ap (λ put. put >>= λ made_so.
-      name_parts pos (here placed) (list_any (uses_dot (here placed)) made.forms) made.trees made_so.table >>= λ table.
-      Ok (with_notes (cut_notes pos (count_by (is_cut size) made.forms)) (with_table made_so table))) (made.held pos placed)
-      ∙ put_so (put_any pos held placed) (here placed) made.trees made.forms (made.names pos) (made.away (here placed)) (omega (arith, made.cut))))
+      ap (λ read. read >>= λ trees. data_of pos size trees (naming_of trees placed.table) (with_names pos trees placed)) made.reads
+      ∙ (ap (λ table. data_of pos size made.trees (naming_of made.trees placed.table) (with_table placed table)) (made.names.names pos placed.table)
+      ∙ (ap (λ naming. data_of pos size made.trees naming placed) (nothing_named made.trees placed.table made.names)
+      ∙ (ap (λ counted. counted >>= λ forms. put_data pos size (no_naming placed.table) forms placed) (made.counts (known_here placed))
+      ∙ put_so made.forms placed (made.held pos placed) (made.away (known_here placed).place) (omega (arith, made.cut)))))
 
 -- one number is placed as its bytes
 pub lone_places : (pos : Pos) (size : FieldSize) (value : ℕ) (tokens : List SpelledToken) (placed : Placed) → IsLone tokens value

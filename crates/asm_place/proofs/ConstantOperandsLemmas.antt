@@ -1,28 +1,31 @@
 -- Operands of numbers alone are read, counted and named as their statement has it, and space of them is placed so.
 use Rattle.std.proofs.Common.{◌≡◌, ℕ, Bool, true, false, nat_le, List, [], ◌∷◌, ◌++◌, Option, None, Some, Result, Ok, Err, option_map, unwrap_or, is_ok, refl, sym, ap, ◌∙◌}
-use Rattle.std.specs.Option.{option_map_or, option_to_list}
+use Rattle.std.specs.Option.{option_to_list}
 use Rattle.std.proofs.lemmas.Bool.{false≢true}
 use Rattle.asm_base.specs.Tokens.{SpelledToken}
 use Rattle.asm_base.specs.Refusals.{◌>>=◌}
 use Rattle.asm_base.specs.declared.positions.Pos.{Pos}
-use Rattle.asm_expr.specs.Forms.{constant_form, Form}
+use Rattle.asm_expr.specs.Forms.{constant_form}
 use Rattle.asm_expr.specs.Knowledge.{Knowledge}
-use Rattle.asm_expr.specs.NamesOf.{names_of}
 use Rattle.asm_expr.specs.Reading.{reading, read_at}
 use Rattle.asm_expr.specs.Trees.{Tree}
 use Rattle.asm_frags.specs.declared.contents.Content.{Content}
+use Rattle.asm_frags.specs.Sections.{put_into}
+use Rattle.asm_frags.specs.Writing.{LooseSection, new_item, item_put}
 use Rattle.asm_operands.specs.Constants.{IsConstant, FindsConstant}
 use Rattle.asm_place.specs.declared.place_faults.PlaceCause.{PlaceCause}
 use Rattle.asm_place.specs.declared.up_to_three.UpToThree.{UpToThree}
-use Rattle.asm_place.specs.ConstantOperands.{IsFirstConstant, IsNextConstant, AreConstants, FindsFirst, put_space_of, put_units_of}
+use Rattle.asm_place.specs.ConstantOperands.{NamesNothing, IsFirstConstant, IsNextConstant, no_naming, AreConstants, FindsFirst, put_space_of, put_units_of}
 use Rattle.asm_place.specs.ExprFaults.{in_statement}
-use Rattle.asm_place.specs.Expressions.{alone, expression_of, form_in, constant_in, up_to_three_listed, each_up_to_three, first_tree, next_tree, next_tree_if, no_more, up_to_three_trees, up_to_three_forms, up_to_three_constants, KnownOperands, known_operands}
+use Rattle.asm_place.specs.Expressions.{alone, expression_of, form_in, constant_in, up_to_three_listed, first_tree, next_tree, next_tree_if, no_more, up_to_three_trees, up_to_three_forms, up_to_three_constants, KnownOperands, known_values, known_operands}
+use Rattle.asm_place.specs.LayerFaults.{of_sections}
 use Rattle.asm_place.specs.Operands.{operands_of}
 use Rattle.asm_place.specs.Placing.{with_item, place_zero, place_skip, place_fill}
-use Rattle.asm_place.specs.Results.{all_steps, if_some}
+use Rattle.asm_place.specs.Results.{if_some}
 use Rattle.asm_place.specs.Spaces.{space_of, units_of, unit_size}
-use Rattle.asm_place.specs.State.{Placed, with_table, known_here, push_item}
-use Rattle.asm_place.specs.Tables.{Table, name_written, name_list, name_tree, name_trees}
+use Rattle.asm_place.specs.State.{Placed, with_table, with_names, known_here, push_item, push_into}
+use Rattle.asm_place.specs.Tables.{naming_of, allowed}
+use Rattle.asm_place.proofs.NameLemmas.{one_nothing, none_nothing, more_nothing, none_allowed, nothing_named}
 
 -- a number is one expression, and its form is the number
 reads_alone : (operand : List SpelledToken) (value : ℕ) (one : IsConstant operand value) → expression_of operand ≡ Ok one.tree
@@ -41,13 +44,18 @@ first_so operand all behind value is one = record {
   tree = one.tree;
   reads = ap first_tree is ∙ ap (λ read. read >>= λ tree. Ok (tree, behind)) (reads_alone operand value one);
   counts = counts_so operand value one;
-  names = one.names;
+  names = one_nothing one.tree one.names;
 }
 
 pub first_finds : (operand : List SpelledToken) (all behind : List (List SpelledToken)) (found : Option ℕ) → all ≡ operand ∷ behind
     → FindsConstant operand found → FindsFirst all behind found
 first_finds operand all behind None is one = tt
 first_finds operand all behind (Some value) is one = first_so operand all behind value is one
+
+-- no operand may be there
+pub none_may : (may : Bool) (all : List (List SpelledToken)) → may ≡ false → IsNextConstant may all all None
+none_may true all may_not = absurd (false≢true (sym may_not))
+none_may false all may_not = record { tree = None; reads = refl; counts = λ known. refl; names = none_nothing }
 
 -- no operand is left
 pub none_left : (may : Bool) (all behind : List (List SpelledToken)) → may ≡ true → all ≡ [] → behind ≡ [] → IsNextConstant may all behind None
@@ -56,7 +64,7 @@ none_left may all behind may_be is rest = record {
   tree = None;
   reads = ap (λ m. next_tree_if m all) may_be ∙ (ap next_tree is ∙ ap (λ operands. Ok (None, operands)) (sym rest));
   counts = λ known. refl;
-  names = refl;
+  names = none_nothing;
 }
 
 -- nothing is no number
@@ -79,24 +87,8 @@ next_so may (token ∷ tokens) all behind value may_be is one = record {
       ap (λ m. next_tree_if m all) may_be ∙ (ap next_tree is ∙ (some_tree token tokens behind
       ∙ ap (λ read. read >>= λ tree. Ok (Some tree, behind)) (reads_alone (token ∷ tokens) value one)));
   counts = λ known. ap (λ made. made >>= λ form. Ok (Some form)) (counts_so (token ∷ tokens) value one known);
-  names = one.names;
+  names = one_nothing one.tree one.names;
 }
-
--- a tree with no names names nothing
-module _ (pos : Pos) where
-  names_nothing : (tree : Tree) (trees : List Tree) (table : Table) → names_of tree ≡ [] → name_trees pos (tree ∷ trees) table ≡ name_trees pos trees table
-  unfolding name_trees name_tree name_list all_steps
-  names_nothing tree trees table none = ap (λ names. all_steps (name_written pos) names table >>= all_steps (name_tree pos) trees) none
-
-  may_name_nothing : (tree : Option Tree) (trees : List Tree) (table : Table) → option_map_or names_of tree [] ≡ []
-      → name_trees pos (option_to_list tree ++ trees) table ≡ name_trees pos trees table
-  may_name_nothing None trees table none = refl
-  may_name_nothing (Some tree) trees table none = names_nothing tree trees table none
-
-  last_names_nothing : (tree : Option Tree) (table : Table) → option_map_or names_of tree [] ≡ [] → name_trees pos (option_to_list tree) table ≡ Ok table
-  unfolding name_trees all_steps
-  last_names_nothing None table none = refl
-  last_names_nothing (Some tree) table none = names_nothing tree [] table none
 
 -- the value of a number
 value_so : (value : ℕ) → constant_in (constant_form value) ≡ Ok value
@@ -144,61 +136,75 @@ module _ (most first : ℕ) (second third : Option ℕ) where
         Ok (record { first = constant_form first; second = second; third = third })) (two.counts known)
         ∙ ap (λ form. form >>= λ third. Ok (record { first = constant_form first; second = option_map constant_form second; third = third })) (three.counts known))
 
+    few_nothing : NamesNothing (up_to_three_listed few)
+    unfolding few
+    few_nothing =
+        more_nothing (one.tree ∷ []) (option_to_list two.tree ++ option_to_list three.tree) one.names
+        (more_nothing (option_to_list two.tree) (option_to_list three.tree) two.names three.names)
+
     pub all_so : AreConstants most all (record { first = first; second = second; third = third })
-    unfolding known_operands few
+    unfolding known_operands
     all_so = record {
-      trees = up_to_three_listed few;
-      counts = λ known.
-          ap (λ read. read >>= λ trees. up_to_three_forms known trees >>= λ forms. up_to_three_constants forms >>= λ values.
-          Ok (record { trees = up_to_three_listed trees; values = values })) reads_so
-          ∙ (ap (λ made. made >>= λ forms. up_to_three_constants forms >>= λ values. Ok (record { trees = up_to_three_listed few; values = values })) (forms_so known)
-          ∙ ap (λ counted. counted >>= λ values. Ok (record { trees = up_to_three_listed few; values = values })) values_so);
-      names = λ pos table.
-          names_nothing pos one.tree (option_to_list two.tree ++ option_to_list three.tree) table one.names
-          ∙ (may_name_nothing pos two.tree (option_to_list three.tree) table two.names ∙ last_names_nothing pos three.tree table three.names);
+      counts = λ pos placed.
+          ap (λ read. read >>= λ trees. known_values trees (naming_of (up_to_three_listed trees) placed.table) (with_names pos (up_to_three_listed trees) placed)) reads_so
+          ∙ (ap (λ table. known_values few (naming_of (up_to_three_listed few) placed.table) (with_table placed table)) (few_nothing.names pos placed.table)
+          ∙ (ap (λ naming. known_values few naming placed) (nothing_named (up_to_three_listed few) placed.table few_nothing)
+          ∙ (ap (λ made. made >>= λ forms. up_to_three_constants forms >>= λ values. Ok (record { naming = no_naming placed.table; placed = placed; values = values }))
+          (forms_so (known_here placed))
+          ∙ ap (λ counted. counted >>= λ values. Ok (record { naming = no_naming placed.table; placed = placed; values = values })) values_so)));
     }
 
 -- space whose operands name nothing is its item
-module _ (pos : Pos) (trees : List Tree) (names : (table : Table) → name_trees pos trees table ≡ Ok table) where
-  named_so : (put : Result Placed PlaceCause) → (put >>= λ pushed. name_trees pos trees pushed.table >>= λ table. Ok (with_table pushed table)) ≡ put
-  named_so (Ok pushed) = ap (λ named. named >>= λ table. Ok (with_table pushed table)) (names pushed.table)
-  named_so (Err fault) = refl
+module _ (pos : Pos) (placed : Placed) (values : UpToThree ℕ) where
+  given : KnownOperands
+  given = record { naming = no_naming placed.table; placed = placed; values = values }
 
-  item_so : (placed : Placed) (item : Result Content PlaceCause) → (item >>= λ item. with_item pos trees item placed) ≡ (item >>= λ item. push_item pos item placed)
-  item_so placed (Ok item) = named_so (push_item pos item placed)
-  item_so placed (Err fault) = refl
+  pushed_so : (put : Result (List LooseSection) PlaceCause)
+      → ((put >>= λ sections. Ok (record placed { sections = sections })) >>= λ pushed.
+      allowed (no_naming placed.table) pushed.table >>= λ table. Ok (with_table pushed table))
+      ≡ (put >>= λ sections. Ok (record placed { sections = sections }))
+  pushed_so (Ok sections) = ap (λ may. may >>= λ table. Ok (with_table (record placed { sections = sections }) table)) (none_allowed placed.table)
+  pushed_so (Err fault) = refl
 
-  units_so : (placed : Placed) (count value : ℕ) (size : Result ℕ PlaceCause)
-      → (size >>= λ size. units_of count size value >>= λ item. with_item pos trees item placed) ≡ (size >>= λ size. units_of count size value >>= λ item. push_item pos item placed)
-  units_so placed count value (Ok size) = item_so placed (units_of count size value)
-  units_so placed count value (Err fault) = refl
+  one_so : (item : Content) → with_item pos given item ≡ push_item pos item placed
+  unfolding push_into given
+  one_so item = pushed_so (of_sections (put_into (item_put (new_item pos item)) placed.sections placed.current))
+
+  item_so : (item : Result Content PlaceCause) → (item >>= with_item pos given) ≡ (item >>= λ item. push_item pos item placed)
+  item_so (Ok item) = one_so item
+  item_so (Err fault) = refl
+
+  units_so : (count value : ℕ) (size : Result ℕ PlaceCause)
+      → (size >>= λ size. units_of count size value >>= with_item pos given) ≡ (size >>= λ size. units_of count size value >>= λ item. push_item pos item placed)
+  units_so count value (Ok size) = item_so (units_of count size value)
+  units_so count value (Err fault) = refl
 
 module _ (pos : Pos) (tokens : List SpelledToken) (operands : List (List SpelledToken)) (values : UpToThree ℕ) (placed : Placed) (is : operands ≡ operands_of tokens) where
   pub zero_so : AreConstants 1 operands values → put_space_of pos values.first 0 placed ≡ place_zero pos tokens placed
-  unfolding place_zero
+  unfolding place_zero given
   zero_so all = sym
-      (ap (λ these. known_operands (known_here placed) 1 these >>= λ (given : KnownOperands). space_of given.values.first 0 >>= λ item. with_item pos given.trees item placed) (sym is)
-      ∙ (ap (λ given. given >>= λ (given : KnownOperands). space_of given.values.first 0 >>= λ item. with_item pos given.trees item placed) (all.counts (known_here placed))
-      ∙ item_so pos all.trees (all.names pos) placed (space_of values.first 0)))
+      (ap (λ these. known_operands pos placed 1 these >>= λ (given : KnownOperands). space_of given.values.first 0 >>= with_item pos given) (sym is)
+      ∙ (ap (λ given. given >>= λ (given : KnownOperands). space_of given.values.first 0 >>= with_item pos given) (all.counts pos placed)
+      ∙ item_so pos placed values (space_of values.first 0)))
 
   pub skip_so : (value : ℕ) → value ≡ unwrap_or values.second 0 → AreConstants 2 operands values
       → put_space_of pos values.first value placed ≡ place_skip pos tokens placed
-  unfolding place_skip
+  unfolding place_skip given
   skip_so value value_is all =
       ap (λ n. put_space_of pos values.first n placed) value_is
-      ∙ sym (ap (λ these. known_operands (known_here placed) 2 these >>= λ (given : KnownOperands). space_of given.values.first (unwrap_or given.values.second 0)
-      >>= λ item. with_item pos given.trees item placed) (sym is)
-      ∙ (ap (λ given. given >>= λ (given : KnownOperands). space_of given.values.first (unwrap_or given.values.second 0) >>= λ item. with_item pos given.trees item placed)
-      (all.counts (known_here placed))
-      ∙ item_so pos all.trees (all.names pos) placed (space_of values.first (unwrap_or values.second 0))))
+      ∙ sym (ap (λ these. known_operands pos placed 2 these >>= λ (given : KnownOperands).
+      space_of given.values.first (unwrap_or given.values.second 0) >>= with_item pos given) (sym is)
+      ∙ (ap (λ given. given >>= λ (given : KnownOperands). space_of given.values.first (unwrap_or given.values.second 0) >>= with_item pos given)
+      (all.counts pos placed)
+      ∙ item_so pos placed values (space_of values.first (unwrap_or values.second 0))))
 
   pub fill_so : (value : ℕ) → value ≡ unwrap_or values.third 0 → AreConstants 3 operands values
       → put_units_of pos values.first values.second value placed ≡ place_fill pos tokens placed
-  unfolding place_fill
+  unfolding place_fill given
   fill_so value value_is all =
       ap (λ n. put_units_of pos values.first values.second n placed) value_is
-      ∙ sym (ap (λ these. known_operands (known_here placed) 3 these >>= λ (given : KnownOperands). unit_size given.values.second >>= λ size.
-      units_of given.values.first size (unwrap_or given.values.third 0) >>= λ item. with_item pos given.trees item placed) (sym is)
+      ∙ sym (ap (λ these. known_operands pos placed 3 these >>= λ (given : KnownOperands). unit_size given.values.second >>= λ size.
+      units_of given.values.first size (unwrap_or given.values.third 0) >>= with_item pos given) (sym is)
       ∙ (ap (λ given. given >>= λ (given : KnownOperands). unit_size given.values.second >>= λ size.
-      units_of given.values.first size (unwrap_or given.values.third 0) >>= λ item. with_item pos given.trees item placed) (all.counts (known_here placed))
-      ∙ units_so pos all.trees (all.names pos) placed values.first (unwrap_or values.third 0) (unit_size values.second)))
+      units_of given.values.first size (unwrap_or given.values.third 0) >>= with_item pos given) (all.counts pos placed)
+      ∙ units_so pos placed values values.first (unwrap_or values.third 0) (unit_size values.second)))

@@ -8,7 +8,11 @@ pub mod NameParts
 pub mod StepLists
 pub mod GrowthLemmas
 pub mod PlainStrings
+pub mod SumLemmas
+pub mod FewSumLemmas
 pub mod PutTwice
+pub mod NameLemmas
+pub mod InternLemmas
 pub mod ConstantDataLemmas
 pub mod ConstantOperandsLemmas
 pub mod LabelLemmas

@@ -9,11 +9,9 @@ use Rattle.asm_base.specs.declared.notes.Noted.{Noted}
 use Rattle.asm_base.specs.declared.positions.Pos.{Pos}
 use Rattle.asm_base.specs.Tokens.{SpelledToken}
 use Rattle.asm_lines.specs.NextStatements.{TokenStatement}
-use Rattle.asm_expr.specs.declared.naming.Name.{Name}
 use Rattle.asm_expr.specs.declared.naming.Name.TheVariants as naming
 use Rattle.asm_expr.specs.declared.forms.Term.{Term}
 use Rattle.asm_expr.specs.Forms.{Form}
-use Rattle.asm_expr.specs.Trees.{Tree}
 use Rattle.asm_frags.specs.declared.contents.Content.{Content}
 use Rattle.asm_frags.specs.declared.contents.Content.TheVariants as content
 use Rattle.asm_frags.specs.declared.faults.FragCause.{FragCause}
@@ -32,29 +30,30 @@ use Rattle.asm_place.specs.declared.directives.Directive.TheVariants as directiv
 use Rattle.asm_place.specs.declared.directives.SymbolAttribute.{SymbolAttribute}
 use Rattle.asm_place.specs.declared.instructions.Row.{Row}
 use Rattle.asm_place.specs.declared.section_changes.Header.{Header}
+use Rattle.asm_place.specs.declared.tables.Naming.{Naming}
 use Rattle.asm_place.specs.declared.stacks.Entered.{Entered}
 use Rattle.asm_base.specs.Refusals.{◌>>=◌}
 use Rattle.asm_place.specs.LayerFaults.{of_sections}
-use Rattle.asm_place.specs.Operands.{is_name, names_symbol, operands_of, is_dot, begins_with_place, symbol_name, each, joined_strings}
-use Rattle.asm_place.specs.Expressions.{expression_of, form_in, known_operands}
-use Rattle.asm_place.specs.Places.{uses_dot, spot_at, name_parts}
-use Rattle.asm_place.specs.State.{Placed, with_table, with_notes, here, known_here, put_section, put_bytes_into, put_field_into, push_into, unless_dot}
+use Rattle.asm_place.specs.Operands.{is_name, names_symbol, name_of, operands_of, is_dot, begins_with_place, symbol_name, each, joined_strings}
+use Rattle.asm_place.specs.Expressions.{expression_of, form_in, up_to_three_listed, up_to_three_trees, up_to_three_forms, up_to_three_constants, KnownOperands, known_operands}
+use Rattle.asm_place.specs.Places.{uses_place, spot_at, end_naming}
+use Rattle.asm_place.specs.State.{Placed, with_table, with_notes, with_names, here, known_here, put_section, put_bytes_into, put_field_into, push_into, unless_dot}
 use Rattle.asm_place.specs.DataItems.{put_by, put_forms, is_cut, cut_notes}
 use Rattle.asm_place.specs.Results.{all_steps}
-use Rattle.asm_place.specs.SectionWords.{SectionWords, section_words}
+use Rattle.asm_place.specs.SectionWords.{SectionWords, section_words, needed}
 use Rattle.asm_place.specs.SectionChanges.{with_current, option_trees, numbered, entered_as, enter_words, place_section, entered_now, place_pushed, back_to, popped, entry_size_in, header_by}
-use Rattle.asm_place.specs.SymbolWords.{plain_of, kind_said, place_said, named_kind, place_type, sized, size_words, place_size, NamedTree, say_all, named_tree, name_rest}
+use Rattle.asm_place.specs.SymbolWords.{plain_of, kind_said, place_said, named_kind, place_type, sized, size_words, place_size, NamedTree, say_all, named_tree, words_naming, with_words, words_symbol, end_words}
 use Rattle.asm_place.specs.Assignments.{assign_words, place_set, place_assignment}
-use Rattle.asm_place.specs.Commons.{bss, with_space, with_common, is_said_local, place_space, place_comm, place_lcomm, space_size, space_words, define_space}
+use Rattle.asm_place.specs.Commons.{bss, with_space, with_common, is_said_local, place_space, place_comm, place_lcomm, space_size, SpaceWords, with_own, space_words, define_space}
 use Rattle.asm_place.specs.Idents.{items_in, comment_bytes, comment_header, place_ident, place_file, one_string, file_name}
-use Rattle.asm_place.specs.Placing.{DataWords, data_words, put_data, place_data, place_strings, with_item as with_space_item, place_zero, place_skip, place_fill, bare, initial_number, place_by, place_found, place_directive, place_row, place_instruction, is_assignment, begins_with_dot, place_body, is_label, place_label, place_tokens, label_symbol, place_labelled, has_wide_label}
+use Rattle.asm_place.specs.Placing.{put_data, place_data, place_strings, with_named, place_zero, place_skip, place_fill, bare, initial_number, place_by, place_found, place_directive, place_row, place_instruction, is_assignment, begins_with_dot, place_body, is_label, place_label, place_tokens, label_symbol, place_labelled, has_wide_label}
 use Rattle.asm_place.specs.Sources.{pos_at, located, place, place_all}
 use Rattle.asm_place.specs.declared.place_faults.FaultAt.{FaultAt}
 use Rattle.asm_place.specs.Faults.{is_file_too_large, is_too_large, statement_fault}
 use Rattle.asm_place.specs.Instructions.{Grows, AreWithin}
 use Rattle.asm_place.proofs.GrowthLemmas.{Adds, IsAdded, adds_nothing, adds_to, adds_section, item_added, bytes_added, field_added}
 use Rattle.asm_place.proofs.Walks.{Fine, Steps, made, refused, step, after, grown, still, either, on}
-use Rattle.asm_place.specs.Tables.{symbol_of, changed_by, change_named, file_named, name_trees}
+use Rattle.asm_place.specs.Tables.{changed_by, change_named, file_named, naming_of, allowed}
 use Rattle.asm_place.specs.Spaces.{space_of, units_of, unit_size, log_of}
 
 -- something is put into a section
@@ -121,10 +120,12 @@ entered_adds sections name header = either (nat_lt (2 ^ 16) (length name)) (refu
 enter_steps : (pos : Pos) (words : SectionWords) (placed : Placed) → Steps placed (enter_words pos words placed)
 unfolding enter_words
 enter_steps pos words placed =
-    after (entry_size_in (known_here placed) words.entry_size)
+    let trees = option_trees words.entry_size in
+    let named = with_names pos trees placed in
+    after (entry_size_in (known_here named) words.entry_size)
     (λ size. after (header_by placed.sections words size) (λ header. step (entered_adds placed.sections words.name header)
-    (λ pair grows. after (name_trees pos (option_trees words.entry_size) placed.table)
-    (λ table. made (with_table (with_current pair.1 (record placed { sections = pair.0 })) table) grows))))
+    (λ pair grows. after (allowed (naming_of trees placed.table) named.table)
+    (λ table. made (with_table (with_current pair.1 (record named { sections = pair.0 })) table) grows))))
 
 section_steps : (pos : Pos) (tokens : List SpelledToken) (placed : Placed) → Steps placed (place_section pos tokens placed)
 unfolding place_section
@@ -153,40 +154,60 @@ unfolding put_forms all_steps
 forms_steps pos size [] placed = made placed (still placed)
 forms_steps pos size (form ∷ forms) placed = grown placed (form_steps pos size form.terms form placed) (λ put. forms_steps pos size forms put)
 
-values_steps : (pos : Pos) (size : FieldSize) (words : DataWords) (placed : Placed) → Steps placed (put_data pos size words placed)
+values_steps : (pos : Pos) (size : FieldSize) (naming : Naming) (forms : List Form) (placed : Placed) → Steps placed (put_data pos size naming forms placed)
 unfolding put_data
-values_steps pos size words placed =
-    grown placed (forms_steps pos size words.forms placed)
-    (λ put. after (name_parts pos (here placed) (list_any (uses_dot (here placed)) words.forms) words.trees put.table)
-    (λ table. made (with_notes (cut_notes pos (count_by (is_cut size) words.forms)) (with_table put table)) (still put)))
+values_steps pos size naming forms placed =
+    grown placed (forms_steps pos size forms placed)
+    (λ put. after (end_naming pos naming (here placed) (list_any (uses_place (known_here placed).place) forms) put.table)
+    (λ table. made (with_notes (cut_notes pos (count_by (is_cut size) forms)) (with_table put table)) (still put)))
 
 data_steps : (pos : Pos) (size : FieldSize) (tokens : List SpelledToken) (placed : Placed) → Steps placed (place_data pos size tokens placed)
 unfolding place_data
-data_steps pos size tokens placed = after (data_words (known_here placed) tokens) (λ words. values_steps pos size words placed)
+data_steps pos size tokens placed =
+    after (each expression_of (operands_of tokens))
+    (λ trees. after (each (form_in (known_here (with_names pos trees placed))) trees)
+    (λ forms. values_steps pos size (naming_of trees placed.table) forms (with_names pos trees placed)))
 
 strings_steps : (pos : Pos) (ended : Bool) (tokens : List SpelledToken) (placed : Placed) → Steps placed (place_strings pos ended tokens placed)
 unfolding place_strings
 strings_steps pos ended tokens placed = after (joined_strings ended (operands_of tokens)) (λ bytes. bytes_steps pos placed.current bytes placed)
 
-item_steps : (pos : Pos) (trees : List Tree) (item : Content) (placed : Placed) → Steps placed (with_space_item pos trees item placed)
-item_steps pos trees item placed =
-    grown placed (push_steps pos placed.current item placed) (λ pushed. after (name_trees pos trees pushed.table) (λ table. made (with_table pushed table) (still pushed)))
+item_steps : (pos : Pos) (naming : Naming) (item : Content) (placed : Placed) → Steps placed (with_named pos naming item placed)
+item_steps pos naming item placed =
+    grown placed (push_steps pos placed.current item placed) (λ pushed. after (allowed naming pushed.table) (λ table. made (with_table pushed table) (still pushed)))
+
+-- what was made on the way is added to once more
+from : (before between : Placed) {r : Result Placed PlaceCause} → Adds before.sections between.sections → Steps between r → Steps before r
+from before between grows later = on before between _ grows later
+
+known_steps : (pos : Pos) (placed : Placed) (most : ℕ) (operands : List (List SpelledToken))
+    → Fine (λ (given : KnownOperands). Adds placed.sections given.placed.sections) (known_operands pos placed most operands)
+unfolding known_operands
+known_steps pos placed most operands =
+    after (up_to_three_trees most operands)
+    (λ trees. after (up_to_three_forms (known_here (with_names pos (up_to_three_listed trees) placed)) trees)
+    (λ forms. after (up_to_three_constants forms) (λ values. made _ (still placed))))
 
 zero_steps : (pos : Pos) (tokens : List SpelledToken) (placed : Placed) → Steps placed (place_zero pos tokens placed)
 unfolding place_zero
 zero_steps pos tokens placed =
-    after (known_operands (known_here placed) 1 (operands_of tokens)) (λ given. after (space_of given.values.first 0) (λ item. item_steps pos given.trees item placed))
+    step (known_steps pos placed 1 (operands_of tokens))
+    (λ given grows. from placed given.placed grows (after (space_of given.values.first 0) (λ item. item_steps pos given.naming item given.placed)))
 
 skip_steps : (pos : Pos) (tokens : List SpelledToken) (placed : Placed) → Steps placed (place_skip pos tokens placed)
 unfolding place_skip
 skip_steps pos tokens placed =
-    after (known_operands (known_here placed) 2 (operands_of tokens)) (λ given. after (space_of given.values.first (unwrap_or given.values.second 0)) (λ item. item_steps pos given.trees item placed))
+    step (known_steps pos placed 2 (operands_of tokens))
+    (λ given grows. from placed given.placed grows
+    (after (space_of given.values.first (unwrap_or given.values.second 0)) (λ item. item_steps pos given.naming item given.placed)))
 
 fill_steps : (pos : Pos) (tokens : List SpelledToken) (placed : Placed) → Steps placed (place_fill pos tokens placed)
 unfolding place_fill
 fill_steps pos tokens placed =
-    after (known_operands (known_here placed) 3 (operands_of tokens)) (λ given. after (unit_size given.values.second) (λ size. after (units_of given.values.first size (unwrap_or given.values.third 0))
-    (λ item. item_steps pos given.trees item placed)))
+    step (known_steps pos placed 3 (operands_of tokens))
+    (λ given grows. from placed given.placed grows
+    (after (unit_size given.values.second) (λ size. after (units_of given.values.first size (unwrap_or given.values.third 0))
+    (λ item. item_steps pos given.naming item given.placed))))
 
 -- symbols
 dot_steps : (dot : Bool) (before placed : Placed) → Adds before.sections placed.sections → Steps before (unless_dot dot placed)
@@ -209,8 +230,10 @@ type_steps pos tokens placed =
 size_words_steps : (pos : Pos) (words : NamedTree) (placed : Placed) → Steps placed (size_words pos words placed)
 unfolding size_words
 size_words_steps pos words placed =
-    after (form_in (known_here placed) words.tree) (λ form. after (symbol_of pos words.name placed.table)
-    (λ found. after (name_rest pos (here placed) words form (sized pos form found)) (λ table. made (with_table placed table) (still placed))))
+    let named = with_words pos words placed in
+    after (form_in (known_here named) words.tree)
+    (λ form. after (end_words pos (words_naming words placed) form named (sized pos form (named.table, words_symbol words placed)))
+    (λ table. made (with_table named table) (still placed)))
 
 size_steps : (pos : Pos) (tokens : List SpelledToken) (placed : Placed) → Steps placed (place_size pos tokens placed)
 unfolding place_size
@@ -221,9 +244,10 @@ size_steps pos tokens placed =
 assign_steps : (pos : Pos) (once : Bool) (words : NamedTree) (placed : Placed) → Steps placed (assign_words pos once words placed)
 unfolding assign_words
 assign_steps pos once words placed =
-    after (form_in (known_here placed) words.tree)
-    (λ form. after (change_named pos (λ map index. assigned map index form once) words.name placed.table >>= name_rest pos (here placed) words form)
-    (λ table. made (with_table placed table) (still placed)))
+    let named = with_words pos words placed in
+    after (form_in (known_here named) words.tree)
+    (λ form. after (changed_by (λ map index. assigned map index form once) (named.table, words_symbol words placed) >>= end_words pos (words_naming words placed) form named)
+    (λ table. made (with_table named table) (still placed)))
 
 set_steps : (pos : Pos) (once : Bool) (tokens : List SpelledToken) (placed : Placed) → Steps placed (place_set pos once tokens placed)
 unfolding place_set
@@ -235,46 +259,56 @@ assignment_steps pos token tokens placed =
     after (symbol_name token) (λ name. after (expression_of tokens) (λ tree. assign_steps pos false (record { name = naming.Plain name; tree = tree }) placed))
 
 -- space for symbols
-with_space_steps : (pos : Pos) (name : Name) (trees : List Tree) (size log : ℕ) (placed : Placed) → Steps placed (with_space pos name trees size log placed)
+with_space_steps : (pos : Pos) (naming : Naming) (symbol size log : ℕ) (placed : Placed) → Steps placed (with_space pos naming symbol size log placed)
 unfolding with_space
-with_space_steps pos name trees size log placed =
+with_space_steps pos naming symbol size log placed =
     after (space_of size 0) (λ space. grown placed (push_steps pos bss (content.Align (record { log = log })) placed)
     (λ aligned. grown aligned (push_steps pos bss space aligned)
-    (λ pushed. after (define_space pos name trees size (Space (spot_at aligned.sections bss)) pushed.table)
+    (λ pushed. after (define_space naming symbol size (Space (spot_at aligned.sections bss)) pushed.table)
     (λ table. made (with_table pushed table) (still pushed)))))
 
-with_common_steps : (pos : Pos) (name : Name) (trees : List Tree) (size log : ℕ) (placed : Placed) → Steps placed (with_common pos name trees size log placed)
+with_common_steps : (naming : Naming) (symbol size log : ℕ) (placed : Placed) → Steps placed (with_common naming symbol size log placed)
 unfolding with_common
-with_common_steps pos name trees size log placed =
-    after (define_space pos name trees size (Common size (2 ^ log)) placed.table) (λ table. made (with_table placed table) (still placed))
+with_common_steps naming symbol size log placed =
+    after (define_space naming symbol size (Common size (2 ^ log)) placed.table) (λ table. made (with_table placed table) (still placed))
 
-space_steps : (is_local : Bool) (pos : Pos) (name : Name) (trees : List Tree) (size log : ℕ) (placed : Placed) → Steps placed (place_space is_local pos name trees size log placed)
-space_steps true pos name trees size log placed = with_space_steps pos name trees size log placed
-space_steps false pos name trees size log placed = with_common_steps pos name trees size log placed
+space_steps : (is_local : Bool) (pos : Pos) (naming : Naming) (symbol size log : ℕ) (placed : Placed) → Steps placed (place_space is_local pos naming symbol size log placed)
+space_steps true pos naming symbol size log placed = with_space_steps pos naming symbol size log placed
+space_steps false pos naming symbol size log placed = with_common_steps naming symbol size log placed
+
+space_words_steps : (pos : Pos) (placed : Placed) (most : ℕ) (tokens : List SpelledToken)
+    → Fine (λ (words : SpaceWords). Adds placed.sections words.given.placed.sections) (space_words pos placed most tokens)
+unfolding space_words
+space_words_steps pos placed most tokens =
+    after (needed name_of (operands_of tokens))
+    (λ name. step (known_steps pos (with_own pos (naming.Plain name.0) placed) most name.1) (λ given grows. made _ grows))
 
 comm_steps : (pos : Pos) (tokens : List SpelledToken) (placed : Placed) → Steps placed (place_comm pos tokens placed)
 unfolding place_comm
 comm_steps pos tokens placed =
-    after (space_words (known_here placed) 2 tokens) (λ words. after (space_size words.values.first) (λ size. after (log_of words.values.second size)
-    (λ log. grown placed (space_steps (is_said_local placed.table.symbols words.name) pos words.name words.trees size log placed)
-    (λ spaced. dot_steps (begins_with_place tokens) spaced spaced (still spaced)))))
+    step (space_words_steps pos placed 2 tokens)
+    (λ words grows. from placed words.given.placed grows
+    (after (space_size words.given.values.first) (λ size. after (log_of words.given.values.second size)
+    (λ log. grown words.given.placed
+    (space_steps (is_said_local words.given.placed.table.symbols words.symbol) pos words.given.naming words.symbol size log words.given.placed)
+    (λ spaced. dot_steps (begins_with_place tokens) spaced spaced (still spaced))))))
 
 lcomm_steps : (pos : Pos) (tokens : List SpelledToken) (placed : Placed) → Steps placed (place_lcomm pos tokens placed)
 unfolding place_lcomm
 lcomm_steps pos tokens placed =
-    after (space_words (known_here placed) 1 tokens) (λ words. after (space_size words.values.first) (λ size. after (log_of None size)
-    (λ log. grown placed (with_space_steps pos words.name words.trees size log placed)
-    (λ spaced. dot_steps (begins_with_place tokens) spaced spaced (still spaced)))))
+    step (space_words_steps pos placed 1 tokens)
+    (λ words grows. from placed words.given.placed grows
+    (after (space_size words.given.values.first) (λ size. after (log_of None size)
+    (λ log. grown words.given.placed (with_space_steps pos words.given.naming words.symbol size log words.given.placed)
+    (λ spaced. dot_steps (begins_with_place tokens) spaced spaced (still spaced))))))
 
 -- texts
 ident_steps : (pos : Pos) (tokens : List SpelledToken) (placed : Placed) → Steps placed (place_ident pos tokens placed)
 unfolding place_ident
 ident_steps pos tokens placed =
     after (one_string tokens) (λ text. step (entered_adds placed.sections (codes ".comment") comment_header)
-    (λ pair grows. from pair grows (bytes_steps pos pair.1 (comment_bytes (items_in pair.0 pair.1) text) (record placed { sections = pair.0 }))))
-  where
-    from : (pair : List LooseSection × ℕ) {r : Result Placed PlaceCause} → Adds placed.sections pair.0 → Steps (record placed { sections = pair.0 }) r → Steps placed r
-    from pair grows later = on placed (record placed { sections = pair.0 }) _ grows later
+    (λ pair grows. from placed (record placed { sections = pair.0 }) grows
+    (bytes_steps pos pair.1 (comment_bytes (items_in pair.0 pair.1) text) (record placed { sections = pair.0 }))))
 
 file_steps : (tokens : List SpelledToken) (placed : Placed) → Steps placed (place_file tokens placed)
 unfolding place_file

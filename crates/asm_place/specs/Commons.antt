@@ -1,15 +1,14 @@
 -- Common symbols, and space in `.bss` (GNU as manual, ".comm", ".lcomm").
-use Rattle.std.specs.Prelude.{ℕ, ◌^◌, Bool, true, false, List, Option, None, Some, Result, Ok, Err, slice_get, option_and_then, if◌then◌else◌}
+use Rattle.std.specs.Prelude.{ℕ, ◌^◌, Bool, true, false, List, length, Option, None, Some, Result, Ok, Err, slice_get, if◌then◌else◌}
 use Rattle.std.specs.Option.{option_map_or}
 use Rattle.asm_place.specs.declared.place_faults.PlaceCause.{PlaceCause}
 use Rattle.asm_place.specs.declared.place_faults.PlaceCause.TheVariants.{OutOfRange}
+use Rattle.asm_place.specs.declared.tables.Naming.{Naming}
 use Rattle.asm_base.specs.declared.positions.Pos.{Pos}
 use Rattle.asm_base.specs.Tokens.{SpelledToken}
 use Rattle.asm_expr.specs.declared.naming.Name.{Name}
 use Rattle.asm_expr.specs.declared.naming.Name.TheVariants as naming
 use Rattle.asm_expr.specs.Forms.{constant_form}
-use Rattle.asm_expr.specs.Knowledge.{Knowledge}
-use Rattle.asm_expr.specs.Trees.{Tree}
 use Rattle.asm_frags.specs.declared.contents.Content.TheVariants as content
 use Rattle.asm_symbols.specs.declared.entries.Binding.{Binding}
 use Rattle.asm_symbols.specs.declared.entries.Binding.TheVariants.{Local, Global, Weak}
@@ -17,16 +16,16 @@ use Rattle.asm_symbols.specs.declared.entries.Kind.{Kind}
 use Rattle.asm_symbols.specs.declared.entries.Kind.TheVariants.{Object}
 use Rattle.asm_symbols.specs.declared.entries.Definition.{Definition}
 use Rattle.asm_symbols.specs.declared.entries.Definition.TheVariants.{Common, Space}
-use Rattle.asm_symbols.specs.SymbolMap.{SymbolMap, names, index_of, with_symbol}
+use Rattle.asm_symbols.specs.SymbolMap.{SymbolMap, with_symbol}
+use Rattle.asm_symbols.specs.Interning.{number_of}
 use Rattle.asm_symbols.specs.Defining.{defined}
 use Rattle.asm_symbols.specs.Attributes.{with_kind, with_next_size}
 use Rattle.asm_base.specs.Refusals.{◌>>=◌}
-use Rattle.asm_place.specs.Tables.{Table, symbol_of, changed_by, with_map, name_trees}
+use Rattle.asm_place.specs.Tables.{Table, changed_by, with_map, with_name, allowed}
 use Rattle.asm_place.specs.Places.{spot_at}
-use Rattle.asm_place.specs.State.{Placed, with_table, unless_dot, push_into, known_here}
+use Rattle.asm_place.specs.State.{Placed, with_table, unless_dot, push_into}
 use Rattle.asm_place.specs.Operands.{begins_with_place, name_of, operands_of}
-use Rattle.asm_place.specs.declared.up_to_three.UpToThree.{UpToThree}
-use Rattle.asm_place.specs.Expressions.{known_operands}
+use Rattle.asm_place.specs.Expressions.{KnownOperands, known_operands}
 use Rattle.asm_expr.specs.Arithmetic.{is_negative}
 use Rattle.asm_place.specs.Spaces.{space_of, log_of}
 use Rattle.asm_place.specs.SectionWords.{needed}
@@ -42,10 +41,9 @@ is_local_binding (Some Global) = false
 is_local_binding (Some Weak) = false
 is_local_binding None = false
 
--- the symbol of this name was said to be local
-unfoldable pub is_said_local : SymbolMap → Name → Bool
-is_said_local map name =
-    option_map_or (λ symbol. is_local_binding symbol.binding) (option_and_then (λ index. slice_get map.symbols index) (index_of name (names map.symbols))) false
+-- the symbol at this index was said to be local
+unfoldable pub is_said_local : SymbolMap → ℕ → Bool
+is_said_local map index = option_map_or (λ symbol. is_local_binding symbol.binding) (slice_get map.symbols index) false
 
 -- what a symbol names that is space: an object, unless something else was said
 abbrev pub kind_or_object : Option Kind → Kind
@@ -64,53 +62,65 @@ as_space size map index = with_symbol (with_kind (space_kind map index)) (with_n
 abbrev pub spaced : ℕ → Definition → Table × ℕ → Result Table PlaceCause
 spaced size what found = changed_by (λ map index. defined map index what) found >>= λ made. Ok (with_map made (as_space size made.symbols found.1))
 
--- the same of the symbol of a name; the names of the expressions stand behind it
-unfoldable pub define_space : Pos → Name → List Tree → ℕ → Definition → Table → Result Table PlaceCause
-define_space pos name trees size what table = symbol_of pos name table >>= spaced size what >>= name_trees pos trees
+-- the same, and then the names of the statement are allowed or refused
+unfoldable pub define_space : Naming → ℕ → ℕ → Definition → Table → Result Table PlaceCause
+define_space naming symbol size what table = spaced size what (table, symbol) >>= allowed naming
 
 -- zeros up to a multiple of 2 ^ log in `.bss`, and then so many more, which are the symbol's
-unfoldable pub with_space : Pos → Name → List Tree → ℕ → ℕ → Placed → Result Placed PlaceCause
-with_space pos name trees size log placed =
+unfoldable pub with_space : Pos → Naming → ℕ → ℕ → ℕ → Placed → Result Placed PlaceCause
+with_space pos naming symbol size log placed =
     space_of size 0 >>= λ space. push_into pos bss (content.Align (record { log = log })) placed >>= λ aligned.
     push_into pos bss space aligned >>= λ pushed.
-    define_space pos name trees size (Space (spot_at aligned.sections bss)) pushed.table >>= λ table. Ok (with_table pushed table)
+    define_space naming symbol size (Space (spot_at aligned.sections bss)) pushed.table >>= λ table. Ok (with_table pushed table)
 
 -- space that the linker finds
-unfoldable pub with_common : Pos → Name → List Tree → ℕ → ℕ → Placed → Result Placed PlaceCause
-with_common pos name trees size log placed =
-    define_space pos name trees size (Common size (2 ^ log)) placed.table >>= λ table. Ok (with_table placed table)
+unfoldable pub with_common : Naming → ℕ → ℕ → ℕ → Placed → Result Placed PlaceCause
+with_common naming symbol size log placed =
+    define_space naming symbol size (Common size (2 ^ log)) placed.table >>= λ table. Ok (with_table placed table)
 
 -- a size of space for a symbol
 abbrev pub space_size : ℕ → Result ℕ PlaceCause
 space_size size = if is_negative size then Err OutOfRange else Ok size
 
--- the name, the expressions behind it, and their values: the size and the alignment that are said
+-- the number of a name's symbol, and the values of the expressions behind it: the size and the alignment that are said
 pub record SpaceWords : Type 0 where
-  pub name : Name
-  pub trees : List Tree
-  pub values : UpToThree ℕ
+  pub symbol : ℕ
+  pub given : KnownOperands
+
+-- what is placed, once the name has a symbol
+abbrev pub with_own : Pos → Name → Placed → Placed
+with_own pos name placed = with_table placed (with_name pos name placed.table)
+
+-- the symbols that are new count from before the statement's own name
+abbrev pub counted_from : ℕ → KnownOperands → KnownOperands
+counted_from before given = record given { naming = record { before = before; meant = given.naming.meant } }
 
 -- the operands of `.comm` and `.lcomm`: a name, and at most so many expressions
-unfoldable pub space_words : Knowledge → ℕ → List SpelledToken → Result SpaceWords PlaceCause
-space_words known most tokens =
-    needed name_of (operands_of tokens) >>= λ name. known_operands known most name.1 >>= λ given.
-    Ok (record { name = naming.Plain name.0; trees = given.trees; values = given.values })
+unfoldable pub space_words : Pos → Placed → ℕ → List SpelledToken → Result SpaceWords PlaceCause
+space_words pos placed most tokens =
+    needed name_of (operands_of tokens) >>= λ name. known_operands pos (with_own pos (naming.Plain name.0) placed) most name.1 >>= λ given.
+    Ok (record {
+      symbol = number_of placed.table.symbols (naming.Plain name.0);
+      given = counted_from (length placed.table.symbols.symbols) given;
+    })
 
--- space of this object where the symbol is local, or else space that the linker finds
-abbrev pub place_space : Bool → Pos → Name → List Tree → ℕ → ℕ → Placed → Result Placed PlaceCause
-place_space true = with_space
-place_space false = with_common
+-- space of this object, or space that the linker finds
+abbrev pub place_space : Bool → Pos → Naming → ℕ → ℕ → ℕ → Placed → Result Placed PlaceCause
+place_space true pos naming symbol size log placed = with_space pos naming symbol size log placed
+place_space false pos naming symbol size log placed = with_common naming symbol size log placed
+
+-- the space of the symbol of the words
+abbrev pub space_by : Bool → Pos → SpaceWords → ℕ → ℕ → Result Placed PlaceCause
+space_by is_local pos words size log = place_space is_local pos words.given.naming words.symbol size log words.given.placed
 
 -- `.comm`: of a symbol that is local the space is this object's
 unfoldable pub place_comm : Pos → List SpelledToken → Placed → Result Placed PlaceCause
 place_comm pos tokens placed =
-    space_words (known_here placed) 2 tokens >>= λ words. space_size words.values.first >>= λ size. log_of words.values.second size >>= λ log.
-    place_space (is_said_local placed.table.symbols words.name) pos words.name words.trees size log placed
-    >>= unless_dot (begins_with_place tokens)
+    space_words pos placed 2 tokens >>= λ words. space_size words.given.values.first >>= λ size. log_of words.given.values.second size >>= λ log.
+    space_by (is_said_local words.given.placed.table.symbols words.symbol) pos words size log >>= unless_dot (begins_with_place tokens)
 
 -- `.lcomm`
 unfoldable pub place_lcomm : Pos → List SpelledToken → Placed → Result Placed PlaceCause
 place_lcomm pos tokens placed =
-    space_words (known_here placed) 1 tokens >>= λ words. space_size words.values.first >>= λ size. log_of None size >>= λ log.
-    with_space pos words.name words.trees size log placed
-    >>= unless_dot (begins_with_place tokens)
+    space_words pos placed 1 tokens >>= λ words. space_size words.given.values.first >>= λ size. log_of None size >>= λ log.
+    space_by true pos words size log >>= unless_dot (begins_with_place tokens)

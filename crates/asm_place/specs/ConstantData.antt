@@ -10,14 +10,13 @@ use Rattle.asm_expr.specs.Trees.{Tree}
 use Rattle.asm_frags.specs.declared.fields.FieldSize.{FieldSize}
 use Rattle.asm_frags.specs.Fields.{fits, low_bytes}
 use Rattle.asm_operands.specs.Constants.{IsConstant}
-use Rattle.asm_symbols.specs.declared.entries.Spot.{Spot}
 use Rattle.asm_place.specs.declared.place_faults.PlaceCause.{PlaceCause}
 use Rattle.asm_place.specs.DataItems.{put_forms, is_cut, cut_notes}
 use Rattle.asm_place.specs.Expressions.{expression_of, form_in}
 use Rattle.asm_place.specs.Operands.{operands_of, each}
-use Rattle.asm_place.specs.Places.{uses_dot}
+use Rattle.asm_place.specs.Places.{uses_place}
 use Rattle.asm_place.specs.State.{Placed, with_notes, put_bytes}
-use Rattle.asm_place.specs.Tables.{Table, name_trees}
+use Rattle.asm_place.specs.ConstantOperands.{NamesNothing}
 
 -- how many of one value do not fit: one or none
 abbrev pub cut_of : FieldSize → ℕ → ℕ
@@ -34,8 +33,8 @@ pub record MakesData (size : FieldSize) (operands : List (List SpelledToken)) (b
   pub forms : List Form
   pub reads : each expression_of operands ≡ Ok trees
   pub counts : (known : Knowledge) → each (form_in known) trees ≡ Ok forms
-  pub names : (pos : Pos) (table : Table) → name_trees pos trees table ≡ Ok table
-  pub away : (spot : Spot) → list_any (uses_dot spot) forms ≡ false
+  pub names : NamesNothing trees
+  pub away : (place : ℕ) → list_any (uses_place place) forms ≡ false
   pub held : (pos : Pos) (placed : Placed) → (put_any pos before placed >>= put_forms pos size forms) ≡ put_any pos after placed
   pub cut : cut_before + count_by (is_cut size) forms ≡ cut_after
 

@@ -11,7 +11,7 @@ use Rattle.asm_place.specs.declared.place_faults.PlaceCause.{PlaceCause}
 use Rattle.asm_place.specs.Results.{all_steps}
 use Rattle.asm_place.specs.State.{Placed, put_bytes, put_field}
 
--- bytes for a form without names, and a field for another
+-- bytes for a form without symbols, and a field for another
 abbrev pub put_by : List Term → Pos → FieldSize → Form → Placed → Result Placed PlaceCause
 put_by [] pos size form placed = put_bytes pos (low_bytes size form.constant) placed
 put_by (term ∷ terms) pos size form placed = put_field pos size form placed

@@ -3,16 +3,20 @@ use Rattle.std.specs.Prelude.{ℕ, nat_le, Bool, true, false, List, [], ◌∷�
 use Rattle.std.specs.Option.{option_to_list}
 use Rattle.asm_place.specs.declared.place_faults.PlaceCause.{PlaceCause}
 use Rattle.asm_place.specs.declared.place_faults.PlaceCause.TheVariants.{BadExpression, BadOperand}
+use Rattle.asm_base.specs.declared.positions.Pos.{Pos}
 use Rattle.asm_base.specs.Tokens.{SpelledToken}
 use Rattle.asm_expr.specs.Trees.{Tree}
 use Rattle.asm_expr.specs.Forms.{Form}
 use Rattle.asm_expr.specs.Knowledge.{Knowledge}
 use Rattle.asm_expr.specs.Reading.{reading}
 use Rattle.asm_expr.specs.Linear.{linear, value_of}
+use Rattle.asm_place.specs.declared.tables.Naming.{Naming}
 use Rattle.asm_place.specs.declared.up_to_three.UpToThree.{UpToThree}
 use Rattle.asm_base.specs.Refusals.{◌>>=◌}
 use Rattle.asm_place.specs.Results.{if_some}
 use Rattle.asm_place.specs.ExprFaults.{in_statement}
+use Rattle.asm_place.specs.Tables.{naming_of}
+use Rattle.asm_place.specs.State.{Placed, known_here, with_names}
 
 -- nothing stands behind an expression
 abbrev pub alone : List SpelledToken → Tree → Result Tree PlaceCause
@@ -76,13 +80,20 @@ up_to_three_forms known trees = each_up_to_three (form_in known) trees
 unfoldable pub up_to_three_constants : UpToThree Form → Result (UpToThree ℕ) PlaceCause
 up_to_three_constants forms = each_up_to_three constant_in forms
 
--- the expressions of a directive, and their values
+-- the values of the expressions of a directive, and what is placed once each of their names has a symbol
 pub record KnownOperands : Type 0 where
-  pub trees : List Tree
+  pub naming : Naming
+  pub placed : Placed
   pub values : UpToThree ℕ
 
--- operands whose values have to be known: all are read and the forms of all are made before a value is asked for
-unfoldable pub known_operands : Knowledge → ℕ → List (List SpelledToken) → Result KnownOperands PlaceCause
-known_operands known most operands =
-    up_to_three_trees most operands >>= λ trees. up_to_three_forms known trees >>= λ forms. up_to_three_constants forms >>= λ values.
-    Ok (record { trees = up_to_three_listed trees; values = values })
+-- the values of expressions, each of which has to be known once each name has a symbol: the forms of all are made before a value is asked for
+abbrev pub known_values : UpToThree Tree → Naming → Placed → Result KnownOperands PlaceCause
+known_values trees naming named =
+    up_to_three_forms (known_here named) trees >>= λ forms. up_to_three_constants forms >>= λ values.
+    Ok (record { naming = naming; placed = named; values = values })
+
+-- operands whose values have to be known: all are read before a form is made
+unfoldable pub known_operands : Pos → Placed → ℕ → List (List SpelledToken) → Result KnownOperands PlaceCause
+known_operands pos placed most operands =
+    up_to_three_trees most operands >>= λ trees.
+    known_values trees (naming_of (up_to_three_listed trees) placed.table) (with_names pos (up_to_three_listed trees) placed)

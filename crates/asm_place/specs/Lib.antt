@@ -15,6 +15,7 @@ pub mod KnownIn
 pub mod State
 pub mod Expressions
 pub mod UpToThreeTrees
+pub mod SumForms
 pub mod DataItems
 pub mod ConstantOperands
 pub mod Spaces
@@ -24,13 +25,13 @@ pub mod SectionDefaults
 pub mod SectionChanges
 pub mod SymbolWords
 pub mod NamedTrees
+pub mod FewSums
 pub mod Assignments
 pub mod Commons
 pub mod SpaceWordsIn
 pub mod Idents
 pub mod Directives
 pub mod Placing
-pub mod DataWordsIn
 pub mod ConstantData
 pub mod PlacedBy
 pub mod Sources

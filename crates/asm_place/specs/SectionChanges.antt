@@ -9,14 +9,15 @@ use Rattle.asm_expr.specs.Trees.{Tree}
 use Rattle.asm_frags.specs.declared.faults.FragCause.{FragCause}
 use Rattle.asm_frags.specs.SectionOf.{section_number}
 use Rattle.asm_frags.specs.Sections.{section_flags, entered}
+use Rattle.asm_place.specs.declared.tables.Naming.{Naming}
 use Rattle.asm_place.specs.declared.stacks.Entered.{Entered}
 use Rattle.asm_place.specs.declared.section_changes.Header.{Header}
 use Rattle.asm_base.specs.Refusals.{◌>>=◌}
 use Rattle.asm_place.specs.Results.{if_some}
 use Rattle.asm_place.specs.LayerFaults.{section_fault}
-use Rattle.asm_place.specs.Tables.{name_trees}
+use Rattle.asm_place.specs.Tables.{naming_of, allowed}
 use Rattle.asm_frags.specs.Writing.{LooseSection}
-use Rattle.asm_place.specs.State.{Placed, with_table, known_here}
+use Rattle.asm_place.specs.State.{Placed, with_table, with_names, known_here}
 use Rattle.asm_place.specs.Operands.{operands_of}
 use Rattle.asm_place.specs.Expressions.{form_in, constant_in}
 use Rattle.asm_expr.specs.Arithmetic.{is_negative}
@@ -87,18 +88,24 @@ entered_as sections name header =
     if nat_lt (2 ^ 16) (length name) then Err BadSection
     else entered_short sections name header
 
--- the names of an expression that may be missing
+-- an expression that may be missing, as a list
 abbrev pub option_trees : Option Tree → List Tree
 option_trees None = []
 option_trees (Some tree) = tree ∷ []
 
--- statements put into the section of these words, which is made if it is not there
+-- statements put into the section of these words, which is made if it is not there, and the names of its size of entries are allowed or refused
+abbrev pub enter_named : SectionWords → Naming → Placed → Result Placed PlaceCause
+enter_named words naming named =
+    entry_size_in (known_here named) words.entry_size >>= λ size.
+    header_by named.sections words size >>= λ header. entered_as named.sections words.name header >>= λ pair.
+    allowed naming named.table >>= λ table.
+    Ok (with_table (with_current pair.1 (record named { sections = pair.0 })) table)
+
+-- the names of the size of entries become symbols, and then the same
 unfoldable pub enter_words : Pos → SectionWords → Placed → Result Placed PlaceCause
 enter_words pos words placed =
-    entry_size_in (known_here placed) words.entry_size >>= λ size.
-    header_by placed.sections words size >>= λ header. entered_as placed.sections words.name header >>= λ pair.
-    name_trees pos (option_trees words.entry_size) placed.table >>= λ table.
-    Ok (with_table (with_current pair.1 (record placed { sections = pair.0 })) table)
+    let trees = option_trees words.entry_size in
+    enter_named words (naming_of trees placed.table) (with_names pos trees placed)
 
 -- `.section`
 unfoldable pub place_section : Pos → List SpelledToken → Placed → Result Placed PlaceCause

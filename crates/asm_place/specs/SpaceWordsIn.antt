@@ -1,9 +1,9 @@
--- A name and its space that the program has read.
-use Rattle.std.specs.Prelude.{map}
-use Rattle.asm_expr.specs.Trees.{tree_of}
+-- The operands of `.comm` and `.lcomm` that the program has read.
 use Rattle.asm_place.specs.declared.commons.SpaceWords.{SpaceWords as ReadWords}
 use Rattle.asm_place.specs.Commons.{SpaceWords}
+use Rattle.asm_place.specs.State.{Placed}
+use Rattle.asm_place.specs.UpToThreeTrees.{known_operands_in}
 
--- the name, the trees of the expressions and the values that were read
-abbrev pub space_words_in : ReadWords → SpaceWords
-space_words_in words = record { name = words.name; trees = map tree_of words.given.exprs.items; values = words.given.values }
+-- the symbol and the values that were read, and what is placed then
+abbrev pub space_words_in : Placed → ReadWords → SpaceWords
+space_words_in placed words = record { symbol = words.id; given = known_operands_in placed words.given }

@@ -5,6 +5,7 @@ use Rattle.asm_place.specs.declared.place_faults.PlaceCause.TheVariants.{BadSymb
 use Rattle.asm_base.specs.declared.notes.Noted.{Noted}
 use Rattle.asm_base.specs.declared.positions.Pos.{Pos}
 use Rattle.asm_expr.specs.Knowledge.{Knowledge}
+use Rattle.asm_expr.specs.Trees.{Tree}
 use Rattle.asm_expr.specs.Forms.{Form}
 use Rattle.asm_frags.specs.declared.contents.Content.{Content}
 use Rattle.asm_frags.specs.declared.faults.FragCause.{FragCause}
@@ -15,7 +16,7 @@ use Rattle.asm_symbols.specs.declared.entries.Spot.{Spot}
 use Rattle.asm_place.specs.declared.stacks.Entered.{Entered}
 use Rattle.asm_base.specs.Refusals.{◌>>=◌}
 use Rattle.asm_place.specs.LayerFaults.{of_sections}
-use Rattle.asm_place.specs.Tables.{Table, no_table}
+use Rattle.asm_place.specs.Tables.{Table, no_table, with_trees}
 use Rattle.asm_place.specs.Places.{spot_at, known_at}
 
 -- the sections, the symbols, the section that statements put into and the one before it, those that `.popsection` comes back to
@@ -61,6 +62,10 @@ here placed = spot_at placed.sections placed.current
 -- what is known there
 abbrev pub known_here : Placed → Knowledge
 known_here placed = known_at placed.table.symbols (here placed)
+
+-- what is placed, once each name of these expressions has a symbol
+abbrev pub with_names : Pos → List Tree → Placed → Placed
+with_names pos trees placed = with_table placed (with_trees pos trees placed.table)
 
 -- something is put into the section of this number
 abbrev pub put_section : (LooseSection → Result LooseSection FragCause) → ℕ → Placed → Result Placed PlaceCause

@@ -11,19 +11,20 @@ use Rattle.asm_expr.specs.declared.naming.Name.{Name}
 use Rattle.asm_expr.specs.declared.naming.Name.TheVariants as naming
 use Rattle.asm_expr.specs.Forms.{Form}
 use Rattle.asm_expr.specs.Trees.{Tree}
-use Rattle.asm_symbols.specs.declared.entries.Spot.{Spot}
 use Rattle.asm_symbols.specs.declared.entries.Kind.{Kind}
 use Rattle.asm_symbols.specs.declared.entries.Kind.TheVariants.{NoType, Object, Function, Tls, Common}
 use Rattle.asm_symbols.specs.declared.faults.SymCause.{SymCause}
 use Rattle.asm_symbols.specs.SymbolMap.{SymbolMap, with_symbol}
+use Rattle.asm_symbols.specs.Interning.{number_of}
 use Rattle.asm_symbols.specs.Attributes.{bound, with_kind, with_next_size, with_visibility}
+use Rattle.asm_place.specs.declared.tables.Naming.{Naming}
 use Rattle.asm_place.specs.declared.symbol_words.NamedKind.{NamedKind}
 use Rattle.asm_place.specs.declared.directives.SymbolAttribute.{SymbolAttribute}
 use Rattle.asm_place.specs.declared.directives.SymbolAttribute.TheVariants.{Bind, See}
 use Rattle.asm_base.specs.Refusals.{◌>>=◌}
 use Rattle.asm_place.specs.Results.{all_steps}
-use Rattle.asm_place.specs.Tables.{Table, symbol_of, change_named, with_map}
-use Rattle.asm_place.specs.Places.{uses_dot, name_part}
+use Rattle.asm_place.specs.Tables.{Table, change_named, with_map, with_name, with_tree, naming_of}
+use Rattle.asm_place.specs.Places.{uses_place, end_naming}
 use Rattle.asm_place.specs.State.{Placed, with_table, unless_dot, here, known_here}
 use Rattle.asm_place.specs.Operands.{is_name, is_dot, begins_with_place, name_of, operands_of, each}
 use Rattle.asm_place.specs.Expressions.{form_in, first_tree, no_more}
@@ -94,19 +95,36 @@ unfoldable pub named_tree : List (List SpelledToken) → Result NamedTree PlaceC
 named_tree operands =
     needed name_of operands >>= λ name. first_tree name.1 >>= λ tree. no_more tree.1 (record { name = naming.Plain name.0; tree = tree.0 })
 
--- the names of the expression, behind the symbol that the statement is of
-abbrev pub name_rest : Pos → Spot → NamedTree → Form → Table → Result Table PlaceCause
-name_rest pos spot words form table = name_part pos spot (uses_dot spot form) words.tree table
+-- how many symbols there are, and whether each `Nb` of the expression means a label that came before
+abbrev pub words_naming : NamedTree → Placed → Naming
+words_naming words placed = naming_of (words.tree ∷ []) placed.table
+
+-- what is placed, once the name and then each name of the expression has a symbol
+abbrev pub with_words : Pos → NamedTree → Placed → Placed
+with_words pos words placed = with_table placed (with_tree pos words.tree (with_name pos words.name placed.table))
+
+-- the number of the name's symbol
+abbrev pub words_symbol : NamedTree → Placed → ℕ
+words_symbol words placed = number_of placed.table.symbols words.name
+
+-- the names are allowed or refused, and the place becomes a symbol where the form keeps it
+abbrev pub end_words : Pos → Naming → Form → Placed → Table → Result Table PlaceCause
+end_words pos naming form named table = end_naming pos naming (here named) (uses_place (known_here named).place form) table
 
 -- the size is said of the symbol at this place
 abbrev pub sized : Pos → Form → Table × ℕ → Table
 sized pos form found = record (with_map found.0 (with_next_size form found.0.symbols found.1)) { sized = insert_entry nat_eq found.0.sized found.1 pos }
 
--- the expression is the size of the symbol of the name
+-- the expression is the size of the symbol
+abbrev pub size_named : Pos → Tree → ℕ → Naming → Placed → Result Placed PlaceCause
+size_named pos tree symbol naming named =
+    form_in (known_here named) tree >>= λ form.
+    end_words pos naming form named (sized pos form (named.table, symbol)) >>= λ table. Ok (with_table named table)
+
+-- the name and those of the expression become symbols, and then the same
 unfoldable pub size_words : Pos → NamedTree → Placed → Result Placed PlaceCause
 size_words pos words placed =
-    form_in (known_here placed) words.tree >>= λ form. symbol_of pos words.name placed.table >>= λ found.
-    name_rest pos (here placed) words form (sized pos form found) >>= λ table. Ok (with_table placed table)
+    size_named pos words.tree (words_symbol words placed) (words_naming words placed) (with_words pos words placed)
 
 -- `.size`
 unfoldable pub place_size : Pos → List SpelledToken → Placed → Result Placed PlaceCause

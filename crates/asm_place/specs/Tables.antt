@@ -1,20 +1,18 @@
 -- The symbols of a source, and where each is named.
-use Rattle.std.specs.Prelude.{ℕ, nat_lt, List, [], ◌∷◌, ◌++◌, length, Option, None, Some, Result, Ok, Err, if◌then◌else◌}
+use Rattle.std.specs.Prelude.{ℕ, nat_lt, nat_le, Bool, true, ◌&&◌, ◌||◌, List, [], ◌∷◌, ◌++◌, length, Result, Ok, Err, if◌then◌else◌}
+use Rattle.std.specs.List.{list_all}
 use Rattle.asm_place.specs.declared.place_faults.PlaceCause.{PlaceCause}
 use Rattle.asm_place.specs.declared.place_faults.PlaceCause.TheVariants.{BadSymbolUse}
+use Rattle.asm_place.specs.declared.tables.Naming.{Naming}
 use Rattle.asm_base.specs.declared.positions.Pos.{Pos}
 use Rattle.asm_expr.specs.declared.naming.Name.{Name}
-use Rattle.asm_expr.specs.declared.naming.Name.TheVariants as naming
-use Rattle.asm_expr.specs.declared.trees.Written.{Written}
-use Rattle.asm_expr.specs.declared.trees.Written.TheVariants.{Plain, Back, Next}
 use Rattle.asm_expr.specs.Trees.{Tree}
-use Rattle.asm_expr.specs.NamesOf.{names_of}
+use Rattle.asm_expr.specs.Trees as expr
 use Rattle.asm_symbols.specs.declared.faults.SymCause.{SymCause}
 use Rattle.asm_symbols.specs.SymbolMap.{SymbolMap, nothing_named}
-use Rattle.asm_symbols.specs.Interning.{named, with_file}
-use Rattle.asm_symbols.specs.Counting.{next_named, last_named}
+use Rattle.asm_symbols.specs.Interning.{is_within_limits, interned, named, with_file}
+use Rattle.asm_symbols.specs.Counting.{meant_name, may_be_meant, next_named}
 use Rattle.asm_base.specs.Refusals.{◌>>=◌}
-use Rattle.asm_place.specs.Results.{all_steps}
 use Rattle.asm_place.specs.LayerFaults.{of_symbols}
 
 -- the symbol map; for each symbol where it is first named; and where the sizes of symbols are said, each with its symbol's index
@@ -63,25 +61,40 @@ change_named pos change name table = symbol_of pos name table >>= changed_by cha
 abbrev pub file_named : Name → Table → Result Table PlaceCause
 file_named name table = of_symbols (with_file table.symbols name) >>= λ map. Ok (with_map table map)
 
--- `Nb` names a label that came before
-abbrev pub back_by : Option ℕ → Table → Result Table PlaceCause
-back_by None table = Err BadSymbolUse
-back_by (Some index) table = Ok table
+-- the name has a symbol, whatever room there is: one that is new is named here first
+unfoldable pub with_name : Pos → Name → Table → Table
+with_name pos name table = named_in pos table (interned table.symbols name)
 
--- a name of an expression becomes a symbol
-unfoldable pub name_written : Pos → Written → Table → Result Table PlaceCause
-name_written pos (Plain text) table = symbol_of pos (naming.Plain text) table >>= λ found. Ok found.0
-name_written pos (Back number) table = back_by (last_named table.symbols number) table
-name_written pos (Next number) table = next_symbol pos number table >>= λ found. Ok found.0
-
--- these names become symbols, one after the other
-unfoldable pub name_list : Pos → List Written → Table → Result Table PlaceCause
-name_list pos names table = all_steps (name_written pos) names table
-
--- the names of an expression, from left to right
-unfoldable pub name_tree : Pos → Tree → Table → Result Table PlaceCause
-name_tree pos tree table = name_list pos (names_of tree) table
+-- each name of an expression has a symbol, from left to right
+unfoldable pub with_tree : Pos → Tree → Table → Table
+with_tree pos (expr.number value) table = table
+with_tree pos (expr.name written) table = with_name pos (meant_name table.symbols.counts written) table
+with_tree pos expr.here table = table
+with_tree pos (expr.unary op operand) table = with_tree pos operand table
+with_tree pos (expr.binary op left right) table = with_tree pos right (with_tree pos left table)
 
 -- those of several expressions
-unfoldable pub name_trees : Pos → List Tree → Table → Result Table PlaceCause
-name_trees pos trees table = all_steps (name_tree pos) trees table
+unfoldable pub with_trees : Pos → List Tree → Table → Table
+with_trees pos [] table = table
+with_trees pos (tree ∷ trees) table = with_trees pos trees (with_tree pos tree table)
+
+-- each `Nb` of an expression means a label that came before
+unfoldable pub is_meant : List (ℕ × ℕ) → Tree → Bool
+is_meant counts (expr.number value) = true
+is_meant counts (expr.name written) = may_be_meant counts written
+is_meant counts expr.here = true
+is_meant counts (expr.unary op operand) = is_meant counts operand
+is_meant counts (expr.binary op left right) = is_meant counts left && is_meant counts right
+
+-- each of several expressions
+unfoldable pub are_meant : List (ℕ × ℕ) → List Tree → Bool
+are_meant counts trees = list_all (is_meant counts) trees
+
+-- how many symbols there are, and whether each `Nb` of these expressions means a label that came before
+abbrev pub naming_of : List Tree → Table → Naming
+naming_of trees table = record { before = length table.symbols.symbols; meant = are_meant table.symbols.counts trees }
+
+-- the names are allowed where each means a symbol, and where the symbols that came since keep the limits
+unfoldable pub allowed : Naming → Table → Result Table PlaceCause
+allowed naming table =
+    if naming.meant && (nat_le (length table.symbols.symbols) naming.before || is_within_limits table.symbols) then Ok table else Err BadSymbolUse

@@ -1,10 +1,11 @@
 -- The trees of a few expressions.
-use Rattle.std.specs.Prelude.{List, map, option_map}
+use Rattle.std.specs.Prelude.{List, option_map}
 use Rattle.asm_expr.specs.declared.trees.Expr.{Expr}
 use Rattle.asm_expr.specs.Trees.{Tree, tree_of}
 use Rattle.asm_place.specs.declared.up_to_three.UpToThree.{UpToThree}
 use Rattle.asm_place.specs.declared.up_to_three.KnownOperands.{KnownOperands as ReadOperands}
 use Rattle.asm_place.specs.Expressions.{up_to_three_listed, KnownOperands}
+use Rattle.asm_place.specs.State.{Placed}
 
 -- the trees of the expressions, each where it is given
 abbrev pub trees_in : UpToThree Expr → UpToThree Tree
@@ -14,6 +15,6 @@ trees_in few = record { first = tree_of few.first; second = option_map tree_of f
 abbrev pub trees_listed : UpToThree Expr → List Tree
 trees_listed few = up_to_three_listed (trees_in few)
 
--- the expressions and values that were read
-abbrev pub known_operands_in : ReadOperands → KnownOperands
-known_operands_in given = record { trees = map tree_of given.exprs.items; values = given.values }
+-- the values that were read, and what is placed then
+abbrev pub known_operands_in : Placed → ReadOperands → KnownOperands
+known_operands_in placed given = record { naming = given.naming; placed = placed; values = given.values }

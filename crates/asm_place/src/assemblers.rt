@@ -5,7 +5,7 @@ ghost use Rattle.std.specs.Prelude.{◌≡◌, ◌++◌, OnOk};
 ghost use Rattle.asm_place.specs.DataItems.{cut_notes};
 
 use crate::place_faults::{PlaceCause, PlaceFault};
-use crate::places::{View, spot_at};
+use crate::places::{View, here_name, spot_at};
 use crate::stacks::Entered;
 use crate::tables::SymbolUses;
 use asm_base::{Note, Noted, Notes, Pos};
@@ -60,7 +60,8 @@ impl Assembler {
     ghost use Rattle.asm_base.specs.declared.refusals.Refusal.TheVariants.{NoMemory};
     ghost use Rattle.asm_base.specs.Refusals.{Gives};
     ghost use Rattle.asm_place.specs.DataItems.{cut_notes};
-    ghost use Rattle.asm_place.specs.State.{nothing_placed, unless_dot, with_notes, here, put_bytes_into, put_bytes, put_field, push_into, push_item};
+    ghost use Rattle.asm_place.specs.State.{nothing_placed, unless_dot, with_notes, here, known_here, put_bytes_into, put_bytes, put_field, push_into, push_item};
+    ghost use Rattle.asm_place.specs.KnownIn.{known_in};
     ghost use Rattle.asm_place.specs.PlacedBy.{placed_by, PlacesBy};
 
     /// Nothing is placed yet.
@@ -107,14 +108,17 @@ impl Assembler {
         spot_at(&self.sections, self.current)
     }
 
-    /// What is known of names there.
+    /// What is known of symbols and names there.
     pub(crate) fn view(&self) -> View<'_>
-        ensures symbols { result.symbols.now ≡ self.now.table.symbols }
+        ensures known { known_in result ≡ known_here (placed_by self.now) }
         ensures spot { result.spot ≡ here (placed_by self.now) }
     {
+        let symbols = self.table.symbols();
+        let spot = self.here();
         View {
-            symbols: self.table.symbols(),
-            spot: self.here(),
+            symbols,
+            spot,
+            place: symbols.number_of(&here_name(spot)).index(),
         }
     }
 
@@ -199,6 +203,7 @@ impl Assembler {
     ) -> Result<(), PlaceFault>
         ensures placed { PlacesBy (push_into pos number content) self.old self.new result }
         ensures kept { self.new.notes ≡ self.old.notes }
+        ensures table { self.new.table ≡ self.old.table }
     {
         if (number as usize) < self.sections.len() {
             self.sections

@@ -2,12 +2,13 @@
 
 use crate::assemblers::Assembler;
 use crate::expressions::{expression_of, form_in};
+use crate::few_sums::{NamedSum, named_sum};
 use crate::operands::{Operands, symbol_name};
 use crate::place_faults::PlaceFault;
-use crate::places::uses_dot;
+use crate::places::{View, uses_place};
+use crate::sums::sum_form_in;
 use crate::symbol_words::{NamedExpr, named_tree};
 use asm_base::{Pos, Text, Token};
-use asm_expr::Name;
 
 impl Assembler {
     ghost use Rattle.std.specs.Prelude.{◌≡◌, map};
@@ -15,6 +16,7 @@ impl Assembler {
     ghost use Rattle.asm_base.specs.Refusals.{Gives};
     ghost use Rattle.asm_place.specs.Assignments.{assign_words, place_set, place_assignment};
     ghost use Rattle.asm_place.specs.NamedTrees.{named_tree_in};
+    ghost use Rattle.asm_place.specs.FewSums.{named_sum_tree};
     ghost use Rattle.asm_place.specs.PlacedBy.{placed_by, PlacesBy};
 
     /// The symbol of the name stands for the expression from now on.
@@ -24,16 +26,42 @@ impl Assembler {
             self.old self.new result }
         ensures kept { self.new.notes ≡ self.old.notes }
     {
+        let (id, naming) = self.table.intern_words(pos, words)?;
+        let View { spot, place, .. } = self.view();
         let form = form_in(self.alloc, self.view(), &words.expr)?;
-        let spot = self.here();
-        let keeps = uses_dot(spot, &form);
-        let id = self.table.symbol_of(pos, &words.name)?;
+        let keeps = uses_place(place, &form);
         self.table.assign(id, form, once)?;
-        self.table
-            .name_part(self.alloc, pos, spot, keeps, &words.expr)
+        self.table.end_naming(pos, naming, spot, keeps)
     }
 
-    /// `.set`, `.equ`, `.equiv`
+    /// The symbol of the name stands for the sum from now on.
+    #[tactic(auto, unfolding(crate::specs::Assignments::assign_words))]
+    fn assign_sum(&mut self, pos: Pos, once: bool, words: &NamedSum) -> Result<(), PlaceFault>
+        ensures placed { PlacesBy (assign_words pos once (named_sum_tree words.now))
+            self.old self.new result }
+        ensures kept { self.new.notes ≡ self.old.notes }
+    {
+        let (id, naming) = self.table.intern_named_sum(pos, words)?;
+        let View { spot, place, .. } = self.view();
+        let form = sum_form_in(self.alloc, self.view(), &words.sum)?;
+        let keeps = uses_place(place, &form);
+        self.table.assign(id, form, once)?;
+        self.table.end_naming(pos, naming, spot, keeps)
+    }
+
+    /// `.set`, `.equ`, `.equiv` of any operands.
+    #[inline(never)]
+    #[tactic(auto, unfolding(crate::specs::Assignments::place_set))]
+    fn place_any_set(&mut self, pos: Pos, once: bool, tokens: &[Token]) -> Result<(), PlaceFault>
+        ensures placed { PlacesBy (place_set pos once (map spelled tokens.now))
+            self.old self.new result }
+        ensures kept { self.new.notes ≡ self.old.notes }
+    {
+        let words = named_tree(self.alloc, &mut Operands::new(tokens))?;
+        self.assign_words(pos, once, &words)
+    }
+
+    /// `.set`, `.equ`, `.equiv`: without a tree where the value is a sum.
     #[tactic(auto, unfolding(crate::specs::Assignments::place_set))]
     pub(crate) fn place_set(
         &mut self,
@@ -45,8 +73,10 @@ impl Assembler {
             self.old self.new result }
         ensures kept { self.new.notes ≡ self.old.notes }
     {
-        let words = named_tree(self.alloc, &mut Operands::new(tokens))?;
-        self.assign_words(pos, once, &words)
+        match named_sum(tokens) {
+            Some(words) => self.assign_sum(pos, once, &words),
+            None => self.place_any_set(pos, once, tokens),
+        }
     }
 
     /// `name = expression`, by the token of the name and those behind the sign.
@@ -62,7 +92,7 @@ impl Assembler {
             self.old self.new result }
         ensures kept { self.new.notes ≡ self.old.notes }
     {
-        let name = Name::Plain(Text::new(symbol_name(self.alloc, token)?));
+        let name = Text::new(symbol_name(self.alloc, token)?);
         let expr = expression_of(self.alloc, tokens)?;
         self.assign_words(pos, false, &NamedExpr { name, expr })
     }

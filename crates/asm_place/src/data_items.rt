@@ -1,27 +1,23 @@
 //! Data: the bytes of known values, and fields for the others (GNU as manual, ".byte", ".short", ".long", ".quad").
 
-ghost use Rattle.std.specs.Prelude.{◌≡◌, map};
-ghost use Rattle.asm_base.specs.Tokens.{spelled};
-ghost use Rattle.asm_base.specs.Refusals.{GivesBy};
-ghost use Rattle.asm_place.specs.KnownIn.{known_in};
-ghost use Rattle.asm_place.specs.Placing.{data_words};
-ghost use Rattle.asm_place.specs.DataWordsIn.{data_words_in};
+ghost use Rattle.std.specs.Prelude.{◌≡◌};
 ghost use Rattle.std.specs.List.{count_by};
 ghost use Rattle.asm_place.specs.DataItems.{is_cut};
 
 use crate::assemblers::Assembler;
 use crate::constant_data::{constant_data, lone_constant};
 use crate::expressions::{expressions, forms};
+use crate::few_sums::{FewSums, few_sums};
 use crate::operands::Operands;
 use crate::place_faults::PlaceFault;
-use crate::places::{View, one_keeps_here};
+use crate::places::{View, one_uses_place};
+use crate::tables::Naming;
 use asm_base::{Pos, Token};
-use asm_expr::{Expr, Linear};
+use asm_expr::Linear;
 use asm_frags::FieldSize;
-use std::alloc::Global;
 
 /// Whether the value of a form is known and does not fit.
-fn is_cut(size: FieldSize, form: &Linear) -> bool
+pub(crate) fn is_cut(size: FieldSize, form: &Linear) -> bool
     ensures { result ≡ is_cut size form.now }
 {
     form.terms().is_empty() && !size.fits(form.constant())
@@ -34,24 +30,6 @@ fn count_cut(size: FieldSize, forms: &[Linear]) -> usize
     forms.iter().filter(|form| is_cut(size, form)).count()
 }
 
-/// The operands of `.byte` and the others, and their forms.
-#[derive(Drop)]
-struct DataWords {
-    exprs: Vec<Expr>,
-    forms: Vec<Linear>,
-}
-
-/// All operands are read before a form is made.
-#[tactic(auto, unfolding(crate::specs::Placing::data_words))]
-fn data_words(alloc: Global, view: View, tokens: &[Token]) -> Result<DataWords, PlaceFault>
-    ensures { GivesBy data_words_in result
-        (data_words (known_in view.entry) (map spelled tokens.now)) }
-{
-    let exprs = expressions(alloc, Operands::new(tokens))?;
-    let forms = forms(alloc, view, &exprs)?;
-    Ok(DataWords { exprs, forms })
-}
-
 impl Assembler {
     ghost use Rattle.std.specs.Prelude.{◌≡◌, map};
     ghost use Rattle.asm_base.specs.Tokens.{spelled};
@@ -59,11 +37,15 @@ impl Assembler {
     ghost use Rattle.asm_place.specs.Answers.{KeepsNotes};
     ghost use Rattle.asm_place.specs.DataItems.{put_form, put_forms};
     ghost use Rattle.asm_place.specs.Placing.{put_data, place_data};
-    ghost use Rattle.asm_place.specs.DataWordsIn.{data_words_in};
     ghost use Rattle.asm_place.specs.PlacedBy.{placed_by, PlacesBy};
 
     /// Puts a form: the bytes of a value that is known, or a field.
-    fn put_form(&mut self, pos: Pos, size: FieldSize, form: Linear) -> Result<(), PlaceFault>
+    pub(crate) fn put_form(
+        &mut self,
+        pos: Pos,
+        size: FieldSize,
+        form: Linear,
+    ) -> Result<(), PlaceFault>
         ensures placed { PlacesBy (put_form pos size form) self.old self.new result }
         ensures kept { self.new.notes ≡ self.old.notes }
     {
@@ -88,22 +70,27 @@ impl Assembler {
 
     /// All values, of which those that are not known are fields.
     #[tactic(auto, unfolding(crate::specs::Placing::put_data))]
-    fn put_data(&mut self, pos: Pos, size: FieldSize, words: DataWords) -> Result<(), PlaceFault>
-        ensures placed { PlacesBy (put_data pos size (data_words_in words))
+    fn put_data(
+        &mut self,
+        pos: Pos,
+        size: FieldSize,
+        naming: Naming,
+        forms: Vec<Linear>,
+    ) -> Result<(), PlaceFault>
+        ensures placed { PlacesBy (put_data pos size naming forms.items)
             self.old self.new result }
         ensures kept { KeepsNotes result self.old.notes self.new.notes }
     {
-        let DataWords { exprs, forms } = words;
-        let spot = self.here();
-        let keeps = one_keeps_here(spot, &forms);
+        let View { spot, place, .. } = self.view();
+        let keeps = one_uses_place(place, &forms);
         let cut = count_cut(size, &forms);
         self.put_forms(pos, size, forms)?;
-        self.table.name_parts(self.alloc, pos, spot, keeps, &exprs)?;
+        self.table.end_naming(pos, naming, spot, keeps)?;
         self.warn(pos, cut)?;
         Ok(())
     }
 
-    /// Data of any operands.
+    /// Data of any operands: all are read before a form is made.
     #[inline(never)]
     #[tactic(auto, unfolding(crate::specs::Placing::place_data))]
     fn place_any_data(
@@ -116,8 +103,24 @@ impl Assembler {
             self.old self.new result }
         ensures kept { KeepsNotes result self.old.notes self.new.notes }
     {
-        let words = data_words(self.alloc, self.view(), tokens)?;
-        self.put_data(pos, size, words)
+        let exprs = expressions(self.alloc, Operands::new(tokens))?;
+        let naming = self.table.intern_trees(pos, &exprs)?;
+        let forms = forms(self.alloc, self.view(), &exprs)?;
+        self.put_data(pos, size, naming, forms)
+    }
+
+    /// Data of any operands: without trees where these are one or two sums.
+    #[tactic(auto, unfolding(crate::specs::Placing::place_data))]
+    fn place_named(&mut self, pos: Pos, size: FieldSize, tokens: &[Token]) -> Result<(), PlaceFault>
+        ensures placed { PlacesBy (place_data pos size (map spelled tokens.now))
+            self.old self.new result }
+        ensures kept { KeepsNotes result self.old.notes self.new.notes }
+    {
+        match few_sums(tokens) {
+            Some(FewSums::One(sum)) => self.place_one(pos, size, &sum),
+            Some(FewSums::Two(sum, other)) => self.place_two(pos, size, &sum, &other),
+            None => self.place_any_data(pos, size, tokens),
+        }
     }
 
     /// Data of any operands: at once where all are numbers.
@@ -133,7 +136,7 @@ impl Assembler {
     {
         match constant_data(&mut self.scratch, size, tokens)? {
             Some(cut) => self.put_constants(pos, cut),
-            None => self.place_any_data(pos, size, tokens),
+            None => self.place_named(pos, size, tokens),
         }
     }
 

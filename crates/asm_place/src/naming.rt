@@ -1,56 +1,76 @@
 //! The names of expressions, which become symbols in the order in which they stand.
 
-use crate::place_faults::PlaceFault;
-use crate::places::{View, here_name};
-use crate::tables::SymbolUses;
-use asm_base::Pos;
-use asm_expr::{Expr, Written, names_of};
+use crate::place_faults::{PlaceCause, PlaceFault};
+use crate::places::here_name;
+use crate::tables::{Naming, SymbolUses};
+use asm_base::{NoMemory, Pos};
+use asm_expr::Expr;
 use asm_symbols::{Definition, Spot};
-use std::alloc::Global;
 
 impl SymbolUses {
-    ghost use Rattle.std.specs.Prelude.{◌≡◌, map};
+    ghost use Rattle.std.specs.Prelude.{◌≡◌, ◌≤◌, length, map, OnOk, IfOk};
     ghost use Rattle.asm_expr.specs.Trees.{tree_of};
     ghost use Rattle.asm_base.specs.Refusals.{Gives};
-    ghost use Rattle.asm_place.specs.Tables.{name_list, name_tree, name_trees};
-    ghost use Rattle.asm_place.specs.Places.{name_here, name_part, name_parts};
+    ghost use Rattle.asm_place.specs.Tables.{with_tree, with_trees, is_meant, are_meant, naming_of, allowed};
+    ghost use Rattle.asm_place.specs.Places.{name_here, end_naming};
 
-    /// These names become symbols, one after the other.
-    #[tactic(auto, unfolding(crate::specs::Tables::name_list, crate::specs::Results::all_steps))]
-    fn name_list(&mut self, pos: Pos, names: &[Written]) -> Result<(), PlaceFault>
-        ensures { Gives self.new result (name_list pos names.now self.old) }
+    /// Each name of an expression has a symbol from now on, whatever room there is. Answers whether
+    /// each `Nb` means a label that came before.
+    #[tactic(auto, unfolding(crate::specs::Tables::with_tree, crate::specs::Tables::is_meant))]
+    pub(crate) fn intern_tree(&mut self, pos: Pos, expr: &Expr) -> Result<bool, NoMemory>
+        ensures ok { OnOk result (self.new ≡ with_tree pos (tree_of expr.now) self.old) }
+        ensures meant { IfOk result (λ meant.
+            meant ≡ is_meant self.old.symbols.counts (tree_of expr.now)) }
+        ensures counts { OnOk result (self.new.symbols.counts ≡ self.old.symbols.counts) }
+        ensures grows { OnOk result
+            (length self.old.symbols.symbols ≤ length self.new.symbols.symbols) }
     {
-        for written in names {
-            self.name_written(pos, written)?;
+        match expr {
+            Expr::Num(_) | Expr::Here => Ok(true),
+            Expr::Name(written) => {
+                let meant = self.may_be_meant(written);
+                self.intern(pos, written)?;
+                Ok(meant)
+            }
+            Expr::Unary(_, operand) => self.intern_tree(pos, operand),
+            Expr::Binary(_, left, right) => {
+                let one = self.intern_tree(pos, left)?;
+                let other = self.intern_tree(pos, right)?;
+                Ok(one && other)
+            }
         }
-        Ok(())
     }
 
-    /// The names of an expression become symbols, from left to right.
-    #[tactic(auto, unfolding(crate::specs::Tables::name_tree))]
-    fn name_tree(&mut self, alloc: Global, pos: Pos, expr: &Expr) -> Result<(), PlaceFault>
-        ensures { Gives self.new result (name_tree pos (tree_of expr.now) self.old) }
+    /// Each name of the expressions has a symbol from now on, whatever room there is: `allow` tells
+    /// whether they may be.
+    #[tactic(auto, unfolding(crate::specs::Tables::with_trees, crate::specs::Tables::are_meant))]
+    pub(crate) fn intern_trees(&mut self, pos: Pos, exprs: &[Expr]) -> Result<Naming, NoMemory>
+        ensures ok { OnOk result (self.new ≡ with_trees pos (map tree_of exprs.now) self.old) }
+        ensures naming { IfOk result (λ naming.
+            naming ≡ naming_of (map tree_of exprs.now) self.old) }
+        ensures grows { OnOk result
+            (length self.old.symbols.symbols ≤ length self.new.symbols.symbols) }
     {
-        match names_of(alloc, expr) {
-            Ok(names) => self.name_list(pos, &names),
-            Err(_) => Err(PlaceFault::NoMemory),
-        }
-    }
-
-    /// The names of several expressions become symbols.
-    #[tactic(auto, unfolding(crate::specs::Tables::name_trees, crate::specs::Results::all_steps))]
-    pub(crate) fn name_trees(
-        &mut self,
-        alloc: Global,
-        pos: Pos,
-        exprs: &[Expr],
-    ) -> Result<(), PlaceFault>
-        ensures { Gives self.new result (name_trees pos (map tree_of exprs.now) self.old) }
-    {
+        let before = self.symbols().len();
+        let mut meant = true;
         for expr in exprs {
-            self.name_tree(alloc, pos, expr)?;
+            let one = self.intern_tree(pos, expr)?;
+            meant = meant && one;
         }
-        Ok(())
+        Ok(Naming { before, meant })
+    }
+
+    /// Refuses names that may not have symbols.
+    #[tactic(auto, unfolding(crate::specs::Tables::allowed))]
+    pub(crate) fn allow(&self, naming: Naming) -> Result<(), PlaceFault>
+        ensures { Gives self.now result (allowed naming self.now) }
+    {
+        let symbols = self.symbols();
+        if naming.meant && (symbols.len() <= naming.before || symbols.is_within_limits()) {
+            Ok(())
+        } else {
+            Err(PlaceFault::Fault(PlaceCause::BadSymbolUse))
+        }
     }
 
     /// The place itself becomes a symbol where a form keeps it, unless it is one already.
@@ -71,36 +91,17 @@ impl SymbolUses {
         }
     }
 
-    /// The names of an expression become symbols, and the place if its form keeps it.
-    #[tactic(auto, unfolding(crate::specs::Places::name_part))]
-    pub(crate) fn name_part(
+    /// Allows or refuses the names; and the place becomes a symbol where a form keeps it.
+    pub(crate) fn end_naming(
         &mut self,
-        alloc: Global,
         pos: Pos,
+        naming: Naming,
         spot: Spot,
         keeps: bool,
-        expr: &Expr,
     ) -> Result<(), PlaceFault>
-        ensures { Gives self.new result (name_part pos spot keeps (tree_of expr.now) self.old) }
+        ensures { Gives self.new result (end_naming pos naming spot keeps self.old) }
     {
-        self.name_tree(alloc, pos, expr)?;
-        self.name_here(pos, spot, keeps)
-    }
-
-    /// The names of expressions become symbols, and the place if a form keeps it.
-    #[tactic(auto, unfolding(crate::specs::Places::name_parts))]
-    pub(crate) fn name_parts(
-        &mut self,
-        alloc: Global,
-        pos: Pos,
-        spot: Spot,
-        keeps: bool,
-        exprs: &[Expr],
-    ) -> Result<(), PlaceFault>
-        ensures { Gives self.new result
-            (name_parts pos spot keeps (map tree_of exprs.now) self.old) }
-    {
-        self.name_trees(alloc, pos, exprs)?;
+        self.allow(naming)?;
         self.name_here(pos, spot, keeps)
     }
 }

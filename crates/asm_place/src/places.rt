@@ -1,11 +1,12 @@
-//! Where what is put into a section next goes, and what is known of names there.
+//! Where what is put into a section next goes, and what is known of symbols and names there.
 
 ghost use Rattle.std.specs.Prelude.{◌≡◌};
 ghost use Rattle.std.specs.List.{list_any};
-ghost use Rattle.asm_place.specs.Places.{spot_at, here_name, is_here, told_at, uses_dot};
-ghost use Rattle.asm_symbols.specs.Counting.{counted};
+ghost use Rattle.asm_place.specs.Places.{spot_at, here_name, told_at, uses_place};
+ghost use Rattle.asm_symbols.specs.Interning.{number_of};
+ghost use Rattle.asm_symbols.specs.Counting.{meant_name};
 
-use asm_expr::{Known, Linear, Look, Name};
+use asm_expr::{Known, Linear, Look, Name, SymId, Written};
 use asm_frags::Sections;
 use asm_symbols::{Spot, Symbols};
 
@@ -47,64 +48,53 @@ pub(crate) fn here_name(spot: Spot) -> Name
     }
 }
 
-/// Whether the name is that of the place itself.
-fn is_here(spot: Spot, name: &Name) -> bool
-    ensures { result ≡ is_here spot name.now }
+/// Whether a form keeps the symbol of the place.
+pub(crate) fn uses_place(place: u32, form: &Linear) -> bool
+    ensures { result ≡ uses_place place form.now }
 {
-    match name {
-        Name::Place {
-            section,
-            item,
-            offset,
-        } => *section == spot.section && *item == spot.item && *offset == spot.offset,
-        _ => false,
-    }
+    form.terms().iter().any(|term| term.symbol.index() == place)
 }
 
-/// Whether a form keeps the place.
-pub(crate) fn uses_dot(spot: Spot, form: &Linear) -> bool
-    ensures { result ≡ uses_dot spot form.now }
+/// Whether one of the forms keeps the symbol of the place.
+pub(crate) fn one_uses_place(place: u32, forms: &[Linear]) -> bool
+    ensures { result ≡ list_any (uses_place place) forms.now }
 {
-    form.terms().iter().any(|term| is_here(spot, &term.name))
+    forms.iter().any(|form| uses_place(place, form))
 }
 
-/// Whether one of the forms keeps the place.
-pub(crate) fn one_keeps_here(spot: Spot, forms: &[Linear]) -> bool
-    ensures { result ≡ list_any (uses_dot spot) forms.now }
-{
-    forms.iter().any(|form| uses_dot(spot, form))
-}
-
-/// What is known of names at a place.
+/// What is known of symbols and names at a place.
 #[derive(Clone, Copy)]
 pub(crate) struct View<'a> {
     pub(crate) symbols: &'a Symbols,
     pub(crate) spot: Spot,
+    /// The index of the symbol that the place is.
+    pub(crate) place: u32,
 }
 
 impl<'a> Known for View<'a> {
-    ghost told = { λ view name. told_at view.symbols.now view.spot name };
+    ghost told = { λ view index. told_at view.symbols.now view.place view.spot index };
 
-    ghost counted = { λ view number. counted view.symbols.now.counts number };
+    ghost meant = { λ view written.
+        number_of view.symbols.now (meant_name view.symbols.now.counts written) };
 
-    ghost place = { λ view. here_name view.spot };
+    ghost place = { λ view. view.place };
 
-    fn look(&self, name: &Name) -> Look<'_> {
-        if is_here(self.spot, name) {
+    fn look(&self, symbol: SymId) -> Look<'_> {
+        if symbol.index() == self.place {
             Look::Label {
                 stretch: self.spot.stretch,
                 at: self.spot.at,
             }
         } else {
-            self.symbols.look(name)
+            self.symbols.look(symbol)
         }
     }
 
-    fn count(&self, number: u64) -> u32 {
-        self.symbols.count(number)
+    fn symbol(&self, written: &Written) -> SymId {
+        self.symbols.meant(written)
     }
 
-    fn here(&self) -> Name {
-        here_name(self.spot)
+    fn here(&self) -> SymId {
+        SymId::new(self.place)
     }
 }

@@ -206,11 +206,12 @@ impl Assembler {
         ensures placed { PlacesBy (enter_words pos (words_in words)) self.old self.new result }
         ensures kept { self.new.notes ≡ self.old.notes }
     {
+        let exprs = option_exprs(&words.entry_size);
+        let naming = self.table.intern_trees(pos, exprs)?;
         let size = entry_size_in(self.alloc, self.view(), &words.entry_size)?;
         let header = header_of(&self.sections, &words, size)?;
         let number = enter(self.alloc, &mut self.sections, &words.name, header)?;
-        let exprs = option_exprs(&words.entry_size);
-        self.table.name_trees(self.alloc, pos, exprs)?;
+        self.table.allow(naming)?;
         self.set_current(number);
         Ok(())
     }

@@ -9,7 +9,7 @@ use crate::assemblers::Assembler;
 use crate::constant_operands::constant_operands;
 use crate::operands::Operands;
 use crate::place_faults::{PlaceCause, PlaceFault};
-use crate::up_to_three::known_operands;
+use crate::tables::Naming;
 use asm_base::{Pos, Token};
 use asm_expr::Expr;
 use asm_frags::{Content, Fill};
@@ -120,17 +120,17 @@ impl Assembler {
     ghost use Rattle.asm_expr.specs.Trees.{tree_of};
     ghost use Rattle.asm_base.specs.Refusals.{Gives};
     ghost use Rattle.asm_place.specs.ConstantOperands.{put_space_of, put_units_of};
-    ghost use Rattle.asm_place.specs.Placing.{with_item, place_zero, place_skip, place_fill};
+    ghost use Rattle.asm_place.specs.Placing.{with_named, place_zero, place_skip, place_fill};
     ghost use Rattle.asm_place.specs.PlacedBy.{placed_by, PlacesBy};
 
-    /// Space, and the names of its operands.
-    fn put_space(&mut self, pos: Pos, exprs: &[Expr], item: Content) -> Result<(), PlaceFault>
-        ensures placed { PlacesBy (with_item pos (map tree_of exprs.now) item)
+    /// Puts space, and then allows or refuses the names of its operands.
+    fn put_space(&mut self, pos: Pos, naming: Naming, item: Content) -> Result<(), PlaceFault>
+        ensures placed { PlacesBy (λ placed. with_named pos naming item placed)
             self.old self.new result }
         ensures kept { self.new.notes ≡ self.old.notes }
     {
         self.push_item(pos, item)?;
-        self.table.name_trees(self.alloc, pos, exprs)
+        self.table.allow(naming)
     }
 
     /// So many bytes, whose operands name nothing.
@@ -166,9 +166,9 @@ impl Assembler {
             self.old self.new result }
         ensures kept { self.new.notes ≡ self.old.notes }
     {
-        let given = known_operands(self.alloc, self.view(), 1, &mut Operands::new(tokens))?;
+        let given = self.known_operands(pos, 1, &mut Operands::new(tokens))?;
         let item = space_of(given.values.first, 0)?;
-        self.put_space(pos, &given.exprs, item)
+        self.put_space(pos, given.naming, item)
     }
 
     /// `.skip`, `.space` of any operands.
@@ -179,9 +179,9 @@ impl Assembler {
             self.old self.new result }
         ensures kept { self.new.notes ≡ self.old.notes }
     {
-        let given = known_operands(self.alloc, self.view(), 2, &mut Operands::new(tokens))?;
+        let given = self.known_operands(pos, 2, &mut Operands::new(tokens))?;
         let item = space_of(given.values.first, given.values.second.unwrap_or(0))?;
-        self.put_space(pos, &given.exprs, item)
+        self.put_space(pos, given.naming, item)
     }
 
     /// `.fill` of any operands.
@@ -192,10 +192,10 @@ impl Assembler {
             self.old self.new result }
         ensures kept { self.new.notes ≡ self.old.notes }
     {
-        let given = known_operands(self.alloc, self.view(), 3, &mut Operands::new(tokens))?;
+        let given = self.known_operands(pos, 3, &mut Operands::new(tokens))?;
         let size = unit_size(given.values.second)?;
         let item = units_of(given.values.first, size, given.values.third.unwrap_or(0))?;
-        self.put_space(pos, &given.exprs, item)
+        self.put_space(pos, given.naming, item)
     }
 
     /// `.zero`: so many zeros; at once where all operands are numbers.

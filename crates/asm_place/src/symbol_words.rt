@@ -13,15 +13,17 @@ ghost use Rattle.asm_place.specs.NamedTrees.{named_tree_in};
 use crate::assemblers::Assembler;
 use crate::directives::SymbolAttribute;
 use crate::expressions::form_in;
+use crate::few_sums::{NamedSum, named_sum};
 use crate::operands::{Operands, begins_with_place, has_dot, is_name, name_of};
 use crate::place_faults::{PlaceCause, PlaceFault};
-use crate::places::uses_dot;
+use crate::places::{View, uses_place};
 use crate::section_words::{begins_type, needed_name};
-use crate::tables::SymbolUses;
+use crate::sums::sum_form_in;
+use crate::tables::{Naming, SymbolUses};
 use crate::up_to_three::{first_tree, no_more};
-use asm_base::{Pos, Text, Token};
+use asm_base::{NoMemory, Pos, Text, Token};
 use asm_expr::{Expr, Name};
-use asm_symbols::Kind;
+use asm_symbols::{Kind, SymId};
 use std::alloc::Global;
 
 /// The name that an operand gives a symbol.
@@ -112,7 +114,7 @@ fn named_kind(alloc: Global, operands: &mut Operands) -> Result<NamedKind, Place
 /// A name and an expression.
 #[derive(Drop)]
 pub(crate) struct NamedExpr {
-    pub(crate) name: Name,
+    pub(crate) name: Text,
     pub(crate) expr: Expr,
 }
 
@@ -126,16 +128,65 @@ pub(crate) fn named_tree(alloc: Global, operands: &mut Operands) -> Result<Named
     no_more(
         operands,
         NamedExpr {
-            name: Name::Plain(Text::new(name)),
+            name: Text::new(name),
             expr,
         },
     )
 }
 
 impl SymbolUses {
-    ghost use Rattle.std.specs.Prelude.{◌≡◌};
+    ghost use Rattle.std.specs.Prelude.{◌≡◌, ◌<◌, [], ◌∷◌, length, OnOk, IfOk};
     ghost use Rattle.asm_base.specs.Refusals.{Gives};
+    ghost use Rattle.asm_expr.specs.Trees.{tree_of};
+    ghost use Rattle.asm_expr.specs.declared.naming.Name.TheVariants.{Plain};
+    ghost use Rattle.asm_symbols.specs.Interning.{number_of};
+    ghost use Rattle.asm_operands.specs.Sums.{sum_tree};
+    ghost use Rattle.asm_place.specs.Tables.{with_name, with_tree, naming_of};
     ghost use Rattle.asm_place.specs.SymbolWords.{say_one, say_all};
+
+    /// The name and then each name of the expression has a symbol from now on, whatever room there
+    /// is. Answers the symbol of the name.
+    #[tactic(auto, unfolding(crate::specs::Tables::are_meant))]
+    pub(crate) fn intern_words(
+        &mut self,
+        pos: Pos,
+        words: &NamedExpr,
+    ) -> Result<(SymId, Naming), NoMemory>
+        ensures ok { OnOk result (self.new
+            ≡ with_tree pos (tree_of words.now.expr) (with_name pos (Plain words.now.name) self.old)) }
+        ensures id { IfOk result (λ made.
+            made.0 ≡ number_of self.old.symbols (Plain words.now.name)) }
+        ensures within { IfOk result (λ made. made.0 < length self.new.symbols.symbols) }
+        ensures naming { IfOk result (λ made.
+            made.1 ≡ naming_of (tree_of words.now.expr ∷ []) self.old) }
+    {
+        let before = self.symbols().len();
+        let id = self.intern_text(pos, words.name.as_bytes())?;
+        let meant = self.intern_tree(pos, &words.expr)?;
+        Ok((id, Naming { before, meant }))
+    }
+
+    /// The name and then each name of the sum has a symbol from now on, whatever room there is.
+    /// Answers the symbol of the name.
+    #[tactic(auto, unfolding(crate::specs::Tables::are_meant))]
+    pub(crate) fn intern_named_sum(
+        &mut self,
+        pos: Pos,
+        words: &NamedSum,
+    ) -> Result<(SymId, Naming), NoMemory>
+        ensures ok { OnOk result (self.new
+            ≡ with_tree pos (sum_tree words.now.sum) (with_name pos (Plain words.now.name.now) self.old)) }
+        ensures id { IfOk result (λ made.
+            made.0 ≡ number_of self.old.symbols (Plain words.now.name.now)) }
+        ensures within { IfOk result (λ made. made.0 < length self.new.symbols.symbols) }
+        ensures naming { IfOk result (λ made.
+            made.1 ≡ naming_of (sum_tree words.now.sum ∷ []) self.old) }
+    {
+        let before = self.symbols().len();
+        let id = self.intern_text(pos, words.name)?;
+        let meant = self.intern_sum(pos, &words.sum)?;
+        Ok((id, Naming { before, meant }))
+    }
 
     /// This is said of a name.
     #[tactic(auto, unfolding(crate::specs::Tables::symbol_of))]
@@ -174,6 +225,7 @@ impl Assembler {
     ghost use Rattle.asm_base.specs.Refusals.{Gives};
     ghost use Rattle.asm_place.specs.SymbolWords.{place_said, place_type, size_words, place_size};
     ghost use Rattle.asm_place.specs.NamedTrees.{named_tree_in};
+    ghost use Rattle.asm_place.specs.FewSums.{named_sum_tree};
     ghost use Rattle.asm_place.specs.PlacedBy.{placed_by, PlacesBy};
 
     /// `.globl` and the others, with a name at least.
@@ -216,18 +268,33 @@ impl Assembler {
             self.old self.new result }
         ensures kept { self.new.notes ≡ self.old.notes }
     {
+        let (id, naming) = self.table.intern_words(pos, words)?;
+        let View { spot, place, .. } = self.view();
         let form = form_in(self.alloc, self.view(), &words.expr)?;
-        let spot = self.here();
-        let keeps = uses_dot(spot, &form);
-        let id = self.table.symbol_of(pos, &words.name)?;
+        let keeps = uses_place(place, &form);
         self.table.set_size(pos, id, form)?;
-        self.table
-            .name_part(self.alloc, pos, spot, keeps, &words.expr)
+        self.table.end_naming(pos, naming, spot, keeps)
     }
 
-    /// `.size`
+    /// The sum is the size of the symbol of the name.
+    #[tactic(auto, unfolding(crate::specs::SymbolWords::size_words))]
+    fn size_sum(&mut self, pos: Pos, words: &NamedSum) -> Result<(), PlaceFault>
+        ensures placed { PlacesBy (size_words pos (named_sum_tree words.now))
+            self.old self.new result }
+        ensures kept { self.new.notes ≡ self.old.notes }
+    {
+        let (id, naming) = self.table.intern_named_sum(pos, words)?;
+        let View { spot, place, .. } = self.view();
+        let form = sum_form_in(self.alloc, self.view(), &words.sum)?;
+        let keeps = uses_place(place, &form);
+        self.table.set_size(pos, id, form)?;
+        self.table.end_naming(pos, naming, spot, keeps)
+    }
+
+    /// `.size` of any operands.
+    #[inline(never)]
     #[tactic(auto, unfolding(crate::specs::SymbolWords::place_size))]
-    pub(crate) fn place_size(&mut self, pos: Pos, tokens: &[Token]) -> Result<(), PlaceFault>
+    fn place_any_size(&mut self, pos: Pos, tokens: &[Token]) -> Result<(), PlaceFault>
         ensures placed { PlacesBy (place_size pos (map spelled tokens.now))
             self.old self.new result }
         ensures kept { self.new.notes ≡ self.old.notes }
@@ -235,5 +302,21 @@ impl Assembler {
         let words = named_tree(self.alloc, &mut Operands::new(tokens))?;
         self.size_words(pos, &words)?;
         self.unless_dot(begins_with_place(tokens))
+    }
+
+    /// `.size`: without a tree where it is a sum.
+    #[tactic(auto, unfolding(crate::specs::SymbolWords::place_size))]
+    pub(crate) fn place_size(&mut self, pos: Pos, tokens: &[Token]) -> Result<(), PlaceFault>
+        ensures placed { PlacesBy (place_size pos (map spelled tokens.now))
+            self.old self.new result }
+        ensures kept { self.new.notes ≡ self.old.notes }
+    {
+        match named_sum(tokens) {
+            Some(words) => {
+                self.size_sum(pos, &words)?;
+                self.unless_dot(begins_with_place(tokens))
+            }
+            None => self.place_any_size(pos, tokens),
+        }
     }
 }

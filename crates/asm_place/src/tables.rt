@@ -3,18 +3,25 @@
 ghost use Rattle.std.specs.Prelude.{◌≡◌};
 
 use crate::directives::SymbolAttribute;
-use crate::place_faults::{PlaceCause, PlaceFault};
-use asm_base::{Pos, Text};
+use crate::place_faults::PlaceFault;
+use asm_base::{NoMemory, Pos};
 use asm_expr::{Linear, Name, Written, constant_form};
 use asm_symbols::{Definition, Kind, SymFault, SymId, Symbols};
 use indexmap::IndexMap;
 use std::alloc::Global;
 use std::marker::Model;
 
+/// How many symbols there were before the names of a statement got theirs, and whether each
+/// name means one: `Nb` only where a label N came before.
+#[derive(Clone, Copy)]
+pub(crate) struct Naming {
+    pub(crate) before: usize,
+    pub(crate) meant: bool,
+}
+
 /// The symbol map, and where its symbols are named.
 #[derive(Drop)]
 pub struct SymbolUses {
-    alloc: Global,
     symbols: Symbols,
     /// For each symbol where the first statement stands that names it.
     named: Vec<Pos>,
@@ -31,12 +38,16 @@ impl Model for SymbolUses {
 }
 
 impl SymbolUses {
-    ghost use Rattle.std.specs.Prelude.{◌≡◌, ◌<◌, nat_eq, length, IfOk, Ok};
+    ghost use Rattle.std.specs.Prelude.{◌≡◌, ◌<◌, ◌≤◌, nat_eq, length, OnOk, IfOk, Ok};
     ghost use Rattle.std.specs.Map.{lookup};
     ghost use Rattle.asm_symbols.specs.Defining.{defined};
     ghost use Rattle.asm_symbols.specs.LeadsBack.{assigned};
     ghost use Rattle.asm_base.specs.Refusals.{Gives, GivesBy};
-    ghost use Rattle.asm_place.specs.Tables.{no_table, with_map, symbol_of, next_symbol, changed_by, file_named, name_written};
+    ghost use Rattle.asm_expr.specs.declared.naming.Name.TheVariants.{Plain};
+    ghost use Rattle.asm_expr.specs.declared.trees.Written.TheVariants.{Back, Next};
+    ghost use Rattle.asm_symbols.specs.Interning.{number_of};
+    ghost use Rattle.asm_symbols.specs.Counting.{meant_name, may_be_meant};
+    ghost use Rattle.asm_place.specs.Tables.{no_table, with_map, with_name, symbol_of, next_symbol, changed_by, file_named};
     ghost use Rattle.asm_place.specs.Commons.{as_space};
     ghost use Rattle.asm_place.specs.SymbolWords.{said, kind_said, sized};
 
@@ -45,7 +56,6 @@ impl SymbolUses {
         ensures { result ≡ no_table }
     {
         SymbolUses {
-            alloc,
             symbols: Symbols::new(alloc),
             named: Vec::new(alloc),
             sized: IndexMap::new(alloc),
@@ -184,25 +194,84 @@ impl SymbolUses {
         self.symbols.file(name).map_err(SymFault::raise)
     }
 
-    /// A name of an expression becomes a symbol.
-    #[tactic(auto, unfolding(crate::specs::Tables::name_written))]
-    pub(crate) fn name_written(&mut self, pos: Pos, written: &Written) -> Result<(), PlaceFault>
-        ensures { Gives self.new result (name_written pos written.now self.old) }
+    /// The name is a symbol's from now on, whatever room there is.
+    #[tactic(auto, unfolding(crate::specs::Tables::with_name), using(crate::proofs::InternLemmas::interned_within))]
+    pub(crate) fn intern_text(&mut self, pos: Pos, text: &[u8]) -> Result<SymId, NoMemory>
+        ensures ok { OnOk result (self.new ≡ with_name pos (Plain text.now) self.old) }
+        ensures counts { OnOk result (self.new.symbols.counts ≡ self.old.symbols.counts) }
+        ensures id { IfOk result (λ id.
+            id ≡ number_of self.old.symbols (Plain text.now)) }
+        ensures within { IfOk result (λ id. id < length self.new.symbols.symbols) }
+        ensures grows { OnOk result
+            (length self.old.symbols.symbols ≤ length self.new.symbols.symbols) }
+    {
+        let before = self.symbols.len();
+        let id = self.symbols.intern_text(text)?;
+        if self.symbols.len() > before {
+            self.named.push(pos)?;
+        }
+        Ok(id)
+    }
+
+    /// What `Nb` means is a symbol from now on, whatever room there is.
+    #[tactic(auto, unfolding(crate::specs::Tables::with_name), using(crate::proofs::InternLemmas::interned_grows))]
+    pub(crate) fn intern_back(&mut self, pos: Pos, number: u64) -> Result<(), NoMemory>
+        ensures ok { OnOk result
+            (self.new ≡ with_name pos (meant_name self.old.symbols.counts (Back number)) self.old) }
+        ensures counts { OnOk result (self.new.symbols.counts ≡ self.old.symbols.counts) }
+        ensures grows { OnOk result
+            (length self.old.symbols.symbols ≤ length self.new.symbols.symbols) }
+    {
+        let before = self.symbols.len();
+        self.symbols.intern_back(number)?;
+        if self.symbols.len() > before {
+            self.named.push(pos)?;
+        }
+        Ok(())
+    }
+
+    /// What `Nf` means is a symbol from now on, whatever room there is.
+    #[tactic(auto, unfolding(crate::specs::Tables::with_name), using(crate::proofs::InternLemmas::interned_grows))]
+    pub(crate) fn intern_next(&mut self, pos: Pos, number: u64) -> Result<(), NoMemory>
+        ensures ok { OnOk result
+            (self.new ≡ with_name pos (meant_name self.old.symbols.counts (Next number)) self.old) }
+        ensures counts { OnOk result (self.new.symbols.counts ≡ self.old.symbols.counts) }
+        ensures grows { OnOk result
+            (length self.old.symbols.symbols ≤ length self.new.symbols.symbols) }
+    {
+        let before = self.symbols.len();
+        self.symbols.intern_next(number)?;
+        if self.symbols.len() > before {
+            self.named.push(pos)?;
+        }
+        Ok(())
+    }
+
+    /// What the name means is a symbol from now on, whatever room there is.
+    pub(crate) fn intern(&mut self, pos: Pos, written: &Written) -> Result<(), NoMemory>
+        ensures ok { OnOk result
+            (self.new ≡ with_name pos (meant_name self.old.symbols.counts written.now) self.old) }
+        ensures counts { OnOk result (self.new.symbols.counts ≡ self.old.symbols.counts) }
+        ensures grows { OnOk result
+            (length self.old.symbols.symbols ≤ length self.new.symbols.symbols) }
     {
         match written {
             Written::Plain(text) => {
-                let name = Name::Plain(Text::new(Vec::from_slice(self.alloc, text.as_bytes())?));
-                self.symbol_of(pos, &name)?;
+                self.intern_text(pos, text.as_bytes())?;
                 Ok(())
             }
-            Written::Back(number) => match self.symbols.numeric_back(*number) {
-                Some(_) => Ok(()),
-                None => Err(PlaceFault::Fault(PlaceCause::BadSymbolUse)),
-            },
-            Written::Next(number) => {
-                self.next_symbol(pos, *number)?;
-                Ok(())
-            }
+            Written::Back(number) => self.intern_back(pos, *number),
+            Written::Next(number) => self.intern_next(pos, *number),
+        }
+    }
+
+    /// Whether `Nb` means a label that came before; any other name may be a new one.
+    pub(crate) fn may_be_meant(&self, written: &Written) -> bool
+        ensures { result ≡ may_be_meant self.now.symbols.counts written.now }
+    {
+        match written {
+            Written::Back(number) => self.symbols.count(*number) != 0,
+            _ => true,
         }
     }
 }

@@ -7,13 +7,16 @@ ghost use Rattle.asm_base.specs.Refusals.{GivesBy, Returns};
 ghost use Rattle.asm_place.specs.Results.{if_some};
 ghost use Rattle.asm_place.specs.OperandParts.{operands_left, Takes};
 ghost use Rattle.asm_place.specs.KnownIn.{known_in};
-ghost use Rattle.asm_place.specs.Expressions.{form_in, constant_in, first_tree, next_tree_if, no_more, up_to_three_trees, up_to_three_forms, up_to_three_constants, known_operands};
-ghost use Rattle.asm_place.specs.UpToThreeTrees.{trees_in, trees_listed, known_operands_in};
+ghost use Rattle.asm_place.specs.Expressions.{form_in, constant_in, first_tree, next_tree_if, no_more, up_to_three_trees, up_to_three_forms, up_to_three_constants};
+ghost use Rattle.asm_place.specs.UpToThreeTrees.{trees_in};
 
+use crate::assemblers::Assembler;
 use crate::expressions::{constant_in, expression_of, form_in};
 use crate::operands::Operands;
 use crate::place_faults::{PlaceCause, PlaceFault};
 use crate::places::View;
+use crate::tables::{Naming, SymbolUses};
+use asm_base::{NoMemory, Pos};
 use asm_expr::{Expr, Linear};
 use std::alloc::Global;
 
@@ -25,10 +28,10 @@ pub(crate) struct UpToThree<T> {
     pub(crate) third: Option<T>,
 }
 
-/// The expressions of a directive, and their values.
+/// The values of the expressions of a directive, each of whose names has a symbol.
 #[derive(Drop)]
 pub(crate) struct KnownOperands {
-    pub(crate) exprs: Vec<Expr>,
+    pub(crate) naming: Naming,
     pub(crate) values: UpToThree<u64>,
 }
 
@@ -152,43 +155,77 @@ fn up_to_three_constants(forms: &UpToThree<Linear>) -> Result<UpToThree<u64>, Pl
     })
 }
 
-/// The expressions in a list.
-fn listed(alloc: Global, exprs: UpToThree<Expr>) -> Result<Vec<Expr>, PlaceFault>
-    ensures { GivesBy (λ list. map tree_of list.items) result (Ok (trees_listed exprs)) }
-{
-    let mut list = Vec::new(alloc);
-    let UpToThree {
-        first,
-        second,
-        third,
-    } = exprs;
-    list.push(first)?;
-    if let Some(second) = second {
-        list.push(second)?;
+impl SymbolUses {
+    ghost use Rattle.std.specs.Prelude.{◌≡◌, ◌≤◌, length, OnOk, IfOk};
+    ghost use Rattle.std.specs.Option.{option_to_list};
+    ghost use Rattle.asm_place.specs.Tables.{with_trees, are_meant, naming_of};
+    ghost use Rattle.asm_place.specs.UpToThreeTrees.{trees_listed};
+
+    /// Each name of an expression that may be missing has a symbol from now on. Answers whether
+    /// each `Nb` means a label that came before.
+    #[tactic(auto, unfolding(crate::specs::Tables::with_trees, crate::specs::Tables::are_meant))]
+    fn intern_if(&mut self, pos: Pos, expr: &Option<Expr>) -> Result<bool, NoMemory>
+        ensures ok { OnOk result (self.new
+            ≡ with_trees pos (option_to_list (option_map tree_of expr.now)) self.old) }
+        ensures meant { IfOk result (λ meant. meant
+            ≡ are_meant self.old.symbols.counts (option_to_list (option_map tree_of expr.now))) }
+        ensures counts { OnOk result (self.new.symbols.counts ≡ self.old.symbols.counts) }
+        ensures grows { OnOk result
+            (length self.old.symbols.symbols ≤ length self.new.symbols.symbols) }
+    {
+        match expr {
+            Some(expr) => self.intern_tree(pos, expr),
+            None => Ok(true),
+        }
     }
-    if let Some(third) = third {
-        list.push(third)?;
+
+    /// Each name of the expressions has a symbol from now on, whatever room there is.
+    #[tactic(auto, unfolding(crate::specs::Tables::with_trees, crate::specs::Tables::are_meant))]
+    fn intern_up_to_three(&mut self, pos: Pos, exprs: &UpToThree<Expr>) -> Result<Naming, NoMemory>
+        ensures ok { OnOk result (self.new ≡ with_trees pos (trees_listed exprs.now) self.old) }
+        ensures naming { IfOk result (λ naming.
+            naming ≡ naming_of (trees_listed exprs.now) self.old) }
+        ensures grows { OnOk result
+            (length self.old.symbols.symbols ≤ length self.new.symbols.symbols) }
+    {
+        let before = self.symbols().len();
+        let first = self.intern_tree(pos, &exprs.first)?;
+        let second = self.intern_if(pos, &exprs.second)?;
+        let third = self.intern_if(pos, &exprs.third)?;
+        Ok(Naming {
+            before,
+            meant: first && second && third,
+        })
     }
-    Ok(list)
 }
 
-/// Operands whose values have to be known: all are read, and the forms of all are made, before a
-/// value is asked for.
-#[tactic(auto, unfolding(crate::specs::Expressions::known_operands))]
-pub(crate) fn known_operands(
-    alloc: Global,
-    view: View,
-    most: usize,
-    operands: &mut Operands,
-) -> Result<KnownOperands, PlaceFault>
-    ensures { GivesBy known_operands_in result
-        (known_operands (known_in view.entry) most (operands_left operands.old)) }
-{
-    let exprs = up_to_three_trees(alloc, most, operands)?;
-    let forms = up_to_three_forms(alloc, view, &exprs)?;
-    let values = up_to_three_constants(&forms)?;
-    Ok(KnownOperands {
-        exprs: listed(alloc, exprs)?,
-        values,
-    })
+impl Assembler {
+    ghost use Rattle.std.specs.Prelude.{◌≡◌, ◌≤◌, length, OnOk};
+    ghost use Rattle.asm_base.specs.Refusals.{GivesBy};
+    ghost use Rattle.asm_place.specs.OperandParts.{operands_left};
+    ghost use Rattle.asm_place.specs.Expressions.{known_operands};
+    ghost use Rattle.asm_place.specs.UpToThreeTrees.{known_operands_in};
+    ghost use Rattle.asm_place.specs.PlacedBy.{placed_by};
+
+    /// Operands whose values have to be known once each name has a symbol: all are read, and the
+    /// forms of all are made, before a value is asked for.
+    #[tactic(auto, unfolding(crate::specs::Expressions::known_operands))]
+    pub(crate) fn known_operands(
+        &mut self,
+        pos: Pos,
+        most: usize,
+        operands: &mut Operands,
+    ) -> Result<KnownOperands, PlaceFault>
+        ensures value { GivesBy (known_operands_in (placed_by self.new)) result
+            (known_operands pos (placed_by self.old) most (operands_left operands.old)) }
+        ensures kept { self.new.notes ≡ self.old.notes }
+        ensures grows { OnOk result (length self.old.table.symbols.symbols
+            ≤ length self.new.table.symbols.symbols) }
+    {
+        let exprs = up_to_three_trees(self.alloc, most, operands)?;
+        let naming = self.table.intern_up_to_three(pos, &exprs)?;
+        let forms = up_to_three_forms(self.alloc, self.view(), &exprs)?;
+        let values = up_to_three_constants(&forms)?;
+        Ok(KnownOperands { naming, values })
+    }
 }

@@ -2,11 +2,11 @@
 use Rattle.std.proofs.Common.{◌≡◌, map, drop}
 use Rattle.asm_expr.specs.Trees.{tree_of}
 use Rattle.asm_place.specs.Operands.{each, behind}
-use Rattle.asm_place.specs.Places.{known_at}
+use Rattle.asm_place.specs.KnownIn.{known_in}
 use Rattle.asm_place.specs.Expressions.{form_in}
 use Rattle.asm_place.proofs.expressions.forms.Given as goal
 
 abbrev pub invariant-loop-expr : goal.invariant-loop-expr
 invariant-loop-expr l =
-    behind l.forms.items (each (form_in (known_at l.view.symbols.now l.view.spot)) (map tree_of (drop l.expr-index l.exprs)))
-    ≡ each (form_in (known_at l.view.symbols.now l.view.spot)) (map tree_of l.exprs)
+    behind l.forms.items (each (form_in (known_in l.view)) (map tree_of (drop l.expr-index l.exprs)))
+    ≡ each (form_in (known_in l.view)) (map tree_of l.exprs)

@@ -1,0 +1,62 @@
+-- Operands that are sums are the trees of those sums.
+use Rattle.std.proofs.Common.{◌≡◌, ℕ, List, [], ◌∷◌, Some, Ok, ap, ◌∙◌}
+use Rattle.asm_base.specs.Tokens.{SpelledToken}
+use Rattle.asm_base.specs.Refusals.{◌>>=◌}
+use Rattle.asm_expr.specs.declared.naming.Name.TheVariants.{Plain}
+use Rattle.asm_operands.specs.declared.sums.Sum.{Sum}
+use Rattle.asm_operands.specs.Sums.{sum_tree, FindsSum}
+use Rattle.asm_place.specs.ExprFaults.{in_statement}
+use Rattle.asm_place.specs.Expressions.{alone, expression_of, first_tree, no_more}
+use Rattle.asm_place.specs.Operands.{name_of, each}
+use Rattle.asm_place.specs.SectionWords.{needed}
+use Rattle.asm_place.specs.SymbolWords.{named_tree}
+
+-- a sum is one expression
+reads_sum : (operand : List SpelledToken) (sum : Sum) → FindsSum operand (Some sum) → expression_of operand ≡ Ok (sum_tree sum)
+unfolding expression_of
+reads_sum operand sum reads = ap (λ read. in_statement read >>= λ found. alone found.rest found.tree) reads
+
+-- a name that has to be there
+needed_so : (name : List ℕ) (named : List SpelledToken) (rest : List (List SpelledToken)) → name_of named ≡ Ok name
+    → needed name_of (named ∷ rest) ≡ Ok (name, rest)
+needed_so name named rest is = ap (λ read. read >>= λ made. Ok (made, rest)) is
+
+module _ (operand : List SpelledToken) (sum : Sum) (reads : FindsSum operand (Some sum)) where
+  one_alone : each expression_of (operand ∷ []) ≡ Ok (sum_tree sum ∷ [])
+  unfolding each
+  one_alone = ap (λ read. read >>= λ tree. Ok (tree ∷ [])) (reads_sum operand sum reads)
+
+  two_alone : (other : List SpelledToken) (second : Sum) → FindsSum other (Some second)
+      → each expression_of (operand ∷ other ∷ []) ≡ Ok (sum_tree sum ∷ sum_tree second ∷ [])
+  unfolding each
+  two_alone other second more =
+      ap (λ read. read >>= λ tree. (expression_of other >>= λ behind. Ok (behind ∷ [])) >>= λ others. Ok (tree ∷ others)) (reads_sum operand sum reads)
+      ∙ ap (λ read. (read >>= λ behind. Ok (behind ∷ [])) >>= λ others. Ok (sum_tree sum ∷ others)) (reads_sum other second more)
+
+  -- one sum is all there is
+  pub one_sum : (all first rest : List (List SpelledToken)) → first ≡ all → first ≡ operand ∷ rest → rest ≡ []
+      → each expression_of all ≡ Ok (sum_tree sum ∷ [])
+  one_sum all first rest is front end = rw (← is, front, end) one_alone
+
+  -- two sums are all there is
+  pub two_sums : (all first rest last : List (List SpelledToken)) (other : List SpelledToken) (second : Sum) → FindsSum other (Some second)
+      → first ≡ all → first ≡ operand ∷ rest → rest ≡ other ∷ last → last ≡ [] → each expression_of all ≡ Ok (sum_tree sum ∷ sum_tree second ∷ [])
+  two_sums all first rest last other second more is front next end = rw (← is, front, next, end) (two_alone other second more)
+
+  first_so : first_tree (operand ∷ []) ≡ Ok (sum_tree sum, [])
+  unfolding first_tree
+  first_so = ap (λ read. read >>= λ tree. Ok (tree, [])) (reads_sum operand sum reads)
+
+  named_alone : (name : List ℕ) (named : List SpelledToken) → name_of named ≡ Ok name
+      → named_tree (named ∷ operand ∷ []) ≡ Ok (record { name = Plain name; tree = sum_tree sum })
+  unfolding named_tree
+  named_alone name named is =
+      ap (λ read. read >>= λ name. first_tree name.1 >>= λ tree. no_more tree.1 (record { name = Plain name.0; tree = tree.0 }))
+      (needed_so name named (operand ∷ []) is)
+      ∙ ap (λ read. read >>= λ tree. no_more tree.1 (record { name = Plain name; tree = tree.0 })) first_so
+
+  -- a name and a sum are all there is
+  pub name_and_sum : (all first rest last : List (List SpelledToken)) (name : List ℕ) (named : List SpelledToken) → name_of named ≡ Ok name
+      → first ≡ all → first ≡ named ∷ rest → rest ≡ operand ∷ last → last ≡ []
+      → named_tree all ≡ Ok (record { name = Plain name; tree = sum_tree sum })
+  name_and_sum all first rest last name named called is front next end = rw (← is, front, next, end) (named_alone name named called)

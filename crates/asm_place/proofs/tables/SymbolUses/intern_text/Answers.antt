@@ -1,0 +1,23 @@
+-- A name that becomes a symbol's changes no count of a numeric label, and no symbol goes.
+use Rattle.std.proofs.Common.{◌≡◌, ◌≤◌, length, sym, ap, subst, ◌∙◌}
+use Rattle.asm_place.specs.Tables.{Table}
+use Rattle.asm_place.proofs.InternLemmas.{interned_counts, interned_grows}
+use Rattle.asm_place.proofs.tables.SymbolUses.intern_text.Goals as goal
+use Rattle.asm_place.proofs.tables.SymbolUses.intern_text.Goals.{then-len-before+in_ok-push, else-len-before}
+
+pub returns-clause-counts : goal.returns-clause-counts
+returns-clause-counts c =
+    let same : c.intern_text.new.self.counts ≡ c.args.self.now.symbols.counts = rw (← c.self.view_is) (interned_counts _ _ _ c.in_ok-id.ensures.ok) in
+    elim c.if-len-before.branch [
+      | then-len-before+in_ok-push w ↦ ap (λ (table : Table). table.symbols.counts) w.self-is ∙ same
+      | else-len-before w ↦ ap (λ (table : Table). table.symbols.counts) w.self-is ∙ same
+    ]
+
+pub returns-clause-grows : goal.returns-clause-grows
+returns-clause-grows c =
+    let before = length c.args.self.now.symbols.symbols in
+    let more : before ≤ length c.intern_text.new.self.symbols = rw (← c.self.view_is) (interned_grows _ _ _ c.in_ok-id.ensures.ok) in
+    elim c.if-len-before.branch [
+      | then-len-before+in_ok-push w ↦ subst (λ (table : Table). before ≤ length table.symbols.symbols) (sym w.self-is) more
+      | else-len-before w ↦ subst (λ (table : Table). before ≤ length table.symbols.symbols) (sym w.self-is) more
+    ]
