@@ -19,12 +19,12 @@ use Rattle.asm_symbols.specs.declared.entries.Meaning.{Meaning}
 use Rattle.asm_symbols.specs.declared.entries.Meaning.TheVariants as meaning
 use Rattle.asm_symbols.specs.SymbolMap.{SymbolMap}
 use Rattle.asm_relax.specs.Final.{shift_in, section_size, address_of, final_told, laid_value, final_form}
-use Rattle.asm_relax.specs.Expanding.{assigned_form, plus_terms, expanded_within, expanded}
+use Rattle.asm_relax.specs.Expanding.{plus_terms, expanded_within, expanded}
 use Rattle.asm_relax.specs.Settling.{LaidItem, LaidSections}
 use Rattle.elf_object.specs.declared.faults.ObjectCause.{ObjectCause}
 use Rattle.elf_object.specs.Fields.{half, word, xword}
 use Rattle.elf_object.specs.StringTable.{string_table_of, name_offsets}
-use Rattle.elf_object.specs.Relocations.{name_reference, field_relocation}
+use Rattle.elf_object.specs.Relocations.{reference_found, field_relocation}
 use Rattle.elf_object.specs.Contents.{filled, interleaved, section_bytes}
 use Rattle.elf_object.specs.Faults.{fields_fault, object_fault}
 use Rattle.elf_object.specs.Naming.{named_of}
@@ -95,7 +95,7 @@ section name flags kind count fields items = record {
 sections : LaidSections
 sections =
     section (codes ".text") 6 1 0 [] []
-    ∷ section (codes ".data") 3 1 12 (field 0 Eight (term_of x 1 ∷ []) 8 ∷ field 8 Four (term_of y 1 ∷ term_of (Place 1 1 8) (2 ^ 64 - 1) ∷ []) 0 ∷ []) (run ∷ [])
+    ∷ section (codes ".data") 3 1 12 (field 0 Eight (term_of 0 1 ∷ []) 8 ∷ field 8 Four (term_of 1 1 ∷ term_of 2 (2 ^ 64 - 1) ∷ []) 0 ∷ []) (run ∷ [])
     ∷ section (codes ".bss") 3 8 0 [] [] ∷ []
 
 no_sections : LaidSections
@@ -114,18 +114,18 @@ row : (length (bytes_of (object_of symbols sections)) ≡ 800)
     × (take 64 (drop 64 (bytes_of (object_of symbols sections))) ≡ replicate 24 0 ++ (1 ∷ 0 ∷ 0 ∷ 0 ∷ 1 ∷ []) ++ replicate 3 0 ++ (8 ∷ []) ++ replicate 7 0
     ++ (8 ∷ []) ++ replicate 7 0 ++ (2 ∷ 0 ∷ 0 ∷ 0 ∷ 3 ∷ []) ++ replicate 11 0)
     × (take 4 (drop 652 (bytes_of (object_of symbols sections))) ≡ 3 ∷ 0 ∷ 0 ∷ 0 ∷ [])
-unfolding symbol label x y symbols field run section sections bytes_of put_all settled low_bytes shift_in section_size address_of final_told laid_value final_form assigned_form plus_terms expanded_within expanded half word xword string_table_of name_offsets name_reference field_relocation filled interleaved section_bytes fields_fault object_fault named_of listed symbol_kind symbol_size said_along table_of section_names null_header header_table elf_header file_of symbol_names symbol_table_of before_names all_names with_names file_with image_with image_of
+unfolding symbol label x y symbols field run section sections bytes_of put_all settled low_bytes shift_in section_size address_of final_told laid_value final_form plus_terms expanded_within expanded half word xword string_table_of name_offsets reference_found field_relocation filled interleaved section_bytes fields_fault object_fault named_of listed symbol_kind symbol_size said_along table_of section_names null_header header_table elf_header file_of symbol_names symbol_table_of before_names all_names with_names file_with image_with image_of
 row = (refl, refl, refl)
 
 -- the length of the file; its symbol 1; `sh_info` of the symbol table
 row_file : (length (bytes_of (object_of one_file no_sections)) ≡ 616)
     × (take 24 (drop 88 (bytes_of (object_of one_file no_sections))) ≡ (1 ∷ 0 ∷ 0 ∷ 0 ∷ 4 ∷ 0 ∷ 0xf1 ∷ 0xff ∷ []) ++ replicate 16 0)
     × (take 4 (drop 468 (bytes_of (object_of one_file no_sections))) ≡ 2 ∷ 0 ∷ 0 ∷ 0 ∷ [])
-unfolding symbol label one_file thread_local no_sections thread_sections field run section bytes_of put_all settled low_bytes shift_in section_size address_of final_told laid_value final_form assigned_form plus_terms expanded_within expanded half word xword string_table_of name_offsets name_reference field_relocation filled interleaved section_bytes fields_fault object_fault named_of listed symbol_kind symbol_size said_along table_of section_names null_header header_table elf_header file_of symbol_names symbol_table_of before_names all_names with_names file_with image_with image_of
+unfolding symbol label one_file thread_local no_sections thread_sections field run section bytes_of put_all settled low_bytes shift_in section_size address_of final_told laid_value final_form plus_terms expanded_within expanded half word xword string_table_of name_offsets reference_found field_relocation filled interleaved section_bytes fields_fault object_fault named_of listed symbol_kind symbol_size said_along table_of section_names null_header header_table elf_header file_of symbol_names symbol_table_of before_names all_names with_names file_with image_with image_of
 row_file = (refl, refl, refl)
 
 -- the length of the file, and its symbol 1, which is of type TLS
 row_thread : (length (bytes_of (object_of thread_local thread_sections)) ≡ 688)
     × (take 8 (drop 96 (bytes_of (object_of thread_local thread_sections))) ≡ 1 ∷ 0 ∷ 0 ∷ 0 ∷ 6 ∷ 0 ∷ 4 ∷ 0 ∷ [])
-unfolding symbol label one_file thread_local no_sections thread_sections field run section bytes_of put_all settled low_bytes shift_in section_size address_of final_told laid_value final_form assigned_form plus_terms expanded_within expanded half word xword string_table_of name_offsets name_reference field_relocation filled interleaved section_bytes fields_fault object_fault named_of listed symbol_kind symbol_size said_along table_of section_names null_header header_table elf_header file_of symbol_names symbol_table_of before_names all_names with_names file_with image_with image_of
+unfolding symbol label one_file thread_local no_sections thread_sections field run section bytes_of put_all settled low_bytes shift_in section_size address_of final_told laid_value final_form plus_terms expanded_within expanded half word xword string_table_of name_offsets reference_found field_relocation filled interleaved section_bytes fields_fault object_fault named_of listed symbol_kind symbol_size said_along table_of section_names null_header header_table elf_header file_of symbol_names symbol_table_of before_names all_names with_names file_with image_with image_of
 row_thread = (refl, refl)
