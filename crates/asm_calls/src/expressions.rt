@@ -1,52 +1,75 @@
 //! Expressions on their own: what they count, how they are shown, and what they name.
 
-ghost use Rattle.asm_calls.specs.Numbered.{numbered};
-ghost use Rattle.asm_expr.specs.declared.naming.Name.TheVariants.{Place};
+ghost use Rattle.std.specs.Prelude.{◌≡◌, ◌<◌};
+ghost use Rattle.asm_calls.specs.Numbered.{numbered, instance_of, the_place, first_byte, meant_by};
 
 use asm_base::Tokens;
 use asm_expr::{
-    Expr, ExprFault, Known, KnownNow, Linear, Look, Name, Written, constant_form, fold,
-    known_value, linear_form, name_form, names_of, parse, plus_times, settled, settled_value,
-    shown_text, value_of,
+    Expr, ExprFault, Known, KnownNow, Linear, Look, SymId, Written, constant_form, fold,
+    known_value, linear_form, names_of, parse, plus_times, settled, settled_value, shown_text,
+    symbol_form, value_of,
 };
 use std::alloc::Global;
 use std::fmt::Display;
 use std::io::{self, Write};
 
-/// Each numeric label has three instances before the place, which is behind 100 items of section 1. No symbol has a value.
+/// The symbol of an instance of a numeric label.
+fn instance_of(number: u64, instance: u32) -> SymId
+    requires { instance < 16 }
+    ensures { result ≡ instance_of number instance }
+{
+    SymId::new((number % 0x1_0000) as u32 * 16 + instance)
+}
+
+/// The first byte of a name, and 0 where there is none.
+fn first_byte(text: &[u8]) -> u8
+    ensures { result ≡ first_byte text.now }
+{
+    match text {
+        [byte, ..] => *byte,
+        [] => 0,
+    }
+}
+
+/// Each numeric label has three instances before the place, which is behind 100 bytes of stretch 1. No other symbol has a value.
 struct Numbered;
 
 impl Known for Numbered {
-    ghost told = { λ _ name. numbered name };
+    ghost told = { λ _ symbol. numbered symbol };
 
-    ghost counted = { λ _ _. 3 };
+    ghost meant = { λ _ written. meant_by written };
 
-    ghost place = { λ _. Place 1 100 0 };
+    ghost place = { λ _. the_place };
 
-    fn look(&self, name: &Name) -> Look<'_> {
-        match name {
-            Name::Plain(_) => Look::Absent,
-            Name::Numeric { number, instance } => Look::Label {
-                stretch: *number,
-                at: u64::from(*instance),
-            },
-            Name::Place { section, item, .. } => Look::Label {
-                stretch: u64::from(*section),
-                at: *item,
-            },
+    fn look(&self, symbol: SymId) -> Look<'_> {
+        let index = symbol.index();
+        if index == 0x8000_0000 {
+            Look::Label {
+                stretch: 1,
+                at: 100,
+            }
+        } else if index < 0x4000_0000 {
+            Look::Label {
+                stretch: u64::from(index / 16),
+                at: u64::from(index % 16),
+            }
+        } else {
+            Look::Absent
         }
     }
 
-    fn count(&self, _number: u64) -> u32 {
-        3
+    fn symbol(&self, written: &Written) -> SymId {
+        match written {
+            Written::Plain(text) => {
+                SymId::new(0x4000_0000 + u32::from(first_byte(text.as_bytes())))
+            }
+            Written::Back(number) => instance_of(*number, 3),
+            Written::Next(number) => instance_of(*number, 4),
+        }
     }
 
-    fn here(&self) -> Name {
-        Name::Place {
-            section: 1,
-            item: 100,
-            offset: 0,
-        }
+    fn here(&self) -> SymId {
+        SymId::new(0x8000_0000)
     }
 }
 
@@ -166,17 +189,11 @@ pub fn write_form(alloc: Global, text: &str, out: &mut Vec<u8>) -> io::Result<()
 }
 
 /// The form plus so often an instance of numeric label 2.
-fn plus_label(
-    alloc: Global,
-    made: Linear,
-    factor: u64,
-    instance: u32,
-) -> Result<Linear, ExprFault> {
-    let name = Name::Numeric {
-        number: 2,
-        instance,
-    };
-    Ok(plus_times(alloc, made, factor, &name_form(alloc, name)?)?)
+fn plus_label(alloc: Global, made: Linear, factor: u64, instance: u32) -> Result<Linear, ExprFault>
+    requires { instance < 16 }
+{
+    let label = symbol_form(alloc, SymId::new(32 + instance))?;
+    Ok(plus_times(made, factor, &label)?)
 }
 
 /// So many times instances 7 and 3 of numeric label 2, and 5.

@@ -86,7 +86,7 @@ fn write_known(symbols: &Symbols, name: &Name, out: &mut Vec<u8>) -> io::Result<
         let known = symbols.known(id);
         writeln!(out, "{known:?}")?;
     }
-    let look = symbols.look(name);
+    let look = symbols.look(symbols.number_of(name));
     match &look {
         Look::Constant(number) => writeln!(out, "constant {number}"),
         Look::Absent => writeln!(out, "absent"),
