@@ -28,11 +28,11 @@ use Rattle.asm_place.specs.Tables.{naming_of, allowed}
 use Rattle.asm_place.proofs.NameLemmas.{one_nothing, none_nothing, more_nothing, none_allowed, nothing_named}
 
 -- a number is one expression, and its form is the number
-reads_alone : (operand : List SpelledToken) (value : ℕ) (one : IsConstant operand value) → expression_of operand ≡ Ok one.tree
+pub reads_alone : (operand : List SpelledToken) (value : ℕ) (one : IsConstant operand value) → expression_of operand ≡ Ok one.tree
 unfolding expression_of
 reads_alone operand value one = ap (λ read. in_statement read >>= λ found. alone found.rest found.tree) one.reads
 
-counts_so : (operand : List SpelledToken) (value : ℕ) (one : IsConstant operand value) (known : Knowledge) → form_in known one.tree ≡ Ok (constant_form value)
+pub counts_so : (operand : List SpelledToken) (value : ℕ) (one : IsConstant operand value) (known : Knowledge) → form_in known one.tree ≡ Ok (constant_form value)
 unfolding form_in
 counts_so operand value one known = ap in_statement (one.counts known)
 

@@ -3,6 +3,7 @@ use Rattle.std.proofs.Common.{◌≡◌, ℕ, List, [], ◌∷◌, Some, Ok, ap,
 use Rattle.asm_base.specs.Tokens.{SpelledToken}
 use Rattle.asm_base.specs.Refusals.{◌>>=◌}
 use Rattle.asm_expr.specs.declared.naming.Name.TheVariants.{Plain}
+use Rattle.asm_expr.specs.Trees.{Tree}
 use Rattle.asm_operands.specs.declared.sums.Sum.{Sum}
 use Rattle.asm_operands.specs.Sums.{sum_tree, FindsSum}
 use Rattle.asm_place.specs.ExprFaults.{in_statement}
@@ -20,6 +21,27 @@ reads_sum operand sum reads = ap (λ read. in_statement read >>= λ found. alone
 needed_so : (name : List ℕ) (named : List SpelledToken) (rest : List (List SpelledToken)) → name_of named ≡ Ok name
     → needed name_of (named ∷ rest) ≡ Ok (name, rest)
 needed_so name named rest is = ap (λ read. read >>= λ made. Ok (made, rest)) is
+
+-- a name and an expression
+first_so : (operand : List SpelledToken) (tree : Tree) → expression_of operand ≡ Ok tree → first_tree (operand ∷ []) ≡ Ok (tree, [])
+unfolding first_tree
+first_so operand tree reads = ap (λ read. read >>= λ made. Ok (made, [])) reads
+
+named_alone : (operand : List SpelledToken) (tree : Tree) (name : List ℕ) (named : List SpelledToken) → expression_of operand ≡ Ok tree → name_of named ≡ Ok name
+    → named_tree (named ∷ operand ∷ []) ≡ Ok (record { name = Plain name; tree = tree })
+unfolding named_tree
+named_alone operand tree name named reads is =
+    ap (λ read. read >>= λ name. first_tree name.1 >>= λ made. no_more made.1 (record { name = Plain name.0; tree = made.0 }))
+    (needed_so name named (operand ∷ []) is)
+    ∙ ap (λ read. read >>= λ made. no_more made.1 (record { name = Plain name; tree = made.0 })) (first_so operand tree reads)
+
+-- they are all there is
+pub name_and_tree : (operand : List SpelledToken) (tree : Tree) → expression_of operand ≡ Ok tree
+    → (all first rest last : List (List SpelledToken)) (name : List ℕ) (named : List SpelledToken) → name_of named ≡ Ok name
+    → first ≡ all → first ≡ named ∷ rest → rest ≡ operand ∷ last → last ≡ []
+    → named_tree all ≡ Ok (record { name = Plain name; tree = tree })
+name_and_tree operand tree reads all first rest last name named called is front next end =
+    rw (← is, front, next, end) (named_alone operand tree name named reads called)
 
 module _ (operand : List SpelledToken) (sum : Sum) (reads : FindsSum operand (Some sum)) where
   one_alone : each expression_of (operand ∷ []) ≡ Ok (sum_tree sum ∷ [])
@@ -43,20 +65,8 @@ module _ (operand : List SpelledToken) (sum : Sum) (reads : FindsSum operand (So
       → first ≡ all → first ≡ operand ∷ rest → rest ≡ other ∷ last → last ≡ [] → each expression_of all ≡ Ok (sum_tree sum ∷ sum_tree second ∷ [])
   two_sums all first rest last other second more is front next end = rw (← is, front, next, end) (two_alone other second more)
 
-  first_so : first_tree (operand ∷ []) ≡ Ok (sum_tree sum, [])
-  unfolding first_tree
-  first_so = ap (λ read. read >>= λ tree. Ok (tree, [])) (reads_sum operand sum reads)
-
-  named_alone : (name : List ℕ) (named : List SpelledToken) → name_of named ≡ Ok name
-      → named_tree (named ∷ operand ∷ []) ≡ Ok (record { name = Plain name; tree = sum_tree sum })
-  unfolding named_tree
-  named_alone name named is =
-      ap (λ read. read >>= λ name. first_tree name.1 >>= λ tree. no_more tree.1 (record { name = Plain name.0; tree = tree.0 }))
-      (needed_so name named (operand ∷ []) is)
-      ∙ ap (λ read. read >>= λ tree. no_more tree.1 (record { name = Plain name; tree = tree.0 })) first_so
-
   -- a name and a sum are all there is
   pub name_and_sum : (all first rest last : List (List SpelledToken)) (name : List ℕ) (named : List SpelledToken) → name_of named ≡ Ok name
       → first ≡ all → first ≡ named ∷ rest → rest ≡ operand ∷ last → last ≡ []
       → named_tree all ≡ Ok (record { name = Plain name; tree = sum_tree sum })
-  name_and_sum all first rest last name named called is front next end = rw (← is, front, next, end) (named_alone name named called)
+  name_and_sum = name_and_tree operand (sum_tree sum) (reads_sum operand sum reads)

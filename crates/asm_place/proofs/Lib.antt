@@ -8,13 +8,15 @@ pub mod NameParts
 pub mod StepLists
 pub mod GrowthLemmas
 pub mod PlainStrings
-pub mod SumLemmas
 pub mod FewSumLemmas
 pub mod PutTwice
 pub mod NameLemmas
 pub mod InternLemmas
+pub mod SumNames
+pub mod SumLemmas
 pub mod ConstantDataLemmas
 pub mod ConstantOperandsLemmas
+pub mod NamedNumberLemmas
 pub mod LabelLemmas
 pub mod Walks
 pub mod PlacingLaws

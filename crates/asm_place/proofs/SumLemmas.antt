@@ -1,19 +1,34 @@
 -- The forms of sums are those of their trees.
-use Rattle.std.proofs.Common.{◌≡◌, ℕ, Bool, true, false, Option, None, Some, Ok, refl, ap}
+use Rattle.std.proofs.Common.{◌≡◌, ℕ, Bool, true, false, length, Option, None, Some, unwrap_or, Ok, refl, ap}
+use Rattle.asm_expr.specs.declared.naming.Name.{Name}
+use Rattle.asm_expr.specs.declared.trees.Written.{Written}
+use Rattle.asm_expr.specs.declared.trees.Written.TheVariants as written
 use Rattle.asm_expr.specs.Forms.{Form, symbol_form, constant_form, joined, signed, with_terms}
 use Rattle.asm_expr.specs.Knowledge.{Told, absent, constant, label, form, Knowledge}
 use Rattle.asm_expr.specs.Linear.{form_by, form_of, linear, binary_form}
 use Rattle.asm_expr.specs.Settled.{settled}
 use Rattle.asm_expr.specs.Trees.{Tree}
+use Rattle.asm_expr.specs.Trees as tree
 use Rattle.asm_expr.proofs.SettledLemmas.{stays}
 use Rattle.asm_operands.specs.declared.sums.Summand.{Summand}
-use Rattle.asm_operands.specs.declared.sums.Summand.TheVariants.{Number, Name, Back, Next, Here}
+use Rattle.asm_operands.specs.declared.sums.Summand.TheVariants as summands
 use Rattle.asm_operands.specs.declared.sums.Addend.{Addend}
 use Rattle.asm_operands.specs.declared.sums.Sum.{Sum}
 use Rattle.asm_operands.specs.Sums.{summand_tree, added_tree, sum_tree}
+use Rattle.asm_symbols.specs.Counting.{meant_name}
+use Rattle.asm_symbols.specs.Interning.{number_of}
+use Rattle.asm_symbols.specs.SymbolMap.{SymbolMap, names, index_of}
+use Rattle.asm_place.specs.declared.places.View.{View}
+use Rattle.asm_place.specs.declared.sums.Operand.{Operand}
+use Rattle.asm_place.specs.declared.sums.Operand.TheVariants.{Number, Symbol, Here}
+use Rattle.asm_place.specs.declared.sums.Added.{Added}
+use Rattle.asm_place.specs.declared.sums.SymbolSum.{SymbolSum}
 use Rattle.asm_place.specs.ExprFaults.{in_statement}
 use Rattle.asm_place.specs.Expressions.{form_in}
-use Rattle.asm_place.specs.SumForms.{summand_symbol, summand_form, added_form, sum_form, stands_for_itself}
+use Rattle.asm_place.specs.KnownIn.{known_in}
+use Rattle.asm_place.specs.Places.{told_at}
+use Rattle.asm_place.specs.SumForms.{operand_symbol, operand_form, added_form, sum_form, stands_for_itself}
+use Rattle.asm_place.specs.SymbolSums.{IsSymbol, IsOperand, IsAdded, IsNamed}
 
 -- a symbol that stands for itself is its own form
 itself_by : (told : ℕ → Told) (symbol : ℕ) (found : Told) → stands_for_itself found ≡ true → form_by told symbol found ≡ symbol_form symbol
@@ -27,13 +42,11 @@ itself told meant symbol is alone =
     let same : meant ≡ symbol = cc in
     rw same (itself_by told symbol (told symbol) alone)
 
--- a summand whose symbol stands for itself is that symbol's form
-pub symbol_alone : (known : Knowledge) (summand : Summand) (symbol : ℕ) → summand_symbol known summand ≡ Some symbol
-    → stands_for_itself (known.told symbol) ≡ true → summand_form known summand ≡ symbol_form symbol
+-- an operand whose symbol stands for itself is that symbol's form
+pub symbol_alone : (known : Knowledge) (operand : Operand) (symbol : ℕ) → operand_symbol known operand ≡ Some symbol
+    → stands_for_itself (known.told symbol) ≡ true → operand_form known operand ≡ symbol_form symbol
 symbol_alone known (Number value) symbol is alone = cc
-symbol_alone known (Name text) symbol is alone = itself known.told _ symbol is alone
-symbol_alone known (Back number) symbol is alone = itself known.told _ symbol is alone
-symbol_alone known (Next number) symbol is alone = itself known.told _ symbol is alone
+symbol_alone known (Symbol index) symbol is alone = itself known.told _ symbol is alone
 symbol_alone known Here symbol is alone = itself known.told _ symbol is alone
 
 -- a number that is added to a symbol stays
@@ -43,31 +56,50 @@ unfolding with_terms
 number_more told false symbol number = stays told (joined false (symbol_form symbol) (constant_form number)) refl
 number_more told true symbol number = stays told (joined true (symbol_form symbol) (constant_form number)) refl
 
--- the linear form of a tree of summands
-linear_summand : (known : Knowledge) (summand : Summand) → linear known (summand_tree summand) ≡ Ok (summand_form known summand)
-unfolding linear
-linear_summand known (Number value) = refl
-linear_summand known (Name text) = refl
-linear_summand known (Back number) = refl
-linear_summand known (Next number) = refl
-linear_summand known Here = refl
+-- a name that is found means the symbol that it is found as
+found_number : (map : SymbolMap) (name : Name) (index : ℕ) → index_of name (names map.symbols) ≡ Some index → number_of map name ≡ index
+unfolding number_of
+found_number map name index is = ap (λ found. unwrap_or found (length map.symbols)) is
 
-linear_added : (known : Knowledge) (tree : Tree) (made : Form) (addend : Option Addend) → linear known tree ≡ Ok made
-    → linear known (added_tree tree addend) ≡ Ok (added_form known made addend)
-unfolding linear binary_form
-linear_added known tree made None is = is
-linear_added known tree made (Some addend) is = by addend.minus addend.summand
-  where
-    by : (minus : Bool) (summand : Summand)
-        → let addend : Addend = record { minus = minus; summand = summand } in
-        linear known (added_tree tree (Some addend)) ≡ Ok (added_form known made (Some addend))
-    by false summand = rw (is, linear_summand known summand) refl
-    by true summand = rw (is, linear_summand known summand) refl
+module _ (view : View) where
+  symbol_linear : (meant : Written) (operand : Operand) → IsSymbol view.symbols.now meant operand
+      → linear (known_in view) (tree.name meant) ≡ Ok (operand_form (known_in view) operand)
+  unfolding linear
+  symbol_linear meant (Symbol index) is =
+      ap (λ symbol. Ok (form_of (told_at view.symbols.now view.place view.spot) symbol)) (found_number view.symbols.now (meant_name view.symbols.now.counts meant) index is)
+  symbol_linear meant (Number value) is = absurd is
+  symbol_linear written Here is = absurd is
 
--- the form of a sum is that of its tree
-pub linear_sum : (known : Knowledge) (sum : Sum) → form_in known (sum_tree sum) ≡ Ok (sum_form known sum)
-unfolding form_in sum_form
-linear_sum known sum =
-    ap in_statement
-    (linear_added known (added_tree (summand_tree sum.first) sum.second) (added_form known (summand_form known sum.first) sum.second) sum.third
-    (linear_added known (summand_tree sum.first) (summand_form known sum.first) sum.second (linear_summand known sum.first)))
+  -- the linear form of a tree of summands
+  linear_summand : (summand : Summand) (operand : Operand) → IsOperand view.symbols.now summand operand
+      → linear (known_in view) (summand_tree summand) ≡ Ok (operand_form (known_in view) operand)
+  unfolding linear
+  linear_summand (summands.Number value) operand is = rw is refl
+  linear_summand (summands.Name text) operand is = symbol_linear (written.Plain text.now) operand is
+  linear_summand (summands.Back digits) operand is = symbol_linear (written.Back digits) operand is
+  linear_summand (summands.Next digits) operand is = symbol_linear (written.Next digits) operand is
+  linear_summand summands.Here operand is = rw is refl
+
+  linear_added : (tree : Tree) (made : Form) (addend : Option Addend) (added : Option Added) → IsAdded view.symbols.now addend added
+      → linear (known_in view) tree ≡ Ok made → linear (known_in view) (added_tree tree addend) ≡ Ok (added_form (known_in view) made added)
+  unfolding linear binary_form
+  linear_added tree made None None same is = is
+  linear_added tree made None (Some added) same is = absurd same
+  linear_added tree made (Some addend) None same is = absurd same
+  linear_added tree made (Some addend) (Some added) same is = by addend.minus addend.summand added.minus added.operand same.0 same.1
+    where
+      by : (minus : Bool) (summand : Summand) (less : Bool) (operand : Operand) → less ≡ minus → IsOperand view.symbols.now summand operand
+          → let addend : Addend = record { minus = minus; summand = summand } in
+          let added : Added = record { minus = less; operand = operand } in
+          linear (known_in view) (added_tree tree (Some addend)) ≡ Ok (added_form (known_in view) made (Some added))
+      by false summand less operand sign stands = rw (sign, is, linear_summand summand operand stands) refl
+      by true summand less operand sign stands = rw (sign, is, linear_summand summand operand stands) refl
+
+  -- the form of a sum is that of its tree
+  pub linear_sum : (sum : Sum) (named : SymbolSum) → IsNamed view.symbols.now sum named
+      → form_in (known_in view) (sum_tree sum) ≡ Ok (sum_form (known_in view) named)
+  unfolding form_in sum_form
+  linear_sum sum named is =
+      ap in_statement
+      (linear_added (added_tree (summand_tree sum.first) sum.second) (added_form (known_in view) (operand_form (known_in view) named.first) named.second) sum.third named.third is.third
+      (linear_added (summand_tree sum.first) (operand_form (known_in view) named.first) sum.second named.second is.second (linear_summand sum.first named.first is.first)))

@@ -16,6 +16,7 @@ pub mod State
 pub mod Expressions
 pub mod UpToThreeTrees
 pub mod SumForms
+pub mod SymbolSums
 pub mod DataItems
 pub mod ConstantOperands
 pub mod Spaces
@@ -27,6 +28,7 @@ pub mod SymbolWords
 pub mod NamedTrees
 pub mod FewSums
 pub mod Assignments
+pub mod NamedNumbers
 pub mod Commons
 pub mod SpaceWordsIn
 pub mod Idents

@@ -110,6 +110,7 @@ impl Assembler {
 
     /// What is known of symbols and names there.
     pub(crate) fn view(&self) -> View<'_>
+        ensures symbols { result.symbols.now ≡ self.now.table.symbols }
         ensures known { known_in result ≡ known_here (placed_by self.now) }
         ensures spot { result.spot ≡ here (placed_by self.now) }
     {

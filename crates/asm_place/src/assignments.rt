@@ -2,19 +2,22 @@
 
 use crate::assemblers::Assembler;
 use crate::expressions::{expression_of, form_in};
-use crate::few_sums::{NamedSum, named_sum};
+use crate::few_sums::{NamedNumber, NamedSum, named_number, named_sum};
 use crate::operands::{Operands, symbol_name};
 use crate::place_faults::PlaceFault;
 use crate::places::{View, uses_place};
 use crate::sums::sum_form_in;
 use crate::symbol_words::{NamedExpr, named_tree};
+use crate::tables::Naming;
 use asm_base::{Pos, Text, Token};
+use asm_expr::constant_form;
 
 impl Assembler {
     ghost use Rattle.std.specs.Prelude.{◌≡◌, map};
     ghost use Rattle.asm_base.specs.Tokens.{spelled};
     ghost use Rattle.asm_base.specs.Refusals.{Gives};
     ghost use Rattle.asm_place.specs.Assignments.{assign_words, place_set, place_assignment};
+    ghost use Rattle.asm_place.specs.NamedNumbers.{assign_number};
     ghost use Rattle.asm_place.specs.NamedTrees.{named_tree_in};
     ghost use Rattle.asm_place.specs.FewSums.{named_sum_tree};
     ghost use Rattle.asm_place.specs.PlacedBy.{placed_by, PlacesBy};
@@ -27,26 +30,44 @@ impl Assembler {
         ensures kept { self.new.notes ≡ self.old.notes }
     {
         let (id, naming) = self.table.intern_words(pos, words)?;
-        let View { spot, place, .. } = self.view();
-        let form = form_in(self.alloc, self.view(), &words.expr)?;
+        let view = self.view();
+        let form = form_in(self.alloc, view, &words.expr)?;
+        let View { spot, place, .. } = view;
         let keeps = uses_place(place, &form);
         self.table.assign(id, form, once)?;
         self.table.end_naming(pos, naming, spot, keeps)
     }
 
     /// The symbol of the name stands for the sum from now on.
-    #[tactic(auto, unfolding(crate::specs::Assignments::assign_words))]
+    #[tactic(auto, unfolding(crate::specs::Assignments::assign_words), using(crate::proofs::SumLemmas::linear_sum))]
     fn assign_sum(&mut self, pos: Pos, once: bool, words: &NamedSum) -> Result<(), PlaceFault>
         ensures placed { PlacesBy (assign_words pos once (named_sum_tree words.now))
             self.old self.new result }
         ensures kept { self.new.notes ≡ self.old.notes }
     {
-        let (id, naming) = self.table.intern_named_sum(pos, words)?;
-        let View { spot, place, .. } = self.view();
-        let form = sum_form_in(self.alloc, self.view(), &words.sum)?;
+        let (id, naming, sum) = self.table.intern_named_sum(pos, words)?;
+        let view = self.view();
+        let form = sum_form_in(self.alloc, view, &sum)?;
+        let View { spot, place, .. } = view;
         let keeps = uses_place(place, &form);
         self.table.assign(id, form, once)?;
         self.table.end_naming(pos, naming, spot, keeps)
+    }
+
+    /// The symbol of the name stands for the number from now on.
+    fn assign_number(&mut self, pos: Pos, once: bool, words: &NamedNumber) -> Result<(), PlaceFault>
+        ensures placed { PlacesBy (assign_number pos once words.now.name.now words.now.number)
+            self.old self.new result }
+        ensures kept { self.new.notes ≡ self.old.notes }
+    {
+        let before = self.table.symbols().len();
+        let id = self.table.intern_text(pos, words.name)?;
+        let form = constant_form(self.alloc, words.number);
+        self.table.assign(id, form, once)?;
+        self.table.allow(Naming {
+            before,
+            meant: true,
+        })
     }
 
     /// `.set`, `.equ`, `.equiv` of any operands.
@@ -61,7 +82,19 @@ impl Assembler {
         self.assign_words(pos, once, &words)
     }
 
-    /// `.set`, `.equ`, `.equiv`: without a tree where the value is a sum.
+    /// The same: without a tree where the value is a number.
+    fn place_number_set(&mut self, pos: Pos, once: bool, tokens: &[Token]) -> Result<(), PlaceFault>
+        ensures placed { PlacesBy (place_set pos once (map spelled tokens.now))
+            self.old self.new result }
+        ensures kept { self.new.notes ≡ self.old.notes }
+    {
+        match named_number(tokens) {
+            Some(words) => self.assign_number(pos, once, &words),
+            None => self.place_any_set(pos, once, tokens),
+        }
+    }
+
+    /// `.set`, `.equ`, `.equiv`: without a tree where the value is a sum or a number.
     #[tactic(auto, unfolding(crate::specs::Assignments::place_set))]
     pub(crate) fn place_set(
         &mut self,
@@ -75,7 +108,7 @@ impl Assembler {
     {
         match named_sum(tokens) {
             Some(words) => self.assign_sum(pos, once, &words),
-            None => self.place_any_set(pos, once, tokens),
+            None => self.place_number_set(pos, once, tokens),
         }
     }
 

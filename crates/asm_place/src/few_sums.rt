@@ -1,8 +1,9 @@
-//! Operands that are one or two sums, or a name and a sum: data and values without a tree.
+//! Operands that are one or two sums, or a name and a sum or a number: data and values without a tree.
 
-ghost use Rattle.std.specs.Prelude.{◌≡◌, map, option_map};
+ghost use Rattle.std.specs.Prelude.{map, option_map};
 ghost use Rattle.asm_base.specs.Tokens.{spelled};
 ghost use Rattle.asm_place.specs.FewSums.{FindsFewSums, FindsBareName, FindsNamedSum};
+ghost use Rattle.asm_place.specs.NamedNumbers.{FindsNamedNumber};
 
 use crate::assemblers::Assembler;
 use crate::data_items::is_cut;
@@ -14,7 +15,8 @@ use crate::tables::Naming;
 use asm_base::{Pos, Token};
 use asm_expr::Linear;
 use asm_frags::FieldSize;
-use asm_operands::{Sum, sum_operand};
+use asm_operands::{Sum, constant_operand, sum_operand};
+use asm_symbols::Spot;
 
 /// One or two sums.
 #[derive(Clone, Copy)]
@@ -70,11 +72,32 @@ pub(crate) fn named_sum<'a>(tokens: &[Token<'a>]) -> Option<NamedSum<'a>>
     }
 }
 
+/// A name and a number.
+#[derive(Clone, Copy)]
+pub(crate) struct NamedNumber<'a> {
+    pub(crate) name: &'a [u8],
+    pub(crate) number: u64,
+}
+
+/// The name and the number that two operands are, the second by an expression of numbers alone. None says nothing of the operands.
+pub(crate) fn named_number<'a>(tokens: &[Token<'a>]) -> Option<NamedNumber<'a>>
+    ensures { FindsNamedNumber (map spelled tokens.now) result }
+{
+    let mut operands = Operands::new(tokens);
+    let name = bare_name(operands.next()?)?;
+    let number = constant_operand(operands.next()?)?;
+    match operands.next() {
+        None => Some(NamedNumber { name, number }),
+        Some(_) => None,
+    }
+}
+
 impl Assembler {
     ghost use Rattle.std.specs.Prelude.{◌≡◌, [], ◌∷◌};
     ghost use Rattle.asm_operands.specs.Sums.{sum_tree};
     ghost use Rattle.asm_place.specs.Answers.{KeepsNotes};
     ghost use Rattle.asm_place.specs.Placing.{put_data, data_read};
+    ghost use Rattle.asm_place.specs.State.{here, known_here};
     ghost use Rattle.asm_place.specs.PlacedBy.{placed_by, PlacesBy};
 
     /// Puts one value.
@@ -84,12 +107,15 @@ impl Assembler {
         pos: Pos,
         size: FieldSize,
         naming: Naming,
+        spot: Spot,
+        place: u32,
         form: Linear,
     ) -> Result<(), PlaceFault>
+        requires spot { spot ≡ here (placed_by self.old) }
+        requires place { place ≡ (known_here (placed_by self.old)).place }
         ensures placed { PlacesBy (put_data pos size naming (form ∷ [])) self.old self.new result }
         ensures kept { KeepsNotes result self.old.notes self.new.notes }
     {
-        let View { spot, place, .. } = self.view();
         let keeps = uses_place(place, &form);
         let cut = is_cut(size, &form) as usize;
         self.put_form(pos, size, form)?;
@@ -105,14 +131,17 @@ impl Assembler {
         pos: Pos,
         size: FieldSize,
         naming: Naming,
+        spot: Spot,
+        place: u32,
         form: Linear,
         other: Linear,
     ) -> Result<(), PlaceFault>
+        requires spot { spot ≡ here (placed_by self.old) }
+        requires place { place ≡ (known_here (placed_by self.old)).place }
         ensures placed { PlacesBy (put_data pos size naming (form ∷ other ∷ []))
             self.old self.new result }
         ensures kept { KeepsNotes result self.old.notes self.new.notes }
     {
-        let View { spot, place, .. } = self.view();
         let keeps = uses_place(place, &form) || uses_place(place, &other);
         let cut = is_cut(size, &form) as usize + is_cut(size, &other) as usize;
         self.put_form(pos, size, form)?;
@@ -123,7 +152,7 @@ impl Assembler {
     }
 
     /// Data that is one sum.
-    #[tactic(auto, unfolding(crate::specs::Operands::each))]
+    #[tactic(auto, unfolding(crate::specs::Operands::each), using(crate::proofs::SumLemmas::linear_sum))]
     pub(crate) fn place_one(
         &mut self,
         pos: Pos,
@@ -134,13 +163,15 @@ impl Assembler {
             self.old self.new result }
         ensures kept { KeepsNotes result self.old.notes self.new.notes }
     {
-        let naming = self.table.intern_one(pos, sum)?;
-        let form = sum_form_in(self.alloc, self.view(), sum)?;
-        self.put_one(pos, size, naming, form)
+        let (naming, named) = self.table.intern_one(pos, sum)?;
+        let view = self.view();
+        let form = sum_form_in(self.alloc, view, &named)?;
+        let View { spot, place, .. } = view;
+        self.put_one(pos, size, naming, spot, place, form)
     }
 
     /// Data that is two sums.
-    #[tactic(auto, unfolding(crate::specs::Operands::each))]
+    #[tactic(auto, unfolding(crate::specs::Operands::each), using(crate::proofs::SumLemmas::linear_sum))]
     pub(crate) fn place_two(
         &mut self,
         pos: Pos,
@@ -152,9 +183,11 @@ impl Assembler {
             self.old self.new result }
         ensures kept { KeepsNotes result self.old.notes self.new.notes }
     {
-        let naming = self.table.intern_two(pos, sum, other)?;
-        let first = sum_form_in(self.alloc, self.view(), sum)?;
-        let second = sum_form_in(self.alloc, self.view(), other)?;
-        self.put_two(pos, size, naming, first, second)
+        let (naming, one, another) = self.table.intern_two(pos, sum, other)?;
+        let view = self.view();
+        let first = sum_form_in(self.alloc, view, &one)?;
+        let second = sum_form_in(self.alloc, view, &another)?;
+        let View { spot, place, .. } = view;
+        self.put_two(pos, size, naming, spot, place, first, second)
     }
 }

@@ -13,16 +13,16 @@ ghost use Rattle.asm_place.specs.NamedTrees.{named_tree_in};
 use crate::assemblers::Assembler;
 use crate::directives::SymbolAttribute;
 use crate::expressions::form_in;
-use crate::few_sums::{NamedSum, named_sum};
+use crate::few_sums::{NamedNumber, NamedSum, named_number, named_sum};
 use crate::operands::{Operands, begins_with_place, has_dot, is_name, name_of};
 use crate::place_faults::{PlaceCause, PlaceFault};
 use crate::places::{View, uses_place};
 use crate::section_words::{begins_type, needed_name};
-use crate::sums::sum_form_in;
+use crate::sums::{SymbolSum, sum_form_in};
 use crate::tables::{Naming, SymbolUses};
 use crate::up_to_three::{first_tree, no_more};
 use asm_base::{NoMemory, Pos, Text, Token};
-use asm_expr::{Expr, Name};
+use asm_expr::{Expr, Name, constant_form};
 use asm_symbols::{Kind, SymId};
 use std::alloc::Global;
 
@@ -142,6 +142,7 @@ impl SymbolUses {
     ghost use Rattle.asm_symbols.specs.Interning.{number_of};
     ghost use Rattle.asm_operands.specs.Sums.{sum_tree};
     ghost use Rattle.asm_place.specs.Tables.{with_name, with_tree, naming_of};
+    ghost use Rattle.asm_place.specs.SymbolSums.{IsNamed};
     ghost use Rattle.asm_place.specs.SymbolWords.{say_one, say_all};
 
     /// The name and then each name of the expression has a symbol from now on, whatever room there
@@ -167,13 +168,13 @@ impl SymbolUses {
     }
 
     /// The name and then each name of the sum has a symbol from now on, whatever room there is.
-    /// Answers the symbol of the name.
+    /// Answers the symbol of the name, and the sum by its symbols.
     #[tactic(auto, unfolding(crate::specs::Tables::are_meant))]
     pub(crate) fn intern_named_sum(
         &mut self,
         pos: Pos,
         words: &NamedSum,
-    ) -> Result<(SymId, Naming), NoMemory>
+    ) -> Result<(SymId, Naming, SymbolSum), NoMemory>
         ensures ok { OnOk result (self.new
             ≡ with_tree pos (sum_tree words.now.sum) (with_name pos (Plain words.now.name.now) self.old)) }
         ensures id { IfOk result (λ made.
@@ -181,11 +182,13 @@ impl SymbolUses {
         ensures within { IfOk result (λ made. made.0 < length self.new.symbols.symbols) }
         ensures naming { IfOk result (λ made.
             made.1 ≡ naming_of (sum_tree words.now.sum ∷ []) self.old) }
+        ensures named { IfOk result (λ made. IsNamed self.new.symbols words.now.sum made.2) }
     {
         let before = self.symbols().len();
         let id = self.intern_text(pos, words.name)?;
-        let meant = self.intern_sum(pos, &words.sum)?;
-        Ok((id, Naming { before, meant }))
+        let sum = self.intern_sum(pos, &words.sum)?;
+        let meant = sum.meant;
+        Ok((id, Naming { before, meant }, sum))
     }
 
     /// This is said of a name.
@@ -224,6 +227,7 @@ impl Assembler {
     ghost use Rattle.asm_base.specs.Tokens.{spelled};
     ghost use Rattle.asm_base.specs.Refusals.{Gives};
     ghost use Rattle.asm_place.specs.SymbolWords.{place_said, place_type, size_words, place_size};
+    ghost use Rattle.asm_place.specs.NamedNumbers.{size_number};
     ghost use Rattle.asm_place.specs.NamedTrees.{named_tree_in};
     ghost use Rattle.asm_place.specs.FewSums.{named_sum_tree};
     ghost use Rattle.asm_place.specs.PlacedBy.{placed_by, PlacesBy};
@@ -269,26 +273,45 @@ impl Assembler {
         ensures kept { self.new.notes ≡ self.old.notes }
     {
         let (id, naming) = self.table.intern_words(pos, words)?;
-        let View { spot, place, .. } = self.view();
-        let form = form_in(self.alloc, self.view(), &words.expr)?;
+        let view = self.view();
+        let form = form_in(self.alloc, view, &words.expr)?;
+        let View { spot, place, .. } = view;
         let keeps = uses_place(place, &form);
         self.table.set_size(pos, id, form)?;
         self.table.end_naming(pos, naming, spot, keeps)
     }
 
     /// The sum is the size of the symbol of the name.
-    #[tactic(auto, unfolding(crate::specs::SymbolWords::size_words))]
+    #[tactic(auto, unfolding(crate::specs::SymbolWords::size_words), using(crate::proofs::SumLemmas::linear_sum))]
     fn size_sum(&mut self, pos: Pos, words: &NamedSum) -> Result<(), PlaceFault>
         ensures placed { PlacesBy (size_words pos (named_sum_tree words.now))
             self.old self.new result }
         ensures kept { self.new.notes ≡ self.old.notes }
     {
-        let (id, naming) = self.table.intern_named_sum(pos, words)?;
-        let View { spot, place, .. } = self.view();
-        let form = sum_form_in(self.alloc, self.view(), &words.sum)?;
+        let (id, naming, sum) = self.table.intern_named_sum(pos, words)?;
+        let view = self.view();
+        let form = sum_form_in(self.alloc, view, &sum)?;
+        let View { spot, place, .. } = view;
         let keeps = uses_place(place, &form);
         self.table.set_size(pos, id, form)?;
         self.table.end_naming(pos, naming, spot, keeps)
+    }
+
+    /// The number is the size of the symbol of the name, unless a symbol is named by `.`.
+    fn size_number(&mut self, pos: Pos, words: &NamedNumber, dot: bool) -> Result<(), PlaceFault>
+        ensures placed { PlacesBy (size_number pos words.now.name.now words.now.number dot)
+            self.old self.new result }
+        ensures kept { self.new.notes ≡ self.old.notes }
+    {
+        let before = self.table.symbols().len();
+        let id = self.table.intern_text(pos, words.name)?;
+        let form = constant_form(self.alloc, words.number);
+        self.table.set_size(pos, id, form)?;
+        self.table.allow(Naming {
+            before,
+            meant: true,
+        })?;
+        self.unless_dot(dot)
     }
 
     /// `.size` of any operands.
@@ -304,7 +327,19 @@ impl Assembler {
         self.unless_dot(begins_with_place(tokens))
     }
 
-    /// `.size`: without a tree where it is a sum.
+    /// The same: without a tree where the size is a number.
+    fn place_number_size(&mut self, pos: Pos, tokens: &[Token]) -> Result<(), PlaceFault>
+        ensures placed { PlacesBy (place_size pos (map spelled tokens.now))
+            self.old self.new result }
+        ensures kept { self.new.notes ≡ self.old.notes }
+    {
+        match named_number(tokens) {
+            Some(words) => self.size_number(pos, &words, begins_with_place(tokens)),
+            None => self.place_any_size(pos, tokens),
+        }
+    }
+
+    /// `.size`: without a tree where it is a sum or a number.
     #[tactic(auto, unfolding(crate::specs::SymbolWords::place_size))]
     pub(crate) fn place_size(&mut self, pos: Pos, tokens: &[Token]) -> Result<(), PlaceFault>
         ensures placed { PlacesBy (place_size pos (map spelled tokens.now))
@@ -316,7 +351,7 @@ impl Assembler {
                 self.size_sum(pos, &words)?;
                 self.unless_dot(begins_with_place(tokens))
             }
-            None => self.place_any_size(pos, tokens),
+            None => self.place_number_size(pos, tokens),
         }
     }
 }

@@ -38,13 +38,14 @@ impl Model for SymbolUses {
 }
 
 impl SymbolUses {
-    ghost use Rattle.std.specs.Prelude.{◌≡◌, ◌<◌, ◌≤◌, nat_eq, length, OnOk, IfOk, Ok};
+    ghost use Rattle.std.specs.Prelude.{◌≡◌, ◌<◌, ◌≤◌, nat_eq, length, Some, OnOk, IfOk, Ok};
     ghost use Rattle.std.specs.Map.{lookup};
     ghost use Rattle.asm_symbols.specs.Defining.{defined};
     ghost use Rattle.asm_symbols.specs.LeadsBack.{assigned};
     ghost use Rattle.asm_base.specs.Refusals.{Gives, GivesBy};
     ghost use Rattle.asm_expr.specs.declared.naming.Name.TheVariants.{Plain};
     ghost use Rattle.asm_expr.specs.declared.trees.Written.TheVariants.{Back, Next};
+    ghost use Rattle.asm_symbols.specs.SymbolMap.{names, index_of};
     ghost use Rattle.asm_symbols.specs.Interning.{number_of};
     ghost use Rattle.asm_symbols.specs.Counting.{meant_name, may_be_meant};
     ghost use Rattle.asm_place.specs.Tables.{no_table, with_map, with_name, symbol_of, next_symbol, changed_by, file_named};
@@ -201,6 +202,8 @@ impl SymbolUses {
         ensures counts { OnOk result (self.new.symbols.counts ≡ self.old.symbols.counts) }
         ensures id { IfOk result (λ id.
             id ≡ number_of self.old.symbols (Plain text.now)) }
+        ensures found { IfOk result (λ id.
+            index_of (Plain text.now) (names self.new.symbols.symbols) ≡ Some id) }
         ensures within { IfOk result (λ id. id < length self.new.symbols.symbols) }
         ensures grows { OnOk result
             (length self.old.symbols.symbols ≤ length self.new.symbols.symbols) }
@@ -215,36 +218,42 @@ impl SymbolUses {
 
     /// What `Nb` means is a symbol from now on, whatever room there is.
     #[tactic(auto, unfolding(crate::specs::Tables::with_name), using(crate::proofs::InternLemmas::interned_grows))]
-    pub(crate) fn intern_back(&mut self, pos: Pos, number: u64) -> Result<(), NoMemory>
+    pub(crate) fn intern_back(&mut self, pos: Pos, number: u64) -> Result<SymId, NoMemory>
         ensures ok { OnOk result
             (self.new ≡ with_name pos (meant_name self.old.symbols.counts (Back number)) self.old) }
         ensures counts { OnOk result (self.new.symbols.counts ≡ self.old.symbols.counts) }
+        ensures found { IfOk result (λ id.
+            index_of (meant_name self.new.symbols.counts (Back number)) (names self.new.symbols.symbols)
+            ≡ Some id) }
         ensures grows { OnOk result
             (length self.old.symbols.symbols ≤ length self.new.symbols.symbols) }
     {
         let before = self.symbols.len();
-        self.symbols.intern_back(number)?;
+        let id = self.symbols.intern_back(number)?;
         if self.symbols.len() > before {
             self.named.push(pos)?;
         }
-        Ok(())
+        Ok(id)
     }
 
     /// What `Nf` means is a symbol from now on, whatever room there is.
     #[tactic(auto, unfolding(crate::specs::Tables::with_name), using(crate::proofs::InternLemmas::interned_grows))]
-    pub(crate) fn intern_next(&mut self, pos: Pos, number: u64) -> Result<(), NoMemory>
+    pub(crate) fn intern_next(&mut self, pos: Pos, number: u64) -> Result<SymId, NoMemory>
         ensures ok { OnOk result
             (self.new ≡ with_name pos (meant_name self.old.symbols.counts (Next number)) self.old) }
         ensures counts { OnOk result (self.new.symbols.counts ≡ self.old.symbols.counts) }
+        ensures found { IfOk result (λ id.
+            index_of (meant_name self.new.symbols.counts (Next number)) (names self.new.symbols.symbols)
+            ≡ Some id) }
         ensures grows { OnOk result
             (length self.old.symbols.symbols ≤ length self.new.symbols.symbols) }
     {
         let before = self.symbols.len();
-        self.symbols.intern_next(number)?;
+        let id = self.symbols.intern_next(number)?;
         if self.symbols.len() > before {
             self.named.push(pos)?;
         }
-        Ok(())
+        Ok(id)
     }
 
     /// What the name means is a symbol from now on, whatever room there is.
@@ -260,8 +269,14 @@ impl SymbolUses {
                 self.intern_text(pos, text.as_bytes())?;
                 Ok(())
             }
-            Written::Back(number) => self.intern_back(pos, *number),
-            Written::Next(number) => self.intern_next(pos, *number),
+            Written::Back(number) => {
+                self.intern_back(pos, *number)?;
+                Ok(())
+            }
+            Written::Next(number) => {
+                self.intern_next(pos, *number)?;
+                Ok(())
+            }
         }
     }
 

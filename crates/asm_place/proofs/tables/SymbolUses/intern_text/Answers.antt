@@ -1,7 +1,9 @@
--- A name that becomes a symbol's changes no count of a numeric label, and no symbol goes.
-use Rattle.std.proofs.Common.{◌≡◌, ◌≤◌, length, sym, ap, subst, ◌∙◌}
+-- A name that becomes a symbol's is found then, changes no count of a numeric label, and no symbol goes.
+use Rattle.std.proofs.Common.{◌≡◌, ◌≤◌, length, Some, sym, ap, subst, ◌∙◌}
+use Rattle.asm_expr.specs.declared.naming.Name.TheVariants.{Plain}
+use Rattle.asm_symbols.specs.SymbolMap.{names, index_of}
 use Rattle.asm_place.specs.Tables.{Table}
-use Rattle.asm_place.proofs.InternLemmas.{interned_counts, interned_grows}
+use Rattle.asm_place.proofs.InternLemmas.{interned_counts, interned_found, interned_grows}
 use Rattle.asm_place.proofs.tables.SymbolUses.intern_text.Goals as goal
 use Rattle.asm_place.proofs.tables.SymbolUses.intern_text.Goals.{then-len-before+in_ok-push, else-len-before}
 
@@ -20,4 +22,12 @@ returns-clause-grows c =
     elim c.if-len-before.branch [
       | then-len-before+in_ok-push w ↦ subst (λ (table : Table). before ≤ length table.symbols.symbols) (sym w.self-is) more
       | else-len-before w ↦ subst (λ (table : Table). before ≤ length table.symbols.symbols) (sym w.self-is) more
+    ]
+
+pub returns-clause-found : goal.returns-clause-found
+returns-clause-found c =
+    let found = interned_found _ (Plain c.args.text.now) _ _ c.in_ok-id.ensures.ok c.in_ok-id.ensures.id in
+    elim c.if-len-before.branch [
+      | then-len-before+in_ok-push w ↦ subst (λ (table : Table). index_of (Plain c.args.text.now) (names table.symbols.symbols) ≡ Some c.in_ok-id.id) (sym w.self-is) found
+      | else-len-before w ↦ subst (λ (table : Table). index_of (Plain c.args.text.now) (names table.symbols.symbols) ≡ Some c.in_ok-id.id) (sym w.self-is) found
     ]
