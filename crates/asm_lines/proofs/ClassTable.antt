@@ -3,9 +3,9 @@ use Rattle.std.proofs.Common.{◌≡◌, ℕ, zero, suc, ◌+◌, ◌<◌, Bool,
 use Rattle.std.specs.Char.{is_ascii_digit}
 use Rattle.asm_base.specs.ByteClasses.{is_blank, is_name_start, is_name_byte, is_operator_byte}
 use Rattle.asm_lines.specs.declared.classes.ByteClass.{ByteClass}
-use Rattle.asm_lines.specs.declared.classes.ByteClass.TheVariants.{LineFeed, Semicolon, Blank, NameStart, Digit, Dollar, LongOperator, Operator, Other}
+use Rattle.asm_lines.specs.declared.classes.ByteClass.TheVariants.{LineFeed, Semicolon, Blank, Hash, Slash, NameStart, Digit, Dollar, LongOperator, Operator, Other}
 use Rattle.asm_base.specs.Dividing.{is_plain}
-use Rattle.asm_lines.specs.Classes.{begins_token, continues_name, begins_long_operator, plain_class_of, class_of, classes_from, the_classes}
+use Rattle.asm_lines.specs.Classes.{is_long_class, begins_token, continues_name, begins_long_operator, plain_class_of, class_of, classes_from, the_classes}
 
 pub table_is : the_classes ≡ classes_from 256 0
 unfolding the_classes classes_from class_of plain_class_of begins_long_operator is_blank is_name_start is_operator_byte
@@ -70,6 +70,8 @@ abbrev pub said_by : ByteClass → ℕ → Bool
 said_by LineFeed byte = byte == 10
 said_by Semicolon byte = byte == 59
 said_by Blank byte = is_blank byte
+said_by Hash byte = byte == 35
+said_by Slash byte = byte == 47
 said_by NameStart byte = is_plain byte && is_name_start byte
 said_by Digit byte = is_plain byte && (not (is_name_start byte) && is_ascii_digit byte)
 said_by Dollar byte = is_plain byte && (not (is_name_start byte) && (not (is_ascii_digit byte) && (is_operator_byte byte && not (begins_long_operator byte))))
@@ -86,3 +88,8 @@ said byte within = of_byte (λ b. said_by (class_of b) b) byte within refl
 pub plain_class : (byte : ℕ) → byte < 256 → is_plain byte ≡ begins_token (class_of byte)
 unfolding holds_from same class_of plain_class_of begins_long_operator is_blank is_name_start is_operator_byte is_plain
 plain_class byte within = same-equal _ _ (of_byte (λ b. same (is_plain b) (begins_token (class_of b))) byte within refl)
+
+-- the class says whether an operator of two bytes may begin
+pub long_class : (byte : ℕ) → byte < 256 → begins_long_operator byte ≡ is_long_class (class_of byte)
+unfolding holds_from same class_of plain_class_of begins_long_operator is_blank is_name_start is_operator_byte is_plain
+long_class byte within = same-equal _ _ (of_byte (λ b. same (begins_long_operator b) (is_long_class (class_of b))) byte within refl)

@@ -1,9 +1,9 @@
 -- What stands in front, by the class of the first byte.
-use Rattle.std.proofs.Common.{◌≡◌, ℕ, ◌+◌, ◌<◌, Bool, true, false, not, cond, ◌&&◌, ◌||◌, ◌==◌, List, [], ◌∷◌, drop, eqb-true, refl, sym, ap, ◌∙◌, ◌⊎◌, inl, inr}
+use Rattle.std.proofs.Common.{◌≡◌, ℕ, ◌+◌, ◌<◌, ◌≤◌, arith, length, slice_index_or, subst, Bool, true, false, not, cond, ◌&&◌, ◌||◌, ◌==◌, List, [], ◌∷◌, drop, eqb-true, refl, sym, ap, ◌∙◌, ◌⊎◌, inl, inr}
 use Rattle.std.specs.List.{prefix_len}
 use Rattle.std.specs.Char.{is_ascii_digit}
 use Rattle.asm_base.specs.ByteClasses.{is_feed, is_blank, is_name_start, is_name_byte, is_operator_byte, begins_with, line_goes_on}
-use Rattle.asm_base.specs.Dividing.{comment_kind, is_plain, piece_kind, piece_length, string_kind}
+use Rattle.asm_base.specs.Dividing.{comment_kind, is_plain, line_length, piece_kind, piece_length, string_kind}
 use Rattle.asm_base.specs.declared.pieces.PieceKind.{PieceKind}
 use Rattle.asm_base.specs.declared.pieces.PieceKind.TheVariants as piece
 use Rattle.asm_base.specs.declared.tokens.TokenKind.{TokenKind}
@@ -11,7 +11,8 @@ use Rattle.asm_base.specs.declared.tokens.TokenKind.TheVariants.{Name, Digits, C
 use Rattle.asm_base.specs.Tokens.{is_long_operator, kind_by_piece, token_kind_by, token_kind, token_length}
 use Rattle.asm_lines.specs.declared.classes.ByteClass.{ByteClass}
 use Rattle.asm_lines.specs.declared.classes.ByteClass.TheVariants as class
-use Rattle.asm_lines.specs.declared.lexemes.Lexeme.TheVariants.{Token}
+use Rattle.asm_lines.specs.declared.lexemes.Lexeme.{Lexeme}
+use Rattle.asm_lines.specs.declared.lexemes.Lexeme.TheVariants.{LineComment, Token}
 use Rattle.asm_lines.specs.Classes.{class_of, begins_long_operator}
 use Rattle.asm_lines.specs.Lexemes.{StandsInFront, makes_tokens}
 use Rattle.asm_lines.proofs.ClassTable.{both, said, said_by}
@@ -128,6 +129,30 @@ unfolding begins_long_operator is_long_operator
 none_long byte second rest none =
     no_pair (60 == byte) (62 == byte) (61 == byte) (33 == byte) (38 == byte) (124 == byte) (60 == second) (62 == second) (61 == second) (62 == second) (61 == second) (61 == second) (61 == second) (38 == second) (124 == second) none
 
+-- nor is what such a byte ends
+and-false : (a : Bool) → (a && false) ≡ false
+and-false true = refl
+and-false false = refl
+
+no_second : (a b c d e f p q r s t u : Bool) → (p || q || r || s || t || u) ≡ false
+    → (a && (p && true) || (b && (q && true) || (c && (r && true) || (a && (q && true) || (d && (r && true) || (b && (r && true) || (a && (r && true) || (e && (t && true) || (f && (u && true) || false))))))))) ≡ false
+no_second a b c d e f true q r s t u none = cc
+no_second a b c d e f false true r s t u none = cc
+no_second a b c d e f false false true s t u none = cc
+no_second a b c d e f false false false true t u none = cc
+no_second a b c d e f false false false false true u none = cc
+no_second a b c d e f false false false false false true none = cc
+no_second a b c d e f false false false false false false none = rw (and-false a, and-false b, and-false c, and-false d, and-false e, and-false f) refl
+
+none_by_second : (first second : ℕ) (rest : List ℕ) → begins_long_operator second ≡ false → is_long_operator first (second ∷ rest) ≡ false
+unfolding begins_long_operator is_long_operator
+none_by_second first second rest none =
+    no_second (60 == first) (62 == first) (61 == first) (33 == first) (38 == first) (124 == first) (60 == second) (62 == second) (61 == second) (33 == second) (38 == second) (124 == second) none
+
+pub none_behind : (first : ℕ) (rest : List ℕ) → 1 ≤ length rest → begins_long_operator (slice_index_or rest 0 0) ≡ false → is_long_operator first rest ≡ false
+none_behind first [] some none = absurd (omega arith)
+none_behind first (second ∷ rest) some none = none_by_second first second rest none
+
 pub short_long : (byte : ℕ) (rest : List ℕ) → begins_long_operator byte ≡ false → is_long_operator byte rest ≡ false
 unfolding is_long_operator
 short_long byte [] none = refl
@@ -156,13 +181,11 @@ pub one_byte_operator : (here : ByteClass) (byte : ℕ) (rest : List ℕ) → by
 one_byte_operator here byte rest within is (inl dollar) = operator_stands byte rest (said_of byte here class.Dollar within is dollar)
 one_byte_operator here byte rest within is (inr operator) = operator_stands byte rest (said_of byte here class.Operator within is operator)
 
-pub no_names : (here : ByteClass) (byte : ℕ) → byte < 256 → here ≡ class_of byte → (here ≡ class.CarriageReturn) ⊎ ((here ≡ class.Hash) ⊎ ((here ≡ class.Slash) ⊎ ((here ≡ class.Quote) ⊎ (here ≡ class.DoubleQuote))))
+pub no_names : (here : ByteClass) (byte : ℕ) → byte < 256 → here ≡ class_of byte → (here ≡ class.CarriageReturn) ⊎ ((here ≡ class.Quote) ⊎ (here ≡ class.DoubleQuote))
     → (is_name_start byte ≡ false) × (is_ascii_digit byte ≡ false) × (begins_long_operator byte ≡ false)
 no_names here byte within is (inl e) = no_name byte (said_of byte here class.CarriageReturn within is e)
-no_names here byte within is (inr (inl e)) = no_name byte (said_of byte here class.Hash within is e)
-no_names here byte within is (inr (inr (inl e))) = no_name byte (said_of byte here class.Slash within is e)
-no_names here byte within is (inr (inr (inr (inl e)))) = no_name byte (said_of byte here class.Quote within is e)
-no_names here byte within is (inr (inr (inr (inr e)))) = no_name byte (said_of byte here class.DoubleQuote within is e)
+no_names here byte within is (inr (inl e)) = no_name byte (said_of byte here class.Quote within is e)
+no_names here byte within is (inr (inr e)) = no_name byte (said_of byte here class.DoubleQuote within is e)
 
 -- a token that is one piece
 pub piece_stands : (byte : ℕ) (rest : List ℕ) (here : PieceKind) (kind : TokenKind) → here ≡ piece_kind byte rest → makes_tokens here ≡ true → is_name_start byte ≡ false → is_ascii_digit byte ≡ false → kind ≡ kind_by_piece byte here
@@ -191,3 +214,28 @@ pub mark_stands : (byte : ℕ) (rest : List ℕ) (here : PieceKind) → here ≡
 mark_stands byte rest here is same short start digit =
     let known = piece_stands byte rest here (cond (is_operator_byte byte) Operator Other) is (ap makes_tokens same) start digit (rw same refl) in
     (known.0, known.1, mark_length byte rest (is_operator_byte byte) (short_long byte rest short) (sym is ∙ same) ∙ ap (λ k. token_length k byte rest) known.1)
+
+-- a slash that begins no comment
+slash_kind : (rest : List ℕ) → begins_with 42 rest ≡ false → piece_kind 47 rest ≡ piece.Other
+unfolding piece_kind is_blank
+slash_kind rest none = rw none refl
+
+pub slash_stands : (rest : List ℕ) → begins_with 42 rest ≡ false → StandsInFront 47 rest (Token Operator 1)
+unfolding begins_long_operator is_name_start is_operator_byte
+slash_stands rest none = mark_stands 47 rest piece.Other (sym (slash_kind rest none)) refl refl refl refl
+
+pub slash_by_class : (byte : ℕ) (rest : List ℕ) (lexeme : Lexeme) → said_by class.Slash byte ≡ true → StandsInFront 47 rest lexeme → StandsInFront byte rest lexeme
+slash_by_class byte rest lexeme says stands =
+    let Stands : ℕ → Type 0 = λ first. StandsInFront first rest lexeme in
+    subst Stands (sym (eqb-true byte 47 says)) stands
+
+-- a comment to the end of its line
+hash_kind : (rest : List ℕ) → piece_kind 35 rest ≡ piece.LineComment
+unfolding piece_kind is_blank
+hash_kind rest = refl
+
+pub hash_stands : (byte : ℕ) (rest : List ℕ) (n : ℕ) → said_by class.Hash byte ≡ true → n ≡ line_length rest → StandsInFront byte rest (LineComment (1 + n))
+unfolding piece_length
+hash_stands byte rest n says n_is =
+    let Stands : ℕ → Type 0 = λ first. StandsInFront first rest (LineComment (1 + n)) in
+    subst Stands (sym (eqb-true byte 35 says)) (hash_kind rest, ap (λ k. 1 + k) n_is ∙ ap (λ kind. piece_length kind rest) (sym (hash_kind rest)))

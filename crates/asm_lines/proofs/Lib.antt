@@ -12,6 +12,7 @@ pub mod TokenPieces
 pub mod Moves
 pub mod LineFeeds
 pub mod TokenSteps
+pub mod OwnLengths
 pub mod Cuts
 pub mod OnePass
 pub mod Skipping

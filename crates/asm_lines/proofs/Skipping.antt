@@ -20,7 +20,7 @@ use Rattle.asm_lines.specs.Scan.{pieces_at, first_interval, later_pieces, interv
 use Rattle.asm_lines.proofs.Pieces.{one_off, none_off}
 use Rattle.asm_lines.proofs.Steps.{statements_more, open_more, long_more, open_step, long_step}
 use Rattle.asm_lines.specs.declared.cursors.Point.{Point}
-use Rattle.asm_lines.specs.StatementTokens.{IsReadWhole, all_close}
+use Rattle.asm_lines.specs.StatementTokens.{IsReadWhole, all_close, own_length_at}
 use Rattle.asm_lines.specs.Lexemes.{is_unclosed}
 use Rattle.asm_lines.specs.NextStatements.{TokenStatement, in_tokens, statements_left, found_left, IsNext, IsEnd}
 use Rattle.asm_lines.specs.Skips.{BeginsToken, IsSkipped, Reaches}
@@ -202,9 +202,9 @@ some_long source first others kept is long =
     (found_at first.start (StatementTooLong (line_of source first.start)), ap (long_found source) is ∙ ap (λ b. cond b (Some (found_at first.start (StatementTooLong (line_of source first.start)))) None) more)
 
 -- what is read is the next statement
-pub next_whole : (source : List ℕ) (from : ℕ) (place : Point) (read : List Token) (next there own : ℕ) → Reaches source from place → place.at < length source → IsReadWhole source place.at read next there own → own ≤ 65536 → IsNext source from read place.line next there
+pub next_whole : (source : List ℕ) (from : ℕ) (place : Point) (read : List Token) (next there : ℕ) → Reaches source from place → place.at < length source → IsReadWhole source place.at read next there → own_length_at source place.at ≤ 65536 → IsNext source from read place.line next there
 unfolding statements_left found_left
-next_whole source from place read next there own reached inside known fits = by_token reached.begins
+next_whole source from place read next there reached inside known fits = by_token reached.begins
   where
     by_token : (length source ≤ place.at) ⊎ BeginsToken source place.at → IsNext source from read place.line next there
     by_token (inl past) = absurd (omega arith)
@@ -213,7 +213,7 @@ next_whole source from place read next there own reached inside known fits = by_
         let whole : tokens_of (bytes_between source begin (reach source begin)) ≡ map spelled read = one_pass source begin known.closed ∙ sym known.tokens in
         let none_found : interval_found source (first_interval (pieces_at source begin)) ≡ None =
         ap (λ one. earlier one (long_found source (trimmed (first_interval (pieces_at source begin))))) (none_open source (first_interval (pieces_at source begin)) known.closed)
-        ∙ ap (long_found source) (token_kept source begin token) ∙ none_long source (kept_at source begin) (omega (arith, known.own_is)) in
+        ∙ ap (long_found source) (token_kept source begin token) ∙ none_long source (kept_at source begin) fits in
         record {
           statements = λ file.
               let statement : StatementAt = record { file = file; line = line_of source begin; bytes = bytes_between source begin (reach source begin) } in
@@ -251,16 +251,16 @@ next_unclosed source from place reached unclosed =
     (some.0, sym reached.skipped.faults ∙ some.1)
 
 -- a statement that is too long
-pub next_long : (source : List ℕ) (from : ℕ) (place : Point) (own : ℕ) → Reaches source from place → place.at < length source → own ≡ own_length (kept_at source place.at) → 65536 < own → IsSome (found_left source from)
+pub next_long : (source : List ℕ) (from : ℕ) (place : Point) → Reaches source from place → place.at < length source → 65536 < own_length_at source place.at → IsSome (found_left source from)
 unfolding found_left
-next_long source from place own reached inside own_is long = by_token reached.begins
+next_long source from place reached inside long = by_token reached.begins
   where
     by_token : (length source ≤ place.at) ⊎ BeginsToken source place.at → IsSome (found_left source from)
     by_token (inl past) = absurd (omega arith)
     by_token (inr token) =
         let pieces = pieces_at source place.at in
         let kept = kept_begins source place.at token in
-        let here = some_long source kept.first kept.others (kept_at source place.at) kept.kept (omega (arith, own_is)) in
+        let here = some_long source kept.first kept.others (kept_at source place.at) kept.kept long in
         let first = some_or (long_found source (trimmed (first_interval pieces))) (first_long source (intervals_of (later_pieces pieces))) (here.0, ap (long_found source) (token_kept source place.at token) ∙ here.1) in
         let whole : IsSome (first_long source (intervals_of pieces)) = (first.0, long_more source pieces ∙ first.1) in
         let some = other_earlier (first_open source pieces) (first_long source (intervals_of pieces)) whole in

@@ -38,6 +38,19 @@ own_step own passed next kept before whole same moved known = ap (λ k. own_behi
 pub own_with_token : (passed next : ℕ) (kept : List Piece) (before whole : ℕ) → passed ≡ next → before ≡ own_behind passed passed kept → before ≡ whole → own_behind next next kept ≡ whole
 own_with_token passed next kept before whole same moved known = ap (λ k. own_behind k k kept) (sym same) ∙ sym moved ∙ known
 
+own_at_most : (own passed : ℕ) (kept : List Piece) → own ≤ passed → own_behind own passed kept ≤ passed + own_length kept
+unfolding own_behind
+own_at_most own passed [] less = omega arith
+own_at_most own passed (here ∷ others) less = omega arith
+
+-- a step of so many bytes adds no more than these
+pub short_step : (own passed n : ℕ) (kept later : List Piece) → own_behind 0 0 kept ≡ own_behind own passed later → own ≤ passed → passed ≤ n → own_length kept ≤ n + own_length later
+short_step own passed n kept later moved less within = omega (arith, sym (own_whole kept) ∙ moved, own_at_most own passed later less)
+
+-- at the end of the statement nothing is added
+pub short_end : (kept : List Piece) → own_behind 0 0 kept ≡ 0 → own_length kept ≡ 0
+short_end kept ends = sym (own_whole kept) ∙ ends
+
 pub semicolon_one : (rest : List ℕ) → 1 ≡ piece_length piece.Semicolon rest
 unfolding piece_length
 semicolon_one rest = refl

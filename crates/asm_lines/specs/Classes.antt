@@ -40,6 +40,11 @@ continues_name Digit = true
 continues_name Dollar = true
 continues_name _ = false
 
+-- an operator of two bytes may begin with a byte of the class
+abbrev pub is_long_class : ByteClass → Bool
+is_long_class LongOperator = true
+is_long_class _ = false
+
 -- a byte of the class is the first of a token, whatever follows it
 abbrev pub begins_token : ByteClass → Bool
 begins_token NameStart = true

@@ -1,5 +1,5 @@
 -- What stands in front of a text: a space, a token, the end of a statement, or what does not close.
-use Rattle.std.specs.Prelude.{◌≡◌, ℕ, ◌<◌, ◌≤◌, Bool, true, false, List}
+use Rattle.std.specs.Prelude.{◌≡◌, ℕ, ◌+◌, ◌<◌, ◌≤◌, Bool, true, false, List, drop, get_or}
 use Rattle.asm_base.specs.Dividing.{piece_kind, piece_length}
 use Rattle.asm_base.specs.declared.pieces.PieceKind.{PieceKind}
 use Rattle.asm_base.specs.declared.pieces.PieceKind.TheVariants as piece
@@ -33,6 +33,10 @@ StandsInFront first rest (Token kind n) =
     (makes_tokens (piece_kind first rest) ≡ true) × (kind ≡ token_kind first rest)
     × (n ≡ token_length (token_kind first rest) first rest)
 StandsInFront first rest Unclosed = is_unclosed (piece_kind first rest) ≡ true
+
+-- the lexeme is what stands at this offset, by the byte there and those behind it
+abbrev pub StandsAt : List ℕ → ℕ → Lexeme → Type 0
+StandsAt source at lexeme = StandsInFront (get_or source at 0) (drop (at + 1) source) lexeme
 
 -- the lexeme has at least one byte, and no more than there are
 abbrev pub FitsIn : ℕ → Lexeme → Type 0

@@ -1,5 +1,5 @@
 -- What stands next in a source: a statement as its tokens, the end, or a fault of its lines.
-use Rattle.std.specs.Prelude.{◌≡◌, ℕ, ◌<◌, ◌≤◌, List, [], ◌∷◌, length, map, Option, Some, None}
+use Rattle.std.specs.Prelude.{◌≡◌, ℕ, ◌<◌, ◌≤◌, List, [], ◌∷◌, length, take, map, Option, Some, None}
 use Rattle.std.specs.List.{filter_map}
 use Rattle.asm_base.specs.Tokens.{SpelledToken, spelled, tokens_of}
 use Rattle.asm_base.specs.declared.tokens.Token.{Token}
@@ -52,8 +52,9 @@ pub record IsEnd (source : List ℕ) (at : ℕ) : Type 0 where
   pub statements : (file : ℕ) → statements_left file source at ≡ []
   pub faults : found_left source at ≡ None
 
--- what stands next
+-- what stands next; a statement is the first so many of the tokens
 abbrev pub StandsNext : List ℕ → ℕ → List Token → NextStatement → Type 0
-StandsNext source at read (Statement line next there) = IsNext source at read line next there
+StandsNext source at read (Statement line next there count) =
+    (count ≤ length read) × IsNext source at (take count read) line next there
 StandsNext source at read End = IsEnd source at
 StandsNext source at read Faulty = (found : Found) × (found_left source at ≡ Some found)

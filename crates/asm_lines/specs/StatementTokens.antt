@@ -1,5 +1,5 @@
 -- The tokens of the statement that begins a text, found in one pass over its bytes.
-use Rattle.std.specs.Prelude.{◌≡◌, ℕ, zero, suc, ◌+◌, ◌-◌, ◌<◌, ◌≤◌, Bool, true, false, not, ◌&&◌, List, [], ◌∷◌, length, drop, map, if◌then◌else◌}
+use Rattle.std.specs.Prelude.{◌≡◌, ℕ, zero, suc, ◌+◌, ◌-◌, ◌<◌, ◌≤◌, Bool, true, false, not, ◌&&◌, List, [], ◌∷◌, length, drop, take, map, if◌then◌else◌}
 use Rattle.asm_base.specs.Pieces.{Piece, is_space, ends_statement}
 use Rattle.asm_base.specs.Dividing.{piece_kind, piece_length}
 use Rattle.asm_base.specs.Tokens.{SpelledToken, spelled, token_kind, token_length, first_token}
@@ -8,7 +8,7 @@ use Rattle.asm_lines.specs.Intervals.{without_space_after, own_length}
 use Rattle.asm_lines.specs.LineNumbers.{line_of}
 use Rattle.asm_lines.specs.Scan.{pieces_at, first_interval, later_pieces}
 use Rattle.asm_lines.specs.declared.statement_tokens.ReadStatement.{ReadStatement}
-use Rattle.asm_lines.specs.declared.statement_tokens.ReadStatement.TheVariants.{Whole, Unclosed}
+use Rattle.asm_lines.specs.declared.statement_tokens.ReadStatement.TheVariants.{Whole, Full, Unclosed}
 use Rattle.asm_lines.specs.Lexemes.{is_unclosed}
 
 -- the tokens up to the end of the statement, of the bytes from this offset on, the first few of which are left out
@@ -30,17 +30,24 @@ unfoldable pub own_behind : ℕ → ℕ → List Piece → ℕ
 own_behind own passed [] = own
 own_behind own passed (piece ∷ pieces) = passed + own_length (piece ∷ pieces)
 
+-- how many bytes the statement has that begins at this offset, comments not counted
+abbrev pub own_length_at : List ℕ → ℕ → ℕ
+own_length_at source begin = own_length (without_space_after (first_interval (pieces_at source begin)))
+
 -- what is known of the statement that begins at this offset, once all of it is read
-pub record IsReadWhole (source : List ℕ) (begin : ℕ) (read : List Token) (next line_there own : ℕ) : Type 0 where
+pub record IsReadWhole (source : List ℕ) (begin : ℕ) (read : List Token) (next line_there : ℕ) : Type 0 where
   pub tokens : map spelled read ≡ first_tokens_from 0 0 (drop begin source)
   pub later : pieces_at source next ≡ later_pieces (pieces_at source begin)
   pub closed : all_close (first_interval (pieces_at source begin)) ≡ true
-  pub own_is : own ≡ own_length (without_space_after (first_interval (pieces_at source begin)))
+  pub short : begin + own_length_at source begin ≤ next
   pub line : line_there ≡ line_of source next
   pub within : next ≤ length source
   pub more : begin < next
 
--- the statement that begins at this offset is read to these tokens, or has a piece that does not close
+-- the statement that begins at this offset is read to the first so many of these tokens, or has a piece that does not
+-- close; or there are too few of them
 abbrev pub ReadsTokens : List ℕ → ℕ → List Token → ReadStatement → Type 0
-ReadsTokens source begin tokens (Whole next line own) = IsReadWhole source begin tokens next line own
+ReadsTokens source begin tokens (Whole next line count) =
+    (count ≤ length tokens) × IsReadWhole source begin (take count tokens) next line
+ReadsTokens source begin tokens Full = begin + length tokens < length source
 ReadsTokens source begin tokens Unclosed = all_close (first_interval (pieces_at source begin)) ≡ false

@@ -3,27 +3,11 @@
 ghost use Rattle.std.specs.Prelude.{◌≡◌};
 ghost use Rattle.asm_base.specs.Dividing.{is_plain};
 ghost use Rattle.asm_base.specs.ByteClasses.{is_name_byte};
-ghost use Rattle.asm_lines.specs.Classes.{begins_token, continues_name, class_of, the_classes, classes_from};
+ghost use Rattle.asm_lines.specs.Classes.{begins_long_operator, begins_token, continues_name, class_of, the_classes, classes_from, is_long_class};
 
 /// What a byte may begin.
 #[derive(Clone, Copy, PartialEq, Eq, Debug)]
 pub enum ByteClass {
-    /// A line feed.
-    LineFeed,
-    /// A `;`.
-    Semicolon,
-    /// A space or a tab.
-    Blank,
-    /// A carriage return.
-    CarriageReturn,
-    /// A `#`.
-    Hash,
-    /// A `/`.
-    Slash,
-    /// A `'`.
-    Quote,
-    /// A `"`.
-    DoubleQuote,
     /// What begins a name.
     NameStart,
     /// A digit.
@@ -36,6 +20,22 @@ pub enum ByteClass {
     Operator,
     /// Any other byte.
     Other,
+    /// A space or a tab.
+    Blank,
+    /// A line feed.
+    LineFeed,
+    /// A `;`.
+    Semicolon,
+    /// A carriage return.
+    CarriageReturn,
+    /// A `#`.
+    Hash,
+    /// A `/`.
+    Slash,
+    /// A `'`.
+    Quote,
+    /// A `"`.
+    DoubleQuote,
 }
 
 // The letters of the table, each for a class.
@@ -141,6 +141,13 @@ impl ByteClass {
         )
     }
 
+    /// Whether an operator of two bytes may begin with a byte of the class.
+    fn begins_long_operator(self) -> bool
+        ensures { result ≡ is_long_class self }
+    {
+        matches!(self, ByteClass::LongOperator)
+    }
+
     /// Whether a byte of the class continues a name.
     pub fn continues_name(self) -> bool
         ensures { result ≡ continues_name self }
@@ -150,6 +157,13 @@ impl ByteClass {
             ByteClass::NameStart | ByteClass::Digit | ByteClass::Dollar
         )
     }
+}
+
+/// Whether an operator of two bytes may begin with the byte.
+pub(crate) fn begins_long_operator(byte: u8) -> bool
+    ensures { result ≡ begins_long_operator byte }
+{
+    class_of(byte).begins_long_operator()
 }
 
 /// Whether the byte continues a name.

@@ -1,15 +1,18 @@
 //! The statements of a source one after the other, each as its tokens.
 
-ghost use Rattle.std.specs.Prelude.{◌≡◌, ◌≤◌, length, IfOk};
+ghost use Rattle.std.specs.Prelude.{◌≡◌, ◌+◌, ◌<◌, ◌≤◌, length, nat_lt, true, IfOk, OnOk};
+ghost use Rattle.asm_lines.specs.Faults.{longest_statement};
 ghost use Rattle.asm_lines.specs.LineNumbers.{line_of};
+ghost use Rattle.asm_lines.specs.Scan.{pieces_at, first_interval};
 ghost use Rattle.asm_lines.specs.Skips.{Skips};
+ghost use Rattle.asm_lines.specs.StatementTokens.{all_close, own_length_at};
 ghost use Rattle.asm_lines.specs.NextStatements.{StandsNext};
 
 use crate::classes::is_plain;
 use crate::intervals::LONGEST_STATEMENT;
-use crate::lexemes::{Lexeme, first_lexeme};
+use crate::lexemes::{Lexeme, lexeme_at};
 use crate::line_numbers::{line_after, line_behind};
-use crate::statement_tokens::{ReadStatement, read_tokens};
+use crate::statement_tokens::{ReadStatement, own_length, read_tokens};
 use asm_base::Token;
 use std::alloc::AllocError;
 
@@ -23,8 +26,9 @@ pub(crate) struct Point {
 /// What stands next in a source.
 #[derive(Clone, Copy, Debug)]
 pub(crate) enum NextStatement {
-    /// A statement on this line, the offset behind its end, and the line there.
-    Statement(u32, usize, u32),
+    /// A statement on this line, the offset behind its end, the line there, and how many tokens it
+    /// has.
+    Statement(u32, usize, u32, usize),
     /// The end of the source.
     End,
     /// The lines from here on have a fault.
@@ -39,12 +43,12 @@ fn skip(source: &[u8], from: usize, line: u32) -> Option<Point>
 {
     let mut at = from;
     let mut line = line;
-    while let Some((first, rest)) = source[at..].split_first() {
+    while at < source.len() {
         // Most statements begin with a name: its length is of no use here.
-        if is_plain(*first) {
+        if is_plain(source[at]) {
             return Some(Point { at, line });
         }
-        match first_lexeme(*first, rest) {
+        match lexeme_at(source, at) {
             Lexeme::LineEnd => {
                 line = line_after(line);
                 at += 1;
@@ -63,7 +67,33 @@ fn skip(source: &[u8], from: usize, line: u32) -> Option<Point>
     Some(Point { at, line })
 }
 
-/// Reads the statement that stands next into the tokens, in place of those that are there.
+/// Whether the statement between these offsets is too long. Its bytes are only counted where it has
+/// as many with its comments.
+#[inline(always)]
+fn is_too_long(source: &[u8], begin: usize, next: usize) -> bool
+    requires within { begin ≤ length source.now }
+    requires later { begin ≤ next }
+    ensures { all_close (first_interval (pieces_at source.now begin)) ≡ true
+        → begin + own_length_at source.now begin ≤ next
+        → result ≡ nat_lt longest_statement (own_length_at source.now begin) }
+{
+    if next - begin <= LONGEST_STATEMENT {
+        return false;
+    }
+    own_length(source, begin) > LONGEST_STATEMENT
+}
+
+/// Makes room for twice as many tokens.
+#[inline(never)]
+fn more_slots<'a>(tokens: &mut Vec<Token<'a>>) -> Result<(), AllocError>
+    ensures { OnOk result (length tokens.old.items < length tokens.new.items) }
+{
+    let room = tokens.len();
+    tokens.resize(room + room.max(16), Token::default())
+}
+
+/// Reads the statement that stands next into the first of the tokens, in place of those that are
+/// there. A statement that has more tokens than there are is read again.
 pub(crate) fn next_statement<'a>(
     source: &'a [u8],
     from: usize,
@@ -80,13 +110,16 @@ pub(crate) fn next_statement<'a>(
     if point.at >= source.len() {
         return Ok(NextStatement::End);
     }
-    match read_tokens(source, point.at, point.line, tokens)? {
-        ReadStatement::Whole(next, there, own) => {
-            if own > LONGEST_STATEMENT {
-                return Ok(NextStatement::Faulty);
+    loop {
+        match read_tokens(source, point.at, point.line, tokens.as_mut_slice()) {
+            ReadStatement::Whole(next, there, count) => {
+                if is_too_long(source, point.at, next) {
+                    return Ok(NextStatement::Faulty);
+                }
+                return Ok(NextStatement::Statement(point.line, next, there, count));
             }
-            Ok(NextStatement::Statement(point.line, next, there))
+            ReadStatement::Full => more_slots(tokens)?,
+            ReadStatement::Unclosed => return Ok(NextStatement::Faulty),
         }
-        ReadStatement::Unclosed => Ok(NextStatement::Faulty),
     }
 }

@@ -1,14 +1,15 @@
-//! What stands in front of a text: a space, a token, or the end of a statement.
+//! What stands at an offset of a source: a space, a token, or the end of a statement.
 
-ghost use Rattle.std.specs.Prelude.{◌≡◌, ◌+◌, ◌≤◌, length, false, if◌then◌else◌};
+ghost use Rattle.std.specs.Prelude.{◌≡◌, ◌+◌, ◌-◌, ◌<◌, ◌≤◌, length, false, if◌then◌else◌};
 ghost use Rattle.std.specs.List.{prefix_len};
 ghost use Rattle.std.specs.Char.{is_ascii_digit};
-ghost use Rattle.asm_base.specs.ByteClasses.{is_name_start, is_name_byte, is_operator_byte};
+ghost use Rattle.asm_base.specs.ByteClasses.{is_name_start, is_name_byte, is_operator_byte, begins_with};
+ghost use Rattle.asm_base.specs.Dividing.{line_length};
 ghost use Rattle.asm_base.specs.Tokens.{is_long_operator};
 ghost use Rattle.asm_lines.specs.Classes.{begins_long_operator};
-ghost use Rattle.asm_lines.specs.Lexemes.{StandsInFront, FitsIn};
+ghost use Rattle.asm_lines.specs.Lexemes.{StandsInFront, StandsAt, FitsIn};
 
-use crate::classes::{ByteClass, class_of, is_name_byte};
+use crate::classes::{ByteClass, begins_long_operator, class_of, is_name_byte};
 use asm_base::{PieceKind, TokenKind, first_piece};
 
 /// What stands in front, with its length where that is not 1.
@@ -39,6 +40,15 @@ fn name_length(bytes: &[u8]) -> usize
     bytes.iter().take_while(|byte| is_name_byte(**byte)).count()
 }
 
+/// How many bytes stand before the first line feed.
+#[inline(always)]
+fn line_length(bytes: &[u8]) -> usize
+    ensures value { result ≡ line_length bytes.now }
+    ensures within { result ≤ length bytes.now }
+{
+    bytes.iter().take_while(|byte| **byte != b'\n').count()
+}
+
 /// The operators of two bytes.
 const LONG_OPERATORS: [[u8; 2]; 9] = [
     *b"<<", *b">>", *b"==", *b"<>", *b"!=", *b">=", *b"<=", *b"&&", *b"||",
@@ -51,8 +61,19 @@ fn is_long_operator(first: u8, rest: &[u8]) -> bool
 {
     match rest {
         [] => false,
-        [second, ..] => LONG_OPERATORS.contains(&[first, *second]),
+        // Most bytes behind an operator end none.
+        [second, ..] => {
+            begins_long_operator(*second) && LONG_OPERATORS.contains(&[first, *second])
+        }
     }
+}
+
+/// How many bytes the operator has that begins with this byte.
+fn operator_length(first: u8, rest: &[u8]) -> usize
+    ensures value { result ≡ (if is_long_operator first rest.now then 2 else 1) }
+    ensures within { result ≤ 1 + length rest.now }
+{
+    if is_long_operator(first, rest) { 2 } else { 1 }
 }
 
 /// Whether the byte is an operator or begins one.
@@ -75,7 +96,7 @@ fn mark_kind(byte: u8) -> TokenKind
 }
 
 /// What stands in front where only the whole piece says it.
-#[inline(never)]
+#[inline(always)]
 fn by_piece(first: u8, rest: &[u8]) -> Lexeme
     requires start { is_name_start first ≡ false }
     requires digit { is_ascii_digit first ≡ false }
@@ -97,28 +118,57 @@ fn by_piece(first: u8, rest: &[u8]) -> Lexeme
     }
 }
 
-/// What stands in front.
+/// Whether a slash before these bytes begins a comment.
+fn begins_comment(rest: &[u8]) -> bool
+    ensures { result ≡ begins_with 42 rest.now }
+{
+    match rest {
+        [] => false,
+        [second, ..] => *second == b'*',
+    }
+}
+
+/// What stands in front where that is a slash.
 #[inline(always)]
-pub(crate) fn first_lexeme(first: u8, rest: &[u8]) -> Lexeme
-    ensures stands { StandsInFront first rest.now result }
+fn slash_lexeme(rest: &[u8]) -> Lexeme
+    ensures stands { StandsInFront 47 rest.now result }
     ensures fits { FitsIn (1 + length rest.now) result }
 {
+    if begins_comment(rest) {
+        by_piece(b'/', rest)
+    } else {
+        Lexeme::Token(TokenKind::Operator, 1)
+    }
+}
+
+/// What stands at an offset. The bytes behind the first one are only looked at where they count.
+#[inline(always)]
+pub(crate) fn lexeme_at(source: &[u8], at: usize) -> Lexeme
+    requires within { at < length source.now }
+    ensures stands { StandsAt source.now at result }
+    ensures fits { FitsIn (length source.now - at) result }
+{
+    let first = source[at];
     match class_of(first) {
         ByteClass::LineFeed => Lexeme::LineEnd,
         ByteClass::Semicolon => Lexeme::StatementEnd,
         ByteClass::Blank => Lexeme::Blank,
-        ByteClass::NameStart => Lexeme::Token(TokenKind::Name, 1 + name_length(rest)),
-        ByteClass::Digit => Lexeme::Token(TokenKind::Digits, 1 + name_length(rest)),
+        ByteClass::NameStart => {
+            Lexeme::Token(TokenKind::Name, 1 + name_length(&source[at + 1..]))
+        }
+        ByteClass::Digit => { Lexeme::Token(TokenKind::Digits, 1 + name_length(&source[at + 1..])) }
         ByteClass::Dollar | ByteClass::Operator => Lexeme::Token(TokenKind::Operator, 1),
         ByteClass::LongOperator => {
-            let length = if is_long_operator(first, rest) { 2 } else { 1 };
-            Lexeme::Token(TokenKind::Operator, length)
+            Lexeme::Token(
+                TokenKind::Operator,
+                operator_length(first, &source[at + 1..]),
+            )
         }
         ByteClass::Other => Lexeme::Token(TokenKind::Other, 1),
-        ByteClass::CarriageReturn
-        | ByteClass::Hash
-        | ByteClass::Slash
-        | ByteClass::Quote
-        | ByteClass::DoubleQuote => { by_piece(first, rest) }
+        ByteClass::Hash => Lexeme::LineComment(1 + line_length(&source[at + 1..])),
+        ByteClass::Slash => slash_lexeme(&source[at + 1..]),
+        ByteClass::CarriageReturn | ByteClass::Quote | ByteClass::DoubleQuote => {
+            by_piece(first, &source[at + 1..])
+        }
     }
 }

@@ -94,9 +94,9 @@ pub fn place_source<P: Placer>(
     loop {
         match next_statement(source, at, line, &mut tokens) {
             Err(_) => return Err(Refusal::NoMemory),
-            Ok(NextStatement::Statement(here, next, there)) => {
+            Ok(NextStatement::Statement(here, next, there, count)) => {
                 let pos = Pos { file, line: here };
-                if let Err(refusal) = placer.place(pos, tokens.as_slice()) {
+                if let Err(refusal) = placer.place(pos, &tokens.as_slice()[..count]) {
                     return Err(refused(alloc, text, file, refusal));
                 }
                 at = next;

@@ -1,65 +1,92 @@
 //! The tokens of one statement, read from its first byte to its end.
 
-ghost use Rattle.std.specs.Prelude.{◌≡◌, ◌+◌, ◌<◌, length, min, IfOk};
-ghost use Rattle.asm_lines.specs.LineNumbers.{line_of, last_line};
-ghost use Rattle.asm_lines.specs.StatementTokens.{ReadsTokens};
+ghost use Rattle.std.specs.Prelude.{◌≡◌, ◌<◌, ◌≤◌, length, true};
+ghost use Rattle.asm_lines.specs.LineNumbers.{line_of};
+ghost use Rattle.asm_lines.specs.Scan.{pieces_at, first_interval};
+ghost use Rattle.asm_lines.specs.StatementTokens.{ReadsTokens, all_close, own_length_at};
 
-use crate::lexemes::{Lexeme, first_lexeme};
+use crate::lexemes::{Lexeme, lexeme_at};
 use crate::line_numbers::{line_after, line_behind};
 use asm_base::Token;
-use std::alloc::AllocError;
 
 /// A statement whose tokens are read.
 #[derive(Clone, Copy, Debug)]
 pub(crate) enum ReadStatement {
-    /// The offset behind its end, the line there, and how many bytes it has, comments not counted.
+    /// The offset behind its end, the line there, and how many tokens it has.
     Whole(usize, u32, usize),
+    /// It has more tokens than there are slots.
+    Full,
     /// A string or a comment in it does not close.
     Unclosed,
 }
 
-/// Reads the tokens of the statement that begins at this offset, in place of those that are there.
+/// Reads the tokens of the statement that begins at this offset into the first of the slots.
+#[inline(always)]
 pub(crate) fn read_tokens<'a>(
     source: &'a [u8],
     begin: usize,
     line: u32,
-    tokens: &mut Vec<Token<'a>>,
-) -> Result<ReadStatement, AllocError>
+    slots: &mut [Token<'a>],
+) -> ReadStatement
     requires within { begin < length source.now }
     requires line { line ≡ line_of source.now begin }
-    ensures { IfOk result (λ read. ReadsTokens source.now begin tokens.new.items read) }
+    ensures read { ReadsTokens source.now begin slots.new result }
+    ensures len { length slots.new ≡ length slots.old }
 {
-    tokens.clear();
     let mut at = begin;
     let mut line = line;
-    let mut comments = 0;
-    let mut own = 0;
-    while let Some((first, rest)) = source[at..].split_first() {
-        match first_lexeme(*first, rest) {
-            Lexeme::LineEnd => return Ok(ReadStatement::Whole(at + 1, line_after(line), own)),
-            Lexeme::StatementEnd => return Ok(ReadStatement::Whole(at + 1, line, own)),
+    let mut count = 0;
+    while at < source.len() {
+        match lexeme_at(source, at) {
+            Lexeme::LineEnd => return ReadStatement::Whole(at + 1, line_after(line), count),
+            Lexeme::StatementEnd => return ReadStatement::Whole(at + 1, line, count),
             Lexeme::Blank => at += 1,
-            Lexeme::LineComment(length) => {
-                comments += length;
-                at += length;
-            }
+            Lexeme::LineComment(length) => at += length,
             Lexeme::BlockComment(length) => {
                 line = line_behind(line, &source[at..at + length]);
-                comments += length;
                 at += length;
             }
             Lexeme::Token(kind, length) => {
-                let next = at + length;
-                tokens.push(Token {
-                    kind,
-                    bytes: &source[at..next],
-                    start: at - begin,
-                })?;
-                at = next;
-                own = next - begin - comments;
+                if count >= slots.len() {
+                    return ReadStatement::Full;
+                }
+                // The fields are written one by one, so that the bytes between them are not.
+                let slot = &mut slots[count];
+                slot.kind = kind;
+                slot.bytes = &source[at..at + length];
+                slot.start = at - begin;
+                count += 1;
+                at += length;
             }
-            Lexeme::Unclosed => return Ok(ReadStatement::Unclosed),
+            Lexeme::Unclosed => return ReadStatement::Unclosed,
         }
     }
-    Ok(ReadStatement::Whole(at, line, own))
+    ReadStatement::Whole(at, line, count)
+}
+
+/// How many bytes the statement has that begins at this offset, comments not counted.
+#[inline(never)]
+pub(crate) fn own_length(source: &[u8], begin: usize) -> usize
+    requires within { begin ≤ length source.now }
+    ensures { all_close (first_interval (pieces_at source.now begin)) ≡ true
+        → result ≡ own_length_at source.now begin }
+{
+    let mut at = begin;
+    let mut comments = 0;
+    let mut own = 0;
+    while at < source.len() {
+        match lexeme_at(source, at) {
+            Lexeme::LineEnd | Lexeme::StatementEnd | Lexeme::Unclosed => return own,
+            Lexeme::Blank => at += 1,
+            Lexeme::LineComment(length) | Lexeme::BlockComment(length) => {
+                comments += length;
+                at += length;
+            }
+            Lexeme::Token(_, length) => {
+                at += length;
+                own = at - begin - comments;
+            }
+        }
+    }
+    own
 }

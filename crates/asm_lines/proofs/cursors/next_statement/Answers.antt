@@ -1,23 +1,35 @@
 -- The next statement, the end, or a fault.
-use Rattle.std.proofs.Common.{subst}
-use Rattle.asm_lines.specs.StatementTokens.{ReadsTokens}
+use Rattle.std.proofs.Common.{ℕ, ◌≡◌, ◌≤◌, ◌++◌, List, length, take, drop, subst, sym, ap, ◌∙◌}
+use Rattle.std.proofs.lemmas.Bool.{ltb-false, ltb-true}
+use Rattle.std.proofs.Math.Seq.{take-append_seam}
+use Rattle.asm_base.specs.declared.tokens.Token.{Token}
+use Rattle.asm_lines.specs.NextStatements.{IsNext}
 use Rattle.asm_lines.proofs.Skipping.{next_end, next_long, next_whole, next_unclosed}
 use Rattle.asm_lines.proofs.cursors.next_statement.Goals as goal
+
+-- the tokens are those that the slots have
+written : (n : ℕ) (slots items : List Token) → length slots ≡ n → take n (slots ++ drop (length slots) items) ≡ slots
+written n slots items long = ap (λ k. take k (slots ++ drop (length slots) items)) (sym long) ∙ take-append_seam slots (drop (length slots) items)
 
 pub returns-then-point-source : goal.returns-then-point-source
 returns-then-point-source c = next_end c.args.source.now c.args.from c.in-Some.point c.in-Some.ensures c.if-point-source.true
 
-pub returns-then-own-gt-LONGEST_STATEMENT : goal.returns-then-own-gt-LONGEST_STATEMENT
-returns-then-own-gt-LONGEST_STATEMENT c =
-    let known = subst (ReadsTokens c.args.source.now c.in-Some.point.at c.read_tokens.new.tokens.items) c.in-Whole.is c.in_ok-next.ensures in
-    next_long c.args.source.now c.args.from c.in-Some.point c.in-Whole.own c.in-Some.ensures c.if-point-source.false known.own_is c.if-own-gt-LONGEST_STATEMENT.true
+pub returns-then-is_too_long : goal.returns-then-is_too_long
+returns-then-is_too_long c =
+    let known = c.in-Whole.ensures.read.1 in
+    let long = sym (c.is_too_long.ensures known.closed known.short) ∙ c.if-is_too_long.true in
+    next_long c.args.source.now c.args.from c.in-Some.point c.in-Some.ensures c.if-point-source.false (ltb-true _ _ long)
 
-pub returns-else-own-gt-LONGEST_STATEMENT : goal.returns-else-own-gt-LONGEST_STATEMENT
-returns-else-own-gt-LONGEST_STATEMENT c =
-    let known = subst (ReadsTokens c.args.source.now c.in-Some.point.at c.read_tokens.new.tokens.items) c.in-Whole.is c.in_ok-next.ensures in
-    next_whole c.args.source.now c.args.from c.in-Some.point c.read_tokens.new.tokens.items c.in-Whole.next c.in-Whole.there c.in-Whole.own c.in-Some.ensures c.if-point-source.false known c.if-own-gt-LONGEST_STATEMENT.false
+pub returns-in-Whole : goal.returns-in-Whole
+returns-in-Whole c =
+    let read = c.in-Whole.ensures.read in
+    let known = read.1 in
+    let count = c.in-Whole.count in
+    let slots = c.read_tokens.new.slots in
+    let fits = sym (c.is_too_long.ensures known.closed known.short) ∙ c.if-is_too_long.false in
+    let Stands : List Token → Type 0 = λ tokens. (count ≤ length tokens) × IsNext c.args.source.now c.args.from (take count tokens) c.in-Some.point.line c.in-Whole.next c.in-Whole.there in
+    subst Stands (sym (written c.loop-next.tokens.len slots c.loop-next.tokens.items (c.in-Whole.ensures.len ∙ c.as_mut_slice.ensures.len)))
+    (read.0, next_whole c.args.source.now c.args.from c.in-Some.point (take count slots) c.in-Whole.next c.in-Whole.there c.in-Some.ensures c.if-point-source.false known (ltb-false _ _ fits))
 
 pub returns-in-Unclosed : goal.returns-in-Unclosed
-returns-in-Unclosed c =
-    let known = subst (ReadsTokens c.args.source.now c.in-Some.point.at c.read_tokens.new.tokens.items) c.in-Unclosed.is c.in_ok-next.ensures in
-    next_unclosed c.args.source.now c.args.from c.in-Some.point c.in-Some.ensures known
+returns-in-Unclosed c = next_unclosed c.args.source.now c.args.from c.in-Some.point c.in-Some.ensures c.in-Unclosed.ensures.read

@@ -3,8 +3,8 @@ use Rattle.std.proofs.Common.{◌-◌, length}
 use Rattle.asm_lines.specs.Skips.{IsSkipped}
 use Rattle.asm_lines.proofs.cursors.skip.Given as goal
 
-abbrev pub invariant-loop-first : goal.invariant-loop-first
-invariant-loop-first l = IsSkipped l.source l.fn.from (record { at = l.at; line = l.line })
+abbrev pub invariant-loop-at : goal.invariant-loop-at
+invariant-loop-at l = IsSkipped l.source l.fn.from (record { at = l.at; line = l.line })
 
-abbrev pub decreases-loop-first : goal.decreases-loop-first
-decreases-loop-first l = length l.initial.source - l.at
+abbrev pub decreases-loop-at : goal.decreases-loop-at
+decreases-loop-at l = length l.source - l.at

@@ -1,5 +1,5 @@
 -- A statement more is placed, or has a fault, or the lines have one, or all are placed.
-use Rattle.std.proofs.Common.{◌≡◌, ℕ, List, Err, map, refl, sym, ap, subst, ◌∙◌, arith}
+use Rattle.std.proofs.Common.{◌≡◌, ℕ, List, Err, map, take, refl, sym, ap, subst, ◌∙◌, arith}
 use Rattle.asm_base.specs.Refusals.{Fails, Gives}
 use Rattle.asm_base.specs.Tokens.{spelled}
 use Rattle.asm_base.specs.declared.tokens.Token.{Token}
@@ -28,8 +28,9 @@ loop-tokens-init g c = record { placed = refl; faults = refl; line = refl; withi
 pub returns-in-Err-place : goal.returns-in-Err-place
 returns-in-Err-place g c =
     let source = c.as_bytes-source.result.now in
-    let step = subst (StandsNext source c.loop-tokens.at c.next_statement.new.tokens.items) c.in-Ok-Statement.field-0-is c.in-Ok-Statement.ensures in
-    let given = same_tokens c.args.file c.in-Ok-Statement.here c.as_slice.result.now c.next_statement.new.tokens.items c.as_slice.ensures.value in
+    let step = (subst (StandsNext source c.loop-tokens.at c.next_statement.new.tokens.items) c.in-Ok-Statement.field-0-is c.in-Ok-Statement.ensures).1 in
+    let count = c.in-Ok-Statement.count in
+    let given = same_tokens c.args.file c.in-Ok-Statement.here (take count c.as_slice.result.now) (take count c.next_statement.new.tokens.items) (ap (take count) c.as_slice.ensures.value) in
     let refusal = c.in-Err-place.refusal in
     let Refuses : TokenStatement → Type 0 = λ one. Fails refusal (g.P.Placer.placed c.loop-tokens.placer one) in
     let failed = placed_refusal g.P.Placer.placed c.loop-tokens.placer refusal _ _ (map in_tokens (statements_left c.args.file source c.in-Ok-Statement.next)) _ (step.statements c.args.file) (subst Refuses (sym given) c.in-Err-place.ensures) c.loop-tokens.invariant.placed in
@@ -40,8 +41,9 @@ returns-in-Err-place g c =
 pub loop-tokens-preserved : goal.loop-tokens-preserved
 loop-tokens-preserved g c =
     let source = c.as_bytes-source.result.now in
-    let step = subst (StandsNext source c.loop-tokens.at c.next_statement.new.tokens.items) c.in-Ok-Statement.field-0-is c.in-Ok-Statement.ensures in
-    let given = same_tokens c.args.file c.in-Ok-Statement.here c.as_slice.result.now c.next_statement.new.tokens.items c.as_slice.ensures.value in
+    let step = (subst (StandsNext source c.loop-tokens.at c.next_statement.new.tokens.items) c.in-Ok-Statement.field-0-is c.in-Ok-Statement.ensures).1 in
+    let count = c.in-Ok-Statement.count in
+    let given = same_tokens c.args.file c.in-Ok-Statement.here (take count c.as_slice.result.now) (take count c.next_statement.new.tokens.items) (ap (take count) c.as_slice.ensures.value) in
     record {
       placed = placed_more g.P.Placer.placed c.loop-tokens.placer c.place.new.self _ _ (map in_tokens (statements_left c.args.file source c.in-Ok-Statement.next)) _ (step.statements c.args.file) (ap (g.P.Placer.placed c.loop-tokens.placer) given ∙ c.in_default.ensures) c.loop-tokens.invariant.placed;
       faults = sym step.faults ∙ c.loop-tokens.invariant.faults;
