@@ -1,11 +1,9 @@
 -- The difference of two symbols: nothing, the distance of two labels of one stretch, or both symbols.
-use Rattle.std.proofs.Common.{◌≡◌, ℕ, ◌+◌, ◌-◌, ◌*◌, ◌^◌, ◌==◌, Bool, true, false, not, cond, ◌&&◌, List, [], ◌∷◌, Option, Some, None, is_none, map, refl, sym, ap, ◌∙◌, arith}
-use Rattle.std.specs.List.{list_all}
+use Rattle.std.proofs.Common.{◌≡◌, ℕ, ◌+◌, ◌-◌, ◌*◌, ◌^◌, ◌==◌, Bool, true, false, cond, [], ◌∷◌, Some, None, refl, sym, ap, ◌∙◌, arith}
 use Rattle.std.proofs.lemmas.Bool.Decides.{nat_tests}
-use Rattle.asm_expr.specs.declared.forms.Term.{Term}
 use Rattle.asm_expr.specs.Forms.{Form, wrapped, term_of, constant_form, symbol_form, with_term, with_terms, joined}
 use Rattle.asm_expr.specs.Knowledge.{Told, absent, constant, label, form}
-use Rattle.asm_expr.specs.Settled.{spot_by, spot_of, cancelled_number, put_one, put_all, settled, nothing_cancels, distance_by}
+use Rattle.asm_expr.specs.Settled.{put_all, settled, nothing_cancels, distance_by}
 use Rattle.asm_expr.proofs.SettledLemmas.{none_cancel}
 
 -- a number in place of the form of a symbol's constant

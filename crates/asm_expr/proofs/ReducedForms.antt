@@ -18,7 +18,6 @@ use Rattle.asm_expr.specs.Arithmetic.{complement, combined}
 use Rattle.asm_expr.specs.Linear.{form_by, form_of, constant_of, unary_form, constant_binary, binary_form, linear}
 use Rattle.asm_expr.specs.Coefficients.{times, is_among, are_apart, is_counted, IsReduced, KnowsReduced, IsEmptyExactly}
 use Rattle.asm_expr.proofs.ReadingLemmas.{steps}
-use Rattle.asm_expr.proofs.Weights.{same_is}
 
 both : (a b : Bool) → (a && b) ≡ true → (a ≡ true) × (b ≡ true)
 both true true is = (refl, refl)

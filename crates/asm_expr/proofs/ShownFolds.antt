@@ -1,5 +1,5 @@
 -- A visitor that shows part by part shows the whole.
-use Rattle.std.proofs.Common.{◌≡◌, ℕ, List, Result, Ok, Err}
+use Rattle.std.proofs.Common.{◌≡◌, ℕ, List, Ok, Err}
 use Rattle.asm_base.specs.declared.refusals.Refusal.{Refusal}
 use Rattle.asm_base.specs.declared.refusals.Refusal.TheVariants.{Fault, NoMemory}
 use Rattle.asm_base.specs.Refusals.{Fails, Returns}

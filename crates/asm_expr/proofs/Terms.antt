@@ -4,7 +4,7 @@ use Rattle.std.proofs.lemmas.Bool.Decides.{nat_tests}
 use Rattle.std.proofs.lemmas.List.{nil_from_length}
 use Rattle.std.specs.List.{position_or_len, list_all, remove, insert}
 use Rattle.asm_expr.specs.declared.forms.Term.{Term}
-use Rattle.asm_expr.specs.Forms.{wrapped, term_of, is_kept, before_terms, with_term, with_terms, signed, signed_term, scaled_term}
+use Rattle.asm_expr.specs.Forms.{wrapped, term_of, is_kept, before_terms, with_term, with_terms}
 use Rattle.asm_expr.specs.Raised.{raised}
 
 -- what stands at the place is left out, or put in again with the other coefficient

@@ -64,6 +64,40 @@ impl Linear {
     }
 }
 
+/// A form in an allocation of its own: what holds it stays small, where few of many hold one.
+#[derive(Drop)]
+pub struct BoxedForm {
+    form: Box<Linear>,
+}
+
+impl Model for BoxedForm {
+    ghost use Rattle.asm_expr.specs.Forms.{Form};
+
+    ghost Value = { Form };
+
+    ghost view = { λ boxed. boxed.form.value };
+}
+
+impl BoxedForm {
+    ghost use Rattle.std.specs.Prelude.{◌≡◌, IfOk};
+
+    /// The form, in an allocation.
+    pub fn new(alloc: Global, form: Linear) -> Result<BoxedForm, AllocError>
+        ensures { IfOk result (λ boxed. boxed ≡ form) }
+    {
+        Ok(BoxedForm {
+            form: Box::new(alloc, form)?,
+        })
+    }
+
+    /// The form.
+    pub fn as_form(&self) -> &Linear
+        ensures { result.now ≡ self.now }
+    {
+        &self.form
+    }
+}
+
 /// The form of a number.
 pub fn constant_form(alloc: Global, constant: u64) -> Linear
     ensures { result ≡ constant_form constant }

@@ -8,7 +8,6 @@ ghost use Rattle.asm_expr.specs.NamesOf.{names_of, NumGathers, NameGathers, Here
 
 use crate::faults::ExprFault;
 use crate::folding::fold;
-use crate::naming::copied_text;
 use crate::trees::{BinaryOp, Expr, UnaryOp, Written};
 use crate::visiting::ExprFold;
 use std::alloc::{AllocError, Global};
@@ -18,7 +17,7 @@ fn copied_written(alloc: Global, written: &Written) -> Result<Written, AllocErro
     ensures { IfOk result (λ copy. copy ≡ written.now) }
 {
     match written {
-        Written::Plain(text) => Ok(Written::Plain(copied_text(alloc, text)?)),
+        Written::Plain(text) => Ok(Written::Plain(text.copied(alloc)?)),
         Written::Back(number) => Ok(Written::Back(*number)),
         Written::Next(number) => Ok(Written::Next(*number)),
     }

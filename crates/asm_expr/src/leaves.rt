@@ -7,9 +7,10 @@ ghost use Rattle.asm_expr.specs.Trees.{tree_of};
 ghost use Rattle.asm_expr.specs.Leaves.{character_code, between_quotes, is_symbol_name, is_numeric_label, label_written, digits_leaf, word_leaf, quoted_leaf, leaf_of};
 
 use crate::faults::{ExprCause, ExprFault};
+use crate::naming::Spelling;
 use crate::numbers::{all_digits, numeral, spelled_number};
 use crate::trees::{Expr, Written};
-use asm_base::{Text, Token, TokenKind, string_value};
+use asm_base::{Token, TokenKind, string_value};
 use std::alloc::Global;
 
 /// The code of the byte behind the quote of a character.
@@ -85,17 +86,16 @@ fn word_leaf(alloc: Global, bytes: &[u8]) -> Result<Expr, ExprFault>
     if bytes == b".".as_slice() {
         Ok(Expr::Here)
     } else {
-        let text = Text::new(Vec::from_slice(alloc, bytes)?);
-        Ok(Expr::Name(Written::Plain(text)))
+        Ok(Expr::Name(Written::Plain(Spelling::new(alloc, bytes)?)))
     }
 }
 
 /// What a string with this value spells.
-fn quoted_leaf(value: Vec<u8>) -> Result<Expr, ExprFault>
-    ensures { GivesBy tree_of result (quoted_leaf value.items) }
+fn quoted_leaf(alloc: Global, value: &[u8]) -> Result<Expr, ExprFault>
+    ensures { GivesBy tree_of result (quoted_leaf value.now) }
 {
-    if is_symbol_name(value.as_slice()) {
-        Ok(Expr::Name(Written::Plain(Text::new(value))))
+    if is_symbol_name(value) {
+        Ok(Expr::Name(Written::Plain(Spelling::new(alloc, value)?)))
     } else {
         Err(ExprFault::Fault(ExprCause::BadExpression))
     }
@@ -113,7 +113,9 @@ pub(crate) fn leaf_of(alloc: Global, token: &Token) -> Result<Expr, ExprFault>
             let code = character_code(token.bytes).map_err(ExprFault::Fault)?;
             Ok(Expr::Num(code))
         }
-        TokenKind::String => quoted_leaf(string_value(alloc, between_quotes(token.bytes))?),
+        TokenKind::String => {
+            quoted_leaf(alloc, &string_value(alloc, between_quotes(token.bytes))?)
+        }
         _ => Err(ExprFault::Fault(ExprCause::BadExpression)),
     }
 }

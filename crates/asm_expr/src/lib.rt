@@ -27,7 +27,9 @@ pub use arithmetic::{combined, turned};
 pub use evaluating::{form_of, settled_difference, settled_sum, value_of};
 pub use faults::{ExprCause, ExprFault};
 pub use folding::fold;
-pub use forms::{Linear, Term, constant_form, copied_form, symbol_and_number, symbol_form};
+pub use forms::{
+    BoxedForm, Linear, Term, constant_form, copied_form, symbol_and_number, symbol_form,
+};
 pub use gathering::{Names, names_of};
 pub use ids::SymId;
 pub use knowledge::{Known, Look};
@@ -36,7 +38,7 @@ pub use laws::{
     written_is_read,
 };
 pub use leaves::{between_quotes, character_code, is_symbol_name};
-pub use naming::Name;
+pub use naming::{Name, Spelling};
 pub use numbers::{all_digits, decimal_number, spelled_number};
 pub use operators::{closes, level_of, opens, operator_from, operator_of, prefix_of};
 pub use parsing::{parse, parse_front};

@@ -1,12 +1,12 @@
 //! The trees of expressions (GNU as manual, "Expressions").
 
-use asm_base::Text;
+use crate::naming::Spelling;
 
 /// A name as it is written.
 #[derive(Drop)]
 pub enum Written {
     /// A symbol's name, without quotes and escapes.
-    Plain(Text),
+    Plain(Spelling),
     /// `Nb`: the last label N before this place.
     Back(u64),
     /// `Nf`: the next label N behind this place.

@@ -1,5 +1,5 @@
 -- The number stands in place of the constant.
-use Rattle.std.proofs.Common.{◌≡◌, ℕ, ◌%◌, ◌^◌, [], ◌∷◌, ap, ◌∙◌, arith}
+use Rattle.std.proofs.Common.{◌≡◌, [], ◌∷◌, ap, ◌∙◌, arith}
 use Rattle.asm_expr.specs.Forms.{Form, wrapped, term_of}
 use Rattle.asm_expr.proofs.DifferenceLemmas.{with_number}
 use Rattle.asm_expr.proofs.forms.symbol_and_number.Goals as goal
