@@ -5,33 +5,14 @@ use Rattle.std.proofs.lemmas.Option.{slice_get_within}
 use Rattle.std.proofs.lemmas.List.{length-map}
 use Rattle.std.specs.Map.{lookup}
 use Rattle.std.specs.Str.{bytes_eq}
-use Rattle.std.specs.Global.{Vec}
 use Rattle.indexmap.specs.IndexMap.{insert_entry}
 use Rattle.asm_expr.specs.declared.naming.Name.{Name}
 use Rattle.asm_expr.specs.declared.naming.Name.TheVariants as naming
 use Rattle.asm_expr.specs.Names.{same_name}
-use Rattle.asm_symbols.specs.declared.name_index.Numbered.TheVariants.{Numeric, Place}
 use Rattle.asm_symbols.specs.declared.entries.Symbol.{Symbol}
 use Rattle.asm_symbols.specs.SymbolMap.{names, index_of}
-use Rattle.asm_symbols.specs.NameIndex.{IndexedNames, plain_entry, plain_entries, numbered_eq, place_of, with_place}
-use Rattle.asm_symbols.proofs.SameNames.{same_bytes, own_bytes, same_numbered, own_numbered, same_from_test, own_name}
-
--- a text is found where its bytes are
-pub lookup-plain : (text : List ℕ) (es : List (Vec ℕ × ℕ)) → lookup (λ k. bytes_eq text k.items) es ≡ lookup (bytes_eq text) (plain_entries es)
-unfolding plain_entries
-lookup-plain text [] = refl
-lookup-plain text (e ∷ es) = ap (cond (bytes_eq text e.0.items) (Some e.1)) (lookup-plain text es)
-
--- a text is put where its bytes are
-pub insert-plain : (es : List (Vec ℕ × ℕ)) (text : Vec ℕ) (place : ℕ)
-    → plain_entries (insert_entry (λ a b. bytes_eq a.items b.items) es text place) ≡ insert_entry bytes_eq (plain_entries es) text.items place
-unfolding plain_entries
-insert-plain [] text place = refl
-insert-plain (e ∷ es) text place =
-    elim (bytes_eq text.items e.0.items) as (λ b. plain_entries (cond b ((e.0, place) ∷ es) (e ∷ insert_entry (λ a k. bytes_eq a.items k.items) es text place)) ≡ cond b ((e.0.items, place) ∷ plain_entries es) (plain_entry e ∷ insert_entry bytes_eq (plain_entries es) text.items place)) [
-      | true ↦ refl
-      | false ↦ ap (λ rest. plain_entry e ∷ rest) (insert-plain es text place)
-    ]
+use Rattle.asm_symbols.specs.NameIndex.{IndexedNames, same_label, same_place, label_of, place_behind, place_of, with_place}
+use Rattle.asm_symbols.proofs.SameNames.{same_bytes, own_bytes, label_from_test, own_label, place_from_test, own_place, same_from_test, own_name}
 
 twice : {X : Type 0} (b : Bool) (x y z : X) → cond b x y ≡ cond b x (cond b z y)
 twice true x y z = refl
@@ -63,11 +44,11 @@ place_of-with_place index (naming.Plain text) (naming.Plain others) place = look
 place_of-with_place index (naming.Plain text) (naming.Numeric c d) place = refl
 place_of-with_place index (naming.Plain text) (naming.Place c d p) place = refl
 place_of-with_place index (naming.Numeric a b) (naming.Plain others) place = refl
-place_of-with_place index (naming.Numeric a b) (naming.Numeric c d) place = lookup-insert numbered_eq same_numbered own_numbered index.numbered (Numeric a b) (Numeric c d) place
-place_of-with_place index (naming.Numeric a b) (naming.Place c d p) place = lookup-insert numbered_eq same_numbered own_numbered index.numbered (Numeric a b) (Place c d p) place
+place_of-with_place index (naming.Numeric a b) (naming.Numeric c d) place = lookup-insert same_label label_from_test own_label index.labels (label_of a b) (label_of c d) place
+place_of-with_place index (naming.Numeric a b) (naming.Place c d p) place = refl
 place_of-with_place index (naming.Place a b o) (naming.Plain others) place = refl
-place_of-with_place index (naming.Place a b o) (naming.Numeric c d) place = lookup-insert numbered_eq same_numbered own_numbered index.numbered (Place a b o) (Numeric c d) place
-place_of-with_place index (naming.Place a b o) (naming.Place c d p) place = lookup-insert numbered_eq same_numbered own_numbered index.numbered (Place a b o) (Place c d p) place
+place_of-with_place index (naming.Place a b o) (naming.Numeric c d) place = refl
+place_of-with_place index (naming.Place a b o) (naming.Place c d p) place = lookup-insert same_place place_from_test own_place index.places (place_behind a b o) (place_behind c d p) place
 
 none_behind : (o : Option ℕ) → option_map (λ i. i + 1) o ≡ None → o ≡ None
 none_behind None is = refl

@@ -1,45 +1,47 @@
 -- The index of names: where each name stands in a list.
-use Rattle.std.specs.Prelude.{ℕ, ◌==◌, ◌&&◌, Bool, false, List, [], map, Option}
-use Rattle.std.specs.Global.{Vec}
+use Rattle.std.specs.Prelude.{ℕ, ◌==◌, ◌&&◌, Bool, List, [], Option}
 use Rattle.std.specs.Map.{lookup}
 use Rattle.std.specs.Str.{bytes_eq}
 use Rattle.indexmap.specs.IndexMap.{insert_entry}
 use Rattle.asm_expr.specs.declared.naming.Name.{Name}
 use Rattle.asm_expr.specs.declared.naming.Name.TheVariants as naming
-use Rattle.asm_symbols.specs.declared.name_index.Numbered.{Numbered}
-use Rattle.asm_symbols.specs.declared.name_index.Numbered.TheVariants.{Numeric, Place}
+use Rattle.asm_symbols.specs.declared.name_index.NumericLabel.{NumericLabel}
+use Rattle.asm_symbols.specs.declared.name_index.SectionPlace.{SectionPlace}
 
--- the indices of texts, and of names that are numbers
+-- the indices of texts, of numeric labels and of places
 pub record IndexedNames : Type 0 where
   pub texts : List (List ℕ × ℕ)
-  pub numbered : List (Numbered × ℕ)
+  pub labels : List (NumericLabel × ℕ)
+  pub places : List (SectionPlace × ℕ)
 
 -- the index of no names
 abbrev pub no_names : IndexedNames
-no_names = record { texts = []; numbered = [] }
+no_names = record { texts = []; labels = []; places = [] }
 
--- an entry without where its text lies in memory
-abbrev pub plain_entry : Vec ℕ × ℕ → List ℕ × ℕ
-plain_entry entry = (entry.0.items, entry.1)
+-- both are one instance of one label
+abbrev pub same_label : NumericLabel → NumericLabel → Bool
+same_label one other = one.number == other.number && one.instance == other.instance
 
--- all entries without where their texts lie in memory
-unfoldable pub plain_entries : List (Vec ℕ × ℕ) → List (List ℕ × ℕ)
-plain_entries entries = map plain_entry entries
+-- both are one place
+abbrev pub same_place : SectionPlace → SectionPlace → Bool
+same_place one other = one.section == other.section && one.item == other.item && one.offset == other.offset
 
--- both are one name
-abbrev pub numbered_eq : Numbered → Numbered → Bool
-numbered_eq (Numeric number instance) (Numeric others last) = number == others && instance == last
-numbered_eq (Place section item offset) (Place others last bytes) = section == others && item == last && offset == bytes
-numbered_eq _ _ = false
+-- the instance of this label
+abbrev pub label_of : ℕ → ℕ → NumericLabel
+label_of number instance = record { number = number; instance = instance }
+
+-- the place of this section behind so many items and plain bytes
+abbrev pub place_behind : ℕ → ℕ → ℕ → SectionPlace
+place_behind section item offset = record { section = section; item = item; offset = offset }
 
 -- where the name stands
 abbrev pub place_of : IndexedNames → Name → Option ℕ
 place_of index (naming.Plain text) = lookup (bytes_eq text) index.texts
-place_of index (naming.Numeric number instance) = lookup (numbered_eq (Numeric number instance)) index.numbered
-place_of index (naming.Place section item offset) = lookup (numbered_eq (Place section item offset)) index.numbered
+place_of index (naming.Numeric number instance) = lookup (same_label (label_of number instance)) index.labels
+place_of index (naming.Place section item offset) = lookup (same_place (place_behind section item offset)) index.places
 
 -- the name stands here
 abbrev pub with_place : IndexedNames → Name → ℕ → IndexedNames
 with_place index (naming.Plain text) place = record index { texts = insert_entry bytes_eq index.texts text place }
-with_place index (naming.Numeric number instance) place = record index { numbered = insert_entry numbered_eq index.numbered (Numeric number instance) place }
-with_place index (naming.Place section item offset) place = record index { numbered = insert_entry numbered_eq index.numbered (Place section item offset) place }
+with_place index (naming.Numeric number instance) place = record index { labels = insert_entry same_label index.labels (label_of number instance) place }
+with_place index (naming.Place section item offset) place = record index { places = insert_entry same_place index.places (place_behind section item offset) place }

@@ -6,7 +6,7 @@ ghost use Rattle.asm_symbols.specs.Assigning.{is_dot, form_fault_of};
 use crate::entries::Meaning;
 use crate::faults::{SymCause, SymFault};
 use crate::symbol_map::Symbols;
-use asm_expr::{Linear, Name, SymId, Term};
+use asm_expr::{BoxedForm, Linear, Name, SymId, Term};
 use indexmap::IndexSet;
 use std::alloc::Global;
 
@@ -88,7 +88,7 @@ impl Symbols {
         ensures memory { IfErr result (λ fault. fault ≡ NoMemory) }
     {
         match &self.symbol(middle).meaning {
-            Meaning::Assigned(form) => self.see(form.terms(), id, seen),
+            Meaning::Assigned(form) => self.see(form.as_form().terms(), id, seen),
             _ => Ok(false),
         }
     }
@@ -151,13 +151,14 @@ impl Symbols {
         if self.leads_back(&form, id)? {
             return Err(SymFault::Fault(SymCause::BadSymbolUse));
         }
+        let form = BoxedForm::new(self.alloc, form)?;
         self.put_form(id, form);
         Ok(())
     }
 
     /// The symbol, which is no label and to which the form does not lead, stands for the form from
     /// now on.
-    fn put_form(&mut self, id: SymId, form: Linear)
+    fn put_form(&mut self, id: SymId, form: BoxedForm)
         requires there { id < length self.old.symbols }
         requires plain { is_label_at self.old.symbols id ≡ false }
         requires forward { Leads self.old.symbols form id → ⊥ }

@@ -6,7 +6,7 @@ ghost use Rattle.asm_symbols.specs.Attributes.{rebound, bound_as, with_size};
 use crate::entries::{Binding, Kind, Meaning, Symbol, Visibility};
 use crate::faults::{SymCause, SymFault};
 use crate::symbol_map::Symbols;
-use asm_expr::{Linear, SymId};
+use asm_expr::{BoxedForm, Linear, SymId};
 
 /// The binding of a symbol that may have one already.
 fn rebound(before: Option<Binding>, binding: Binding) -> Result<Binding, SymCause>
@@ -36,7 +36,7 @@ fn bound_as(
 }
 
 /// The symbol has this size, which is the one of this number among those that are said.
-fn set_size(symbol: &mut Symbol, size: Linear, number: u64)
+fn set_size(symbol: &mut Symbol, size: BoxedForm, number: u64)
     ensures { symbol.new ≡ with_size size number symbol.old }
 {
     symbol.size = Some(size);
@@ -74,6 +74,17 @@ impl Symbols {
 
     /// The symbol has this size from now on, the last that was said.
     pub fn size(&mut self, id: SymId, size: Linear) -> Result<(), SymFault>
+        requires { id < length self.old.symbols }
+        ensures value { GivesFaultFirst self.new result (Ok (with_next_size size self.old id)) }
+        ensures unchanged { OnErr result (self.new ≡ self.old) }
+        ensures kept { length self.new.symbols ≡ length self.old.symbols }
+    {
+        let size = BoxedForm::new(self.alloc, size)?;
+        self.put_size(id, size)
+    }
+
+    /// The same, of a size that has its allocation.
+    fn put_size(&mut self, id: SymId, size: BoxedForm) -> Result<(), SymFault>
         requires { id < length self.old.symbols }
         ensures value { GivesFaultFirst self.new result (Ok (with_next_size size self.old id)) }
         ensures unchanged { OnErr result (self.new ≡ self.old) }

@@ -2,7 +2,6 @@
 
 ghost use Rattle.std.specs.Prelude.{◌≡◌, IfOk};
 
-use asm_base::Text;
 use asm_expr::Name;
 use std::alloc::{AllocError, Global};
 
@@ -11,7 +10,7 @@ pub(crate) fn copied_name(alloc: Global, name: &Name) -> Result<Name, AllocError
     ensures { IfOk result (λ copy. copy ≡ name.now) }
 {
     match name {
-        Name::Plain(text) => Ok(Name::Plain(Text::new(Vec::from_slice(alloc, text.as_bytes())?))),
+        Name::Plain(text) => Ok(Name::Plain(text.copied(alloc)?)),
         Name::Numeric { number, instance } => Ok(Name::Numeric {
             number: *number,
             instance: *instance,

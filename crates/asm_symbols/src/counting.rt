@@ -12,7 +12,8 @@ fn assigned_value(meaning: &Meaning) -> Option<i64>
     ensures { result ≡ assigned_value meaning.now }
 {
     match meaning {
-        Meaning::Assigned(form) => {
+        Meaning::Assigned(boxed) => {
+            let form = boxed.as_form();
             if form.terms().is_empty() {
                 Some(form.constant().cast_signed())
             } else {

@@ -1,6 +1,6 @@
 //! The symbols, and what is known of each.
 
-use asm_expr::{Linear, Name};
+use asm_expr::{BoxedForm, Name};
 
 /// The place of a label: its section, how many items and how many plain bytes stand before it, the
 /// stretch that it stands in, and its distance from the beginning of the stretch.
@@ -33,7 +33,7 @@ pub enum Meaning {
     Common { size: u64, align: u64 },
     Space(Spot),
     /// It stands for a form.
-    Assigned(Linear),
+    Assigned(BoxedForm),
 }
 
 /// Who sees a symbol (gABI, "Symbol Table").
@@ -69,7 +69,7 @@ pub struct Symbol {
     pub meaning: Meaning,
     pub binding: Option<Binding>,
     pub kind: Option<Kind>,
-    pub size: Option<Linear>,
+    pub size: Option<BoxedForm>,
     /// The number of its size among all sizes in the order in which they were said, from 1; 0 where
     /// it has none.
     pub sized: u64,

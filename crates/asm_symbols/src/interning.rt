@@ -7,8 +7,8 @@ use crate::copies::copied_name;
 use crate::entries::{Meaning, Symbol};
 use crate::faults::{SymCause, SymFault};
 use crate::symbol_map::Symbols;
-use asm_base::{NoMemory, Text};
-use asm_expr::{Name, SymId, Written};
+use asm_base::NoMemory;
+use asm_expr::{Name, Spelling, SymId, Written};
 use std::alloc::AllocError;
 
 /// The most symbols and files.
@@ -130,7 +130,7 @@ impl Symbols {
         if let Some(id) = self.find_text(text) {
             return Ok(id);
         }
-        self.push(Name::Plain(Text::new(Vec::from_slice(self.alloc, text)?)))
+        self.push(Name::Plain(Spelling::new(self.alloc, text)?))
     }
 
     /// The symbol of the instance of a numeric label, which is put last if it is not there, whatever

@@ -17,7 +17,8 @@ fn look_of(meaning: &Meaning) -> Look<'_>
             stretch: spot.stretch,
             at: spot.at,
         },
-        Meaning::Assigned(form) => {
+        Meaning::Assigned(boxed) => {
+            let form = boxed.as_form();
             if form.terms().is_empty() {
                 Look::Constant(form.constant())
             } else {

@@ -1,41 +1,101 @@
 //! The index of names: where each name stands in a list. A text is looked up by its slice.
 
-use asm_expr::Name;
-use indexmap::IndexMap;
+use asm_expr::{Name, Spelling};
+use indexmap::{Equivalent, IndexMap};
 use std::alloc::{AllocError, Global};
+use std::hash::{Hash, Hasher};
 use std::marker::Model;
 
-/// A name that is numbers alone.
+/// An instance of a numeric label.
 #[derive(Clone, Copy, PartialEq, Eq, Hash, Debug)]
-pub(crate) enum Numbered {
-    /// An instance of a numeric label.
-    Numeric {
-        number: u64,
-        instance: u32,
-    },
-    /// A place of a section: so many items and so many plain bytes stand before it.
-    Place {
-        section: u32,
-        item: u64,
-        offset: u64,
-    },
+pub(crate) struct NumericLabel {
+    number: u64,
+    instance: u32,
+}
+
+/// A place of a section: so many items and so many plain bytes stand before it.
+#[derive(Clone, Copy, PartialEq, Eq, Hash, Debug)]
+pub(crate) struct SectionPlace {
+    section: u32,
+    item: u64,
+    offset: u64,
+}
+
+/// The bytes of a name that is looked up.
+#[derive(Clone, Copy)]
+struct Spelled<'a> {
+    bytes: &'a [u8],
+}
+
+impl<'a> PartialEq for Spelled<'a> {
+    ghost use Rattle.std.specs.Str.{bytes_eq};
+    ghost use Rattle.std.specs.Cmp.Lexicographic.{nat_list_eq_equiv};
+    ghost use Rattle.std.specs.Cmp.{on_per, partial_equiv_from_equiv};
+
+    ghost eq = { λ a b. bytes_eq a.bytes.now b.bytes.now };
+
+    ghost laws = { on_per (λ a. a.bytes.now) (partial_equiv_from_equiv nat_list_eq_equiv) };
+
+    fn eq(&self, other: &Spelled<'a>) -> bool {
+        self.bytes == other.bytes
+    }
+}
+
+impl<'a> Eq for Spelled<'a> {
+    ghost use Rattle.std.specs.Cmp.Lexicographic.{nat_list_eq_equiv};
+    ghost use Rattle.std.specs.Cmp.{on_equiv};
+
+    ghost laws = { on_equiv (λ a. a.bytes.now) nat_list_eq_equiv };
+}
+
+impl<'a> Hash for Spelled<'a> {
+    ghost use Rattle.std.specs.Prelude.{[], ◌∷◌};
+    ghost use Rattle.std.proofs.Common.{ap};
+    ghost use Rattle.std.specs.Cmp.Lexicographic.{bytes_decides};
+
+    ghost hash_input = { λ a. a.bytes.now ∷ [] };
+
+    ghost respects_eq = { λ x y is. ap (λ s. s ∷ []) ((bytes_decides x.bytes.now y.bytes.now).0 is) };
+
+    fn hash<H: Hasher>(&self, state: &mut H) {
+        state.write(self.bytes);
+    }
+}
+
+impl<'a> Equivalent<Spelling> for Spelled<'a> {
+    ghost use Rattle.std.specs.Prelude.{[], ◌∷◌};
+    ghost use Rattle.std.proofs.Common.{ap};
+    ghost use Rattle.std.specs.Str.{bytes_eq};
+    ghost use Rattle.std.specs.Cmp.Lexicographic.{bytes_decides, nat_list_eq_equiv};
+
+    ghost equivalent = { λ q k. bytes_eq q.bytes.now k };
+
+    ghost respects_hash = { λ q k is. ap (λ s. s ∷ []) ((bytes_decides q.bytes.now k).0 is) };
+
+    ghost respects_eq = { λ q x y. nat_list_eq_equiv.congr q.bytes.now x y };
+
+    fn equivalent(&self, key: &Spelling) -> bool {
+        self.bytes == key.as_bytes()
+    }
 }
 
 /// Where each name stands.
 #[derive(Drop)]
 pub(crate) struct NameIndex {
-    texts: IndexMap<Vec<u8>, u32>,
-    numbered: IndexMap<Numbered, u32>,
+    texts: IndexMap<Spelling, u32>,
+    labels: IndexMap<NumericLabel, u32>,
+    places: IndexMap<SectionPlace, u32>,
 }
 
 impl Model for NameIndex {
-    ghost use Rattle.asm_symbols.specs.NameIndex.{IndexedNames, plain_entries};
+    ghost use Rattle.asm_symbols.specs.NameIndex.{IndexedNames};
 
     ghost Value = { IndexedNames };
 
     ghost view = { λ index. record {
-      texts = plain_entries index.texts.entries;
-      numbered = index.numbered.entries;
+      texts = index.texts.entries;
+      labels = index.labels.entries;
+      places = index.places.entries;
     } };
 }
 
@@ -50,7 +110,8 @@ impl NameIndex {
     {
         NameIndex {
             texts: IndexMap::new(alloc),
-            numbered: IndexMap::new(alloc),
+            labels: IndexMap::new(alloc),
+            places: IndexMap::new(alloc),
         }
     }
 
@@ -58,27 +119,31 @@ impl NameIndex {
     pub(crate) fn find_text(&self, text: &[u8]) -> Option<u32>
         ensures { result ≡ place_of self.now (Plain text.now) }
     {
-        self.texts.get(text).copied()
+        self.texts.get(Spelled { bytes: text }).copied()
     }
 
     /// Where the instance of a numeric label stands.
     pub(crate) fn find_numeric(&self, number: u64, instance: u32) -> Option<u32>
         ensures { result ≡ place_of self.now (Numeric number instance) }
     {
-        let numbered = Numbered::Numeric { number, instance };
-        self.numbered.get(&numbered).copied()
+        self.labels.get(&NumericLabel { number, instance }).copied()
     }
 
     /// Where the place stands.
     fn find_place(&self, section: u32, item: u64, offset: u64) -> Option<u32>
         ensures { result ≡ place_of self.now (Place section item offset) }
     {
-        let numbered = Numbered::Place {
-            section,
-            item,
-            offset,
-        };
-        self.numbered.get(&numbered).copied()
+        // Few sources name a place, and each `.` asks for one.
+        if self.places.is_empty() {
+            return None;
+        }
+        self.places
+            .get(&SectionPlace {
+                section,
+                item,
+                offset,
+            })
+            .copied()
     }
 
     /// Where the name stands.
@@ -108,12 +173,11 @@ impl NameIndex {
     {
         match name {
             Name::Plain(text) => {
-                self.texts
-                    .insert(Vec::from_slice(alloc, text.as_bytes())?, place)?;
+                self.texts.insert(text.copied(alloc)?, place)?;
             }
             Name::Numeric { number, instance } => {
-                self.numbered.insert(
-                    Numbered::Numeric {
+                self.labels.insert(
+                    NumericLabel {
                         number: *number,
                         instance: *instance,
                     },
@@ -125,8 +189,8 @@ impl NameIndex {
                 item,
                 offset,
             } => {
-                self.numbered.insert(
-                    Numbered::Place {
+                self.places.insert(
+                    SectionPlace {
                         section: *section,
                         item: *item,
                         offset: *offset,

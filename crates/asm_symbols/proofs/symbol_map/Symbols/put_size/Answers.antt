@@ -3,7 +3,7 @@ use Rattle.std.proofs.Common.{refl}
 use Rattle.asm_symbols.specs.Attributes.{with_size}
 use Rattle.asm_symbols.proofs.ForwardLemmas.{forward_kept}
 use Rattle.asm_symbols.proofs.WriteLemmas.{written_size, written_sound}
-use Rattle.asm_symbols.proofs.symbol_map.Symbols.size.Goals as goal
+use Rattle.asm_symbols.proofs.symbol_map.Symbols.put_size.Goals as goal
 
 pub invariant_of-self : goal.invariant_of-self
 invariant_of-self c =
