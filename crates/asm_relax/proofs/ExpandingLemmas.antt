@@ -105,6 +105,10 @@ module _ (all : SymbolMap) where
   unfolding expanded
   expanded_none form none = within_none (suc (length all.symbols)) form none
 
+  -- a number
+  pub expanded_number : (form : Form) → form.terms ≡ [] → expanded all form ≡ form
+  expanded_number form none = expanded_none form (ap (list_any (is_assigned all)) none)
+
   module _ (forward : NoFormLeadsBack all.symbols) where
     falls : (form : Form) (index : ℕ) (next : Form) → IsNamedIn form.terms index → form_at all.symbols index ≡ Some next → rank all.symbols next < rank all.symbols form
     falls form index next named is = rank_falls all.symbols forward form index next is named

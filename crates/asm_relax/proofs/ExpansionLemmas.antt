@@ -11,6 +11,8 @@ use Rattle.asm_symbols.specs.SymbolMap.{SymbolMap}
 use Rattle.asm_symbols.specs.Assigning.{form_at, IsNamedIn, NoFormLeadsBack}
 use Rattle.asm_symbols.proofs.ForwardLemmas.{form_within}
 use Rattle.asm_relax.specs.Expanding.{form_or_symbol, replacement, plus_terms, is_assigned, names_assigned, names_expanded, expanded, expansion_at, entry_at, awaits, terms_of, Expands, IsAwaited, AreExpansions, ArePartly, KeepsForms}
+use Rattle.asm_relax.specs.declared.expanding.Expansion.TheVariants.{Absent}
+use Rattle.asm_relax.specs.Expansions.{form_there}
 use Rattle.asm_relax.proofs.ExpandingLemmas.{expanded_none, expanded_some}
 
 -- a store at one place
@@ -39,10 +41,10 @@ map_set f [] at x = refl
 map_set f (first ∷ xs) zero x = refl
 map_set f (first ∷ xs) (suc at) x = ap (λ rest. f first ∷ rest) (map_set f xs at x)
 
--- nothing, seen through a view
-pub map_none : {X Y : Type 0} (f : X → Y) (n : ℕ) → map (option_map f) (replicate n None) ≡ replicate n None
-map_none f zero = refl
-map_none f (suc n) = ap (λ rest. None ∷ rest) (map_none f n)
+-- no form is there for so many symbols
+pub map_absent : (n : ℕ) → map form_there (replicate n Absent) ≡ replicate n None
+map_absent zero = refl
+map_absent (suc n) = ap (λ rest. None ∷ rest) (map_absent n)
 
 entry_none : (n index : ℕ) → entry_at (replicate n None) index ≡ None
 entry_none zero index = refl
@@ -84,6 +86,10 @@ module _ (all : SymbolMap) where
       let whole = expanded_none all form none in
       let end = plus_end form.terms seen made (omega arith) in
       rw is (ap Some (whole ∙ sym same ∙ sym end))
+
+  -- a form that names no assigned symbol stands for itself
+  pub own_there : (at : ℕ) (form : Form) → form_at all.symbols at ≡ Some form → names_assigned all form ≡ false → expansion_at all at ≡ Some form
+  own_there at form is none = ap (option_map (expanded all)) is ∙ ap Some (expanded_none all form none)
 
   pub expands_done : (at seen : ℕ) (made : Form) → Expands all at seen made → length (terms_of (form_at all.symbols at)) ≤ seen → expansion_at all at ≡ Some made
   expands_done at seen made expands all_seen = expands ∙ ap Some (plus_end (terms_of (form_at all.symbols at)) seen made all_seen)

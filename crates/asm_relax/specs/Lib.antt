@@ -1,5 +1,6 @@
 -- The definitions that contracts cite, in reading order.
 pub mod Expanding
+pub mod Expansions
 pub mod Final
 pub mod Ranks
 pub mod Layout

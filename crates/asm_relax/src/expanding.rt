@@ -16,7 +16,7 @@ fn form_of(meaning: &Meaning) -> Option<&Linear>
     ensures { option_map (λ form. form.now) result ≡ form_of meaning.now }
 {
     match meaning {
-        Meaning::Assigned(form) => Some(form),
+        Meaning::Assigned(form) => Some(form.as_form()),
         _ => None,
     }
 }
@@ -90,6 +90,16 @@ fn begun(alloc: Global, symbols: &Symbols, at: usize) -> Result<Visit, NoMemory>
     })
 }
 
+/// The expanded form of a symbol, where it is there.
+#[derive(Drop)]
+enum Expansion<'a> {
+    Absent,
+    /// The symbol's own form, which names no assigned symbol.
+    Own(&'a Linear),
+    /// A form that was made.
+    Made(Box<Linear>),
+}
+
 /// The expanded forms of all assigned symbols: for each symbol none, or its expanded form.
 ///
 /// Each symbol is expanded once: its terms are added one after the other, and where one names a
@@ -97,32 +107,33 @@ fn begun(alloc: Global, symbols: &Symbols, at: usize) -> Result<Visit, NoMemory>
 /// term of a symbol's form is looked up a fixed number of times, however many forms lead to it. The
 /// symbols that wait stand in a list on the heap, since a chain of them may be long.
 #[derive(Drop)]
-pub struct Expansions {
-    forms: Vec<Option<Box<Linear>>>,
+pub struct Expansions<'a> {
+    forms: Vec<Expansion<'a>>,
 }
 
-impl Model for Expansions {
-    ghost use Rattle.std.specs.Prelude.{List, Option, map, option_map};
+impl<'a> Model for Expansions<'a> {
+    ghost use Rattle.std.specs.Prelude.{List, Option, map};
     ghost use Rattle.asm_expr.specs.Forms.{Form};
+    ghost use Rattle.asm_relax.specs.Expansions.{form_there};
 
     ghost Value = { List (Option Form) };
 
-    ghost view = { λ made. map (option_map (λ form. form.value)) made.forms.items };
+    ghost view = { λ made. map form_there made.forms.items };
 }
 
-impl Expansions {
+impl<'a> Expansions<'a> {
     ghost use Rattle.std.specs.Prelude.{◌≡◌, ◌<◌, ◌≤◌, true, false, length, set, replicate, None, Some, option_map, IsNone, IfOk, OnOk, IfSome};
     ghost use Rattle.asm_expr.specs.Forms.{plus_times};
     ghost use Rattle.asm_symbols.specs.Assigning.{form_at};
     ghost use Rattle.asm_relax.specs.Expanding.{names_assigned, names_expanded, expanded, form_or_symbol, entry_at, awaits, terms_of, Expands, IsAwaited, AreExpansions, ArePartly, KeepsForms};
 
     /// No form for any of so many symbols.
-    fn none(alloc: Global, count: usize) -> Result<Expansions, NoMemory>
+    fn none(alloc: Global, count: usize) -> Result<Expansions<'a>, NoMemory>
         ensures { IfOk result (λ made. made ≡ replicate count None) }
     {
         let mut forms = Vec::with_capacity(alloc, count)?;
         for _ in 0..count {
-            forms.push(None)?;
+            forms.push(Expansion::Absent)?;
         }
         Ok(Expansions { forms })
     }
@@ -132,7 +143,8 @@ impl Expansions {
         ensures { option_map (λ form. form.now) result ≡ entry_at self.now at }
     {
         match self.forms.get(at) {
-            Some(Some(form)) => Some(form),
+            Some(Expansion::Own(form)) => Some(form),
+            Some(Expansion::Made(form)) => Some(form),
             _ => None,
         }
     }
@@ -207,13 +219,22 @@ impl Expansions {
         ensures { OnOk result (self.new ≡ set self.old at (Some form)) }
     {
         let form = Box::new(alloc, form)?;
-        self.forms[at] = Some(form);
+        self.forms[at] = Expansion::Made(form);
         Ok(())
+    }
+
+    /// The form is there for the symbol at the index from now on, and not copied.
+    fn put_own(&mut self, at: usize, form: &'a Linear)
+        requires { at < length self.old }
+        ensures { self.new ≡ set self.old at (Some form.now) }
+    {
+        self.forms[at] = Expansion::Own(form);
     }
 
     /// The expanded form of the symbol is there from now on, if it is an assigned one, and those
     /// of the symbols that it needs.
-    fn fill(&mut self, alloc: Global, symbols: &Symbols, at: usize) -> Result<(), NoMemory>
+    #[inline(never)]
+    fn fill_from(&mut self, alloc: Global, symbols: &Symbols, at: usize) -> Result<(), NoMemory>
         requires there { at < length symbols.now.symbols }
         requires partly { ArePartly symbols.now self.old }
         ensures partly { OnOk result (ArePartly symbols.now self.new) }
@@ -239,8 +260,26 @@ impl Expansions {
         Ok(())
     }
 
+    /// The same: a form that names no assigned symbol stands for itself.
+    fn fill(&mut self, alloc: Global, symbols: &'a Symbols, at: usize) -> Result<(), NoMemory>
+        requires there { at < length symbols.now.symbols }
+        requires partly { ArePartly symbols.now self.old }
+        ensures partly { OnOk result (ArePartly symbols.now self.new) }
+        ensures done { OnOk result (awaits symbols.now self.new at ≡ false) }
+        ensures kept { OnOk result (KeepsForms symbols.now self.old self.new) }
+    {
+        let Some(form) = form_at(symbols, at) else {
+            return Ok(());
+        };
+        if names_assigned(symbols, form) {
+            return self.fill_from(alloc, symbols, at);
+        }
+        self.put_own(at, form);
+        Ok(())
+    }
+
     /// The expanded forms of the symbols.
-    pub fn new(alloc: Global, symbols: &Symbols) -> Result<Expansions, NoMemory>
+    pub fn new(alloc: Global, symbols: &'a Symbols) -> Result<Expansions<'a>, NoMemory>
         ensures { IfOk result (AreExpansions symbols.now) }
     {
         let mut made = Expansions::none(alloc, symbols.len())?;

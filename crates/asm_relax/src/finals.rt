@@ -4,7 +4,7 @@ ghost use Rattle.std.specs.Prelude.{◌≡◌, IfOk};
 ghost use Rattle.asm_expr.specs.Knowledge.{told_by};
 ghost use Rattle.asm_expr.specs.Settled.{cannot_cancel, constant_left};
 ghost use Rattle.asm_relax.specs.Expanding.{AreExpansions};
-ghost use Rattle.asm_relax.specs.Final.{spot_told, final_meaning, final_form, laid_value};
+ghost use Rattle.asm_relax.specs.Final.{spot_told, final_meaning, final_form, laid_value, field_value};
 
 use crate::expanding::Expansions;
 use crate::places::address_of;
@@ -120,4 +120,24 @@ pub fn laid_value(symbols: &Symbols, sections: &Sections<Laid>, form: &Linear) -
         return constant_left(form);
     }
     settled_value(&FinalView { symbols, sections }, form)
+}
+
+/// The value of a form at the end, where it has one: assigned symbols are expanded in it. A number
+/// is not copied.
+pub fn end_value(
+    alloc: Global,
+    expansions: &Expansions,
+    symbols: &Symbols,
+    sections: &Sections<Laid>,
+    form: &Linear,
+) -> Result<Option<u64>, NoMemory>
+    requires { AreExpansions symbols.now expansions.now }
+    ensures { IfOk result (λ value. value
+        ≡ field_value symbols.now sections.now form.now) }
+{
+    let [_, ..] = form.terms() else {
+        return Ok(laid_value(symbols, sections, form));
+    };
+    let expanded = expansions.expand(alloc, symbols, copied_form(alloc, form)?)?;
+    Ok(laid_value(symbols, sections, &expanded))
 }

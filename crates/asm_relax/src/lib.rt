@@ -12,7 +12,7 @@ mod range_checks;
 
 pub use expanding::Expansions;
 pub use faults::LayoutFault;
-pub use finals::{FinalView, final_form, laid_value};
+pub use finals::{FinalView, end_value, final_form, laid_value};
 pub use laws::{
     all_else_is_kept, expansions_are_exact, items_stand_in_row, one_ranking, settled_is_placed,
     sizes_add_up, stretches_keep_distance,

@@ -18,7 +18,7 @@ use std::marker::Model;
 struct AssignedExpansion<'a> {
     alloc: Global,
     symbols: &'a Symbols,
-    expansions: Expansions,
+    expansions: Expansions<'a>,
 }
 
 impl<'a> Model for AssignedExpansion<'a> {

@@ -1,11 +1,12 @@
 -- One more has none.
-use Rattle.std.proofs.Common.{◌≡◌, ◌++◌, [], ◌∷◌, None, ap, ◌∙◌, arith}
+use Rattle.std.proofs.Common.{◌≡◌, ◌++◌, [], ◌∷◌, ap, ◌∙◌, arith}
 use Rattle.std.proofs.lemmas.List.{replicate_more}
-use Rattle.asm_relax.proofs.ExpansionLemmas.{map_none}
+use Rattle.asm_relax.specs.declared.expanding.Expansion.TheVariants.{Absent}
+use Rattle.asm_relax.proofs.ExpansionLemmas.{map_absent}
 use Rattle.asm_relax.proofs.expanding.Expansions.none.Goals as goal
 
 pub loop-preserved : goal.loop-preserved
-loop-preserved c = c.in_ok-push.ensures.items ∙ ap (λ xs. xs ++ None ∷ []) c.loop.invariant ∙ replicate_more c.loop.counter None
+loop-preserved c = c.in_ok-push.ensures.items ∙ ap (λ xs. xs ++ Absent ∷ []) c.loop.invariant ∙ replicate_more c.loop.counter Absent
 
 pub returns : goal.returns
-returns c = let all : c.loop.counter ≡ c.args.count = omega arith in rw (c.loop.invariant, all) (map_none (λ form. form.value) c.args.count)
+returns c = let all : c.loop.counter ≡ c.args.count = omega arith in rw (c.loop.invariant, all) (map_absent c.args.count)

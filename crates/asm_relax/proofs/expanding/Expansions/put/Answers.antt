@@ -1,8 +1,8 @@
 -- The form is stored in its box.
-use Rattle.std.proofs.Common.{Some}
-use Rattle.std.specs.Option.{option_map}
+use Rattle.asm_relax.specs.declared.expanding.Expansion.TheVariants.{Made}
+use Rattle.asm_relax.specs.Expansions.{form_there}
 use Rattle.asm_relax.proofs.ExpansionLemmas.{map_set}
 use Rattle.asm_relax.proofs.expanding.Expansions.put.Goals as goal
 
 pub returns : goal.returns
-returns c = rw (← c.self.view_is, ← c.in_ok-form.ensures.ok) (map_set (option_map (λ form. form.value)) c.self.inside.forms.items c.args.at (Some c.in_ok-form.form))
+returns c = rw (← c.self.view_is, ← c.in_ok-form.ensures.ok) (map_set form_there c.self.inside.forms.items c.args.at (Made c.in_ok-form.form))
