@@ -85,3 +85,11 @@ pub length-at : (content : Content) (at : ℕ) → length (bytes_at content at) 
 length-at Run at = refl
 length-at (Fill held) at = length-repeated held.count (unit_of held) ∙ ap (λ n. held.count * n) (length-unit held)
 length-at (Align held) at = length-replicate {A = ℕ} (padding (2 ^ held.log) at) 0
+
+empty : (bytes : List ℕ) → length bytes ≡ 0 → [] ≡ bytes
+empty [] none = refl
+empty (byte ∷ bytes) none = absurd (omega arith)
+
+-- an item without size has no bytes
+pub none_at : (content : Content) (at : ℕ) → size_at content at ≡ 0 → [] ≡ bytes_at content at
+none_at content at none = empty (bytes_at content at) (length-at content at ∙ none)

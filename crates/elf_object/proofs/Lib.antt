@@ -3,15 +3,18 @@ mod Writing
 mod LoopSteps
 mod AliasLemmas
 mod AliasSamples
-mod LoneSymbols
 mod FieldLemmas
 mod ItemLemmas
 mod MarkLemmas
 mod PieceLemmas
+mod MixedLemmas
 mod LayingLemmas
 mod ImageLemmas
 mod ObjectLemmas
+mod WaitingLemmas
 mod ItemBytes
+mod PatchLemmas
+mod KeptForms
 pub mod FilePlaces
 pub mod PlainPlaces
 pub mod ItemPlaces

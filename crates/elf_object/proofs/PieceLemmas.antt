@@ -1,8 +1,8 @@
 -- Pieces, and units that are repeated, in blocks.
-use Rattle.std.proofs.Common.{◌≡◌, ℕ, zero, suc, ◌+◌, ◌-◌, ◌*◌, ◌/◌, ◌%◌, ◌<◌, ◌≤◌, Option, None, Some, IfSome, List, [], ◌∷◌, ◌++◌, length, take, get_or, replicate, refl, ap, sym, ◌∙◌, arith, append_assoc, append-nil}
-use Rattle.std.proofs.Math.Nat.{mod-lt, mul-le-mul_right}
+use Rattle.std.proofs.Common.{◌≡◌, ℕ, zero, suc, ◌+◌, ◌-◌, ◌*◌, ◌/◌, ◌%◌, ◌<◌, ◌≤◌, Option, None, Some, IfSome, List, [], ◌∷◌, ◌++◌, length, take, get_or, replicate, refl, ap, sym, ◌∙◌, arith, append_assoc, append-nil, length-append, drop}
+use Rattle.std.proofs.Math.Nat.{lt-div-mul-add, mod-lt, mul-le-mul_right}
 use Rattle.std.proofs.Math.Seq.{take-append_seam}
-use Rattle.std.proofs.lemmas.List.{length-replicate, length-take-le, take-take, take_all}
+use Rattle.std.proofs.lemmas.List.{length-take-le, take-take}
 use Rattle.std.proofs.lemmas.Nat.{div-add-mod'}
 use Rattle.asm_frags.specs.Contents.{repeated}
 use Rattle.asm_frags.proofs.Repeats.{length-repeated, repeated_alone}
@@ -22,11 +22,17 @@ product_long None count size unit held is fits product = product
 product_long (Some n) count size unit held is fits product =
     product ∙ ap (λ m. count * m) (sym (length-take-le size unit fits)) ∙ sym (length-repeated count (take size unit)) ∙ ap (λ xs. length xs) is
 
+-- two sizes give the length of both
+pub sum_long : (made : Option ℕ) (one other first second all : ℕ) → one ≡ first → other ≡ second → all ≡ first + second
+    → IfSome made (λ n. n ≡ one + other) → IfSome made (λ n. n ≡ all)
+sum_long None one other first second all is also whole sum = tt
+sum_long (Some n) one other first second all is also whole sum = omega arith
+
 -- a block of one byte is units of it
-pub filled_alone : (n : ℕ) (block unit : List ℕ) → length unit ≡ 1 → block ≡ replicate n (get_or unit 0 0) → take n block ≡ repeated n unit
-filled_alone n block unit alone is =
-    let long : length (replicate n (get_or unit 0 0)) ≡ n = length-replicate n (get_or unit 0 0) in
-    ap (take n) is ∙ take_all n (replicate n (get_or unit 0 0)) (omega arith) ∙ repeated_alone n unit alone
+pub filled_alone : (n count : ℕ) (block unit : List ℕ) → length unit ≡ 1 → n ≡ count * length unit → block ≡ replicate n (get_or unit 0 0) → block ≡ repeated count unit
+filled_alone n count block unit alone long is =
+    let same : n ≡ count = long ∙ ap (λ m. count * m) alone ∙ (let e : count * 1 ≡ count = omega arith in e) in
+    is ∙ repeated_alone n unit alone ∙ ap (λ m. repeated m unit) same
 
 -- so many units, and then so many more
 repeated_sum : (first more : ℕ) (unit : List ℕ) → repeated (first + more) unit ≡ repeated first unit ++ repeated more unit
@@ -53,6 +59,38 @@ front_units few units unit fewer =
     ∙ ap (λ xs. take (length (repeated few unit)) xs) (repeated_sum few (units - few) unit)
     ∙ take-append_seam (repeated few unit) (repeated (units - few) unit)
 
+-- units in front are copied behind themselves
+pub doubled : (done more front size : ℕ) (unit block new : List ℕ) → front ≡ done * length unit → size ≡ more * length unit → more ≤ done
+    → take front block ≡ repeated done unit → new ≡ take front block ++ (take size block ++ drop (front + size) block)
+    → take ((done + more) * length unit) new ≡ repeated (done + more) unit
+doubled done more front size unit block new begins adds few stand is =
+    let all = repeated (done + more) unit in
+    let rest = drop (front + size) block in
+    let below : more * length unit ≤ done * length unit = mul-le-mul_right (length unit) few in
+    let within : size ≤ front = rw (begins, adds) below in
+    let copy : take size block ≡ repeated more unit =
+    sym (take-take size front block within) ∙ ap (take size) stand ∙ ap (λ n. take n (repeated done unit)) adds ∙ front_units more done unit few in
+    let text : new ≡ all ++ rest =
+    is ∙ ap (λ (xs : List ℕ). xs ++ (take size block ++ rest)) stand ∙ ap (λ (xs : List ℕ). repeated done unit ++ (xs ++ rest)) copy
+    ∙ sym (append_assoc (repeated done unit) (repeated more unit) rest) ∙ ap (λ (xs : List ℕ). xs ++ rest) (sym (repeated_sum done more unit)) in
+    ap (λ n. take n new) (sym (length-repeated (done + more) unit)) ∙ ap (take (length all)) text ∙ take-append_seam all rest
+
+-- one unit in front
+pub first_unit : (unit block : List ℕ) → take (length unit) block ≡ unit → take (1 * length unit) block ≡ repeated 1 unit
+unfolding repeated
+first_unit unit block is =
+    let once : 1 * length unit ≡ length unit = omega arith in
+    ap (λ n. take n block) once ∙ is ∙ sym (append-nil unit)
+
+-- units that are there have room in a block of more units
+pub units_fit : (done more count : ℕ) (unit block : List ℕ) → done + more ≤ count → length block ≡ count * length unit → done * length unit + more * length unit ≤ length block
+units_fit done more count unit block few long =
+    let below : (done + more) * length unit ≤ count * length unit = mul-le-mul_right (length unit) few in
+    let split : (done + more) * length unit ≡ done * length unit + more * length unit =
+    sym (length-repeated (done + more) unit) ∙ ap length (repeated_sum done more unit) ∙ length-append (repeated done unit) (repeated more unit)
+    ∙ ap (λ n. n + length (repeated more unit)) (length-repeated done unit) ∙ ap (λ n. done * length unit + n) (length-repeated more unit) in
+    omega arith
+
 -- one unit stands between those before it and those behind it
 pub repeated_cut : (i count : ℕ) (unit : List ℕ) → i < count → repeated count unit ≡ repeated i unit ++ (unit ++ repeated (count - (i + 1)) unit)
 unfolding repeated
@@ -75,3 +113,20 @@ in_blocks count units size width unit block some wide long is =
     ap (λ n. repeated n unit) all ∙ repeated_sum (count / units * units) last unit
     ∙ ap (λ xs. xs ++ repeated last unit) (sym (repeated_blocks (count / units) units unit))
     ∙ ap (λ xs. repeated (count / units) xs ++ repeated last unit) (sym is) ∙ ap (λ xs. repeated (count / units) (take size block) ++ xs) (sym front)
+
+some_units : (units size room : ℕ) → room < units * size + size → size ≤ room → 0 < units
+some_units zero size room below few =
+    let none : zero * size ≡ zero = omega arith in
+    absurd (omega arith)
+some_units (suc units) size room below few = omega arith
+
+-- a block that begins with whole units gives the repetition
+pub units_filled : (count size : ℕ) (unit block front rest : List ℕ) → 0 < size → size ≤ 8 → 8 ≤ length block → length unit ≡ size
+    → (let units = length block / size in front ≡ repeated units unit
+    → repeated count unit ≡ repeated (count / units) (take (units * size) (front ++ rest)) ++ take (count % units * size) (front ++ rest))
+units_filled count size unit block front rest some short room long is =
+    let units = length block / size in
+    let there : 0 < units = some_units units size (length block) (lt-div-mul-add some) (omega arith) in
+    let wide : length front ≡ units * size = ap length is ∙ length-repeated units unit ∙ ap (λ n. units * n) long in
+    let filled : take (units * size) (front ++ rest) ≡ repeated units unit = ap (λ n. take n (front ++ rest)) (sym wide) ∙ take-append_seam front rest ∙ is in
+    in_blocks count units (units * size) size unit (front ++ rest) there (sym long) (ap (λ n. units * n) (sym long)) filled

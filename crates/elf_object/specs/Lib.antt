@@ -20,3 +20,4 @@ pub mod TableLaws
 pub mod FileLaws
 pub mod Views
 pub mod Marking
+pub mod Waiting

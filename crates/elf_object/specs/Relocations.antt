@@ -141,6 +141,13 @@ lone_symbol [] = None
 lone_symbol (term ∷ []) = if is_plus term then Some term.symbol else None
 lone_symbol (one ∷ other ∷ more) = None
 
+-- no label cancels in a form of these terms that has no value: a symbol alone, or one less another one
+abbrev pub stays : List Term → Bool
+stays [] = false
+stays (term ∷ []) = is_plus term
+stays (one ∷ other ∷ []) = is_plus one && is_minus other
+stays (one ∷ other ∷ third ∷ more) = false
+
 -- the relocation of a field of this size at this offset
 abbrev pub relocation : ℕ → FieldSize → Reference → Relocation
 relocation place size found = record { offset = place; kind = kind_for found.relative size; target = found.target; addend = found.addend }

@@ -7,19 +7,19 @@ use Rattle.elf_object.specs.declared.naming.Named.{Named}
 use Rattle.elf_object.specs.declared.numbers.Numbers.{Numbers}
 use Rattle.elf_object.specs.declared.relocations.Relocation.{Relocation}
 use Rattle.elf_object.specs.declared.sections.Body.{Body}
-use Rattle.elf_object.specs.declared.sections.Body.TheVariants.{Bytes, Pieces, NoBits}
+use Rattle.elf_object.specs.declared.sections.Body.TheVariants.{Bytes, Mixed, NoBits}
 use Rattle.elf_object.specs.declared.sections.FileSection.{FileSection}
 use Rattle.elf_object.specs.Image.{header_end}
 use Rattle.elf_object.specs.Naming.{NamedOf}
 use Rattle.elf_object.specs.Numbers.{NumbersOf}
-use Rattle.elf_object.specs.Pieces.{flat}
+use Rattle.elf_object.specs.Pieces.{mixed_bytes}
 use Rattle.elf_object.specs.Sections.{Content, stored, nobits, SectionEntry}
 use Rattle.elf_object.specs.SymbolTable.{SymbolEntry}
 
 -- what a section of the file holds
 abbrev pub content_view : Body → Content
 content_view (Bytes bytes) = stored bytes.items
-content_view (Pieces pieces) = stored (flat pieces.items)
+content_view (Mixed held) = stored (mixed_bytes held)
 content_view (NoBits size) = nobits size
 
 -- a section of the file

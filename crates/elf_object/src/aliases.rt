@@ -22,7 +22,7 @@ fn alias_of(meaning: &Meaning) -> Option<SymId>
     ensures { result ≡ spec.alias_of meaning.now }
 {
     match meaning {
-        Meaning::Assigned(form) => symbol_in(form),
+        Meaning::Assigned(form) => symbol_in(form.as_form()),
         _ => None,
     }
 }
@@ -64,7 +64,7 @@ pub(crate) fn symbol_size<'a>(symbols: &'a Symbols, symbol: &'a Symbol) -> Optio
     ensures { option_map (λ size. size.now) result ≡ spec.symbol_size symbols.now symbol.now }
 {
     if let Some(size) = &symbol.size {
-        return Some(size);
+        return Some(size.as_form());
     }
     let mut next = alias_of(&symbol.meaning);
     let mut left = symbols.len();
@@ -73,7 +73,7 @@ pub(crate) fn symbol_size<'a>(symbols: &'a Symbols, symbol: &'a Symbol) -> Optio
             return None;
         };
         if let Some(size) = &found.size {
-            return Some(size);
+            return Some(size.as_form());
         }
         next = alias_of(&found.meaning);
         left -= 1;

@@ -1,25 +1,25 @@
 //! What the sections of an object hold: plain bytes with the values of fields in place, the bytes of
 //! items between them, and the relocations of the other fields.
 
-ghost use Rattle.std.specs.Prelude.{◌≡◌, ◌≤◌, ◌++◌, None, false, All, filter_map, length, map, IfErr, IfOk, OnOk};
+ghost use Rattle.std.specs.Prelude.{◌≡◌, ℕ, List, ◌+◌, ◌≤◌, [], ◌++◌, None, false, All, drop, filter_map, length, map, slice_range, take, unwrap_or, IfErr, IfOk, OnOk};
 ghost use Rattle.std.specs.Option.{option_to_list};
-ghost use Rattle.asm_frags.specs.Fields.{low_bytes};
+ghost use Rattle.asm_frags.specs.Contents.{bytes_at};
+ghost use Rattle.asm_frags.specs.Fields.{low_bytes, width};
+ghost use Rattle.asm_frags.specs.PlainBytes.{field_end};
 ghost use Rattle.elf_object.specs.Contents as spec;
 ghost use Rattle.elf_object.specs.Faults.{IsDue, IsLostAt, fields_fault, field_fault_in, field_fault_from};
-ghost use Rattle.elf_object.specs.Pieces.{flat};
+ghost use Rattle.elf_object.specs.Pieces.{held_before, mixed, mixed_bytes};
 ghost use Rattle.elf_object.specs.Relocations.{field_relocation};
 ghost use Rattle.elf_object.specs.Sections.{source_section, stored};
 ghost use Rattle.elf_object.specs.Views.{content_view, held_entry, relocations_in};
 
 use crate::faults::{ObjectCause, ObjectFault};
-use crate::file_pieces::{Piece, Pieces, SMALL};
+use crate::file_pieces::{Between, Mixed, Repetition};
 use crate::references::field_relocation;
 use crate::relocations::Relocation;
 use crate::sections::Body;
 use crate::symbol_values::Placement;
-use asm_frags::{
-    Content, Field, FieldSize, Frag, Laid, SHT_NOBITS, Section, TakesBytes, put_bytes,
-};
+use asm_frags::{Content, Field, FieldSize, Frag, Laid, SHT_NOBITS, Section, size};
 use asm_relax::{laid_value, section_size};
 use std::alloc::{AllocError, Global};
 
@@ -30,16 +30,19 @@ pub(crate) struct Filed {
     pub(crate) relocations: Vec<Relocation>,
 }
 
-/// Appends the low bytes of a value.
+/// Puts the low bytes of a value at this offset.
 #[tactic(auto, unfolding(asm_frags::specs::Fields::low_bytes))]
-fn put_low(out: &mut Vec<u8>, size: FieldSize, value: u64) -> Result<(), AllocError>
-    ensures { OnOk result (out.new.items ≡ out.old.items ++ low_bytes size value) }
+fn put_low(bytes: &mut [u8], offset: usize, size: FieldSize, value: u64)
+    requires { offset + width size ≤ length bytes.old }
+    ensures { bytes.new ≡ take offset bytes.old
+        ++ (low_bytes size value ++ drop (offset + width size) bytes.old) }
 {
-    let bytes = value.to_le_bytes();
-    out.extend_from_slice(&bytes[..size.bytes()])
+    let low = value.to_le_bytes();
+    let end = offset + size.bytes();
+    bytes[offset..end].copy_from_slice(&low[..size.bytes()]);
 }
 
-/// Appends the value of a field of the section of this number, or zeros and its relocation.
+/// Puts the value of a field of the section of this number in place, or appends its relocation.
 fn put_field(
     alloc: Global,
     at: Placement,
@@ -48,9 +51,12 @@ fn put_field(
     field: &Field,
     out: &mut Filed,
 ) -> Result<(), ObjectFault>
-    ensures bytes { OnOk result (out.new.bytes.items
-        ≡ out.old.bytes.items
-        ++ spec.field_bytes at.entry.symbols.now at.entry.sections.now field.now) }
+    requires within { field_end field.now ≤ length out.old.bytes.items }
+    requires blank { slice_range out.old.bytes.items field.now.offset (field_end field.now)
+        ≡ low_bytes field.now.size 0 }
+    ensures bytes { OnOk result (out.new.bytes.items ≡ take field.now.offset out.old.bytes.items
+        ++ (spec.field_bytes at.entry.symbols.now at.entry.sections.now field.now
+        ++ drop (field_end field.now) out.old.bytes.items)) }
     ensures relocations { OnOk result (out.new.relocations.items ≡ out.old.relocations.items
         ++ option_to_list (field_relocation at.entry.symbols.now at.entry.sections.now number
         section.now field.now)) }
@@ -61,13 +67,11 @@ fn put_field(
         number section.now field.now) fault) }
 {
     if let Some(value) = laid_value(at.symbols, at.sections, &field.form) {
-        return Ok(put_low(&mut out.bytes, field.size, value)?);
+        put_low(&mut out.bytes, field.offset, field.size, value);
+        return Ok(());
     }
     match field_relocation(alloc, at, number, section, field)? {
-        Some(found) => {
-            out.relocations.push(found)?;
-            Ok(put_low(&mut out.bytes, field.size, 0)?)
-        }
+        Some(found) => Ok(out.relocations.push(found)?),
         None => Err(ObjectFault::Fault(ObjectCause::NoRelocation(field.pos))),
     }
 }
@@ -92,43 +96,78 @@ fn file_fields(
         (λ fault. IsDue fault (fields_fault at.entry.symbols.now at.entry.sections.now number
         section.now section.now.fields)) }
 {
-    let bytes = section.bytes();
     let fields = section.fields();
     let mut out = Filed {
-        bytes: Vec::with_capacity(alloc, bytes.len())?,
-        relocations: Vec::new(alloc),
+        bytes: Vec::from_slice(alloc, section.bytes())?,
+        relocations: Vec::with_capacity(alloc, fields.len())?,
     };
-    let mut from = 0;
     for field in fields {
-        out.bytes.extend_from_slice(&bytes[from..field.offset])?;
         put_field(alloc, at, number, section, field, &mut out)?;
-        from = field.offset + field.size.bytes();
     }
-    out.bytes.extend_from_slice(&bytes[from..])?;
     Ok(out)
 }
 
-/// The pieces of the plain bytes with the bytes of these items between them; so much room is made.
-#[tactic(auto, unfolding(crate::specs::Contents::interleaved))]
-fn interleaved(
-    alloc: Global,
-    bytes: &[u8],
-    items: &[Frag<Laid>],
-    room: usize,
-) -> Result<Vec<Piece>, AllocError>
-    requires { All (λ item. item.offset ≤ length bytes.now) items.now }
-    ensures { IfOk result (λ all. flat all.items ≡ spec.interleaved bytes.now 0 items.now) }
+/// The bytes of an item at its address, if it has any.
+fn repetition_of(content: &Content, at: u64) -> Option<Repetition>
+    ensures { unwrap_or result [] ≡ bytes_at content.now at }
 {
-    let mut out = Pieces::with_room(alloc, room)?;
+    let bytes = size(content, at);
+    if bytes == 0 {
+        return None;
+    }
+    match content {
+        Content::Run => None,
+        Content::Fill(held) => Some(Repetition::new(
+            held.unit(),
+            held.size() as usize,
+            held.count(),
+        )),
+        Content::Align(_) => Some(Repetition::new([0; 8], 1, bytes)),
+    }
+}
+
+/// Puts the bytes of an item behind so many plain bytes, of which `last` stand before the last
+/// repetition, and answers how many stand before the last one then.
+fn put_item(
+    between: &mut Vec<Between>,
+    last: usize,
+    upto: usize,
+    item: &Frag<Laid>,
+) -> Result<usize, AllocError>
+    requires before { held_before between.old.items ≡ last }
+    requires later { last ≤ upto }
+    ensures before { IfOk result (λ now. held_before between.new.items ≡ now) }
+    ensures later { IfOk result (λ now. now ≤ upto) }
+    ensures bytes { OnOk result ((bytes : List ℕ) → length bytes ≡ upto
+        → mixed bytes between.new.items
+        ≡ mixed bytes between.old.items ++ bytes_at item.now.content item.now.address) }
+{
+    match repetition_of(&item.content, item.address) {
+        Some(repetition) => {
+            between.push(Between {
+                held: upto - last,
+                repetition,
+            })?;
+            Ok(upto)
+        }
+        None => Ok(last),
+    }
+}
+
+/// The plain bytes with the bytes of these items between them.
+#[tactic(auto, unfolding(crate::specs::Contents::interleaved))]
+fn interleaved(alloc: Global, bytes: Vec<u8>, items: &[Frag<Laid>]) -> Result<Mixed, AllocError>
+    requires { All (λ item. item.offset ≤ length bytes.items) items.now }
+    ensures { IfOk result (λ all. mixed_bytes all ≡ spec.interleaved bytes.items 0 items.now) }
+{
+    let mut between = Vec::with_capacity(alloc, items.len())?;
+    let mut last = 0;
     let mut from = 0;
     for item in items {
-        let upto = from.max(item.offset);
-        out.bytes(&bytes[from..upto])?;
-        put_bytes(&item.content, item.address, &mut out)?;
-        from = upto;
+        from = from.max(item.offset);
+        last = put_item(&mut between, last, from, item)?;
     }
-    out.bytes(&bytes[from..])?;
-    out.into_list()
+    Ok(Mixed { bytes, between })
 }
 
 /// Whether no item but one run is there, so that the plain bytes are all.
@@ -142,12 +181,6 @@ fn is_one_run(items: &[Frag<Laid>]) -> bool
     }
 }
 
-/// Room for plain bytes, as many in small items, and no more than the section has.
-fn room_for(section: &Section<Laid>, bytes: &[u8]) -> usize {
-    let few = bytes.len().saturating_mul(2).saturating_add(SMALL);
-    few.min(section_size(section) as usize)
-}
-
 /// What a section holds that has these plain bytes.
 fn with_items(alloc: Global, section: &Section<Laid>, bytes: Vec<u8>) -> Result<Body, AllocError>
     requires { length bytes.items ≡ length section.now.bytes }
@@ -158,8 +191,7 @@ fn with_items(alloc: Global, section: &Section<Laid>, bytes: Vec<u8>) -> Result<
     if is_one_run(items) {
         return Ok(Body::Bytes(bytes));
     }
-    let room = room_for(section, &bytes);
-    Ok(Body::Pieces(interleaved(alloc, &bytes, items, room)?))
+    Ok(Body::Mixed(interleaved(alloc, bytes, items)?))
 }
 
 /// A section of the source with what it holds, and its relocations.

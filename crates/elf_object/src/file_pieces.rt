@@ -1,67 +1,50 @@
 //! The bytes of a file in pieces: bytes that are held, and a held unit that is repeated.
 
-ghost use Rattle.std.specs.Prelude.{◌≡◌, ◌*◌, ◌<◌, ◌≤◌, ◌++◌, length, take, IfSome, IsTrue, OnOk};
+ghost use Rattle.std.specs.Prelude.{◌≡◌, ◌+◌, ◌*◌, ◌<◌, ◌≤◌, ◌++◌, drop, length, take, IfSome};
 ghost use Rattle.asm_frags.specs.Contents.{repeated};
-ghost use Rattle.elf_object.specs.Pieces.{piece_bytes, flat};
+ghost use Rattle.elf_object.specs.Pieces.{repeated_size};
 
-use asm_frags::TakesBytes;
 use std::alloc::{AllocError, Global};
 use std::marker::Model;
-use std::mem;
 
-/// The size of a block in bytes.
-const BLOCK: usize = 4096;
-
-/// A block without units.
-pub(crate) fn zeros() -> [u8; BLOCK]
-    ensures { length result ≡ 4096 }
+/// Copies bytes of the front behind it.
+fn copy_front(block: &mut [u8], front: usize, more: usize)
+    requires few { more ≤ front }
+    requires room { front + more ≤ length block.old }
+    ensures { block.new
+        ≡ take front block.old ++ (take more block.old ++ drop (front + more) block.old) }
 {
-    [0; BLOCK]
+    let (first, rest) = block.split_at_mut(front);
+    rest[..more].copy_from_slice(&first[..more]);
 }
 
-/// How many whole units a block begins with, and their size in bytes.
-struct Filled {
-    units: u64,
-    size: usize,
-}
-
-/// Fills a block with as many whole units as it has room for, one by one.
-fn fill_each(block: &mut [u8], unit: &[u8]) -> Filled
-    requires some { 0 < length unit.now }
-    requires room { length unit.now ≤ length block.old }
-    ensures some { 0 < result.units }
-    ensures size { result.size ≡ result.units * length unit.now }
-    ensures within { result.size ≤ length block.new }
-    ensures units { take result.size block.new ≡ repeated result.units unit.now }
+/// Fills a block with units: those that stand are doubled until all stand.
+#[inline(never)]
+fn double_units(block: &mut [u8], unit: &[u8], count: usize)
+    requires some { 0 < count }
+    requires room { length block.old ≡ count * length unit.now }
+    ensures { block.new ≡ repeated count unit.now }
 {
-    let mut units = 0;
-    let mut size = 0;
-    'units: while unit.len() <= block.len() - size {
-        block[size..size + unit.len()].copy_from_slice(unit);
-        size += unit.len();
-        units += 1;
+    block[..unit.len()].copy_from_slice(unit);
+    let mut done = 1;
+    'units: while done < count {
+        let more = done.min(count - done);
+        copy_front(block, done * unit.len(), more * unit.len());
+        done += more;
     }
-    Filled { units, size }
 }
 
-/// Fills a block with as many whole units as it has room for.
+/// Fills a block with units.
 #[tactic(auto, using(crate::proofs::PieceLemmas::filled_alone))]
-fn fill_units(block: &mut [u8], unit: &[u8]) -> Filled
-    requires some { 0 < length unit.now }
-    requires room { length unit.now ≤ length block.old }
-    ensures some { 0 < result.units }
-    ensures size { result.size ≡ result.units * length unit.now }
-    ensures within { result.size ≤ length block.new }
-    ensures units { take result.size block.new ≡ repeated result.units unit.now }
+fn fill_units(block: &mut [u8], unit: &[u8], count: usize)
+    requires some { 0 < count }
+    requires room { length block.old ≡ count * length unit.now }
+    ensures { block.new ≡ repeated count unit.now }
 {
     if unit.len() == 1 {
         block.fill(unit[0]);
-        Filled {
-            units: block.len() as u64,
-            size: block.len(),
-        }
     } else {
-        fill_each(block, unit)
+        double_units(block, unit, count);
     }
 }
 
@@ -88,36 +71,39 @@ impl Model for Repetition {
 
     ghost view = { λ r. repeated r.count (take r.size r.unit) };
 
-    ghost invariant = { λ r. (0 < r.size) × (r.size ≤ 8) };
+    ghost invariant = { λ r. (0 < r.count) × (0 < r.size) × (r.size ≤ 8) };
 }
 
 impl Repetition {
     ghost use Rattle.std.specs.Prelude.{◌≡◌, ◌<◌, ◌≤◌, ◌++◌, length, take, IfSome};
     ghost use Rattle.asm_frags.specs.Contents.{repeated};
 
-    /// The unit `count` times.
-    pub(crate) fn new(unit: &[u8], count: u64) -> Repetition
-        requires some { 0 < length unit.now }
-        requires short { length unit.now ≤ 8 }
-        ensures { result ≡ repeated count unit.now }
+    /// The first bytes of the unit `count` times.
+    pub(crate) fn new(unit: [u8; 8], size: usize, count: u64) -> Repetition
+        requires some { 0 < size }
+        requires short { size ≤ 8 }
+        requires once { 0 < count }
+        ensures { result ≡ repeated count (take size unit) }
     {
-        let mut held = [0; 8];
-        held[..unit.len()].copy_from_slice(unit);
-        Repetition {
-            unit: held,
-            size: unit.len(),
-            count,
-        }
+        Repetition { unit, size, count }
     }
 
     /// How many bytes it stands for, if fewer than 2^64.
-    fn len(&self) -> Option<usize>
+    pub(crate) fn len(&self) -> Option<usize>
         ensures { IfSome result (λ n. n ≡ length self.now) }
     {
         (self.count as usize).checked_mul(self.size)
     }
 
-    /// Fills a block with the unit, and tells how often it is written.
+    /// Fills a block of its size.
+    pub(crate) fn put(&self, block: &mut [u8])
+        requires { length block.old ≡ length self.now }
+        ensures { block.new ≡ self.now }
+    {
+        fill_units(block, &self.unit[..self.size], self.count as usize);
+    }
+
+    /// Fills a block with whole units, and tells how often it is written.
     pub(crate) fn fill(&self, block: &mut [u8]) -> Blocks
         requires { 8 ≤ length block.old }
         ensures bytes { self.now ≡ repeated result.count (take result.size block.new)
@@ -125,13 +111,52 @@ impl Repetition {
         ensures size { result.size ≤ length block.new }
         ensures rest { result.rest ≤ length block.new }
     {
-        let unit = &self.unit[..self.size];
-        let Filled { units, size } = fill_units(block, unit);
+        let units = block.len() / self.size;
+        let size = units * self.size;
+        fill_units(&mut block[..size], &self.unit[..self.size], units);
         Blocks {
             size,
-            count: self.count / units,
-            rest: (self.count % units) as usize * self.size,
+            count: self.count / units as u64,
+            rest: (self.count % units as u64) as usize * self.size,
         }
+    }
+}
+
+/// A repetition behind held bytes.
+#[derive(Drop)]
+pub(crate) struct Between {
+    /// How many held bytes stand before it, behind the repetition in front of it.
+    pub(crate) held: usize,
+    pub(crate) repetition: Repetition,
+}
+
+/// Bytes that are held, and repetitions between them.
+#[derive(Drop)]
+pub(crate) struct Mixed {
+    pub(crate) bytes: Vec<u8>,
+    pub(crate) between: Vec<Between>,
+}
+
+/// How many bytes the repetitions stand for, if fewer than 2^64.
+fn total(between: &[Between]) -> Option<usize>
+    ensures { IfSome result (λ n. n ≡ repeated_size between.now) }
+{
+    let mut sum = 0usize;
+    for one in between {
+        sum = sum.checked_add(one.repetition.len()?)?;
+    }
+    Some(sum)
+}
+
+impl Mixed {
+    ghost use Rattle.std.specs.Prelude.{◌≡◌, length, IfSome};
+    ghost use Rattle.elf_object.specs.Pieces.{mixed_bytes};
+
+    /// How many bytes it stands for, if fewer than 2^64.
+    pub(crate) fn len(&self) -> Option<usize>
+        ensures { IfSome result (λ n. n ≡ length (mixed_bytes self.now)) }
+    {
+        self.bytes.len().checked_add(total(&self.between)?)
     }
 }
 
@@ -140,6 +165,7 @@ impl Repetition {
 pub(crate) enum Piece {
     Bytes(Vec<u8>),
     Repeated(Repetition),
+    Mixed(Mixed),
 }
 
 impl Piece {
@@ -153,133 +179,62 @@ impl Piece {
         match self {
             Piece::Bytes(bytes) => Some(bytes.len()),
             Piece::Repeated(held) => held.len(),
+            Piece::Mixed(held) => held.len(),
         }
     }
 }
 
-/// How many bytes the pieces stand for, if fewer than 2^64.
-pub(crate) fn total(pieces: &[Piece]) -> Option<usize>
-    ensures { IfSome result (λ n. n ≡ length (flat pieces.now)) }
-{
-    let mut sum = 0usize;
-    for piece in pieces {
-        sum = sum.checked_add(piece.len()?)?;
-    }
-    Some(sum)
-}
-
-/// Pieces below this size are put together, so that a small file takes few writes, in bytes; a
-/// repetition of fewer bytes is written out.
-pub(crate) const SMALL: usize = 4096;
-
-/// Whether the unit can be repeated in a piece, and the piece is not small.
-fn is_large(unit: &[u8], count: u64) -> bool
-    ensures some { IsTrue result → 0 < length unit.now }
-    ensures short { IsTrue result → length unit.now ≤ 8 }
-{
-    0 < unit.len() && unit.len() <= 8 && count.saturating_mul(unit.len() as u64) >= SMALL as u64
-}
-
-/// Appends a piece of bytes, if there are any.
-#[tactic(auto, using(crate::proofs::PieceLemmas::flat_push))]
-fn put_some(pieces: &mut Vec<Piece>, bytes: Vec<u8>) -> Result<(), AllocError>
-    ensures { OnOk result (flat pieces.new.items ≡ flat pieces.old.items ++ bytes.items) }
-{
-    if bytes.is_empty() {
-        return Ok(());
-    }
-    Ok(pieces.push(Piece::Bytes(bytes))?)
-}
-
-/// Pieces, and the last bytes behind them, to which more are appended.
+/// Pieces, one behind the other.
 #[derive(Drop)]
 pub(crate) struct Pieces {
-    alloc: Global,
-    whole: Vec<Piece>,
-    last: Vec<u8>,
+    list: Vec<Piece>,
 }
 
 impl Model for Pieces {
-    ghost use Rattle.std.specs.Prelude.{ℕ, List, ◌++◌};
+    ghost use Rattle.std.specs.Prelude.{ℕ, List};
     ghost use Rattle.elf_object.specs.Pieces.{flat};
 
     ghost Value = { List ℕ };
 
-    ghost view = { λ p. flat p.whole.items ++ p.last.items };
+    ghost view = { λ p. flat p.list.items };
 }
 
 impl Pieces {
-    ghost use Rattle.std.specs.Prelude.{◌≡◌, [], ◌++◌, IfOk, OnOk};
+    ghost use Rattle.std.specs.Prelude.{◌≡◌, [], ◌∷◌, ◌++◌, OnOk};
+    ghost use Rattle.asm_frags.specs.Contents.{repeated};
     ghost use Rattle.elf_object.specs.Pieces.{piece_bytes, flat};
 
-    /// No pieces, with room for so many bytes.
-    pub(crate) fn with_room(alloc: Global, room: usize) -> Result<Pieces, AllocError>
-        ensures { IfOk result (λ pieces. pieces ≡ []) }
+    /// No pieces.
+    pub(crate) fn new(alloc: Global) -> Pieces
+        ensures { result ≡ [] }
     {
-        Ok(Pieces {
-            alloc,
-            whole: Vec::new(alloc),
-            last: Vec::with_capacity(alloc, room)?,
-        })
-    }
-
-    /// Appends a piece without copying it.
-    #[tactic(auto, using(crate::proofs::PieceLemmas::flat_push))]
-    fn push(&mut self, piece: Piece) -> Result<(), AllocError>
-        ensures { OnOk result (self.new ≡ self.old ++ piece_bytes piece) }
-    {
-        let last = mem::replace(&mut self.last, Vec::new(self.alloc));
-        put_some(&mut self.whole, last)?;
-        Ok(self.whole.push(piece)?)
-    }
-
-    /// Appends bytes: to the last bytes where both are few, else as a piece, without a copy.
-    fn put_bytes(&mut self, bytes: Vec<u8>) -> Result<(), AllocError>
-        ensures { OnOk result (self.new ≡ self.old ++ bytes.items) }
-    {
-        if bytes.len() < SMALL && self.last.len() < SMALL {
-            self.last.extend_from_slice(&bytes)
-        } else {
-            self.push(Piece::Bytes(bytes))
+        Pieces {
+            list: Vec::new(alloc),
         }
     }
 
     /// Appends a piece.
+    #[tactic(auto, using(crate::proofs::PieceLemmas::flat_push))]
     pub(crate) fn put(&mut self, piece: Piece) -> Result<(), AllocError>
         ensures { OnOk result (self.new ≡ self.old ++ piece_bytes piece) }
     {
-        match piece {
-            Piece::Bytes(bytes) => self.put_bytes(bytes),
-            Piece::Repeated(held) => self.push(Piece::Repeated(held)),
-        }
+        Ok(self.list.push(piece)?)
     }
 
-    /// All pieces.
-    pub(crate) fn into_list(self) -> Result<Vec<Piece>, AllocError>
-        ensures { IfOk result (λ pieces. flat pieces.items ≡ self) }
+    /// Appends zeros.
+    pub(crate) fn put_zeros(&mut self, count: u64) -> Result<(), AllocError>
+        ensures { OnOk result (self.new ≡ self.old ++ repeated count (0 ∷ [])) }
     {
-        let mut pieces = self.whole;
-        put_some(&mut pieces, self.last)?;
-        Ok(pieces)
-    }
-}
-
-/// The bytes are appended; many that are repeated are a piece. After an `Err` the pieces are only
-/// dropped.
-impl TakesBytes for Pieces {
-    type Out = Result<(), AllocError>;
-
-    ghost takes = { λ before bytes answer after. OnOk answer (after ≡ before ++ bytes) };
-
-    fn bytes(&mut self, bytes: &[u8]) -> Result<(), AllocError> {
-        self.last.extend_from_slice(bytes)
-    }
-
-    fn repeated(&mut self, unit: &[u8], count: u64) -> Result<(), AllocError> {
-        if is_large(unit, count) {
-            self.push(Piece::Repeated(Repetition::new(unit, count)))
-        } else {
-            self.last.repeated(unit, count)
+        if count == 0 {
+            return Ok(());
         }
+        self.put(Piece::Repeated(Repetition::new([0; 8], 1, count)))
+    }
+
+    /// The list of the pieces.
+    pub(crate) fn into_list(self) -> Vec<Piece>
+        ensures { flat result.items ≡ self }
+    {
+        self.list
     }
 }

@@ -14,7 +14,6 @@ use crate::offsets::{
 };
 use crate::sections::{Body, FileSection, section_header, string_section};
 use crate::string_table::{put_joined, put_name};
-use asm_frags::TakesBytes;
 use std::alloc::{AllocError, Global};
 
 /// The ELF header, where the header table has this offset and count, and the last section has the names (`Elf64_Ehdr`).
@@ -72,7 +71,7 @@ impl Laid {
     {
         // No file has 2^64 bytes.
         let end = next_multiple(self.end, alignment).ok_or(AllocError)?;
-        self.pieces.repeated(&[0], (end - self.end) as u64)?;
+        self.pieces.put_zeros((end - self.end) as u64)?;
         self.end = end;
         Ok(())
     }
@@ -91,19 +90,6 @@ impl Laid {
         Ok(())
     }
 
-    /// Appends pieces.
-    fn put_pieces(&mut self, pieces: Vec<Piece>) -> Result<(), AllocError>
-        requires { ends_at self.old.end self.old.pieces }
-        ensures pieces { OnOk result (self.new.pieces ≡ self.old.pieces ++ flat pieces.items) }
-        ensures ends { OnOk result (ends_at self.new.end self.new.pieces) }
-        ensures kept { self.new.headers.items ≡ self.old.headers.items }
-    {
-        for piece in pieces {
-            self.put_piece(piece)?;
-        }
-        Ok(())
-    }
-
     /// Appends what a section holds in the file.
     fn put_body(&mut self, body: Body) -> Result<(), AllocError>
         requires { ends_at self.old.end self.old.pieces }
@@ -114,7 +100,7 @@ impl Laid {
     {
         match body {
             Body::Bytes(bytes) => self.put_piece(Piece::Bytes(bytes)),
-            Body::Pieces(pieces) => self.put_pieces(pieces),
+            Body::Mixed(held) => self.put_piece(Piece::Mixed(held)),
             Body::NoBits(_) => Ok(()),
         }
     }
@@ -150,7 +136,7 @@ fn lay_out(alloc: Global, names: &[usize], sections: Vec<FileSection>) -> Result
     ensures ends { IfOk result (λ l. ends_at l.end l.pieces) }
 {
     let mut laid = Laid {
-        pieces: Pieces::with_room(alloc, 0)?,
+        pieces: Pieces::new(alloc),
         end: EHDR_SIZE,
         headers: vec![in alloc; 0; 64]?,
     };
@@ -213,6 +199,6 @@ pub(crate) fn laid_file(alloc: Global, sections: Vec<FileSection>) -> Result<Fil
     pieces.put(Piece::Bytes(laid.headers))?;
     Ok(File {
         header,
-        pieces: pieces.into_list()?,
+        pieces: pieces.into_list(),
     })
 }

@@ -14,6 +14,7 @@ mod naming;
 mod numbers;
 mod object;
 mod offsets;
+mod output_buffer;
 mod reader;
 mod references;
 mod relocations;

@@ -117,9 +117,11 @@ pub(crate) struct Listing<'a> {
 pub(crate) fn list_symbols<'a>(
     alloc: Global,
     at: Placement<'a>,
+    expansions: &Expansions,
     named: &Named,
 ) -> Result<Listing<'a>, NoMemory>
-    requires { length named.now.symbols.items ≡ length at.symbols.now.symbols }
+    requires expanded { AreExpansions at.symbols.now expansions.now }
+    requires marks { length named.now.symbols.items ≡ length at.symbols.now.symbols }
     ensures symbols { IfOk result (λ l. map symbol_view l.symbols.items
         ≡ spec.table_of at.entry.symbols.now at.entry.sections.now (named_view named.now)) }
     ensures first_other { IfOk result (λ l. l.first_other
@@ -127,15 +129,9 @@ pub(crate) fn list_symbols<'a>(
     ensures numbers { IfOk result (λ l. numbers_view l.numbers
         ≡ numbers_of at.entry.symbols.now at.entry.sections.now (named_view named.now)) }
 {
-    let expansions = Expansions::new(alloc, at.symbols)?;
-    let all = listed_symbols(
-        alloc,
-        at,
-        &expansions,
-        &named.symbols,
-        at.symbols.as_slice(),
-    )?;
-    let mut symbols = Vec::new(alloc);
+    let all = listed_symbols(alloc, at, expansions, &named.symbols, at.symbols.as_slice())?;
+    let room = all.len().saturating_add(named.sections.len());
+    let mut symbols = Vec::with_capacity(alloc, room)?;
     put_files(&mut symbols, at.symbols.files())?;
     let first_section = 1 + symbols.len();
     put_sections(&mut symbols, &named.sections)?;

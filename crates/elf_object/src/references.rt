@@ -1,9 +1,9 @@
 //! What relocations refer to: the forms of fields that the linker can work out.
 
-ghost use Rattle.std.specs.Prelude.{◌≡◌, IfOk};
+ghost use Rattle.std.specs.Prelude.{◌≡◌, None, IfOk};
 ghost use Rattle.asm_expr.specs.Knowledge.{told_by};
 ghost use Rattle.asm_expr.specs.Settled.{settled};
-ghost use Rattle.asm_relax.specs.Final.{final_told};
+ghost use Rattle.asm_relax.specs.Final.{final_told, laid_value};
 ghost use Rattle.elf_object.specs.Relocations as spec;
 
 use crate::relocations::{Relocation, Target, kind_for};
@@ -31,6 +31,7 @@ pub struct Reference {
 }
 
 /// A local symbol is named by its section, unless the linker may move what stands there.
+#[inline(always)]
 fn label_reference(at: Placement, index: usize, local: bool, spot: Spot) -> Option<SymbolReference>
     ensures { result ≡ spec.label_reference at.entry.sections.now index local spot }
 {
@@ -53,6 +54,7 @@ fn label_reference(at: Placement, index: usize, local: bool, spot: Spot) -> Opti
 }
 
 /// What a relocation names for the symbol at this index.
+#[inline(always)]
 fn reference_at(at: Placement, index: usize, symbol: &Symbol) -> Option<SymbolReference>
     ensures { result ≡ spec.reference_at at.entry.sections.now index symbol.now }
 {
@@ -68,6 +70,7 @@ fn reference_at(at: Placement, index: usize, symbol: &Symbol) -> Option<SymbolRe
 }
 
 /// What a relocation names for this symbol, if it is there.
+#[inline(always)]
 #[tactic(auto, unfolding(crate::specs::Relocations::reference_found))]
 fn reference_found(at: Placement, id: SymId) -> Option<SymbolReference>
     ensures { result ≡ spec.reference_found at.entry.symbols.now at.entry.sections.now id }
@@ -80,6 +83,7 @@ fn reference_found(at: Placement, id: SymId) -> Option<SymbolReference>
 }
 
 /// The address of a label of this section.
+#[inline(always)]
 fn own_address(section: usize, look: Look) -> Option<u64>
     ensures { result ≡ spec.own_address section (told_by look.entry) }
 {
@@ -90,6 +94,7 @@ fn own_address(section: usize, look: Look) -> Option<u64>
 }
 
 /// The reference to a symbol or section, with a number added.
+#[inline(always)]
 fn reference_to(relative: bool, number: u64, to: SymbolReference) -> Reference
     ensures { result ≡ spec.reference relative number to }
 {
@@ -101,6 +106,7 @@ fn reference_to(relative: bool, number: u64, to: SymbolReference) -> Reference
 }
 
 /// S + c.
+#[inline(always)]
 fn direct(at: Placement, id: SymId, number: u64) -> Option<Reference>
     ensures { result ≡ spec.direct at.entry.symbols.now at.entry.sections.now id number }
 {
@@ -111,6 +117,7 @@ fn direct(at: Placement, id: SymId, number: u64) -> Option<Reference>
 }
 
 /// S + c - L, where L is a label of the section that the field stands in.
+#[inline(always)]
 fn relative(
     at: Placement,
     section: usize,
@@ -149,6 +156,7 @@ fn is_minus(term: &Term) -> bool
 }
 
 /// What two terms and a number refer to.
+#[inline(always)]
 fn pair(
     at: Placement,
     section: usize,
@@ -170,6 +178,7 @@ fn pair(
 }
 
 /// What is left of the form of a field, at this place of the section of this number, where a relocation can say it.
+#[inline(always)]
 fn reference_by(at: Placement, section: usize, place: u64, form: &Linear) -> Option<Reference>
     ensures { result ≡ spec.reference_of at.entry.symbols.now at.entry.sections.now section place
         form.now }
@@ -191,8 +200,10 @@ pub(crate) fn lone_symbol(terms: &[Term]) -> Option<SymId>
     }
 }
 
-/// The same, of a form in which labels may still cancel.
-fn reference_of(
+/// What is left of the form of a field in which labels may still cancel, where a relocation can say
+/// it.
+#[inline(never)]
+fn settled_reference(
     alloc: Global,
     at: Placement,
     section: usize,
@@ -202,10 +213,6 @@ fn reference_of(
     ensures { IfOk result (λ found. found
         ≡ spec.final_reference at.entry.symbols.now at.entry.sections.now section place form.now) }
 {
-    // A symbol alone is the common case: none cancels it, and the form is not copied.
-    if let Some(symbol) = lone_symbol(form.terms()) {
-        return Ok(direct(at, symbol, form.constant()));
-    }
     let view = FinalView {
         symbols: at.symbols,
         sections: at.sections,
@@ -216,7 +223,39 @@ fn reference_of(
     }
 }
 
-/// The relocation of a field of the section of this number.
+/// Whether no label can cancel in a form of these terms that has no value: a symbol stands alone,
+/// or another one is taken away from it.
+fn stays(terms: &[Term]) -> bool
+    ensures { result ≡ spec.stays terms.now }
+{
+    match terms {
+        [term] => is_plus(term),
+        [one, other] => is_plus(one) && is_minus(other),
+        _ => false,
+    }
+}
+
+/// What is left of the form of a field that has no value, where a relocation can say it. In the
+/// common cases nothing cancels, and the form is not copied.
+#[tactic(auto, using(crate::proofs::KeptForms::kept))]
+fn reference_of(
+    alloc: Global,
+    at: Placement,
+    section: usize,
+    place: u64,
+    form: &Linear,
+) -> Result<Option<Reference>, NoMemory>
+    requires { laid_value at.symbols.now at.sections.now form.now ≡ None }
+    ensures { IfOk result (λ found. found
+        ≡ spec.final_reference at.entry.symbols.now at.entry.sections.now section place form.now) }
+{
+    if stays(form.terms()) {
+        return Ok(reference_by(at, section, place, form));
+    }
+    settled_reference(alloc, at, section, place, form)
+}
+
+/// The relocation of a field of the section of this number, which has no value.
 #[tactic(auto, unfolding(crate::specs::Relocations::field_relocation))]
 pub(crate) fn field_relocation(
     alloc: Global,
@@ -225,6 +264,7 @@ pub(crate) fn field_relocation(
     section: &Section<Laid>,
     field: &Field,
 ) -> Result<Option<Relocation>, NoMemory>
+    requires { laid_value at.symbols.now at.sections.now field.now.form ≡ None }
     ensures { IfOk result (λ found. found
         ≡ spec.field_relocation at.entry.symbols.now at.entry.sections.now number section.now
         field.now) }

@@ -8,7 +8,7 @@ ghost use Rattle.elf_object.specs.Faults as spec;
 use crate::faults::ObjectCause;
 use crate::symbol_values::{Placement, is_file_local, size_value};
 use asm_base::NoMemory;
-use asm_expr::Linear;
+use asm_expr::BoxedForm;
 use asm_relax::Expansions;
 use asm_symbols::{Meaning, Symbol};
 use std::alloc::Global;
@@ -51,7 +51,7 @@ fn unknown_size(
     alloc: Global,
     at: Placement,
     expansions: &Expansions,
-    size: &Option<Linear>,
+    size: &Option<BoxedForm>,
 ) -> Result<bool, NoMemory>
     requires { AreExpansions at.symbols.now expansions.now }
     ensures { IfOk result (λ unknown. unknown
@@ -59,7 +59,7 @@ fn unknown_size(
 {
     match size {
         None => Ok(false),
-        Some(form) => Ok(size_value(alloc, at, expansions, form)?.is_none()),
+        Some(size) => Ok(size_value(alloc, at, expansions, size.as_form())?.is_none()),
     }
 }
 
@@ -121,12 +121,16 @@ fn first_unknown(
 }
 
 /// The fault of the first `.size` statement without a value.
-pub(crate) fn size_fault(alloc: Global, at: Placement) -> Result<Option<ObjectCause>, NoMemory>
+pub(crate) fn size_fault(
+    alloc: Global,
+    at: Placement,
+    expansions: &Expansions,
+) -> Result<Option<ObjectCause>, NoMemory>
+    requires { AreExpansions at.symbols.now expansions.now }
     ensures { IfOk result (λ fault. fault
         ≡ spec.size_fault at.entry.symbols.now at.entry.sections.now) }
 {
-    let expansions = Expansions::new(alloc, at.symbols)?;
-    match first_unknown(alloc, at, &expansions, at.symbols.as_slice())? {
+    match first_unknown(alloc, at, expansions, at.symbols.as_slice())? {
         Some(found) => Ok(Some(ObjectCause::SizeNotKnown(found.symbol))),
         None => Ok(None),
     }

@@ -7,7 +7,7 @@ ghost use Rattle.elf_object.specs.Views.{content_view, section_view, held_entry,
 
 use crate::contents::HeldSection;
 use crate::fields::{put_word, put_xword};
-use crate::file_pieces::{Piece, total};
+use crate::file_pieces::Mixed;
 use crate::numbers::Numbers;
 use crate::offsets::{
     RELA_SIZE, SH_ADDRALIGN, SH_ENTSIZE, SH_FLAGS, SH_INFO, SH_LINK, SH_NAME, SH_OFFSET, SH_SIZE,
@@ -33,7 +33,7 @@ const SHF_INFO_LINK: u64 = 0x40;
 #[derive(Drop)]
 pub(crate) enum Body {
     Bytes(Vec<u8>),
-    Pieces(Vec<Piece>),
+    Mixed(Mixed),
     /// Space of this size, which takes no bytes in the file (`SHT_NOBITS`).
     NoBits(u64),
 }
@@ -45,7 +45,7 @@ impl Body {
     {
         match self {
             Body::Bytes(bytes) => Some(bytes.len() as u64),
-            Body::Pieces(pieces) => Some(total(pieces)? as u64),
+            Body::Mixed(held) => Some(held.len()? as u64),
             Body::NoBits(size) => Some(*size),
         }
     }
@@ -96,7 +96,8 @@ fn relocation_bytes(
     ensures { IfOk result (λ bytes. bytes.items
         ≡ spec.relocation_bytes (numbers_view numbers.now) relocations.now) }
 {
-    let mut out = Vec::new(alloc);
+    let room = relocations.len().saturating_mul(RELA_SIZE);
+    let mut out = Vec::with_capacity(alloc, room)?;
     for relocation in relocations {
         let number = numbers.of(relocation.target);
         out.extend_from_slice(&relocation_entry(number, relocation))?;

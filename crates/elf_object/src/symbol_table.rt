@@ -7,6 +7,7 @@ ghost use Rattle.elf_object.specs.SymbolTable.{symbol_bytes};
 ghost use Rattle.elf_object.specs.Views.{symbol_view};
 
 use crate::entries::{TableSymbol, symbol_bytes};
+use crate::offsets::SYM_SIZE;
 use crate::string_table::put_name;
 use std::alloc::{AllocError, Global};
 
@@ -44,8 +45,11 @@ pub(crate) fn symbol_table(
     ensures strings { IfOk result (λ t. t.strings.items
         ≡ string_table_of (symbol_names (map symbol_view symbols.now))) }
 {
+    let room = symbols.len().saturating_add(1).saturating_mul(SYM_SIZE);
+    let mut entries = Vec::with_capacity(alloc, room)?;
+    entries.resize(SYM_SIZE, 0)?;
     let mut table = SymbolTable {
-        entries: vec![in alloc; 0; 24]?,
+        entries,
         strings: vec![in alloc; 0; 1]?,
     };
     for symbol in symbols {

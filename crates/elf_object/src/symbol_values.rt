@@ -8,9 +8,9 @@ ghost use Rattle.elf_object.specs.FileLocals.{is_file_local};
 ghost use Rattle.elf_object.specs.SymbolValues as spec;
 
 use asm_base::NoMemory;
-use asm_expr::{Known, Linear, Look, Name, copied_form};
+use asm_expr::{Known, Linear, Look, Name};
 use asm_frags::{Laid, Section, SectionFlags, Sections};
-use asm_relax::{Expansions, FinalView, address_of, final_form, laid_value};
+use asm_relax::{Expansions, FinalView, address_of, end_value, final_form};
 use asm_symbols::{Binding, Meaning, Spot, Symbols};
 use bitflags::Flags;
 use std::alloc::Global;
@@ -107,7 +107,7 @@ pub(crate) fn symbol_value_of(
             value: *align,
         })),
         Meaning::Assigned(form) => {
-            let made = final_form(alloc, expansions, at.symbols, at.sections, form)?;
+            let made = final_form(alloc, expansions, at.symbols, at.sections, form.as_form())?;
             Ok(final_value(at, &made))
         }
     }
@@ -124,8 +124,7 @@ pub(crate) fn size_value(
     ensures { IfOk result (λ value. value
         ≡ field_value at.entry.symbols.now at.entry.sections.now size.now) }
 {
-    let made = expansions.expand(alloc, at.symbols, copied_form(alloc, size)?)?;
-    Ok(laid_value(at.symbols, at.sections, &made))
+    end_value(alloc, expansions, at.symbols, at.sections, size)
 }
 
 /// A symbol for which the linker finds a place is weak where that is said, and else global.

@@ -1,5 +1,5 @@
 -- Step by step along the chain.
-use Rattle.std.proofs.Common.{sym, ap, ◌∙◌, option_map}
+use Rattle.std.proofs.Common.{Some, sym, ap, ◌∙◌, option_map}
 use Rattle.elf_object.specs.Aliases.{symbol_size}
 use Rattle.elf_object.proofs.AliasLemmas.{along_step, along_found, along_end, along_done}
 use Rattle.elf_object.proofs.aliases.symbol_size.Goals as goal
@@ -11,7 +11,8 @@ returns-in_default-symbol_at c =
 
 pub returns-in-Some-size : goal.returns-in-Some-size
 returns-in-Some-size c =
-    along_found (λ s. s.size) c.args.symbols.now (symbol_size c.args.symbols.now c.args.symbol.now) c.loop-left.left c.loop-left.next
+    ap Some c.as_form-in-Some-size.ensures
+    ∙ along_found (λ s. s.size) c.args.symbols.now (symbol_size c.args.symbols.now c.args.symbol.now) c.loop-left.left c.loop-left.next
     c.in-Some-symbol_at.found.now _ c.loop-left-test.true (sym c.symbol_at.ensures ∙ ap (option_map (λ s. s.now)) c.in-Some-symbol_at.is) c.in-Some-size.is c.loop-left.invariant
 
 pub loop-left-preserved : goal.loop-left-preserved

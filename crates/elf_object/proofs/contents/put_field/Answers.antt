@@ -1,9 +1,21 @@
--- A field with a value has no relocation.
-use Rattle.std.proofs.Common.{sym, ◌∙◌, append-nil}
+-- A field with a value has no relocation, and one with a relocation stays zeros.
+use Rattle.std.proofs.Common.{◌≡◌, None, sym, ap, ◌∙◌, arith, append-nil}
+use Rattle.std.specs.Prelude.{unwrap_or}
+use Rattle.asm_frags.specs.Fields.{low_bytes}
+use Rattle.asm_frags.specs.PlainBytes.{field_end}
+use Rattle.asm_relax.specs.Final.{laid_value}
 use Rattle.elf_object.proofs.FieldLemmas.{valued}
+use Rattle.elf_object.proofs.PatchLemmas.{blank_stays}
 use Rattle.elf_object.proofs.contents.put_field.Goals as goal
 
 pub returns-in-Some-clause-relocations : goal.returns-in-Some-clause-relocations
 returns-in-Some-clause-relocations c =
     let none = valued c.args.at.symbols.now c.args.at.sections.now c.args.number c.in-Some.value c.args.section.now c.args.field.now (sym c.laid_value.ensures ∙ c.in-Some.is) in
     rw none (sym (append-nil c.args.out.now.relocations.items))
+
+pub returns-in_ok-push-in-Some-2-clause-bytes : goal.returns-in_ok-push-in-Some-2-clause-bytes
+returns-in_ok-push-in-Some-2-clause-bytes c =
+    let field = c.args.field.now in
+    let none : laid_value c.args.at.symbols.now c.args.at.sections.now field.form ≡ None = sym c.laid_value.ensures ∙ c.in_default.is in
+    blank_stays c.args.out.now.bytes.items field.offset (field_end field) _ (omega arith)
+    (c.requires.blank ∙ ap (λ v. low_bytes field.size (unwrap_or v 0)) (sym none))

@@ -11,8 +11,8 @@ use Rattle.elf_object.proofs.MarkLemmas.{named_long}
 use Rattle.elf_object.proofs.ImageLemmas.{sections_made}
 use Rattle.elf_object.proofs.object.image.Goals as goal
 
-pub list_symbols-requires : goal.list_symbols-requires
-list_symbols-requires c = named_long (named_view c.in_ok-named.named) _ _ c.in_ok-named.ensures ∙ c.len.ensures
+pub list_symbols-requires-clause-marks : goal.list_symbols-requires-clause-marks
+list_symbols-requires-clause-marks c = named_long (named_view c.in_ok-named.named) _ _ c.in_ok-named.ensures ∙ c.len.ensures
 
 pub returns : goal.returns
 unfolding image_with
@@ -29,6 +29,6 @@ returns c =
     let made = sections_made symbols sections found (named_view c.in_ok-named.named) (numbers_view c.in_ok-listing.listing.numbers) c.in_ok-headers.headers.next c.in_ok-listing.listing.first_other
     c.deref-3.result.now c.in_ok-table.table.entries.items c.in_ok-table.table.strings.items (map symbol_view c.deref-4.result.now) (map held_entry held)
     c.in_ok-sections.sections.items c.push.new.self.items c.push-2.new.self.items c.symbol_section.result c.string_section.result
-    c.in_ok-listing.ensures.numbers next c.in_ok-listing.ensures.first_other indices listed c.requires c.in_ok-table.ensures.entries c.in_ok-table.ensures.strings
+    c.in_ok-listing.ensures.numbers next c.in_ok-listing.ensures.first_other indices listed c.requires.entries c.in_ok-table.ensures.entries c.in_ok-table.ensures.strings
     c.in_ok-sections.ensures c.symbol_section.ensures c.in_ok-push.ensures.items c.string_section.ensures c.in_ok-push-2.ensures.items in
     subst (λ (ss : List SectionEntry). IfOk c.laid_file.result (λ f. f.header ++ flat f.pieces.items ≡ file_with ss)) (made ∙ ap (before_names symbols sections found) named) c.laid_file.ensures

@@ -1,0 +1,108 @@
+-- A symbol alone, or one less another one, stays as it is where it has no value.
+use Rattle.std.proofs.Common.{◌≡◌, ℕ, ◌+◌, ◌-◌, ◌*◌, ◌^◌, ◌==◌, Bool, true, false, not, List, [], ◌∷◌, None, refl, sym, ap, ◌∙◌, arith}
+use Rattle.std.proofs.lemmas.Bool.Decides.{nat_tests}
+use Rattle.asm_expr.specs.declared.forms.Term.{Term}
+use Rattle.asm_expr.specs.Forms.{Form, wrapped, term_of, constant_form}
+use Rattle.asm_expr.specs.Knowledge.{Told, absent, constant, label, form}
+use Rattle.asm_expr.specs.Settled.{put_all, settled, nothing_cancels, cannot_cancel, constant_left}
+use Rattle.asm_expr.proofs.SettledLemmas.{none_cancel, stays as nothing_left}
+use Rattle.asm_symbols.specs.SymbolMap.{SymbolMap}
+use Rattle.asm_relax.specs.Final.{final_told, laid_value}
+use Rattle.asm_relax.specs.Settling.{LaidSections}
+use Rattle.elf_object.proofs.ItemBytes.{both_true}
+use Rattle.elf_object.specs.Relocations.{is_plus, is_minus, stays, reference_of, final_reference}
+
+is_number : (coefficient n : ℕ) → (coefficient == n) ≡ true → coefficient ≡ n
+is_number coefficient n e = grind (arith, nat_tests)
+
+stands_alone : (term : Term) → is_plus term ≡ true → cannot_cancel (term ∷ []) ≡ true
+stands_alone term e = ap (λ n. not (wrapped n == 0)) (is_number term.coefficient 1 e)
+
+-- a symbol and a number, another one taken away
+abbrev pair_of : ℕ → ℕ → ℕ → Form
+pair_of one other total = record { terms = term_of one 1 ∷ term_of other (2 ^ 64 - 1) ∷ []; constant = total }
+
+-- two labels of one stretch cancel
+labels_cancel : (told : ℕ → Told) (stretch at origin one other total : ℕ) → told one ≡ label stretch at → told other ≡ label stretch origin
+    → settled told (pair_of one other total) ≡ constant_form (wrapped (wrapped (total + wrapped (1 * at)) + wrapped ((2 ^ 64 - 1) * origin)))
+unfolding settled put_all
+labels_cancel told stretch at origin one other total is also =
+    let same : (stretch == stretch) ≡ true = grind (arith, nat_tests) in
+    rw (is, also, same) refl
+
+-- so labels of one stretch have a value
+no_stretch : (told : ℕ → Told) (stretch others at origin one other total : ℕ) → told one ≡ label stretch at → told other ≡ label others origin
+    → constant_left (settled told (pair_of one other total)) ≡ None → (others == stretch) ≡ false
+no_stretch told stretch others at origin one other total is also none = by (others == stretch) refl
+  where
+    by : (b : Bool) → (others == stretch) ≡ b → (others == stretch) ≡ false
+    by false test = test
+    by true test =
+        let same : others ≡ stretch = is_number others stretch test in
+        let found = labels_cancel told stretch at origin one other total is (rw same at also) in
+        absurd (some_left _ (sym (ap constant_left found) ∙ none))
+      where
+        some_left : (n : ℕ) → constant_left (constant_form n) ≡ None → ⊥
+        some_left n e = cc
+
+both_stay : (told : ℕ → Told) (one other total : ℕ) (a b : Told) → told one ≡ a → told other ≡ b → constant_left (settled told (pair_of one other total)) ≡ None
+    → nothing_cancels told (term_of one 1 ∷ term_of other (2 ^ 64 - 1) ∷ []) ≡ true
+both_stay told one other total absent absent is also none = rw (is, also) refl
+both_stay told one other total absent (constant number) is also none = rw (is, also) refl
+both_stay told one other total absent (form made) is also none = rw (is, also) refl
+both_stay told one other total (constant number) absent is also none = rw (is, also) refl
+both_stay told one other total (constant number) (constant more) is also none = rw (is, also) refl
+both_stay told one other total (constant number) (form made) is also none = rw (is, also) refl
+both_stay told one other total (form made) absent is also none = rw (is, also) refl
+both_stay told one other total (form made) (constant number) is also none = rw (is, also) refl
+both_stay told one other total (form made) (form more) is also none = rw (is, also) refl
+both_stay told one other total absent (label stretch at) is also none =
+    let same : (stretch == stretch) ≡ true = grind (arith, nat_tests) in
+    rw (is, also, same) refl
+both_stay told one other total (constant number) (label stretch at) is also none =
+    let same : (stretch == stretch) ≡ true = grind (arith, nat_tests) in
+    rw (is, also, same) refl
+both_stay told one other total (form made) (label stretch at) is also none =
+    let same : (stretch == stretch) ≡ true = grind (arith, nat_tests) in
+    rw (is, also, same) refl
+both_stay told one other total (label stretch at) absent is also none =
+    let same : (stretch == stretch) ≡ true = grind (arith, nat_tests) in
+    rw (is, also, same) refl
+both_stay told one other total (label stretch at) (constant number) is also none =
+    let same : (stretch == stretch) ≡ true = grind (arith, nat_tests) in
+    rw (is, also, same) refl
+both_stay told one other total (label stretch at) (form made) is also none =
+    let same : (stretch == stretch) ≡ true = grind (arith, nat_tests) in
+    rw (is, also, same) refl
+both_stay told one other total (label stretch at) (label others origin) is also none =
+    let differ = no_stretch told stretch others at origin one other total is also none in
+    let back : (stretch == others) ≡ false = grind (arith, nat_tests) in
+    let same : (stretch == stretch) ≡ true = grind (arith, nat_tests) in
+    let equal : (others == others) ≡ true = grind (arith, nat_tests) in
+    rw (is, also, same, equal, differ, back) refl
+
+pair_stays : (told : ℕ → Told) (one other total : ℕ) → constant_left (settled told (pair_of one other total)) ≡ None → pair_of one other total ≡ settled told (pair_of one other total)
+pair_stays told one other total none = none_cancel told (pair_of one other total) (both_stay told one other total (told one) (told other) refl refl none)
+
+pair_of_terms : (told : ℕ → Told) (one other : Term) (total : ℕ) → one.coefficient ≡ 1 → other.coefficient ≡ 2 ^ 64 - 1
+    → (let made : Form = record { terms = one ∷ other ∷ []; constant = total } in constant_left (settled told made) ≡ None → made ≡ settled told made)
+pair_of_terms told one other total first second none =
+    let same : (let made : Form = record { terms = one ∷ other ∷ []; constant = total } in pair_of one.symbol other.symbol total ≡ made) =
+    ap (λ n. let made : Form = record { terms = term_of one.symbol n ∷ term_of other.symbol (2 ^ 64 - 1) ∷ []; constant = total } in made) (sym first)
+    ∙ ap (λ n. let made : Form = record { terms = one ∷ term_of other.symbol n ∷ []; constant = total } in made) (sym second) in
+    sym same ∙ pair_stays told one.symbol other.symbol total (ap (λ (f : Form). constant_left (settled told f)) same ∙ none) ∙ ap (settled told) same
+
+stays_by : (told : ℕ → Told) (terms : List Term) (total : ℕ) → stays terms ≡ true
+    → (let made : Form = record { terms = terms; constant = total } in constant_left (settled told made) ≡ None → made ≡ settled told made)
+stays_by told [] total is none = absurd cc
+stays_by told (term ∷ []) total is none = nothing_left told (record { terms = term ∷ []; constant = total }) (stands_alone term is)
+stays_by told (one ∷ other ∷ []) total is none =
+    let both = both_true (is_plus one) (is_minus other) is in
+    pair_of_terms told one other total (is_number one.coefficient 1 both.0) (is_number other.coefficient (2 ^ 64 - 1) both.1) none
+stays_by told (one ∷ other ∷ third ∷ more) total is none = absurd cc
+
+-- such a form without a value refers to what it says
+pub kept : (map : SymbolMap) (sections : LaidSections) (number place : ℕ) (made : Form) → stays made.terms ≡ true → laid_value map sections made ≡ None
+    → reference_of map sections number place made ≡ final_reference map sections number place made
+unfolding laid_value
+kept map sections number place made is none = ap (reference_of map sections number place) (stays_by (final_told map sections) made.terms made.constant is none)
