@@ -1,5 +1,5 @@
 -- What the reading of an expression of numbers finds, step by step.
-use Rattle.std.proofs.Common.{◌≡◌, ℕ, zero, suc, ◌+◌, ◌-◌, ◌<◌, ◌≤◌, Bool, true, false, cond, nat_lt, List, [], ◌∷◌, Option, Some, None, Ok, Err, length, get_or, drop, map, refl, sym, ap, ◌∙◌, arith, length-drop}
+use Rattle.std.proofs.Common.{◌≡◌, ℕ, zero, suc, ◌+◌, ◌-◌, ◌<◌, ◌≤◌, Bool, true, false, cond, nat_lt, nat_le, List, [], ◌∷◌, Option, Some, None, Ok, Err, length, get_or, drop, map, refl, sym, ap, ◌∙◌, arith, length-drop}
 use Rattle.std.proofs.lemmas.Bool.Decides.{nat_tests}
 use Rattle.std.proofs.lemmas.List.{length-map}
 use Rattle.asm_base.specs.declared.tokens.Token.{Token}
@@ -10,13 +10,15 @@ use Rattle.asm_expr.specs.declared.trees.UnaryOp.{UnaryOp}
 use Rattle.asm_expr.specs.declared.trees.BinaryOp.{BinaryOp}
 use Rattle.asm_expr.specs.Trees.{Tree, number, unary, binary, height}
 use Rattle.asm_expr.specs.Arithmetic.{turned, combined}
-use Rattle.asm_expr.specs.Operators.{opens, closes, prefix_of, level_of}
+use Rattle.asm_expr.specs.declared.trees.BinaryOp.TheVariants.{Mul, Div, Rem, Shl, Shr, Or, And, Xor, OrNot, Add, Sub, Eq, Ne, Lt, Gt, Le, Ge, BothTrue, OneTrue}
+use Rattle.asm_expr.specs.Operators.{opens, closes, prefix_of, operator_of, level_of}
 use Rattle.asm_expr.specs.Leaves.{leaf_of}
-use Rattle.asm_expr.specs.Reading.{Reading, Read, read, whole, closed, closed_by, deeper, unopened, operand_of, operator_at, follow, reading, read_at, read_more}
+use Rattle.asm_expr.specs.Reading.{Reading, Read, read, whole, closed, closed_by, deeper, unopened, operand_of, operator_at, operator_from, follow, reading, read_at, read_more}
 use Rattle.asm_expr.specs.Found.{spelled_from, operator_in}
 use Rattle.asm_operands.specs.declared.constants.Counted.{Counted}
 use Rattle.asm_operands.specs.Constants.{IsConstant}
-use Rattle.asm_operands.specs.Counting.{Counts, first_operator, operand_in, ReadsOperand, ReadsExpression, ReadsMore, IsCounted}
+use Rattle.asm_operands.specs.Levels.{level_by, token_level}
+use Rattle.asm_operands.specs.Counting.{Counts, operand_in, first_level, ReadsOperand, ReadsExpression, ReadsMore, IsRead}
 use Rattle.asm_operands.proofs.LeafLemmas.{leaf_reads}
 use Rattle.asm_operands.proofs.TokenLists.{none_left, one_left}
 use Rattle.asm_operands.proofs.TreeCounts.{number_counts, lifted, unary_counts, binary_counts, whole_low}
@@ -122,41 +124,104 @@ goes_on (first ∷ others) at next level depth op left right found inside some r
     let all = goes level depth op left right (spelled (get_or tokens at first)) (spelled_from tokens (at + 1)) (spelled_from tokens next) found (operator_is tokens at level first op inside some) reads fits (omega arith) more in
     rw (one_left tokens at first inside) all
 
+-- an operator that binds tightly enough, or none
+level_low : (op : Option BinaryOp) → level_by op ≤ 6
+unfolding level_by level_of
+level_low None = omega arith
+level_low (Some Mul) = omega arith
+level_low (Some Div) = omega arith
+level_low (Some Rem) = omega arith
+level_low (Some Shl) = omega arith
+level_low (Some Shr) = omega arith
+level_low (Some Or) = omega arith
+level_low (Some And) = omega arith
+level_low (Some Xor) = omega arith
+level_low (Some OrNot) = omega arith
+level_low (Some Add) = omega arith
+level_low (Some Sub) = omega arith
+level_low (Some Eq) = omega arith
+level_low (Some Ne) = omega arith
+level_low (Some Lt) = omega arith
+level_low (Some Gt) = omega arith
+level_low (Some Le) = omega arith
+level_low (Some Ge) = omega arith
+level_low (Some BothTrue) = omega arith
+level_low (Some OneTrue) = omega arith
+
+pub levels_low : (tokens : List SpelledToken) → first_level tokens ≤ 6
+unfolding first_level
+levels_low [] = omega arith
+levels_low (token ∷ rest) = level_low (operator_of token)
+
+from_none : (level : ℕ) (op : Option BinaryOp) → level_by op < level → None ≡ operator_from level op
+unfolding level_by
+from_none level None low = refl
+from_none level (Some op) low = by (nat_le level (level_of op)) refl
+  where
+    by : (b : Bool) → nat_le level (level_of op) ≡ b → None ≡ cond b (Some op) None
+    by true is = absurd (grind (arith, nat_tests))
+    by false is = refl
+
+-- where the level is too low, no operator follows that binds tightly enough
+pub none_in : (level : ℕ) (tokens : List SpelledToken) → first_level tokens < level → None ≡ operator_in level tokens
+unfolding operator_in first_level
+none_in level [] low = refl
+none_in level (token ∷ rest) low = from_none level (operator_of token) low
+
+-- an operator that binds at least so tightly
+pub record HasOperator (level : ℕ) (token : SpelledToken) (now : ℕ) : Type 0 where
+  pub op : BinaryOp
+  pub is : operator_of token ≡ Some op
+  pub from : Some op ≡ operator_at level token
+  pub binds : level_of op ≡ now
+
+pub from_some : (level : ℕ) (token : SpelledToken) (op : Option BinaryOp) → operator_of token ≡ op → 1 ≤ level → level ≤ level_by op → HasOperator level token (level_by op)
+unfolding level_by
+from_some level token None is some high = absurd (omega arith)
+from_some level token (Some op) is some high = record {
+  op = op;
+  is = is;
+  from = rw is (by (nat_le level (level_of op)) refl);
+  binds = refl;
+}
+  where
+    by : (b : Bool) → nat_le level (level_of op) ≡ b → Some op ≡ cond b (Some op) None
+    by true test = refl
+    by false test = absurd (grind (arith, nat_tests))
+
 -- what an expression counts as far as it is read
-pub record IsLeft (tokens : List Token) (at level depth : ℕ) (left : Counted) : Type 0 where
+pub record IsBegun (tokens : List Token) (at level depth : ℕ) (left : Counted) : Type 0 where
   pub tree : Tree
   pub reads : (found : Reading) → ReadsMore level depth tree (spelled_from tokens left.next) found → ReadsExpression level depth (spelled_from tokens at) found
   pub counts : Counts tree left.value (left.next - at)
   pub later : at < left.next
   pub within : left.next ≤ length tokens
-  pub follows : left.follows ≡ first_operator (spelled_from tokens left.next)
 
-pub left_begins : (tokens : List Token) (at level depth : ℕ) (left : Counted) → IsCounted (ReadsOperand depth) tokens at left → IsLeft tokens at level depth left
-left_begins tokens at level depth left is = record {
+pub begun_by : (tokens : List Token) (at level depth : ℕ) (left : Counted) → IsRead (ReadsOperand depth) tokens at left → IsBegun tokens at level depth left
+begun_by tokens at level depth left is = record {
   tree = is.tree;
   reads = λ found more. begins level depth (spelled_from tokens at) (spelled_from tokens left.next) is.tree found
       (let all = left_from tokens at in let rest = left_from tokens left.next in let later = is.later in let within = is.within in omega arith) is.reads more;
   counts = is.counts;
   later = is.later;
   within = is.within;
-  follows = is.follows;
 }
 
-pub left_ends : (tokens : List Token) (at level depth : ℕ) (left : Counted) → None ≡ operator_in level (spelled_from tokens left.next) → IsLeft tokens at level depth left
-    → IsCounted (ReadsExpression level depth) tokens at left
-left_ends tokens at level depth left none is = record {
+pub ended_by : (tokens : List Token) (at level depth : ℕ) (left : Counted) → left.level ≡ first_level (spelled_from tokens left.next) → left.level < level → IsBegun tokens at level depth left
+    → IsRead (ReadsExpression level depth) tokens at left
+ended_by tokens at level depth left now low is = record {
   tree = is.tree;
-  reads = is.reads (read is.tree (spelled_from tokens left.next)) (stops level depth is.tree (spelled_from tokens left.next) none);
+  reads = is.reads (read is.tree (spelled_from tokens left.next)) (stops level depth is.tree (spelled_from tokens left.next) (none_in level (spelled_from tokens left.next) (rw now at low)));
   counts = is.counts;
   later = is.later;
   within = is.within;
-  follows = is.follows;
+  level = now;
 }
 
-pub left_goes_on : (tokens : List Token) (at level depth : ℕ) (op : BinaryOp) (left right joined : Counted) → length tokens ≤ 200 → Some op ≡ operator_in level (spelled_from tokens left.next)
-    → IsCounted (ReadsExpression (level_of op + 1) depth) tokens (left.next + 1) right → combined op left.value right.value ≡ Ok joined.value → joined.next ≡ right.next → joined.follows ≡ right.follows
-    → IsLeft tokens at level depth left → IsLeft tokens at level depth joined
-left_goes_on tokens at level depth op left right joined few some is value next behind before =
+pub gone_on : (tokens : List Token) (at level depth : ℕ) (op : BinaryOp) (left right joined : Counted) → length tokens ≤ 200 → Some op ≡ operator_in level (spelled_from tokens left.next)
+    → IsRead (ReadsExpression (level_of op + 1) depth) tokens (left.next + 1) right → combined op left.value right.value ≡ Ok joined.value → joined.next ≡ right.next
+    → IsBegun tokens at level depth left → IsBegun tokens at level depth joined
+gone_on tokens at level depth op left right joined few some is value next before =
     let node = binary op before.tree is.tree in
     let begun = before.later in
     let inside = before.within in
@@ -170,33 +235,24 @@ left_goes_on tokens at level depth op left right joined few some is value next b
       counts = counts;
       later = omega arith;
       within = is.within;
-      follows = behind ∙ is.follows;
     })
 
--- the operand of each kind, as it is counted
-pub leaf_counted : (tokens : List Token) (at depth n : ℕ) (behind : Option BinaryOp) (d : Token) → at < length tokens → leaf_of (spelled (get_or tokens at d)) ≡ Ok (number n)
-    → behind ≡ first_operator (spelled_from tokens (at + 1)) → IsCounted (ReadsOperand depth) tokens at (record { value = n; next = at + 1; follows = behind })
-leaf_counted tokens at depth n behind d inside is before = record {
+-- the operand of each kind, as it is read
+pub leaf_read : (tokens : List Token) (at depth n level : ℕ) (d : Token) → at < length tokens → leaf_of (spelled (get_or tokens at d)) ≡ Ok (number n)
+    → level ≡ first_level (spelled_from tokens (at + 1)) → IsRead (ReadsOperand depth) tokens at (record { value = n; next = at + 1; level = level })
+leaf_read tokens at depth n level d inside is now = record {
   tree = number n;
   reads = leaf_operand tokens at depth n d inside is;
   counts = number_counts n (at + 1 - at) (omega arith);
   later = omega arith;
   within = omega arith;
-  follows = before;
+  level = now;
 }
 
--- a number with no operator behind it that binds tightly enough is an expression
-pub lone_counted : (tokens : List Token) (at level n : ℕ) (behind : Option BinaryOp) (d : Token) → at < length tokens → leaf_of (spelled (get_or tokens at d)) ≡ Ok (number n)
-    → behind ≡ first_operator (spelled_from tokens (at + 1)) → None ≡ operator_in level (spelled_from tokens (at + 1))
-    → (depth : ℕ) → IsCounted (ReadsExpression level depth) tokens at (record { value = n; next = at + 1; follows = behind })
-lone_counted tokens at level n behind d inside is before none depth =
-    let found : Counted = record { value = n; next = at + 1; follows = behind } in
-    left_ends tokens at level depth found none (left_begins tokens at level depth found (leaf_counted tokens at depth n behind d inside is before))
-
-pub opened_counted : (tokens : List Token) (at depth : ℕ) (inner : Counted) (behind : Option BinaryOp) (d e : Token) → at < length tokens → true ≡ opens (spelled (get_or tokens at d)) → depth < 64
-    → IsCounted (ReadsExpression 1 (depth + 1)) tokens (at + 1) inner → inner.next < length tokens → true ≡ closes (spelled (get_or tokens inner.next e))
-    → behind ≡ first_operator (spelled_from tokens (inner.next + 1)) → IsCounted (ReadsOperand depth) tokens at (record { value = inner.value; next = inner.next + 1; follows = behind })
-opened_counted tokens at depth inner behind d e inside is low counted within ends before =
+pub opened_read : (tokens : List Token) (at depth level : ℕ) (inner : Counted) (d e : Token) → at < length tokens → true ≡ opens (spelled (get_or tokens at d)) → depth < 64
+    → IsRead (ReadsExpression 1 (depth + 1)) tokens (at + 1) inner → inner.next < length tokens → true ≡ closes (spelled (get_or tokens inner.next e))
+    → level ≡ first_level (spelled_from tokens (inner.next + 1)) → IsRead (ReadsOperand depth) tokens at (record { value = inner.value; next = inner.next + 1; level = level })
+opened_read tokens at depth level inner d e inside is low counted within ends now =
     let later = counted.later in
     record {
       tree = counted.tree;
@@ -204,13 +260,13 @@ opened_counted tokens at depth inner behind d e inside is low counted within end
       counts = lifted counted.tree inner.value (inner.next - (at + 1)) (inner.next + 1 - at) (omega arith) counted.counts;
       later = omega arith;
       within = omega arith;
-      follows = before;
+      level = now;
     }
 
-pub prefix_counted : (tokens : List Token) (at depth : ℕ) (op : UnaryOp) (inner : Counted) (d : Token) → length tokens ≤ 200 → at < length tokens → false ≡ opens (spelled (get_or tokens at d))
-    → Some op ≡ prefix_of (spelled (get_or tokens at d)) → depth < 64 → IsCounted (ReadsExpression 7 (depth + 1)) tokens (at + 1) inner
-    → IsCounted (ReadsOperand depth) tokens at (record { value = turned op inner.value; next = inner.next; follows = inner.follows })
-prefix_counted tokens at depth op inner d few inside is some low counted =
+pub prefix_read : (tokens : List Token) (at depth : ℕ) (op : UnaryOp) (inner : Counted) (d : Token) → length tokens ≤ 200 → at < length tokens → false ≡ opens (spelled (get_or tokens at d))
+    → Some op ≡ prefix_of (spelled (get_or tokens at d)) → depth < 64 → IsRead (ReadsExpression 7 (depth + 1)) tokens (at + 1) inner
+    → IsRead (ReadsOperand depth) tokens at (record { value = turned op inner.value; next = inner.next; level = inner.level })
+prefix_read tokens at depth op inner d few inside is some low counted =
     let later = counted.later in
     let within = counted.within in
     let counts = lifted (unary op counted.tree) (turned op inner.value) (inner.next - (at + 1) + 1) (inner.next - at) (omega arith) (unary_counts op counted.tree inner.value (inner.next - (at + 1)) counted.counts) in
@@ -221,13 +277,13 @@ prefix_counted tokens at depth op inner d few inside is some low counted =
       counts = counts;
       later = omega arith;
       within = counted.within;
-      follows = counted.follows;
+      level = counted.level;
     }
 
 -- an expression that is all tokens is the operand
-pub all_counted : (tokens : List Token) (found : Counted) → IsCounted (ReadsExpression 1 0) tokens 0 found → length tokens ≤ found.next → IsConstant (map spelled tokens) found.value
+pub whole_read : (tokens : List Token) (found : Counted) → IsRead (ReadsExpression 1 0) tokens 0 found → length tokens ≤ found.next → IsConstant (map spelled tokens) found.value
 unfolding reading
-all_counted tokens found counted all = record {
+whole_read tokens found counted all = record {
   tree = counted.tree;
   reads =
       counted.reads (length (map spelled tokens)) (omega arith)

@@ -17,9 +17,9 @@ use Rattle.asm_expr.specs.Operators.{prefix_by}
 use Rattle.asm_expr.specs.Leaves.{last_byte, without_last, is_numeric_label, digits_leaf, leaf_by, leaf_of}
 use Rattle.asm_expr.specs.Linear.{linear}
 use Rattle.asm_expr.specs.Reading.{Read, read, operand_of, reading, read_at, read_more}
-use Rattle.asm_operands.specs.Numbers.{FindsNumeral, FindsNumber, FindsLeaf}
+use Rattle.asm_operands.specs.Numbers.{FindsDigit, FindsNumeral, FindsNumber, FindsLeaf}
 use Rattle.asm_operands.specs.Constants.{FindsConstant}
-use Rattle.asm_operands.proofs.NumberLemmas.{numeral_all}
+use Rattle.asm_operands.proofs.NumberLemmas.{numeral_all, one_decimal}
 
 -- one of the digits is one of the radix
 all_at : (radix i : ℕ) (digits : List ℕ) → list_all (is_digit_of radix) digits ≡ true → i < length digits → digit_of (get_or digits i 0) < radix
@@ -139,9 +139,11 @@ hexadecimal_is (a ∷ []) long first second = absurd (omega arith)
 hexadecimal_is (a ∷ b ∷ rest) long first second = rw (first, second) refl
 
 -- what is found of them is what their token spells
-pub one_found : (digits : List ℕ) (answer : Option ℕ) → length digits ≡ 1 → FindsNumeral 10 digits answer → FindsNumber digits answer
-one_found digits (Some n) long is = number_leaf digits n (one_is digits long ∙ is)
-one_found digits None long is = tt
+pub one_found : (digits : List ℕ) (d : ℕ) (answer : Option ℕ) → 1 ≤ length digits → length digits < 2 → FindsDigit 10 (get_or digits 0 d) answer → FindsNumber digits answer
+one_found [] d answer some few is = absurd (omega arith)
+one_found (a ∷ []) d (Some n) some few is = number_leaf (a ∷ []) n (one_is (a ∷ []) (omega arith) ∙ one_decimal a n is)
+one_found (a ∷ []) d None some few is = tt
+one_found (a ∷ b ∷ rest) d answer some few is = absurd (omega arith)
 
 pub decimal_found : (digits : List ℕ) (answer : Option ℕ) → 0 < length digits → get_or digits 0 0 ≢ 48 → FindsNumeral 10 digits answer → FindsNumber digits answer
 decimal_found digits (Some n) long other is = number_leaf digits n (decimal_is digits long other ∙ is)
@@ -152,6 +154,31 @@ pub hexadecimal_found : (digits : List ℕ) (answer : Option ℕ) → 2 < length
 hexadecimal_found digits (Some n) long first second is =
     number_leaf digits n (hexadecimal_is digits long first second ∙ rw (take_all (length digits - 2) (drop 2 digits) (omega (arith, length-drop 2 digits))) at is)
 hexadecimal_found digits None long first second is = tt
+
+-- and so are those of two, three and four digits
+pub two_found : (digits : List ℕ) (d e : ℕ) (answer : Option ℕ) → 2 ≤ length digits → length digits < 3 → get_or digits 0 d ≢ 48
+    → FindsNumeral 10 (get_or digits 0 d ∷ get_or digits 1 e ∷ []) answer → FindsNumber digits answer
+two_found [] d e answer some few other is = absurd (omega arith)
+two_found (a ∷ []) d e answer some few other is = absurd (omega arith)
+two_found (a ∷ b ∷ []) d e answer some few other is = decimal_found (a ∷ b ∷ []) answer (omega arith) other is
+two_found (a ∷ b ∷ c ∷ rest) d e answer some few other is = absurd (omega arith)
+
+pub three_found : (digits : List ℕ) (d e f : ℕ) (answer : Option ℕ) → 3 ≤ length digits → length digits < 4 → get_or digits 0 d ≢ 48
+    → FindsNumeral 10 (get_or digits 0 d ∷ get_or digits 1 e ∷ get_or digits 2 f ∷ []) answer → FindsNumber digits answer
+three_found [] d e f answer some few other is = absurd (omega arith)
+three_found (a ∷ []) d e f answer some few other is = absurd (omega arith)
+three_found (a ∷ b ∷ []) d e f answer some few other is = absurd (omega arith)
+three_found (a ∷ b ∷ c ∷ []) d e f answer some few other is = decimal_found (a ∷ b ∷ c ∷ []) answer (omega arith) other is
+three_found (a ∷ b ∷ c ∷ x ∷ rest) d e f answer some few other is = absurd (omega arith)
+
+pub four_found : (digits : List ℕ) (d e f g : ℕ) (answer : Option ℕ) → 4 ≤ length digits → length digits < 5 → get_or digits 0 d ≡ 48 → get_or digits 1 e ≡ 120
+    → FindsNumeral 16 (get_or digits 2 f ∷ get_or digits 3 g ∷ []) answer → FindsNumber digits answer
+four_found [] d e f g answer some few nought mark is = absurd (omega arith)
+four_found (a ∷ []) d e f g answer some few nought mark is = absurd (omega arith)
+four_found (a ∷ b ∷ []) d e f g answer some few nought mark is = absurd (omega arith)
+four_found (a ∷ b ∷ c ∷ []) d e f g answer some few nought mark is = absurd (omega arith)
+four_found (a ∷ b ∷ c ∷ x ∷ []) d e f g answer some few nought mark is = hexadecimal_found (a ∷ b ∷ c ∷ x ∷ []) answer (omega arith) nought mark is
+four_found (a ∷ b ∷ c ∷ x ∷ y ∷ rest) d e f g answer some few nought mark is = absurd (omega arith)
 
 pub any_found : (digits : List ℕ) (spelling : Result ℕ ExprCause) (answer : Option ℕ) → spelling ≡ spelled_number digits → answer ≡ result_ok spelling → FindsNumber digits answer
 any_found digits (Ok n) (Some m) is taken = let same : m ≡ n = cc in rw same (number_leaf digits n (sym is))

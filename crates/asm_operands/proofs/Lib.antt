@@ -1,7 +1,10 @@
 -- The proofs of this crate.
 pub mod NumberLemmas
 pub mod LeafLemmas
+pub mod LevelTable
 pub mod TokenLists
 pub mod TreeCounts
+pub mod CommaLemmas
 pub mod CountingLemmas
+pub mod CutLemmas
 pub mod SumLemmas

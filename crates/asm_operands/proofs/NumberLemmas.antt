@@ -63,6 +63,39 @@ numeral_done radix number n i digits some long all low within fits value tests =
     (sym tests ∙ at_drop_all (list_all (is_digit_of radix)) digits i inside)
     (let most : number < radix ^ n = rw same at low in omega (arith, most))
 
+digit_test : (radix byte digit : ℕ) → (digit ≡ digit_of byte) × (digit < radix) → is_digit_of radix byte ≡ true
+digit_test radix byte digit found = by (nat_lt (digit_of byte) radix) refl
+  where
+    by : (b : Bool) → nat_lt (digit_of byte) radix ≡ b → b ≡ true
+    by true test = refl
+    by false test = absurd (let same = found.0 in let small = found.1 in grind (arith, nat_tests))
+
+-- two and three digits are their numeral
+pub two_decimal : (a b x y : ℕ) → (x ≡ digit_of a) × (x < 10) → (y ≡ digit_of b) × (y < 10) → numeral 10 (a ∷ b ∷ []) ≡ Ok (x * 10 + y)
+unfolding number_after
+two_decimal a b x y first second =
+    let tens = first.0 in let low = first.1 in let ones = second.0 in let small = second.1 in
+    numeral_fits 10 (x * 10 + y) (a ∷ b ∷ []) (omega arith) (omega arith) (rw (digit_test 10 a x first, digit_test 10 b y second) refl) (omega arith)
+
+pub two_hexadecimal : (a b x y : ℕ) → (x ≡ digit_of a) × (x < 16) → (y ≡ digit_of b) × (y < 16) → numeral 16 (a ∷ b ∷ []) ≡ Ok (x * 16 + y)
+unfolding number_after
+two_hexadecimal a b x y first second =
+    let tens = first.0 in let low = first.1 in let ones = second.0 in let small = second.1 in
+    numeral_fits 16 (x * 16 + y) (a ∷ b ∷ []) (omega arith) (omega arith) (rw (digit_test 16 a x first, digit_test 16 b y second) refl) (omega arith)
+
+pub three_decimal : (a b c x y z : ℕ) → (x ≡ digit_of a) × (x < 10) → (y ≡ digit_of b) × (y < 10) → (z ≡ digit_of c) × (z < 10) → numeral 10 (a ∷ b ∷ c ∷ []) ≡ Ok ((x * 10 + y) * 10 + z)
+unfolding number_after
+three_decimal a b c x y z first second third =
+    let hundreds = first.0 in let low = first.1 in let tens = second.0 in let small = second.1 in let ones = third.0 in let least = third.1 in
+    numeral_fits 10 ((x * 10 + y) * 10 + z) (a ∷ b ∷ c ∷ []) (omega arith) (omega arith)
+    (rw (digit_test 10 a x first, digit_test 10 b y second, digit_test 10 c z third) refl) (omega arith)
+
+pub one_decimal : (a x : ℕ) → (x ≡ digit_of a) × (x < 10) → numeral 10 (a ∷ []) ≡ Ok x
+unfolding number_after
+one_decimal a x first =
+    let ones = first.0 in let low = first.1 in
+    numeral_fits 10 x (a ∷ []) (omega arith) (omega arith) (rw (digit_test 10 a x first) refl) (omega arith)
+
 -- short digits fit
 pub ten_fits : (n : ℕ) → n ≤ 18 → 10 ^ n ≤ 2 ^ 64
 ten_fits n few = let some : 0 < 10 = omega arith in omega (arith, pow-le-pow_right some few)

@@ -2,4 +2,6 @@
 pub mod Constants
 pub mod Sums
 pub mod Numbers
+pub mod Commas
+pub mod Levels
 pub mod Counting

@@ -1,4 +1,4 @@
--- Operands that are sums of up to three numbers, names and places: they are read without a tree.
+-- Operands that are one or two numbers, names or places: they are read without a tree.
 use Rattle.std.specs.Prelude.{◌≡◌, ℕ, Bool, true, false, List, [], Option, None, Some, Ok}
 use Rattle.asm_base.specs.Tokens.{SpelledToken}
 use Rattle.asm_expr.specs.declared.trees.Written.TheVariants as written
@@ -11,12 +11,13 @@ use Rattle.asm_expr.specs.Reading.{read, reading}
 use Rattle.asm_operands.specs.declared.sums.Summand.{Summand}
 use Rattle.asm_operands.specs.declared.sums.Summand.TheVariants.{Number, Name, Back, Next, Here}
 use Rattle.asm_operands.specs.declared.sums.Addend.{Addend}
+use Rattle.asm_operands.specs.declared.sums.Addend.TheVariants.{Nothing, Plus, Minus}
 use Rattle.asm_operands.specs.declared.sums.Sum.{Sum}
 
 -- the tree of what one token spells
 abbrev pub summand_tree : Summand → Tree
 summand_tree (Number value) = number value
-summand_tree (Name text) = name (written.Plain text.now)
+summand_tree (Name token) = name (written.Plain token.now.bytes.now)
 summand_tree (Back label) = name (written.Back label)
 summand_tree (Next label) = name (written.Next label)
 summand_tree Here = here
@@ -27,13 +28,14 @@ sign_operator false = Add
 sign_operator true = Sub
 
 -- the tree with one summand more, if there is one
-abbrev pub added_tree : Tree → Option Addend → Tree
-added_tree tree None = tree
-added_tree tree (Some addend) = binary (sign_operator addend.minus) tree (summand_tree addend.summand)
+abbrev pub added_tree : Tree → Addend → Tree
+added_tree tree Nothing = tree
+added_tree tree (Plus summand) = binary Add tree (summand_tree summand)
+added_tree tree (Minus summand) = binary Sub tree (summand_tree summand)
 
 -- the tree of a sum
 abbrev pub sum_tree : Sum → Tree
-sum_tree sum = added_tree (added_tree (summand_tree sum.first) sum.second) sum.third
+sum_tree sum = added_tree (summand_tree sum.first) sum.second
 
 -- the token is an operand of its own, which spells this
 pub record IsSummand (token : SpelledToken) (found : Summand) : Type 0 where
@@ -41,10 +43,16 @@ pub record IsSummand (token : SpelledToken) (found : Summand) : Type 0 where
   pub unopened : opens token ≡ false
   pub unprefixed : prefix_of token ≡ None
 
+-- the operator is this sign, and the token behind it spells this
+pub record IsSigned (operator token : SpelledToken) (minus : Bool) (found : Summand) : Type 0 where
+  pub sign : operator_of operator ≡ Some (sign_operator minus)
+  pub summand : IsSummand token found
+
 -- the operator and the token behind it add this, or take it off
-pub record IsAddend (operator token : SpelledToken) (found : Addend) : Type 0 where
-  pub sign : operator_of operator ≡ Some (sign_operator found.minus)
-  pub summand : IsSummand token found.summand
+abbrev pub IsAddend : SpelledToken → SpelledToken → Addend → Type 0
+IsAddend operator token Nothing = ⊥
+IsAddend operator token (Plus summand) = IsSigned operator token false summand
+IsAddend operator token (Minus summand) = IsSigned operator token true summand
 
 -- a label that is found is what the digits spell; where none is found nothing is said
 abbrev pub FindsLabel : List ℕ → Option Summand → Type 0

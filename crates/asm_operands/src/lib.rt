@@ -2,8 +2,9 @@
 #![tactic(auto)]
 
 mod constants;
+mod levels;
 mod numbers;
 mod sums;
 
-pub use constants::constant_operand;
+pub use constants::{FrontConstant, constant_operand, front_constant, single_constant};
 pub use sums::{Addend, Sum, Summand, sum_operand};

@@ -1,6 +1,6 @@
 //! The numbers that single tokens are.
 
-ghost use Rattle.std.specs.Prelude.{◌<◌, ◌≤◌, ◌^◌, length};
+ghost use Rattle.std.specs.Prelude.{◌<◌, ◌≤◌, ◌^◌, [], ◌∷◌, length};
 ghost use Rattle.asm_base.specs.Tokens.{spelled};
 ghost use Rattle.asm_operands.specs.Numbers.{FindsDigit, FindsNumeral, FindsNumber, FindsLeaf};
 
@@ -8,6 +8,7 @@ use asm_base::{Token, TokenKind, digit_of};
 use asm_expr::{character_code, spelled_number};
 
 /// The value of a digit, if the radix has it.
+#[inline(always)]
 fn digit_below(radix: u64, byte: u8) -> Option<u64>
     ensures { FindsDigit radix byte result }
 {
@@ -37,25 +38,106 @@ fn any_number(digits: &[u8]) -> Option<u64>
     spelled_number(digits).ok()
 }
 
-/// The number that a token of digits is. Those that are short, decimal with no zero in front or
+/// The number that a token of many digits is. Those that are decimal with no zero in front, or
 /// hexadecimal, are read in one pass.
-fn number(digits: &[u8]) -> Option<u64>
+#[inline(never)]
+fn long_number(digits: &[u8]) -> Option<u64>
     ensures { FindsNumber digits.now result }
 {
     let count = digits.len();
-    if count == 0 || count > 18 {
+    if count < 3 || count > 18 {
         return any_number(digits);
     }
     if digits[0] != b'0' {
         return fitting_number(10, digits);
     }
-    if count == 1 {
-        return fitting_number(10, digits);
-    }
-    if count > 2 && digits[1] == b'x' {
+    if digits[1] == b'x' {
         return fitting_number(16, &digits[2..]);
     }
     any_number(digits)
+}
+
+/// The value of a decimal digit.
+#[inline(always)]
+#[tactic(auto, unfolding(asm_base::specs::Digits::digit_of))]
+fn decimal_digit(byte: u8) -> Option<u64>
+    ensures { FindsDigit 10 byte result }
+{
+    let digit = u64::from(byte).wrapping_sub(48);
+    if digit < 10 { Some(digit) } else { None }
+}
+
+/// The value of a hexadecimal digit that is a capital letter.
+#[inline(never)]
+fn capital_digit(byte: u8) -> Option<u64>
+    ensures { FindsDigit 16 byte result }
+{
+    digit_below(16, byte)
+}
+
+/// The value of a hexadecimal digit.
+#[inline(always)]
+#[tactic(auto, unfolding(asm_base::specs::Digits::digit_of))]
+fn hexadecimal_digit(byte: u8) -> Option<u64>
+    ensures { FindsDigit 16 byte result }
+{
+    let digit = u64::from(byte).wrapping_sub(48);
+    if digit < 10 {
+        return Some(digit);
+    }
+    let letter = u64::from(byte).wrapping_sub(97);
+    if letter < 6 {
+        Some(letter + 10)
+    } else {
+        capital_digit(byte)
+    }
+}
+
+/// The number of two decimal digits.
+#[inline(always)]
+fn two_digits(first: u8, second: u8) -> Option<u64>
+    ensures { FindsNumeral 10 (first ∷ second ∷ []) result }
+{
+    let tens = decimal_digit(first)?;
+    let ones = decimal_digit(second)?;
+    Some(tens * 10 + ones)
+}
+
+/// The number of three decimal digits.
+#[inline(always)]
+fn three_digits(first: u8, second: u8, third: u8) -> Option<u64>
+    ensures { FindsNumeral 10 (first ∷ second ∷ third ∷ []) result }
+{
+    let hundreds = decimal_digit(first)?;
+    let tens = decimal_digit(second)?;
+    let ones = decimal_digit(third)?;
+    Some((hundreds * 10 + tens) * 10 + ones)
+}
+
+/// The number of two hexadecimal digits.
+#[inline(always)]
+fn two_hexadecimal_digits(first: u8, second: u8) -> Option<u64>
+    ensures { FindsNumeral 16 (first ∷ second ∷ []) result }
+{
+    let sixteens = hexadecimal_digit(first)?;
+    let ones = hexadecimal_digit(second)?;
+    Some(sixteens * 16 + ones)
+}
+
+/// The number that a token of digits is. The shortest are read with no loop.
+#[inline(always)]
+fn number(digits: &[u8]) -> Option<u64>
+    ensures { FindsNumber digits.now result }
+{
+    match digits {
+        [first, second, third] if *first != b'0' => three_digits(*first, *second, *third),
+        [first, second] if *first != b'0' => two_digits(*first, *second),
+        [only] => decimal_digit(*only),
+        [zero, mark, first, second] if *zero == b'0' && *mark == b'x' => {
+            two_hexadecimal_digits(*first, *second)
+        }
+        _ => long_number(digits),
+    }
 }
 
 /// The number that a token of another class is.
@@ -71,6 +153,7 @@ fn other_leaf(token: &Token) -> Option<u64>
 }
 
 /// The number that a token is.
+#[inline(always)]
 #[tactic(auto, unfolding(asm_expr::specs::Leaves::leaf_of))]
 pub(crate) fn leaf(token: &Token) -> Option<u64>
     ensures { FindsLeaf (spelled token.now) result }

@@ -1,7 +1,8 @@
-//! Operands that are sums of up to three numbers, names and places, read without a tree.
+//! Operands that are one or two numbers, names or places, read without a tree.
 
 ghost use Rattle.std.specs.Prelude.{◌≡◌, map};
 ghost use Rattle.asm_base.specs.Tokens.{spelled};
+ghost use Rattle.asm_base.specs.declared.tokens.TokenKind.TheVariants.{Digits};
 ghost use Rattle.asm_operands.specs.Sums.{FindsLabel, FindsSummand, FindsMinus, FindsAddend, FindsSum};
 
 use crate::numbers::leaf;
@@ -10,10 +11,10 @@ use asm_expr::{all_digits, decimal_number};
 
 /// What one token spells: a number, a name, or the place of the statement.
 #[derive(Clone, Copy)]
-pub enum Summand<'a> {
+pub enum Summand<'t, 'a> {
     Number(u64),
-    /// A symbol's name, without quotes.
-    Name(&'a [u8]),
+    /// The token of a symbol's name, without quotes.
+    Name(&'t Token<'a>),
     /// `Nb`: the last label N before this place.
     Back(u64),
     /// `Nf`: the next label N behind this place.
@@ -22,25 +23,25 @@ pub enum Summand<'a> {
     Here,
 }
 
-/// What is added to a sum, or taken off.
+/// What is added to a summand, or taken off, if there is something.
 #[derive(Clone, Copy)]
-pub struct Addend<'a> {
-    pub minus: bool,
-    pub summand: Summand<'a>,
+pub enum Addend<'t, 'a> {
+    Nothing,
+    Plus(Summand<'t, 'a>),
+    Minus(Summand<'t, 'a>),
 }
 
-/// One to three summands.
+/// One or two summands.
 #[derive(Clone, Copy)]
-pub struct Sum<'a> {
-    pub first: Summand<'a>,
-    pub second: Option<Addend<'a>>,
-    pub third: Option<Addend<'a>>,
+pub struct Sum<'t, 'a> {
+    pub first: Summand<'t, 'a>,
+    pub second: Addend<'t, 'a>,
 }
 
 /// The numeric label that a token of digits is: decimal digits, and a letter behind them.
 #[inline(never)]
 #[tactic(auto, unfolding(asm_expr::specs::Leaves::digits_leaf))]
-fn label<'a>(digits: &'a [u8]) -> Option<Summand<'a>>
+fn label<'t, 'a>(digits: &'a [u8]) -> Option<Summand<'t, 'a>>
     ensures { FindsLabel digits.now result }
 {
     let end = digits.len().checked_sub(1)?;
@@ -55,25 +56,35 @@ fn label<'a>(digits: &'a [u8]) -> Option<Summand<'a>>
     }
 }
 
+/// What a token of digits spells: a number or a numeric label.
+#[inline(never)]
+#[tactic(auto, unfolding(asm_expr::specs::Leaves::leaf_of, asm_expr::specs::Operators::prefix_by))]
+fn digits_of<'t, 'a>(token: &'t Token<'a>) -> Option<Summand<'t, 'a>>
+    requires { token.now.kind ≡ Digits }
+    ensures { FindsSummand (spelled token.now) result }
+{
+    match leaf(token) {
+        Some(number) => Some(Summand::Number(number)),
+        None => label(token.bytes),
+    }
+}
+
 /// What the token spells, if it is a name without quotes or a number.
 #[inline(always)]
 #[tactic(auto, unfolding(asm_expr::specs::Leaves::leaf_of, asm_expr::specs::Operators::prefix_by))]
-fn summand_of<'a>(token: &Token<'a>) -> Option<Summand<'a>>
+fn summand_of<'t, 'a>(token: &'t Token<'a>) -> Option<Summand<'t, 'a>>
     ensures { FindsSummand (spelled token.now) result }
 {
     if token.kind == TokenKind::Name {
         if token.bytes.len() == 1 && token.bytes[0] == b'.' {
             return Some(Summand::Here);
         }
-        return Some(Summand::Name(token.bytes));
+        return Some(Summand::Name(token));
     }
     if token.kind != TokenKind::Digits {
         return None;
     }
-    match leaf(token) {
-        Some(number) => Some(Summand::Number(number)),
-        None => label(token.bytes),
-    }
+    digits_of(token)
 }
 
 /// Whether the operator is `-`; only `+` and `-` make sums.
@@ -94,33 +105,31 @@ fn minus(token: &Token) -> Option<bool>
 
 /// What the operator and the token behind it add.
 #[inline(always)]
-fn addend_of<'a>(operator: &Token, token: &Token<'a>) -> Option<Addend<'a>>
+fn addend_of<'t, 'a>(operator: &Token, token: &'t Token<'a>) -> Option<Addend<'t, 'a>>
     ensures { FindsAddend (spelled operator.now) (spelled token.now) result }
 {
     let minus = minus(operator)?;
     let summand = summand_of(token)?;
-    Some(Addend { minus, summand })
+    if minus {
+        Some(Addend::Minus(summand))
+    } else {
+        Some(Addend::Plus(summand))
+    }
 }
 
 /// The sum that an operand is. None says nothing of the operand.
-pub fn sum_operand<'a>(tokens: &[Token<'a>]) -> Option<Sum<'a>>
+#[inline(always)]
+pub fn sum_operand<'t, 'a>(tokens: &'t [Token<'a>]) -> Option<Sum<'t, 'a>>
     ensures { FindsSum (map spelled tokens.now) result }
 {
     match tokens {
         [one] => Some(Sum {
             first: summand_of(one)?,
-            second: None,
-            third: None,
+            second: Addend::Nothing,
         }),
         [one, operator, other] => Some(Sum {
             first: summand_of(one)?,
-            second: Some(addend_of(operator, other)?),
-            third: None,
-        }),
-        [one, operator, other, behind, last] => Some(Sum {
-            first: summand_of(one)?,
-            second: Some(addend_of(operator, other)?),
-            third: Some(addend_of(behind, last)?),
+            second: addend_of(operator, other)?,
         }),
         _ => None,
     }

@@ -1,31 +1,38 @@
 -- What is counted, step by step.
-use Rattle.std.proofs.Common.{refl, sym, ◌∙◌, arith}
-use Rattle.asm_operands.proofs.CountingLemmas.{leaf_counted, opened_counted, prefix_counted, left_begins, left_goes_on, left_ends}
-use Rattle.asm_operands.proofs.TreeCounts.{number_given}
+use Rattle.std.proofs.Common.{arith}
+use Rattle.asm_operands.proofs.CutLemmas.{tight_finds, opened_counted, prefix_counted, left_begins, left_goes_on, expression_ends, still_byte}
 use Rattle.asm_operands.proofs.constants.+constants.Goals as goal
 
-pub expression-loop-op-init : goal.expression-loop-op-init
-expression-loop-op-init t c = left_begins c.args.tokens.now c.args.at c.args.level c.args.depth c.in_ok-left.left c.in_ok-left.ensures
+pub operand-returns-then-ne : goal.operand-returns-then-ne
+operand-returns-then-ne t c = c.number_operand.ensures c.args.depth
 
-pub expression-loop-op-preserved : goal.expression-loop-op-preserved
-expression-loop-op-preserved t c =
-    let level = c.level_of.ensures.value in
-    let given = sym c.combined.ensures ∙ number_given c.combined.result c.in_ok-value.value c.in_ok-value.ensures.value in
-    left_goes_on c.args.tokens.now c.args.at c.args.level c.args.depth c.in-Some.op c.loop-op.left c.in_ok-right.right _ c.requires.tokens c.in-Some.ensures.value (rw level at c.in_ok-right.ensures) given refl refl c.loop-op.invariant
+pub tight_operand-returns-then-ne : goal.tight_operand-returns-then-ne
+tight_operand-returns-then-ne t c = c.lone_number.ensures c.args.depth
+
+pub tight_operand-returns-then-opens : goal.tight_operand-returns-then-opens
+tight_operand-returns-then-opens t c = tight_finds c.args.tokens.now c.args.at c.args.depth _ c.closed_operand.ensures
+
+pub closed_operand-returns : goal.closed_operand-returns
+closed_operand-returns t c =
+    opened_counted c.args.tokens.now c.args.at c.expression.new.at c.args.depth c.in_ok-value.value c.level_at-level.result _ _ c.if-at-tokens.false c.if-not-opens.ensures (let low = c.if-depth-ge-MOST_OPEN.false in omega arith)
+    c.in_ok-value.ensures.counted c.if-end-tokens.false c.if-not-closes.ensures c.level_at-level.ensures
+
+pub turned_operand-returns : goal.turned_operand-returns
+turned_operand-returns t c =
+    let value = c.turned.ensures in
+    rw value (prefix_counted c.args.tokens.now c.args.at c.args.depth c.in_ok-op.op c.in_ok-inner.inner _ c.requires.tokens c.if-at-tokens.false c.in_ok-op.ensures
+    (let low = c.if-depth-ge-MOST_OPEN.false in omega arith) c.in_ok-inner.ensures)
+
+pub expression-loop-left-init : goal.expression-loop-left-init
+expression-loop-left-init t c = left_begins c.args.tokens.now c.args.at.now c.args.level c.args.depth c.in_ok-left.left c.in_ok-left.ensures
+
+pub expression-overflow_add-left-in-loop-left : goal.expression-overflow_add-left-in-loop-left
+expression-overflow_add-left-in-loop-left t c =
+    let few = still_byte c.args.tokens.now c.args.at.now c.args.level c.args.depth c.loop-left.left c.loop-left.invariant in omega arith
+
+pub expression-loop-left-preserved : goal.expression-loop-left-preserved
+expression-loop-left-preserved t c =
+    left_goes_on c.args.tokens.now c.args.at.now c.args.level c.args.depth c.in_ok-value.value _ c.loop-left.left c.in_ok-right.right c.requires.tokens c.requires.level c.loop-left-test.true c.in_ok-value.ensures c.in_ok-right.ensures c.loop-left.invariant
 
 pub expression-returns : goal.expression-returns
-expression-returns t c = left_ends c.args.tokens.now c.args.at c.args.level c.args.depth c.loop-op.left c.in_default.ensures.value c.loop-op.invariant
-
-pub operand-returns-then-ne : goal.operand-returns-then-ne
-operand-returns-then-ne t c = leaf_counted c.args.tokens.now c.args.at c.args.depth c.in_ok-value.value c.operator_at.result _ c.if-at-tokens.false c.in_ok-value.ensures c.operator_at.ensures
-
-pub operand-returns-then-opens : goal.operand-returns-then-opens
-operand-returns-then-opens t c =
-    opened_counted c.args.tokens.now c.args.at c.args.depth c.in_ok-inner.inner _ _ _ c.if-at-tokens.false c.if-opens.ensures (let low = c.if-depth-ge-MOST_OPEN.false in omega arith) c.in_ok-inner.ensures c.if-inner-tokens.false
-    c.if-not-closes.ensures c.operator_at-then-opens.ensures
-
-pub operand-returns : goal.operand-returns
-operand-returns t c =
-    let value = c.turned.ensures in
-    rw value (prefix_counted c.args.tokens.now c.args.at c.args.depth c.in_ok-op.op c.in_ok-inner-2.inner _ c.requires.tokens c.if-at-tokens.false c.if-opens.ensures c.in_ok-op.ensures (let low = c.if-depth-ge-MOST_OPEN.false in omega arith)
-    c.in_ok-inner-2.ensures)
+expression-returns t c = expression_ends c.args.tokens.now c.args.at.now c.args.level c.args.depth c.loop-left.left c.loop-left-test.false c.loop-left.invariant

@@ -1,7 +1,6 @@
--- A number alone is an expression, whatever is open.
-use Rattle.asm_operands.proofs.CountingLemmas.{lone_counted}
+-- A number with no operator behind it that binds tightly enough is an expression.
+use Rattle.asm_operands.proofs.CutLemmas.{operand_alone}
 use Rattle.asm_operands.proofs.constants.lone_number.Goals as goal
 
-pub returns-in-None : goal.returns-in-None
-returns-in-None c =
-    lone_counted c.args.tokens.now c.args.at c.args.level c.in_ok-value.value c.operator_at.result _ c.if-at-tokens.false c.in_ok-value.ensures c.operator_at.ensures c.in-None.ensures.value
+pub returns-else-level-found : goal.returns-else-level-found
+returns-else-level-found c depth = operand_alone c.args.tokens.now c.args.at c.args.level depth _ c.if-level-found.false (c.in_ok-found.ensures depth)

@@ -1,22 +1,16 @@
--- The forms that are read in one pass are spelled so.
-use Rattle.std.proofs.Common.{◌-◌, length, take, drop, arith, length-drop}
-use Rattle.std.proofs.lemmas.List.{length-take-le}
-use Rattle.asm_operands.proofs.NumberLemmas.{sixteen_fits}
-use Rattle.asm_operands.proofs.LeafLemmas.{one_found, decimal_found, hexadecimal_found}
+-- The shortest forms are spelled so.
+use Rattle.asm_operands.proofs.LeafLemmas.{one_found, two_found, three_found, four_found}
 use Rattle.asm_operands.proofs.numbers.number.Goals as goal
 
-pub returns-then-count-eq1 : goal.returns-then-count-eq1
-returns-then-count-eq1 c = one_found c.args.digits.now c.fitting_number-then-count-eq1.result c.if-count-eq1.true c.fitting_number-then-count-eq1.ensures
+pub returns-in-len1 : goal.returns-in-len1
+returns-in-len1 c = one_found _ _ _ c.in-len1.len_at_least c.in-len1.len_below c.decimal_digit.ensures
 
-pub returns-then-digits-ne48 : goal.returns-then-digits-ne48
-returns-then-digits-ne48 c = decimal_found c.args.digits.now c.fitting_number.result (omega arith) c.if-digits-ne48.true c.fitting_number.ensures
+pub returns-in-len2 : goal.returns-in-len2
+returns-in-len2 c = two_found _ _ _ _ c.in-len2.len_at_least c.in-len2.len_below c.if-first-ne48.true c.two_digits.ensures
 
-pub fitting_number-requires-then-digits-eq120-clause-within : goal.fitting_number-requires-then-digits-eq120-clause-within
-fitting_number-requires-then-digits-eq120-clause-within c =
-    let left = length-drop 2 c.args.digits.now in
-    let taken = length-take-le (length c.args.digits.now - 2) (drop 2 c.args.digits.now) (omega arith) in
-    sixteen_fits (length (take (length c.args.digits.now - 2) (drop 2 c.args.digits.now))) (omega arith)
+pub returns-in-len3 : goal.returns-in-len3
+returns-in-len3 c = three_found _ _ _ _ _ c.in-len3.len_at_least c.in-len3.len_below c.if-first-ne48-2.true c.three_digits.ensures
 
-pub returns-then-digits-eq120 : goal.returns-then-digits-eq120
-returns-then-digits-eq120 c =
-    hexadecimal_found c.args.digits.now c.fitting_number-then-digits-eq120.result c.if-count-gt2.true c.if-digits-ne48.false c.if-digits-eq120.true c.fitting_number-then-digits-eq120.ensures
+pub returns-in-len4 : goal.returns-in-len4
+returns-in-len4 c =
+    four_found _ _ _ _ _ _ c.in-len4.len_at_least c.in-len4.len_below c.if-zero-eq48.true c.if-mark-eq120.true c.two_hexadecimal_digits.ensures

@@ -1,5 +1,5 @@
 -- As many tokens as a sum has are read as its tree.
-use Rattle.asm_operands.proofs.SumLemmas.{one_sum, two_sum, three_sum}
+use Rattle.asm_operands.proofs.SumLemmas.{one_sum, two_sum}
 use Rattle.asm_operands.proofs.sums.sum_operand.Goals as goal
 
 pub returns-in_ok-summand_of-in-len1 : goal.returns-in_ok-summand_of-in-len1
@@ -8,8 +8,3 @@ returns-in_ok-summand_of-in-len1 c = one_sum c.args.tokens.now _ c.in_ok-summand
 pub returns-in_ok-addend_of-in-len3 : goal.returns-in_ok-addend_of-in-len3
 returns-in_ok-addend_of-in-len3 c =
     two_sum c.args.tokens.now _ _ _ c.in_ok-summand_of-in-len3.field-0 c.in_ok-addend_of-in-len3.field-0 c.in-len3.len_at_least c.in-len3.len_below c.in_ok-summand_of-in-len3.ensures c.in_ok-addend_of-in-len3.ensures
-
-pub returns-in_ok-addend_of-in-len5-2 : goal.returns-in_ok-addend_of-in-len5-2
-returns-in_ok-addend_of-in-len5-2 c =
-    three_sum c.args.tokens.now _ _ _ _ _ c.in_ok-summand_of-in-len5.field-0 c.in_ok-addend_of-in-len5.field-0 c.in_ok-addend_of-in-len5-2.field-0 c.in-len5.len_at_least c.in-len5.len_below
-    c.in_ok-summand_of-in-len5.ensures c.in_ok-addend_of-in-len5.ensures c.in_ok-addend_of-in-len5-2.ensures
