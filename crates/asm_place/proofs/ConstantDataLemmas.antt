@@ -1,8 +1,9 @@
 -- Data of numbers alone is what its statement places.
-use Rattle.std.proofs.Common.{◌≡◌, ℕ, ◌+◌, ◌≤◌, Bool, false, cond, List, [], ◌∷◌, ◌++◌, length, Result, Ok, Err, refl, sym, ap, subst, ◌∙◌, arith, length-append}
+use Rattle.std.proofs.Common.{◌≡◌, ℕ, ◌+◌, ◌≤◌, Bool, false, cond, List, [], ◌∷◌, ◌++◌, length, map, Result, Ok, Err, refl, sym, ap, subst, ◌∙◌, arith, length-append}
 use Rattle.std.specs.List.{list_any, count_by}
 use Rattle.std.proofs.lemmas.List.Sums.{sum_by-cons}
-use Rattle.asm_base.specs.Tokens.{SpelledToken}
+use Rattle.asm_base.specs.declared.tokens.Token.{Token}
+use Rattle.asm_base.specs.Tokens.{SpelledToken, spelled}
 use Rattle.asm_base.specs.Refusals.{◌>>=◌}
 use Rattle.asm_base.specs.declared.positions.Pos.{Pos}
 use Rattle.asm_expr.specs.Forms.{constant_form, Form}
@@ -105,6 +106,11 @@ pub loop_end : (size : FieldSize) (all left : List (List SpelledToken)) (held : 
     → MakesData size all [] 0 held cut
 loop_end size all left held cut is so_far =
     so_far held cut (subst (λ operands. MakesData size operands held cut held cut) (sym is) (makes_none size held cut))
+
+-- no tokens make nothing
+pub nothing_made : (size : FieldSize) (tokens : List Token) (held : List ℕ) → length tokens ≡ 0 → held ≡ [] → MakesData size (operands_of (map spelled tokens)) [] 0 held 0
+nothing_made size [] held none empty = subst (λ bytes. MakesData size [] [] 0 bytes 0) (sym empty) (makes_none size [] 0)
+nothing_made size (token ∷ rest) held none empty = absurd (omega arith)
 
 -- no more values are cut than there are bytes
 pub still_few : (size : FieldSize) (value : ℕ) (before held : List ℕ) (cut more : ℕ) → held ≡ before ++ low_bytes size value

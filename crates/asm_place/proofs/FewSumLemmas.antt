@@ -18,7 +18,7 @@ unfolding expression_of
 reads_sum operand sum reads = ap (λ read. in_statement read >>= λ found. alone found.rest found.tree) reads
 
 -- a name that has to be there
-needed_so : (name : List ℕ) (named : List SpelledToken) (rest : List (List SpelledToken)) → name_of named ≡ Ok name
+pub needed_so : (name : List ℕ) (named : List SpelledToken) (rest : List (List SpelledToken)) → name_of named ≡ Ok name
     → needed name_of (named ∷ rest) ≡ Ok (name, rest)
 needed_so name named rest is = ap (λ read. read >>= λ made. Ok (made, rest)) is
 

@@ -10,7 +10,7 @@ use Rattle.asm_symbols.specs.Interning.{undefined, with_name, interned, number_o
 use Rattle.asm_symbols.proofs.IndexLemmas.{index_of-within, index_of-last, index_of-stays}
 
 -- the names with one more
-names-push : (symbols : List Symbol) (name : Name) → names (symbols ++ undefined name ∷ []) ≡ names symbols ++ name ∷ []
+pub names-push : (symbols : List Symbol) (name : Name) → names (symbols ++ undefined name ∷ []) ≡ names symbols ++ name ∷ []
 names-push symbols name = map-append (λ (symbol : Symbol). symbol.name) symbols (undefined name ∷ [])
 
 module _ (old : SymbolMap) (name : Name) where

@@ -25,7 +25,7 @@ alone_by : {X : Type 0} (passes : Bool) (x : X) (xs : List X) (parts : List (Lis
 alone_by true x xs parts n all rest = absurd (omega arith)
 alone_by false x xs parts n all rest = ap (onto_first x) (rest (omega arith))
 
-alone : {X : Type 0} (p : X → Bool) (xs : List X) → length xs ≤ position_or_len p xs → slice_split p xs ≡ xs ∷ []
+pub alone : {X : Type 0} (p : X → Bool) (xs : List X) → length xs ≤ position_or_len p xs → slice_split p xs ≡ xs ∷ []
 alone p [] all = refl
 alone p (x ∷ xs) all = alone_by (p x) x xs (slice_split p xs) (position_or_len p xs) all (alone p xs)
 

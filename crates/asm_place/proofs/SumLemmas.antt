@@ -1,5 +1,5 @@
 -- The forms of sums are those of their trees.
-use Rattle.std.proofs.Common.{◌≡◌, ℕ, Bool, true, false, length, Option, None, Some, unwrap_or, Ok, refl, ap}
+use Rattle.std.proofs.Common.{◌≡◌, ℕ, true, false, length, Some, unwrap_or, Ok, refl, ap}
 use Rattle.asm_expr.specs.declared.naming.Name.{Name}
 use Rattle.asm_expr.specs.declared.trees.Written.{Written}
 use Rattle.asm_expr.specs.declared.trees.Written.TheVariants as written
@@ -13,8 +13,10 @@ use Rattle.asm_expr.proofs.SettledLemmas.{stays}
 use Rattle.asm_operands.specs.declared.sums.Summand.{Summand}
 use Rattle.asm_operands.specs.declared.sums.Summand.TheVariants as summands
 use Rattle.asm_operands.specs.declared.sums.Addend.{Addend}
+use Rattle.asm_operands.specs.declared.sums.Addend.TheVariants as addends
 use Rattle.asm_operands.specs.declared.sums.Sum.{Sum}
 use Rattle.asm_operands.specs.Sums.{summand_tree, added_tree, sum_tree}
+use Rattle.asm_symbols.specs.declared.entries.Spot.{Spot}
 use Rattle.asm_symbols.specs.Counting.{meant_name}
 use Rattle.asm_symbols.specs.Interning.{number_of}
 use Rattle.asm_symbols.specs.SymbolMap.{SymbolMap, names, index_of}
@@ -22,6 +24,7 @@ use Rattle.asm_place.specs.declared.places.View.{View}
 use Rattle.asm_place.specs.declared.sums.Operand.{Operand}
 use Rattle.asm_place.specs.declared.sums.Operand.TheVariants.{Number, Symbol, Here}
 use Rattle.asm_place.specs.declared.sums.Added.{Added}
+use Rattle.asm_place.specs.declared.sums.Added.TheVariants as adds
 use Rattle.asm_place.specs.declared.sums.SymbolSum.{SymbolSum}
 use Rattle.asm_place.specs.ExprFaults.{in_statement}
 use Rattle.asm_place.specs.Expressions.{form_in}
@@ -31,7 +34,7 @@ use Rattle.asm_place.specs.SumForms.{operand_symbol, operand_form, added_form, s
 use Rattle.asm_place.specs.SymbolSums.{IsSymbol, IsOperand, IsAdded, IsNamed}
 
 -- a symbol that stands for itself is its own form
-itself_by : (told : ℕ → Told) (symbol : ℕ) (found : Told) → stands_for_itself found ≡ true → form_by told symbol found ≡ symbol_form symbol
+pub itself_by : (told : ℕ → Told) (symbol : ℕ) (found : Told) → stands_for_itself found ≡ true → form_by told symbol found ≡ symbol_form symbol
 itself_by told symbol absent is = refl
 itself_by told symbol (constant number) is = cc
 itself_by told symbol (label stretch at) is = refl
@@ -49,57 +52,67 @@ symbol_alone known (Number value) symbol is alone = cc
 symbol_alone known (Symbol index) symbol is alone = itself known.told _ symbol is alone
 symbol_alone known Here symbol is alone = itself known.told _ symbol is alone
 
--- a number that is added to a symbol stays
-pub number_more : (told : ℕ → Told) (minus : Bool) (symbol number : ℕ)
-    → joined false (symbol_form symbol) (constant_form (signed minus number)) ≡ settled told (joined minus (symbol_form symbol) (constant_form number))
+-- a number that is added to a symbol, or taken off, stays
+pub number_more : (told : ℕ → Told) (symbol number : ℕ)
+    → joined false (symbol_form symbol) (constant_form number) ≡ settled told (joined false (symbol_form symbol) (constant_form number))
 unfolding with_terms
-number_more told false symbol number = stays told (joined false (symbol_form symbol) (constant_form number)) refl
-number_more told true symbol number = stays told (joined true (symbol_form symbol) (constant_form number)) refl
+number_more told symbol number = stays told (joined false (symbol_form symbol) (constant_form number)) refl
+
+pub number_less : (told : ℕ → Told) (symbol number : ℕ)
+    → joined false (symbol_form symbol) (constant_form (signed true number)) ≡ settled told (joined true (symbol_form symbol) (constant_form number))
+unfolding with_terms
+number_less told symbol number = stays told (joined true (symbol_form symbol) (constant_form number)) refl
 
 -- a name that is found means the symbol that it is found as
 found_number : (map : SymbolMap) (name : Name) (index : ℕ) → index_of name (names map.symbols) ≡ Some index → number_of map name ≡ index
 unfolding number_of
 found_number map name index is = ap (λ found. unwrap_or found (length map.symbols)) is
 
-module _ (view : View) where
-  symbol_linear : (meant : Written) (operand : Operand) → IsSymbol view.symbols.now meant operand
-      → linear (known_in view) (tree.name meant) ≡ Ok (operand_form (known_in view) operand)
+-- what is known where the place is the symbol of this number
+abbrev known_by : SymbolMap → ℕ → Spot → Knowledge
+known_by map place spot = record { told = told_at map place spot; meant = λ written. number_of map (meant_name map.counts written); place = place }
+
+module _ (map : SymbolMap) (place : ℕ) (spot : Spot) where
+  symbol_linear : (meant : Written) (operand : Operand) → IsSymbol map meant operand
+      → linear (known_by map place spot) (tree.name meant) ≡ Ok (operand_form (known_by map place spot) operand)
   unfolding linear
   symbol_linear meant (Symbol index) is =
-      ap (λ symbol. Ok (form_of (told_at view.symbols.now view.place view.spot) symbol)) (found_number view.symbols.now (meant_name view.symbols.now.counts meant) index is)
+      ap (λ symbol. Ok (form_of (told_at map place spot) symbol)) (found_number map (meant_name map.counts meant) index is)
   symbol_linear meant (Number value) is = absurd is
   symbol_linear written Here is = absurd is
 
   -- the linear form of a tree of summands
-  linear_summand : (summand : Summand) (operand : Operand) → IsOperand view.symbols.now summand operand
-      → linear (known_in view) (summand_tree summand) ≡ Ok (operand_form (known_in view) operand)
+  linear_summand : (summand : Summand) (operand : Operand) → IsOperand map summand operand
+      → linear (known_by map place spot) (summand_tree summand) ≡ Ok (operand_form (known_by map place spot) operand)
   unfolding linear
   linear_summand (summands.Number value) operand is = rw is refl
-  linear_summand (summands.Name text) operand is = symbol_linear (written.Plain text.now) operand is
+  linear_summand (summands.Name token) operand is = symbol_linear (written.Plain token.now.bytes.now) operand is
   linear_summand (summands.Back digits) operand is = symbol_linear (written.Back digits) operand is
   linear_summand (summands.Next digits) operand is = symbol_linear (written.Next digits) operand is
   linear_summand summands.Here operand is = rw is refl
 
-  linear_added : (tree : Tree) (made : Form) (addend : Option Addend) (added : Option Added) → IsAdded view.symbols.now addend added
-      → linear (known_in view) tree ≡ Ok made → linear (known_in view) (added_tree tree addend) ≡ Ok (added_form (known_in view) made added)
+  linear_added : (tree : Tree) (made : Form) (addend : Addend) (added : Added) → IsAdded map addend added
+      → linear (known_by map place spot) tree ≡ Ok made → linear (known_by map place spot) (added_tree tree addend) ≡ Ok (added_form (known_by map place spot) made added)
   unfolding linear binary_form
-  linear_added tree made None None same is = is
-  linear_added tree made None (Some added) same is = absurd same
-  linear_added tree made (Some addend) None same is = absurd same
-  linear_added tree made (Some addend) (Some added) same is = by addend.minus addend.summand added.minus added.operand same.0 same.1
-    where
-      by : (minus : Bool) (summand : Summand) (less : Bool) (operand : Operand) → less ≡ minus → IsOperand view.symbols.now summand operand
-          → let addend : Addend = record { minus = minus; summand = summand } in
-          let added : Added = record { minus = less; operand = operand } in
-          linear (known_in view) (added_tree tree (Some addend)) ≡ Ok (added_form (known_in view) made (Some added))
-      by false summand less operand sign stands = rw (sign, is, linear_summand summand operand stands) refl
-      by true summand less operand sign stands = rw (sign, is, linear_summand summand operand stands) refl
+  linear_added tree made addends.Nothing adds.Nothing same is = is
+  linear_added tree made addends.Nothing (adds.Plus operand) same is = absurd same
+  linear_added tree made addends.Nothing (adds.Minus operand) same is = absurd same
+  linear_added tree made (addends.Plus summand) adds.Nothing same is = absurd same
+  linear_added tree made (addends.Plus summand) (adds.Plus operand) same is = rw (is, linear_summand summand operand same) refl
+  linear_added tree made (addends.Plus summand) (adds.Minus operand) same is = absurd same
+  linear_added tree made (addends.Minus summand) adds.Nothing same is = absurd same
+  linear_added tree made (addends.Minus summand) (adds.Plus operand) same is = absurd same
+  linear_added tree made (addends.Minus summand) (adds.Minus operand) same is = rw (is, linear_summand summand operand same) refl
 
   -- the form of a sum is that of its tree
-  pub linear_sum : (sum : Sum) (named : SymbolSum) → IsNamed view.symbols.now sum named
-      → form_in (known_in view) (sum_tree sum) ≡ Ok (sum_form (known_in view) named)
+  pub sum_linear : (sum : Sum) (named : SymbolSum) → IsNamed map sum named
+      → form_in (known_by map place spot) (sum_tree sum) ≡ Ok (sum_form (known_by map place spot) named)
   unfolding form_in sum_form
-  linear_sum sum named is =
+  sum_linear sum named is =
       ap in_statement
-      (linear_added (added_tree (summand_tree sum.first) sum.second) (added_form (known_in view) (operand_form (known_in view) named.first) named.second) sum.third named.third is.third
-      (linear_added (summand_tree sum.first) (operand_form (known_in view) named.first) sum.second named.second is.second (linear_summand sum.first named.first is.first)))
+      (linear_added (summand_tree sum.first) (operand_form (known_by map place spot) named.first) sum.second named.second is.second (linear_summand sum.first named.first is.first))
+
+-- the same where a view is had
+pub linear_sum : (view : View) (sum : Sum) (named : SymbolSum) → IsNamed view.symbols.now sum named
+    → form_in (known_in view) (sum_tree sum) ≡ Ok (sum_form (known_in view) named)
+linear_sum view = sum_linear view.symbols.now view.place view.spot

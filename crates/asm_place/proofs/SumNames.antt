@@ -1,5 +1,5 @@
 -- The names of a sum become symbols one after the other, and what was found stays found.
-use Rattle.std.proofs.Common.{◌≡◌, ℕ, ◌&&◌, Bool, true, false, List, Option, None, Some, refl, sym, ap, subst, ◌∙◌}
+use Rattle.std.proofs.Common.{◌≡◌, ℕ, ◌&&◌, Bool, true, false, List, Some, refl, sym, ap, subst, ◌∙◌}
 use Rattle.asm_base.specs.declared.positions.Pos.{Pos}
 use Rattle.asm_expr.specs.declared.naming.Name.{Name}
 use Rattle.asm_expr.specs.declared.trees.Written.{Written}
@@ -9,6 +9,7 @@ use Rattle.asm_expr.specs.Trees as trees
 use Rattle.asm_operands.specs.declared.sums.Summand.{Summand}
 use Rattle.asm_operands.specs.declared.sums.Summand.TheVariants as summands
 use Rattle.asm_operands.specs.declared.sums.Addend.{Addend}
+use Rattle.asm_operands.specs.declared.sums.Addend.TheVariants as addends
 use Rattle.asm_operands.specs.declared.sums.Sum.{Sum}
 use Rattle.asm_operands.specs.Sums.{summand_tree, added_tree, sum_tree}
 use Rattle.asm_symbols.specs.Counting.{meant_name}
@@ -16,6 +17,7 @@ use Rattle.asm_symbols.specs.SymbolMap.{SymbolMap, names, index_of}
 use Rattle.asm_place.specs.declared.sums.Operand.{Operand}
 use Rattle.asm_place.specs.declared.sums.Operand.TheVariants as operands
 use Rattle.asm_place.specs.declared.sums.Added.{Added}
+use Rattle.asm_place.specs.declared.sums.Added.TheVariants.{Nothing, Plus, Minus}
 use Rattle.asm_place.specs.declared.sums.SymbolSum.{SymbolSum}
 use Rattle.asm_place.specs.SymbolSums.{IsSymbol, IsOperand, IsAdded, IsNamed, with_addend, is_addend_meant}
 use Rattle.asm_place.specs.Tables.{Table, with_name, with_tree, is_meant}
@@ -52,9 +54,10 @@ tree_keeps pos (trees.unary op operand) table = tree_keeps pos operand table
 tree_keeps pos (trees.binary op left right) table =
     keeps_on table.symbols (with_tree pos left table).symbols _ (tree_keeps pos left table) (tree_keeps pos right (with_tree pos left table))
 
-addend_keeps : (pos : Pos) (addend : Option Addend) (table : Table) → KeepsNames table.symbols (with_addend pos addend table).symbols
-addend_keeps pos None table = keeps_same table.symbols
-addend_keeps pos (Some addend) table = tree_keeps pos (summand_tree addend.summand) table
+addend_keeps : (pos : Pos) (addend : Addend) (table : Table) → KeepsNames table.symbols (with_addend pos addend table).symbols
+addend_keeps pos addends.Nothing table = keeps_same table.symbols
+addend_keeps pos (addends.Plus summand) table = tree_keeps pos (summand_tree summand) table
+addend_keeps pos (addends.Minus summand) table = tree_keeps pos (summand_tree summand) table
 
 module _ (old new : SymbolMap) (keeps : KeepsNames old new) where
   symbol_kept : (meant : Written) (operand : Operand) → IsSymbol old meant operand → IsSymbol new meant operand
@@ -65,22 +68,26 @@ module _ (old new : SymbolMap) (keeps : KeepsNames old new) where
 
   operand_kept : (summand : Summand) (operand : Operand) → IsOperand old summand operand → IsOperand new summand operand
   operand_kept (summands.Number value) operand is = is
-  operand_kept (summands.Name text) operand is = symbol_kept (written.Plain text.now) operand is
+  operand_kept (summands.Name token) operand is = symbol_kept (written.Plain token.now.bytes.now) operand is
   operand_kept (summands.Back digits) operand is = symbol_kept (written.Back digits) operand is
   operand_kept (summands.Next digits) operand is = symbol_kept (written.Next digits) operand is
   operand_kept summands.Here operand is = is
 
-  added_kept : (addend : Option Addend) (added : Option Added) → IsAdded old addend added → IsAdded new addend added
-  added_kept None None is = is
-  added_kept None (Some added) is = is
-  added_kept (Some addend) None is = is
-  added_kept (Some addend) (Some added) is = (is.0, operand_kept addend.summand added.operand is.1)
+  added_kept : (addend : Addend) (added : Added) → IsAdded old addend added → IsAdded new addend added
+  added_kept addends.Nothing Nothing is = is
+  added_kept addends.Nothing (Plus operand) is = is
+  added_kept addends.Nothing (Minus operand) is = is
+  added_kept (addends.Plus summand) Nothing is = is
+  added_kept (addends.Plus summand) (Plus operand) is = operand_kept summand operand is
+  added_kept (addends.Plus summand) (Minus operand) is = is
+  added_kept (addends.Minus summand) Nothing is = is
+  added_kept (addends.Minus summand) (Plus operand) is = is
+  added_kept (addends.Minus summand) (Minus operand) is = operand_kept summand operand is
 
   named_kept : (sum : Sum) (named : SymbolSum) → IsNamed old sum named → IsNamed new sum named
   named_kept sum named is = record {
     first = operand_kept sum.first named.first is.first;
     second = added_kept sum.second named.second is.second;
-    third = added_kept sum.third named.third is.third;
   }
 
 -- a sum that is named stays so while the names of another become symbols
@@ -89,49 +96,41 @@ pub named_stays : (pos : Pos) (tree : Tree) (old new : Table) (sum : Sum) (named
 named_stays pos tree old new sum named is first =
     subst (λ (table : Table). IsNamed table.symbols sum named) (sym is) (named_kept old.symbols (with_tree pos tree old).symbols (tree_keeps pos tree old) sum named first)
 
-names_added : (pos : Pos) (tree : Tree) (addend : Option Addend) (table : Table)
+names_added : (pos : Pos) (tree : Tree) (addend : Addend) (table : Table)
     → with_addend pos addend (with_tree pos tree table) ≡ with_tree pos (added_tree tree addend) table
 unfolding with_tree
-names_added pos tree None table = refl
-names_added pos tree (Some addend) table = refl
+names_added pos tree addends.Nothing table = refl
+names_added pos tree (addends.Plus summand) table = refl
+names_added pos tree (addends.Minus summand) table = refl
 
-meant_added : (counts : List (ℕ × ℕ)) (tree : Tree) (addend : Option Addend)
+meant_added : (counts : List (ℕ × ℕ)) (tree : Tree) (addend : Addend)
     → (is_meant counts tree && is_addend_meant counts addend) ≡ is_meant counts (added_tree tree addend)
 unfolding is_meant
-meant_added counts tree None = by (is_meant counts tree)
+meant_added counts tree addends.Nothing = by (is_meant counts tree)
   where
     by : (meant : Bool) → (meant && true) ≡ meant
     by true = refl
     by false = refl
-meant_added counts tree (Some addend) = refl
+meant_added counts tree (addends.Plus summand) = refl
+meant_added counts tree (addends.Minus summand) = refl
 
 -- the names of a sum become symbols
-pub sum_names : (pos : Pos) (sum : Sum) (table first second third : Table) → first ≡ with_tree pos (summand_tree sum.first) table
-    → second ≡ with_addend pos sum.second first → third ≡ with_addend pos sum.third second → third ≡ with_tree pos (sum_tree sum) table
-sum_names pos sum table first second third one two three =
-    three
-    ∙ (ap (with_addend pos sum.third) (two ∙ (ap (with_addend pos sum.second) one ∙ names_added pos (summand_tree sum.first) sum.second table))
-    ∙ names_added pos (added_tree (summand_tree sum.first) sum.second) sum.third table)
+pub sum_names : (pos : Pos) (sum : Sum) (table first second : Table) → first ≡ with_tree pos (summand_tree sum.first) table
+    → second ≡ with_addend pos sum.second first → second ≡ with_tree pos (sum_tree sum) table
+sum_names pos sum table first second one two =
+    two ∙ (ap (with_addend pos sum.second) one ∙ names_added pos (summand_tree sum.first) sum.second table)
 
 -- whether each of them means a label that came before
-pub sum_meant : (old first second : List (ℕ × ℕ)) (sum : Sum) (one two three : Bool) → first ≡ old → second ≡ first
-    → one ≡ is_meant old (summand_tree sum.first) → two ≡ is_addend_meant first sum.second → three ≡ is_addend_meant second sum.third
-    → ((one && two) && three) ≡ is_meant old (sum_tree sum)
-sum_meant old first second sum one two three on more one_is two_is three_is =
-    rw (one_is, two_is, three_is, more, on)
-    (ap (λ meant. meant && is_addend_meant old sum.third) (meant_added old (summand_tree sum.first) sum.second)
-    ∙ meant_added old (added_tree (summand_tree sum.first) sum.second) sum.third)
+pub sum_meant : (counts : List (ℕ × ℕ)) (sum : Sum) (one two : Bool) → one ≡ is_meant counts (summand_tree sum.first) → two ≡ is_addend_meant counts sum.second
+    → (one && two) ≡ is_meant counts (sum_tree sum)
+sum_meant counts sum one two one_is two_is = rw (one_is, two_is) (meant_added counts (summand_tree sum.first) sum.second)
 
 -- what each summand stands for is what it stands for when all names are symbols
-pub sum_named : (pos : Pos) (sum : Sum) (first second third : Table) (named : SymbolSum)
-    → second ≡ with_addend pos sum.second first → third ≡ with_addend pos sum.third second
-    → IsOperand first.symbols sum.first named.first → IsAdded second.symbols sum.second named.second → IsAdded third.symbols sum.third named.third
-    → IsNamed third.symbols sum named
-sum_named pos sum first second third named two three one_is two_is three_is =
+pub sum_named : (pos : Pos) (sum : Sum) (first second : Table) (named : SymbolSum) → second ≡ with_addend pos sum.second first
+    → IsOperand first.symbols sum.first named.first → IsAdded second.symbols sum.second named.second → IsNamed second.symbols sum named
+sum_named pos sum first second named two one_is two_is =
     let on : KeepsNames first.symbols second.symbols = subst (λ (table : Table). KeepsNames first.symbols table.symbols) (sym two) (addend_keeps pos sum.second first) in
-    let more : KeepsNames second.symbols third.symbols = subst (λ (table : Table). KeepsNames second.symbols table.symbols) (sym three) (addend_keeps pos sum.third second) in
     record {
-      first = operand_kept first.symbols third.symbols (keeps_on first.symbols second.symbols third.symbols on more) sum.first named.first one_is;
-      second = added_kept second.symbols third.symbols more sum.second named.second two_is;
-      third = three_is;
+      first = operand_kept first.symbols second.symbols on sum.first named.first one_is;
+      second = two_is;
     }

@@ -1,6 +1,6 @@
 -- Data of numbers alone: the operands that are numbers, and the bytes that they make.
-use Rattle.std.specs.Prelude.{◌≡◌, ℕ, ◌+◌, not, false, List, [], ◌∷◌, Option, None, Some, Result, Ok, if◌then◌else◌}
-use Rattle.std.specs.List.{list_any, count_by}
+use Rattle.std.specs.Prelude.{◌≡◌, ℕ, zero, suc, ◌+◌, ◌-◌, ◌≤◌, not, Bool, true, false, List, [], ◌∷◌, length, take, drop, Option, None, Some, Result, Ok, if◌then◌else◌}
+use Rattle.std.specs.List.{list_any, count_by, position_or_len}
 use Rattle.asm_base.specs.Tokens.{SpelledToken}
 use Rattle.asm_base.specs.Refusals.{◌>>=◌}
 use Rattle.asm_base.specs.declared.positions.Pos.{Pos}
@@ -13,7 +13,8 @@ use Rattle.asm_operands.specs.Constants.{IsConstant}
 use Rattle.asm_place.specs.declared.place_faults.PlaceCause.{PlaceCause}
 use Rattle.asm_place.specs.DataItems.{put_forms, is_cut, cut_notes}
 use Rattle.asm_place.specs.Expressions.{expression_of, form_in}
-use Rattle.asm_place.specs.Operands.{operands_of, each}
+use Rattle.asm_place.specs.declared.constant_data.Constant.{Constant}
+use Rattle.asm_place.specs.Operands.{is_comma, operands_of, each}
 use Rattle.asm_place.specs.Places.{uses_place}
 use Rattle.asm_place.specs.State.{Placed, with_notes, put_bytes}
 use Rattle.asm_place.specs.ConstantOperands.{NamesNothing}
@@ -26,6 +27,24 @@ cut_of size value = if not (fits size value) then 1 else 0
 abbrev pub put_any : Pos → List ℕ → Placed → Result Placed PlaceCause
 put_any pos [] placed = Ok placed
 put_any pos (byte ∷ bytes) placed = put_bytes pos (byte ∷ bytes) placed
+
+-- an operand ends in front of this token: a comma is here, or nothing
+unfoldable pub ends_at : List SpelledToken → ℕ → Bool
+ends_at [] at = true
+ends_at (token ∷ rest) zero = is_comma token
+ends_at (token ∷ rest) (suc at) = ends_at rest at
+
+-- the operand that begins at this token ends in front of the found one, and is this number
+pub record IsNumberAt (tokens : List SpelledToken) (at : ℕ) (found : Constant) : Type 0 where
+  pub within : found.end ≤ length tokens
+  pub begins : at ≤ found.end
+  pub ends : found.end ≡ at + position_or_len is_comma (drop at tokens)
+  pub one : IsConstant (take (found.end - at) (drop at tokens)) found.value
+
+-- a number that is found is that of the operand; where none is found nothing is said
+abbrev pub FindsNumberAt : List SpelledToken → ℕ → Option Constant → Type 0
+FindsNumberAt tokens at (Some found) = IsNumberAt tokens at found
+FindsNumberAt tokens at None = Unit {0}
 
 -- from these bytes and this count on, the operands make those bytes and that count, whatever is known: none has a name or the place
 pub record MakesData (size : FieldSize) (operands : List (List SpelledToken)) (before : List ℕ) (cut_before : ℕ) (after : List ℕ) (cut_after : ℕ) : Type 0 where

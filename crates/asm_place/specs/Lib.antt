@@ -17,6 +17,7 @@ pub mod Expressions
 pub mod UpToThreeTrees
 pub mod SumForms
 pub mod SymbolSums
+pub mod PlainSums
 pub mod DataItems
 pub mod ConstantOperands
 pub mod Spaces
@@ -26,6 +27,7 @@ pub mod SectionDefaults
 pub mod SectionChanges
 pub mod SymbolWords
 pub mod NamedTrees
+pub mod BareNames
 pub mod FewSums
 pub mod Assignments
 pub mod NamedNumbers

@@ -171,10 +171,14 @@ is_number token = number_by token.kind token.bytes
 abbrev pub is_label : SpelledToken → SpelledToken → Bool
 is_label first second = (names_symbol first || is_number first) && is_mark 58 second
 
+-- the symbol of a name, by its token
+abbrev pub named_symbol : Pos → SpelledToken → Table → Result (Table × ℕ) PlaceCause
+named_symbol pos token table = symbol_name token >>= λ name. symbol_of pos (naming.Plain name) table
+
 -- the symbol of a label, by its token: that of the next instance of a number
 abbrev pub label_by : TokenKind → Pos → SpelledToken → Table → Result (Table × ℕ) PlaceCause
 label_by Digits pos token table = in_statement (numeral 10 token.bytes) >>= λ number. next_symbol pos number table
-label_by _ pos token table = symbol_name token >>= λ name. symbol_of pos (naming.Plain name) table
+label_by _ pos token table = named_symbol pos token table
 
 -- the symbol that a label is of
 unfoldable pub label_symbol : Pos → SpelledToken → Table → Result (Table × ℕ) PlaceCause

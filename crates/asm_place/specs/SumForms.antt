@@ -1,4 +1,4 @@
--- The forms of sums of up to three numbers, symbols and places.
+-- The forms of sums of one or two numbers, symbols or places.
 use Rattle.std.specs.Prelude.{ℕ, Bool, true, false, Option, None, Some}
 use Rattle.asm_expr.specs.Forms.{Form, constant_form, joined}
 use Rattle.asm_expr.specs.Knowledge.{Told, absent, constant, label, form, Knowledge}
@@ -7,6 +7,7 @@ use Rattle.asm_expr.specs.Settled.{settled}
 use Rattle.asm_place.specs.declared.sums.Operand.{Operand}
 use Rattle.asm_place.specs.declared.sums.Operand.TheVariants.{Number, Symbol, Here}
 use Rattle.asm_place.specs.declared.sums.Added.{Added}
+use Rattle.asm_place.specs.declared.sums.Added.TheVariants.{Nothing, Plus, Minus}
 use Rattle.asm_place.specs.declared.sums.SymbolSum.{SymbolSum}
 
 -- the symbol that an operand is, if it is not a number
@@ -22,13 +23,14 @@ operand_form known (Symbol index) = form_of known.told index
 operand_form known Here = form_of known.told known.place
 
 -- the form with one operand more, if there is one
-abbrev pub added_form : Knowledge → Form → Option Added → Form
-added_form known made None = made
-added_form known made (Some added) = settled known.told (joined added.minus made (operand_form known added.operand))
+abbrev pub added_form : Knowledge → Form → Added → Form
+added_form known made Nothing = made
+added_form known made (Plus operand) = settled known.told (joined false made (operand_form known operand))
+added_form known made (Minus operand) = settled known.told (joined true made (operand_form known operand))
 
 -- the form of a sum
 unfoldable pub sum_form : Knowledge → SymbolSum → Form
-sum_form known sum = added_form known (added_form known (operand_form known sum.first) sum.second) sum.third
+sum_form known sum = added_form known (operand_form known sum.first) sum.second
 
 -- a symbol that is known as nothing or a label stands for itself
 abbrev pub stands_for_itself : Told → Bool

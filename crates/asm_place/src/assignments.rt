@@ -9,7 +9,7 @@ use crate::places::{View, uses_place};
 use crate::sums::sum_form_in;
 use crate::symbol_words::{NamedExpr, named_tree};
 use crate::tables::Naming;
-use asm_base::{Pos, Text, Token};
+use asm_base::{Pos, Token};
 use asm_expr::constant_form;
 
 impl Assembler {
@@ -125,7 +125,7 @@ impl Assembler {
             self.old self.new result }
         ensures kept { self.new.notes ≡ self.old.notes }
     {
-        let name = Text::new(symbol_name(self.alloc, token)?);
+        let name = symbol_name(self.alloc, token)?;
         let expr = expression_of(self.alloc, tokens)?;
         self.assign_words(pos, false, &NamedExpr { name, expr })
     }

@@ -95,7 +95,7 @@ impl Assembler {
         let mut operands = Operands::new(tokens);
         let name = needed_name(self.alloc, &mut operands)?;
         let before = self.table.symbols().len();
-        let id = self.table.intern_text(pos, &name)?;
+        let id = self.table.intern_text(pos, name.as_bytes())?;
         let given = self.known_operands(pos, most, &mut operands)?;
         let naming = Naming {
             before,

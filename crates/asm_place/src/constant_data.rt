@@ -1,18 +1,25 @@
 //! Data of numbers alone: their bytes, without trees, forms or a list of operands.
 
-ghost use Rattle.std.specs.Prelude.{◌≡◌, ◌++◌, ◌≤◌, IfOk, OnOk};
-ghost use Rattle.std.specs.Prelude.{map};
+ghost use Rattle.std.specs.Prelude.{◌≡◌, [], ◌∷◌, ◌++◌, ◌<◌, ◌≤◌, map, length, IfOk, OnOk};
 ghost use Rattle.asm_base.specs.Tokens.{spelled};
 ghost use Rattle.asm_frags.specs.Fields.{low_bytes};
-ghost use Rattle.asm_place.specs.ConstantData.{FindsData, FindsLone, cut_of};
+ghost use Rattle.asm_place.specs.ConstantData.{FindsData, FindsLone, FindsNumberAt, cut_of, ends_at};
 
 use crate::assemblers::Assembler;
-use crate::operands::{Operands, is_mark};
+use crate::operands::is_mark;
 use crate::place_faults::PlaceFault;
 use asm_base::{Pos, Token};
 use asm_frags::FieldSize;
-use asm_operands::constant_operand;
+use asm_operands::{front_constant, single_constant};
 use std::alloc::AllocError;
+
+/// Appends a byte for which there may be no room.
+#[inline(never)]
+fn append_byte(out: &mut Vec<u8>, byte: u8) -> Result<(), AllocError>
+    ensures { OnOk result (out.new.items ≡ out.old.items ++ byte ∷ []) }
+{
+    Ok(out.push(byte)?)
+}
 
 /// Appends the bytes of a value. Where the length is known no call copies them.
 #[inline(always)]
@@ -22,7 +29,11 @@ fn append_constant(out: &mut Vec<u8>, size: FieldSize, value: u64) -> Result<(),
 {
     let bytes = value.to_le_bytes();
     match size {
-        FieldSize::One => Ok(out.push(bytes[0])?),
+        FieldSize::One if out.len() < out.capacity() => {
+            out.push_reserved(bytes[0]);
+            Ok(())
+        }
+        FieldSize::One => append_byte(out, bytes[0]),
         FieldSize::Two => out.extend_from_slice(&bytes[..2]),
         FieldSize::Four => out.extend_from_slice(&bytes[..4]),
         FieldSize::Eight => out.extend_from_slice(bytes.as_slice()),
@@ -37,9 +48,89 @@ fn cut_of(size: FieldSize, value: u64) -> usize
     if size.fits(value) { 0 } else { 1 }
 }
 
-/// Makes the bytes of operands that are all numbers, and counts the values that do not fit, or answers none where one of them is
-/// anything else.
-#[tactic(auto, using(crate::proofs::ConstantDataLemmas::loop_end))]
+/// A number, and the index of the first token behind its operand.
+#[derive(Clone, Copy)]
+struct Constant {
+    value: u64,
+    end: usize,
+}
+
+/// Whether an operand ends in front of this token: a comma is here, or nothing.
+#[inline(always)]
+fn ends_at(tokens: &[Token], at: usize) -> bool
+    ensures { result ≡ ends_at (map spelled tokens.now) at }
+{
+    if at >= tokens.len() {
+        return true;
+    }
+    is_mark(&tokens[at], b',')
+}
+
+/// The number that the operand of any tokens is that begins at this one.
+#[inline(always)]
+fn long_constant(tokens: &[Token], at: usize) -> Option<Constant>
+    requires { at ≤ length tokens.now }
+    ensures { FindsNumberAt (map spelled tokens.now) at result }
+{
+    let front = front_constant(&tokens[at..])?;
+    let end = at + front.length;
+    if ends_at(tokens, end) {
+        Some(Constant {
+            value: front.value,
+            end,
+        })
+    } else {
+        None
+    }
+}
+
+/// The number that the operand is that begins at this token: most are one token.
+#[inline(always)]
+fn constant_at(tokens: &[Token], at: usize) -> Option<Constant>
+    ensures { FindsNumberAt (map spelled tokens.now) at result }
+{
+    if at >= tokens.len() {
+        return None;
+    }
+    let end = at + 1;
+    if !ends_at(tokens, end) {
+        return long_constant(tokens, at);
+    }
+    let value = single_constant(&tokens[at])?;
+    Some(Constant { value, end })
+}
+
+/// Appends the bytes of operands that are all numbers, and counts the values that do not fit, or
+/// answers none where one of them is anything else.
+#[inline(always)]
+fn append_constants(
+    out: &mut Vec<u8>,
+    size: FieldSize,
+    tokens: &[Token],
+) -> Result<Option<usize>, AllocError>
+    requires tokens { 0 < length tokens.now }
+    requires empty { out.old.items ≡ [] }
+    ensures { IfOk result (λ found. FindsData size (map spelled tokens.now) out.new.items found) }
+{
+    let mut cut = 0;
+    let mut at = 0;
+    'operands: loop {
+        let Constant { value, end } = match constant_at(tokens, at) {
+            Some(found) => found,
+            None => return Ok(None),
+        };
+        append_constant(out, size, value)?;
+        cut += cut_of(size, value);
+        if end >= tokens.len() {
+            return Ok(Some(cut));
+        }
+        at = end + 1;
+    }
+}
+
+/// Makes the bytes of operands that are all numbers, and counts the values that do not fit, or
+/// answers none where one of them is anything else. There is a loop for each size.
+#[inline(never)]
 pub(crate) fn constant_data(
     out: &mut Vec<u8>,
     size: FieldSize,
@@ -48,17 +139,15 @@ pub(crate) fn constant_data(
     ensures { IfOk result (λ found. FindsData size (map spelled tokens.now) out.new.items found) }
 {
     out.clear();
-    let mut cut = 0;
-    for operand in Operands::new(tokens) {
-        match constant_operand(operand) {
-            None => return Ok(None),
-            Some(value) => {
-                append_constant(out, size, value)?;
-                cut += cut_of(size, value);
-            }
-        }
+    if tokens.is_empty() {
+        return Ok(Some(0));
     }
-    Ok(Some(cut))
+    match size {
+        FieldSize::One => append_constants(out, FieldSize::One, tokens),
+        FieldSize::Two => append_constants(out, FieldSize::Two, tokens),
+        FieldSize::Four => append_constants(out, FieldSize::Four, tokens),
+        FieldSize::Eight => append_constants(out, FieldSize::Eight, tokens),
+    }
 }
 
 /// The number that one token is, where it is all that is given. None says nothing of the operands.
@@ -66,13 +155,10 @@ pub(crate) fn constant_data(
 pub(crate) fn lone_constant(tokens: &[Token]) -> Option<u64>
     ensures { FindsLone (map spelled tokens.now) result }
 {
-    if tokens.len() != 1 {
-        return None;
+    match tokens {
+        [token] => single_constant(token),
+        _ => None,
     }
-    if is_mark(&tokens[0], b',') {
-        return None;
-    }
-    constant_operand(tokens)
 }
 
 impl Assembler {

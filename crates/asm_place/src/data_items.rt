@@ -8,7 +8,7 @@ use crate::assemblers::Assembler;
 use crate::constant_data::{constant_data, lone_constant};
 use crate::expressions::{expressions, forms};
 use crate::few_sums::{FewSums, few_sums};
-use crate::operands::Operands;
+use crate::operands::{Operands, is_name};
 use crate::place_faults::PlaceFault;
 use crate::places::{View, one_uses_place};
 use crate::tables::Naming;
@@ -110,6 +110,7 @@ impl Assembler {
     }
 
     /// Data of any operands: without trees where these are one or two sums.
+    #[inline(never)]
     #[tactic(auto, unfolding(crate::specs::Placing::place_data))]
     fn place_named(&mut self, pos: Pos, size: FieldSize, tokens: &[Token]) -> Result<(), PlaceFault>
         ensures placed { PlacesBy (place_data pos size (map spelled tokens.now))
@@ -124,7 +125,7 @@ impl Assembler {
     }
 
     /// Data of any operands: at once where all are numbers.
-    fn place_values(
+    fn place_numbers(
         &mut self,
         pos: Pos,
         size: FieldSize,
@@ -140,8 +141,8 @@ impl Assembler {
         }
     }
 
-    /// `.byte` and the others: one number is put first of all.
-    pub(crate) fn place_data(
+    /// Data of any operands: one number is put first of all.
+    fn place_values(
         &mut self,
         pos: Pos,
         size: FieldSize,
@@ -153,7 +154,24 @@ impl Assembler {
     {
         match lone_constant(tokens) {
             Some(value) => self.put_lone(pos, size, value),
-            None => self.place_values(pos, size, tokens),
+            None => self.place_numbers(pos, size, tokens),
+        }
+    }
+
+    /// `.byte` and the others: where a name stands in front, the operands are no numbers.
+    pub(crate) fn place_data(
+        &mut self,
+        pos: Pos,
+        size: FieldSize,
+        tokens: &[Token],
+    ) -> Result<(), PlaceFault>
+        ensures placed { PlacesBy (place_data pos size (map spelled tokens.now))
+            self.old self.new result }
+        ensures kept { KeepsNotes result self.old.notes self.new.notes }
+    {
+        match tokens.first() {
+            Some(token) if is_name(token) => self.place_named(pos, size, tokens),
+            _ => self.place_values(pos, size, tokens),
         }
     }
 }

@@ -10,7 +10,8 @@ use crate::data_items::is_cut;
 use crate::operands::{Operands, is_name};
 use crate::place_faults::PlaceFault;
 use crate::places::{View, uses_place};
-use crate::sums::sum_form_in;
+use crate::plain_sums::{Plain, plain_form, plain_of};
+use crate::sums::{SymbolSum, sum_form_in};
 use crate::tables::Naming;
 use asm_base::{Pos, Token};
 use asm_expr::Linear;
@@ -20,13 +21,14 @@ use asm_symbols::Spot;
 
 /// One or two sums.
 #[derive(Clone, Copy)]
-pub(crate) enum FewSums<'a> {
-    One(Sum<'a>),
-    Two(Sum<'a>, Sum<'a>),
+pub(crate) enum FewSums<'t, 'a> {
+    One(Sum<'t, 'a>),
+    Two(Sum<'t, 'a>, Sum<'t, 'a>),
 }
 
 /// The sums that one or two operands are. None says nothing of the operands.
-pub(crate) fn few_sums<'a>(tokens: &[Token<'a>]) -> Option<FewSums<'a>>
+#[inline(always)]
+pub(crate) fn few_sums<'t, 'a>(tokens: &'t [Token<'a>]) -> Option<FewSums<'t, 'a>>
     ensures { FindsFewSums (map spelled tokens.now) result }
 {
     let mut operands = Operands::new(tokens);
@@ -43,14 +45,14 @@ pub(crate) fn few_sums<'a>(tokens: &[Token<'a>]) -> Option<FewSums<'a>>
 
 /// A name and a sum.
 #[derive(Clone, Copy)]
-pub(crate) struct NamedSum<'a> {
+pub(crate) struct NamedSum<'t, 'a> {
     pub(crate) name: &'a [u8],
-    pub(crate) sum: Sum<'a>,
+    pub(crate) sum: Sum<'t, 'a>,
 }
 
 /// The name that an operand is, if it is one without quotes.
 #[tactic(auto, unfolding(crate::specs::Operands::name_of, crate::specs::Operands::symbol_name))]
-fn bare_name<'a>(operand: &[Token<'a>]) -> Option<&'a [u8]>
+pub(crate) fn bare_name<'a>(operand: &[Token<'a>]) -> Option<&'a [u8]>
     ensures { FindsBareName (map spelled operand.now) (option_map (λ name. name.now) result) }
 {
     match operand {
@@ -60,7 +62,8 @@ fn bare_name<'a>(operand: &[Token<'a>]) -> Option<&'a [u8]>
 }
 
 /// The name and the sum that two operands are. None says nothing of the operands.
-pub(crate) fn named_sum<'a>(tokens: &[Token<'a>]) -> Option<NamedSum<'a>>
+#[inline(always)]
+pub(crate) fn named_sum<'t, 'a>(tokens: &'t [Token<'a>]) -> Option<NamedSum<'t, 'a>>
     ensures { FindsNamedSum (map spelled tokens.now) result }
 {
     let mut operands = Operands::new(tokens);
@@ -93,7 +96,11 @@ pub(crate) fn named_number<'a>(tokens: &[Token<'a>]) -> Option<NamedNumber<'a>>
 }
 
 impl Assembler {
-    ghost use Rattle.std.specs.Prelude.{◌≡◌, [], ◌∷◌};
+    ghost use Rattle.std.specs.Prelude.{◌≡◌, false, [], ◌∷◌};
+    ghost use Rattle.asm_symbols.specs.Looking.{told};
+    ghost use Rattle.asm_place.specs.Places.{uses_place};
+    ghost use Rattle.asm_place.specs.PlainSums.{plain_form, NamesElsewhere};
+    ghost use Rattle.asm_place.specs.SumForms.{sum_form};
     ghost use Rattle.asm_operands.specs.Sums.{sum_tree};
     ghost use Rattle.asm_place.specs.Answers.{KeepsNotes};
     ghost use Rattle.asm_place.specs.Placing.{put_data, data_read};
@@ -151,8 +158,156 @@ impl Assembler {
         Ok(())
     }
 
+    /// Puts one value whose form does not keep the place.
+    #[inline(always)]
+    #[tactic(auto, unfolding(crate::specs::Placing::put_data, crate::specs::DataItems::put_forms, crate::specs::Results::all_steps, crate::specs::Places::name_here))]
+    fn put_plain(
+        &mut self,
+        pos: Pos,
+        size: FieldSize,
+        naming: Naming,
+        plain: Plain,
+    ) -> Result<(), PlaceFault>
+        requires { uses_place (known_here (placed_by self.old)).place
+            (plain_form (told self.old.table.symbols) plain) ≡ false }
+        ensures placed { PlacesBy (put_data pos size naming
+            (plain_form (told self.old.table.symbols) plain ∷ [])) self.old self.new result }
+        ensures kept { KeepsNotes result self.old.notes self.new.notes }
+    {
+        let form = plain_form(self.alloc, self.table.symbols(), plain)?;
+        let cut = is_cut(size, &form) as usize;
+        self.put_form(pos, size, form)?;
+        self.table.allow(naming)?;
+        self.warn(pos, cut)?;
+        Ok(())
+    }
+
+    /// Puts two values whose forms do not keep the place.
+    #[inline(always)]
+    #[tactic(auto, unfolding(crate::specs::Placing::put_data, crate::specs::DataItems::put_forms, crate::specs::Results::all_steps, crate::specs::Places::name_here))]
+    fn put_plain_two(
+        &mut self,
+        pos: Pos,
+        size: FieldSize,
+        naming: Naming,
+        plain: Plain,
+        other: Plain,
+    ) -> Result<(), PlaceFault>
+        requires one { uses_place (known_here (placed_by self.old)).place
+            (plain_form (told self.old.table.symbols) plain) ≡ false }
+        requires other { uses_place (known_here (placed_by self.old)).place
+            (plain_form (told self.old.table.symbols) other) ≡ false }
+        ensures placed { PlacesBy (put_data pos size naming
+            (plain_form (told self.old.table.symbols) plain
+            ∷ plain_form (told self.old.table.symbols) other ∷ [])) self.old self.new result }
+        ensures kept { KeepsNotes result self.old.notes self.new.notes }
+    {
+        let symbols = self.table.symbols();
+        let one = plain_form(self.alloc, symbols, plain)?;
+        let another = plain_form(self.alloc, symbols, other)?;
+        let cut = is_cut(size, &one) as usize + is_cut(size, &another) as usize;
+        self.put_form(pos, size, one)?;
+        self.put_form(pos, size, another)?;
+        self.table.allow(naming)?;
+        self.warn(pos, cut)?;
+        Ok(())
+    }
+
+    /// Puts one sum.
+    #[inline(never)]
+    fn put_any_one(
+        &mut self,
+        pos: Pos,
+        size: FieldSize,
+        naming: Naming,
+        named: &SymbolSum,
+    ) -> Result<(), PlaceFault>
+        ensures placed { PlacesBy (put_data pos size naming
+            (sum_form (known_here (placed_by self.old)) named.now ∷ [])) self.old self.new result }
+        ensures kept { KeepsNotes result self.old.notes self.new.notes }
+    {
+        let view = self.view();
+        let form = sum_form_in(self.alloc, view, named)?;
+        let View { spot, place, .. } = view;
+        self.put_one(pos, size, naming, spot, place, form)
+    }
+
+    /// Puts two sums.
+    #[inline(never)]
+    fn put_any_two(
+        &mut self,
+        pos: Pos,
+        size: FieldSize,
+        naming: Naming,
+        one: &SymbolSum,
+        another: &SymbolSum,
+    ) -> Result<(), PlaceFault>
+        ensures placed { PlacesBy (put_data pos size naming
+            (sum_form (known_here (placed_by self.old)) one.now
+            ∷ sum_form (known_here (placed_by self.old)) another.now ∷ []))
+            self.old self.new result }
+        ensures kept { KeepsNotes result self.old.notes self.new.notes }
+    {
+        let view = self.view();
+        let first = sum_form_in(self.alloc, view, one)?;
+        let second = sum_form_in(self.alloc, view, another)?;
+        let View { spot, place, .. } = view;
+        self.put_two(pos, size, naming, spot, place, first, second)
+    }
+
+    /// Puts one sum, whose names are symbols.
+    #[inline(always)]
+    #[tactic(auto, using(crate::proofs::PlainLemmas::plain_sum))]
+    fn put_sum(
+        &mut self,
+        pos: Pos,
+        size: FieldSize,
+        naming: Naming,
+        named: &SymbolSum,
+    ) -> Result<(), PlaceFault>
+        requires { NamesElsewhere self.old.table.symbols (known_here (placed_by self.old))
+            named.now }
+        ensures placed { PlacesBy (put_data pos size naming
+            (sum_form (known_here (placed_by self.old)) named.now ∷ [])) self.old self.new result }
+        ensures kept { KeepsNotes result self.old.notes self.new.notes }
+    {
+        match plain_of(self.table.symbols(), named) {
+            Some(plain) => self.put_plain(pos, size, naming, plain),
+            None => self.put_any_one(pos, size, naming, named),
+        }
+    }
+
+    /// Puts two sums, whose names are symbols.
+    #[inline(always)]
+    #[tactic(auto, using(crate::proofs::PlainLemmas::plain_sum))]
+    fn put_two_sums(
+        &mut self,
+        pos: Pos,
+        size: FieldSize,
+        naming: Naming,
+        named: &SymbolSum,
+        another: &SymbolSum,
+    ) -> Result<(), PlaceFault>
+        requires one { NamesElsewhere self.old.table.symbols (known_here (placed_by self.old))
+            named.now }
+        requires other { NamesElsewhere self.old.table.symbols (known_here (placed_by self.old))
+            another.now }
+        ensures placed { PlacesBy (put_data pos size naming
+            (sum_form (known_here (placed_by self.old)) named.now
+            ∷ sum_form (known_here (placed_by self.old)) another.now ∷ []))
+            self.old self.new result }
+        ensures kept { KeepsNotes result self.old.notes self.new.notes }
+    {
+        let symbols = self.table.symbols();
+        match (plain_of(symbols, named), plain_of(symbols, another)) {
+            (Some(plain), Some(other)) => self.put_plain_two(pos, size, naming, plain, other),
+            _ => self.put_any_two(pos, size, naming, named, another),
+        }
+    }
+
     /// Data that is one sum.
-    #[tactic(auto, unfolding(crate::specs::Operands::each), using(crate::proofs::SumLemmas::linear_sum))]
+    #[inline(always)]
+    #[tactic(auto, unfolding(crate::specs::Operands::each), using(crate::proofs::PlainLemmas::named_form))]
     pub(crate) fn place_one(
         &mut self,
         pos: Pos,
@@ -164,14 +319,12 @@ impl Assembler {
         ensures kept { KeepsNotes result self.old.notes self.new.notes }
     {
         let (naming, named) = self.table.intern_one(pos, sum)?;
-        let view = self.view();
-        let form = sum_form_in(self.alloc, view, &named)?;
-        let View { spot, place, .. } = view;
-        self.put_one(pos, size, naming, spot, place, form)
+        self.put_sum(pos, size, naming, &named)
     }
 
     /// Data that is two sums.
-    #[tactic(auto, unfolding(crate::specs::Operands::each), using(crate::proofs::SumLemmas::linear_sum))]
+    #[inline(always)]
+    #[tactic(auto, unfolding(crate::specs::Operands::each), using(crate::proofs::PlainLemmas::named_form))]
     pub(crate) fn place_two(
         &mut self,
         pos: Pos,
@@ -184,10 +337,6 @@ impl Assembler {
         ensures kept { KeepsNotes result self.old.notes self.new.notes }
     {
         let (naming, one, another) = self.table.intern_two(pos, sum, other)?;
-        let view = self.view();
-        let first = sum_form_in(self.alloc, view, &one)?;
-        let second = sum_form_in(self.alloc, view, &another)?;
-        let View { spot, place, .. } = view;
-        self.put_two(pos, size, naming, spot, place, first, second)
+        self.put_two_sums(pos, size, naming, &one, &another)
     }
 }

@@ -11,8 +11,8 @@ use crate::place_faults::{PlaceCause, PlaceFault};
 use crate::section_changes::{Header, enter};
 use crate::section_words::needed_string;
 use crate::up_to_three::no_more;
-use asm_base::{Pos, Text, Token};
-use asm_expr::Name;
+use asm_base::{Pos, Token};
+use asm_expr::{Name, Spelling};
 use asm_frags::{SHT_PROGBITS, Sections};
 use std::alloc::{AllocError, Global};
 
@@ -97,6 +97,7 @@ impl Assembler {
         ensures kept { self.new.notes ≡ self.old.notes }
     {
         let name = file_name(one_string(self.alloc, tokens)?)?;
-        self.table.file(&Name::Plain(Text::new(name)))
+        let spelling = Spelling::new(self.alloc, &name)?;
+        self.table.file(&Name::Plain(spelling))
     }
 }

@@ -18,6 +18,7 @@ mod operands;
 mod place_faults;
 mod places;
 mod placing;
+mod plain_sums;
 mod section_changes;
 mod section_defaults;
 mod section_words;

@@ -5,13 +5,14 @@ use crate::places::here_name;
 use crate::tables::{Naming, SymbolUses};
 use asm_base::{NoMemory, Pos};
 use asm_expr::Expr;
-use asm_symbols::{Definition, Spot};
+use asm_symbols::{Definition, Spot, SymId};
 
 impl SymbolUses {
-    ghost use Rattle.std.specs.Prelude.{◌≡◌, ◌≤◌, length, map, OnOk, IfOk};
+    ghost use Rattle.std.specs.Prelude.{◌≡◌, ◌<◌, ◌≤◌, length, map, OnOk, IfOk};
+    ghost use Rattle.asm_expr.specs.declared.naming.Name.TheVariants.{Plain};
     ghost use Rattle.asm_expr.specs.Trees.{tree_of};
-    ghost use Rattle.asm_base.specs.Refusals.{Gives};
-    ghost use Rattle.asm_place.specs.Tables.{with_tree, with_trees, is_meant, are_meant, naming_of, allowed};
+    ghost use Rattle.asm_base.specs.Refusals.{Gives, GivesBy};
+    ghost use Rattle.asm_place.specs.Tables.{with_tree, with_trees, is_meant, are_meant, naming_of, allowed, symbol_of};
     ghost use Rattle.asm_place.specs.Places.{name_here, end_naming};
 
     /// Each name of an expression has a symbol from now on, whatever room there is. Answers whether
@@ -71,6 +72,23 @@ impl SymbolUses {
         } else {
             Err(PlaceFault::Fault(PlaceCause::BadSymbolUse))
         }
+    }
+
+    /// The symbol whose name is the text, which is put last if it is new.
+    #[inline(always)]
+    #[tactic(auto, using(crate::proofs::TextLemmas::text_symbol))]
+    pub(crate) fn symbol_of_text(&mut self, pos: Pos, text: &[u8]) -> Result<SymId, PlaceFault>
+        ensures value { GivesBy (λ id. (self.new, id)) result
+            (symbol_of pos (Plain text.now) self.old) }
+        ensures within { IfOk result (λ id. id < length self.new.symbols.symbols) }
+    {
+        let before = self.symbols().len();
+        let id = self.intern_text(pos, text)?;
+        self.allow(Naming {
+            before,
+            meant: true,
+        })?;
+        Ok(id)
     }
 
     /// The place itself becomes a symbol where a form keeps it, unless it is one already.

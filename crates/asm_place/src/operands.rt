@@ -1,7 +1,9 @@
 //! The operands of directives: what stands between commas, and the names and strings that operands are.
 
 ghost use Rattle.std.specs.Prelude.{◌≡◌, ◌≤◌, length, map, IsTrue};
+ghost use Rattle.asm_base.specs.Strings.{string_value};
 ghost use Rattle.asm_base.specs.Tokens.{spelled};
+ghost use Rattle.asm_expr.specs.Leaves.{between_quotes};
 ghost use Rattle.asm_base.specs.Refusals.{GivesBy};
 ghost use Rattle.std.specs.List.{list_any, position_or_len};
 ghost use Rattle.asm_place.specs.Operands.{is_name, is_dot, begins_with_place, names_symbol, is_mark, is_comma, checked_name, symbol_name, name_of, string_of};
@@ -9,7 +11,7 @@ ghost use Rattle.asm_place.specs.Placing.{is_assignment, begins_with_dot, is_num
 
 use crate::place_faults::{PlaceCause, PlaceFault};
 use asm_base::{Token, TokenKind, string_value};
-use asm_expr::{all_digits, between_quotes, is_symbol_name};
+use asm_expr::{Spelling, all_digits, between_quotes, is_symbol_name};
 use std::alloc::Global;
 
 /// The operands of a directive, one after the other: what stands between its commas, or none where nothing stands.
@@ -135,14 +137,24 @@ pub(crate) fn checked_name(name: Vec<u8>) -> Result<Vec<u8>, PlaceFault>
     }
 }
 
+/// The name that a string gives a symbol.
+#[inline(never)]
+fn quoted_name(alloc: Global, string: &[u8]) -> Result<Spelling, PlaceFault>
+    ensures { GivesBy (λ name. name) result
+        (checked_name (string_value (between_quotes string.now))) }
+{
+    let name = checked_name(string_value(alloc, between_quotes(string))?)?;
+    Ok(Spelling::new(alloc, &name)?)
+}
+
 /// The name that a token gives a symbol, quoted or not.
 #[tactic(auto, unfolding(crate::specs::Operands::symbol_name))]
-pub(crate) fn symbol_name(alloc: Global, token: &Token) -> Result<Vec<u8>, PlaceFault>
-    ensures { GivesBy (λ name. name.items) result (symbol_name (spelled token.now)) }
+pub(crate) fn symbol_name(alloc: Global, token: &Token) -> Result<Spelling, PlaceFault>
+    ensures { GivesBy (λ name. name) result (symbol_name (spelled token.now)) }
 {
     match token.kind {
-        TokenKind::Name => Ok(Vec::from_slice(alloc, token.bytes)?),
-        TokenKind::String => checked_name(string_value(alloc, between_quotes(token.bytes))?),
+        TokenKind::Name => Ok(Spelling::new(alloc, token.bytes)?),
+        TokenKind::String => quoted_name(alloc, token.bytes),
         _ => Err(PlaceFault::Fault(PlaceCause::BadOperand)),
     }
 }
@@ -187,8 +199,8 @@ pub(crate) fn begins_with_label(tokens: &[Token]) -> bool
 
 /// The name that an operand gives a symbol, quoted or not.
 #[tactic(auto, unfolding(crate::specs::Operands::name_of))]
-pub(crate) fn name_of(alloc: Global, operand: &[Token]) -> Result<Vec<u8>, PlaceFault>
-    ensures { GivesBy (λ name. name.items) result (name_of (map spelled operand.now)) }
+pub(crate) fn name_of(alloc: Global, operand: &[Token]) -> Result<Spelling, PlaceFault>
+    ensures { GivesBy (λ name. name) result (name_of (map spelled operand.now)) }
 {
     match operand {
         [token] => symbol_name(alloc, token),

@@ -13,7 +13,7 @@ use crate::operands::{
 };
 use crate::place_faults::{PlaceCause, PlaceFault};
 use crate::tables::SymbolUses;
-use asm_base::{Pos, Text, Token, TokenKind};
+use asm_base::{Pos, Token, TokenKind};
 use asm_expr::{Name, decimal_number};
 use asm_symbols::{Definition, SymId};
 use std::alloc::Global;
@@ -54,23 +54,33 @@ impl SymbolUses {
     ghost use Rattle.std.specs.Prelude.{◌≡◌, ◌<◌, length, IfOk};
     ghost use Rattle.asm_base.specs.Tokens.{spelled};
     ghost use Rattle.asm_base.specs.Refusals.{GivesBy};
-    ghost use Rattle.asm_place.specs.Placing.{label_symbol};
+    ghost use Rattle.asm_place.specs.Placing.{named_symbol, label_symbol};
+
+    /// The symbol of a name, by its token, which may be quoted.
+    #[inline(never)]
+    fn named_symbol(&mut self, alloc: Global, pos: Pos, token: &Token) -> Result<SymId, PlaceFault>
+        ensures value { GivesBy (λ id. (self.new, id)) result
+            (named_symbol pos (spelled token.now) self.old) }
+        ensures within { IfOk result (λ id. id < length self.new.symbols.symbols) }
+    {
+        let name = Name::Plain(symbol_name(alloc, token)?);
+        self.symbol_of(pos, &name)
+    }
 
     /// The symbol of a label, by its token: that of the next instance of a number.
-    #[tactic(auto, unfolding(crate::specs::Placing::label_symbol))]
+    #[tactic(auto, unfolding(crate::specs::Placing::label_symbol, crate::specs::Operands::symbol_name))]
     fn label_symbol(&mut self, alloc: Global, pos: Pos, token: &Token) -> Result<SymId, PlaceFault>
         ensures value { GivesBy (λ id. (self.new, id)) result
             (label_symbol pos (spelled token.now) self.old) }
         ensures within { IfOk result (λ id. id < length self.new.symbols.symbols) }
     {
-        if token.kind == TokenKind::Digits {
-            match decimal_number(token.bytes) {
+        match token.kind {
+            TokenKind::Name => self.symbol_of_text(pos, token.bytes),
+            TokenKind::Digits => match decimal_number(token.bytes) {
                 Ok(number) => self.next_symbol(pos, number),
                 Err(cause) => Err(PlaceFault::Fault(PlaceCause::from(cause))),
-            }
-        } else {
-            let name = Name::Plain(Text::new(symbol_name(alloc, token)?));
-            self.symbol_of(pos, &name)
+            },
+            _ => self.named_symbol(alloc, pos, token),
         }
     }
 }
@@ -101,6 +111,7 @@ impl Assembler {
     }
 
     /// A directive, by what it is.
+    #[inline(never)]
     #[tactic(auto, unfolding(crate::specs::Placing::place_by))]
     fn place_by(
         &mut self,

@@ -15,7 +15,7 @@ use crate::operands::{Operands, checked_name, is_mark, is_name, name_of, string_
 use crate::place_faults::{PlaceCause, PlaceFault};
 use crate::up_to_three::no_more;
 use asm_base::{Token, TokenKind};
-use asm_expr::Expr;
+use asm_expr::{Expr, Spelling};
 use asm_frags::{
     SHT_FINI_ARRAY, SHT_INIT_ARRAY, SHT_NOBITS, SHT_NOTE, SHT_PREINIT_ARRAY, SHT_PROGBITS,
 };
@@ -135,8 +135,8 @@ fn needed_section(alloc: Global, operands: &mut Operands) -> Result<Vec<u8>, Pla
 }
 
 /// The next operand, which has to be the name of a symbol.
-pub(crate) fn needed_name(alloc: Global, operands: &mut Operands) -> Result<Vec<u8>, PlaceFault>
-    ensures { Takes (λ name. name.items) (spec.needed name_of) operands.old operands.new result }
+pub(crate) fn needed_name(alloc: Global, operands: &mut Operands) -> Result<Spelling, PlaceFault>
+    ensures { Takes (λ name. name) (spec.needed name_of) operands.old operands.new result }
 {
     match operands.next() {
         Some(operand) => name_of(alloc, operand),

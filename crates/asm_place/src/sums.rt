@@ -1,9 +1,10 @@
-//! Data and values that are sums of up to three numbers, names and places: they need no tree.
+//! Data and values that are one or two numbers, names or places: they need no tree.
 
-ghost use Rattle.std.specs.Prelude.{◌≡◌, Ok, IfOk, IfSome};
+ghost use Rattle.std.specs.Prelude.{◌≡◌, true, Ok, IfOk, IfSome};
 ghost use Rattle.asm_base.specs.Refusals.{GivesBy, Returns};
 ghost use Rattle.asm_expr.specs.Forms.{symbol_form, signed};
 ghost use Rattle.asm_place.specs.KnownIn.{known_in};
+ghost use Rattle.asm_place.specs.declared.sums.Added.TheVariants.{Plus, Minus};
 ghost use Rattle.asm_place.specs.SumForms as spec;
 
 use crate::place_faults::PlaceFault;
@@ -27,20 +28,19 @@ pub(crate) enum Operand {
     Here,
 }
 
-/// What is added to a sum, or taken off.
+/// What is added to an operand, or taken off, if there is something.
 #[derive(Clone, Copy)]
-pub(crate) struct Added {
-    pub(crate) minus: bool,
-    pub(crate) operand: Operand,
+pub(crate) enum Added {
+    Nothing,
+    Plus(Operand),
+    Minus(Operand),
 }
 
-/// A sum whose names are symbols, and whether each `Nb` in it means a label that came before.
+/// A sum whose names are symbols.
 #[derive(Clone, Copy)]
 pub(crate) struct SymbolSum {
     pub(crate) first: Operand,
-    pub(crate) second: Option<Added>,
-    pub(crate) third: Option<Added>,
-    pub(crate) meant: bool,
+    pub(crate) second: Added,
 }
 
 impl SymbolUses {
@@ -49,83 +49,97 @@ impl SymbolUses {
     ghost use Rattle.asm_place.specs.Tables.{with_tree, with_trees, is_meant, naming_of};
     ghost use Rattle.asm_place.specs.SymbolSums.{with_addend, is_addend_meant, IsOperand, IsAdded, IsNamed};
 
+    /// Whether the summand is no `Nb`, or one that means a label that came before.
+    #[inline(always)]
+    #[tactic(auto, unfolding(crate::specs::Tables::is_meant))]
+    fn is_summand_meant(&self, summand: Summand) -> bool
+        ensures { result ≡ is_meant self.now.symbols.counts (summand_tree summand.entry) }
+    {
+        match summand {
+            Summand::Back(number) => self.symbols().count(number) != 0,
+            _ => true,
+        }
+    }
+
     /// What the summand names is a symbol's from now on, whatever room there is. Answers what the
-    /// summand stands for, and whether an `Nb` means a label that came before.
-    #[tactic(auto, unfolding(crate::specs::Tables::with_tree, crate::specs::Tables::is_meant))]
-    fn intern_summand(&mut self, pos: Pos, summand: Summand) -> Result<(Operand, bool), NoMemory>
+    /// summand stands for.
+    #[inline(always)]
+    #[tactic(auto, unfolding(crate::specs::Tables::with_tree))]
+    fn intern_summand(&mut self, pos: Pos, summand: Summand) -> Result<Operand, NoMemory>
         ensures ok { OnOk result (self.new ≡ with_tree pos (summand_tree summand.entry) self.old) }
-        ensures operand { IfOk result (λ made.
-            IsOperand self.new.symbols summand.entry made.0) }
-        ensures meant { IfOk result (λ made.
-            made.1 ≡ is_meant self.old.symbols.counts (summand_tree summand.entry)) }
+        ensures operand { IfOk result (λ operand.
+            IsOperand self.new.symbols summand.entry operand) }
         ensures counts { OnOk result (self.new.symbols.counts ≡ self.old.symbols.counts) }
         ensures grows { OnOk result
             (length self.old.symbols.symbols ≤ length self.new.symbols.symbols) }
     {
         match summand {
-            Summand::Number(number) => Ok((Operand::Number(number), true)),
-            Summand::Here => Ok((Operand::Here, true)),
-            Summand::Name(text) => {
-                let id = self.intern_text(pos, text)?;
-                Ok((Operand::Symbol(id.index()), true))
+            Summand::Number(number) => Ok(Operand::Number(number)),
+            Summand::Here => Ok(Operand::Here),
+            Summand::Name(token) => {
+                let id = self.intern_text(pos, token.bytes)?;
+                Ok(Operand::Symbol(id.index()))
             }
             Summand::Back(number) => {
-                let meant = self.symbols().count(number) != 0;
                 let id = self.intern_back(pos, number)?;
-                Ok((Operand::Symbol(id.index()), meant))
+                Ok(Operand::Symbol(id.index()))
             }
             Summand::Next(number) => {
                 let id = self.intern_next(pos, number)?;
-                Ok((Operand::Symbol(id.index()), true))
+                Ok(Operand::Symbol(id.index()))
             }
         }
     }
 
-    /// The same of what is added, if there is something.
+    /// Whether what is added is no `Nb`, or one that means a label that came before.
     #[inline(always)]
-    fn intern_addend(
-        &mut self,
-        pos: Pos,
-        addend: Option<Addend>,
-    ) -> Result<(Option<Added>, bool), NoMemory>
+    fn is_addend_meant(&self, addend: Addend) -> bool
+        ensures { result ≡ is_addend_meant self.now.symbols.counts addend.entry }
+    {
+        match addend {
+            Addend::Nothing => true,
+            Addend::Plus(summand) | Addend::Minus(summand) => self.is_summand_meant(summand),
+        }
+    }
+
+    /// What is added names symbols from now on, whatever room there is. Answers what it stands for.
+    #[inline(always)]
+    fn intern_addend(&mut self, pos: Pos, addend: Addend) -> Result<Added, NoMemory>
         ensures ok { OnOk result (self.new ≡ with_addend pos addend.entry self.old) }
-        ensures added { IfOk result (λ made.
-            IsAdded self.new.symbols addend.entry made.0) }
-        ensures meant { IfOk result (λ made.
-            made.1 ≡ is_addend_meant self.old.symbols.counts addend.entry) }
+        ensures added { IfOk result (λ added. IsAdded self.new.symbols addend.entry added) }
         ensures counts { OnOk result (self.new.symbols.counts ≡ self.old.symbols.counts) }
         ensures grows { OnOk result
             (length self.old.symbols.symbols ≤ length self.new.symbols.symbols) }
     {
         match addend {
-            Some(Addend { minus, summand }) => {
-                let (operand, meant) = self.intern_summand(pos, summand)?;
-                Ok((Some(Added { minus, operand }), meant))
-            }
-            None => Ok((None, true)),
+            Addend::Nothing => Ok(Added::Nothing),
+            Addend::Plus(summand) => Ok(Added::Plus(self.intern_summand(pos, summand)?)),
+            Addend::Minus(summand) => Ok(Added::Minus(self.intern_summand(pos, summand)?)),
         }
+    }
+
+    /// Whether each `Nb` of the sum means a label that came before.
+    #[inline(always)]
+    #[tactic(auto, using(crate::proofs::SumNames::sum_meant))]
+    pub(crate) fn is_sum_meant(&self, sum: &Sum) -> bool
+        ensures { result ≡ is_meant self.now.symbols.counts (sum_tree sum.now) }
+    {
+        self.is_summand_meant(sum.first) & self.is_addend_meant(sum.second)
     }
 
     /// Each name of the sum has a symbol from now on, whatever room there is. Answers the sum by
     /// its symbols.
+    #[inline(always)]
     pub(crate) fn intern_sum(&mut self, pos: Pos, sum: &Sum) -> Result<SymbolSum, NoMemory>
         ensures ok { OnOk result (self.new ≡ with_tree pos (sum_tree sum.now) self.old) }
         ensures named { IfOk result (λ named. IsNamed self.new.symbols sum.now named) }
-        ensures meant { IfOk result (λ named.
-            named.meant ≡ is_meant self.old.symbols.counts (sum_tree sum.now)) }
         ensures counts { OnOk result (self.new.symbols.counts ≡ self.old.symbols.counts) }
         ensures grows { OnOk result
             (length self.old.symbols.symbols ≤ length self.new.symbols.symbols) }
     {
-        let (first, one) = self.intern_summand(pos, sum.first)?;
-        let (second, two) = self.intern_addend(pos, sum.second)?;
-        let (third, three) = self.intern_addend(pos, sum.third)?;
-        Ok(SymbolSum {
-            first,
-            second,
-            third,
-            meant: one & two & three,
-        })
+        let first = self.intern_summand(pos, sum.first)?;
+        let second = self.intern_addend(pos, sum.second)?;
+        Ok(SymbolSum { first, second })
     }
 
     /// Each name of one sum has a symbol from now on, whatever room there is.
@@ -142,8 +156,8 @@ impl SymbolUses {
         ensures named { IfOk result (λ made. IsNamed self.new.symbols sum.now made.1) }
     {
         let before = self.symbols().len();
+        let meant = self.is_sum_meant(sum);
         let named = self.intern_sum(pos, sum)?;
-        let meant = named.meant;
         Ok((Naming { before, meant }, named))
     }
 
@@ -164,14 +178,15 @@ impl SymbolUses {
         ensures other { IfOk result (λ made. IsNamed self.new.symbols other.now made.2) }
     {
         let before = self.symbols().len();
+        let meant = self.is_sum_meant(sum) & self.is_sum_meant(other);
         let one = self.intern_sum(pos, sum)?;
         let another = self.intern_sum(pos, other)?;
-        let meant = one.meant & another.meant;
         Ok((Naming { before, meant }, one, another))
     }
 }
 
 /// The symbol that an operand is, if it is not a number.
+#[inline(always)]
 fn operand_symbol(view: View, operand: Operand) -> Option<SymId>
     ensures { result ≡ spec.operand_symbol (known_in view.entry) operand }
 {
@@ -183,6 +198,7 @@ fn operand_symbol(view: View, operand: Operand) -> Option<SymId>
 }
 
 /// Whether the symbol is known as nothing or a label: then it stands for itself.
+#[inline(always)]
 fn stands_for_itself(view: View, symbol: SymId) -> bool
     ensures { result ≡ spec.stands_for_itself ((known_in view.entry).told symbol) }
 {
@@ -204,60 +220,89 @@ fn operand_form(alloc: Global, view: View, operand: Operand) -> Result<Linear, E
 }
 
 /// The form with one operand more, if there is one.
-fn added_form(
-    alloc: Global,
-    view: View,
-    made: Linear,
-    added: Option<Added>,
-) -> Result<Linear, ExprFault>
+fn added_form(alloc: Global, view: View, made: Linear, added: Added) -> Result<Linear, ExprFault>
     ensures { Returns result (Ok (spec.added_form (known_in view.entry) made added)) }
 {
     match added {
-        Some(Added { minus, operand }) => {
+        Added::Nothing => Ok(made),
+        Added::Plus(operand) => {
             let other = operand_form(alloc, view, operand)?;
-            settled_sum(alloc, &view, minus, made, other)
+            settled_sum(alloc, &view, false, made, other)
         }
-        None => Ok(made),
+        Added::Minus(operand) => {
+            let other = operand_form(alloc, view, operand)?;
+            settled_sum(alloc, &view, true, made, other)
+        }
     }
 }
 
-/// The number, or minus the number.
+/// Minus the number.
 #[inline(always)]
-fn signed(minus: bool, number: u64) -> u64
-    ensures { result ≡ signed minus number }
+pub(crate) fn negated(number: u64) -> u64
+    ensures { result ≡ signed true number }
 {
-    if minus {
-        0u64.wrapping_sub(number)
-    } else {
-        number
-    }
+    0u64.wrapping_sub(number)
 }
 
-/// The form of a symbol that stands for itself and of what is added to it, if that is a number, or
-/// such a symbol that is taken off.
-#[tactic(auto, using(crate::proofs::SumLemmas::number_more, crate::proofs::SumLemmas::symbol_alone))]
-fn short_form(
+/// The form of a symbol that stands for itself and of what is added to it, if that is a number.
+#[inline(always)]
+#[tactic(auto, using(crate::proofs::SumLemmas::number_more))]
+fn symbol_plus(
     alloc: Global,
     view: View,
     symbol: SymId,
-    added: Option<Added>,
+    operand: Operand,
 ) -> Result<Option<Linear>, NoMemory>
     ensures { IfOk result (λ found. IfSome found (λ made.
-        made ≡ spec.added_form (known_in view.entry) (symbol_form symbol) added)) }
+        made ≡ spec.added_form (known_in view.entry) (symbol_form symbol) (Plus operand))) }
 {
-    let Some(Added { minus, operand }) = added else {
-        return Ok(Some(symbol_form(alloc, symbol)?));
-    };
+    match operand {
+        Operand::Number(number) => Ok(Some(symbol_and_number(alloc, symbol, number)?)),
+        _ => Ok(None),
+    }
+}
+
+/// The form of a symbol that stands for itself and of what is taken off, if that is a number, or
+/// such a symbol.
+#[inline(always)]
+#[tactic(auto, using(crate::proofs::SumLemmas::number_less, crate::proofs::SumLemmas::symbol_alone))]
+fn symbol_minus(
+    alloc: Global,
+    view: View,
+    symbol: SymId,
+    operand: Operand,
+) -> Result<Option<Linear>, NoMemory>
+    ensures { IfOk result (λ found. IfSome found (λ made.
+        made ≡ spec.added_form (known_in view.entry) (symbol_form symbol) (Minus operand))) }
+{
     if let Operand::Number(number) = operand {
-        return Ok(Some(symbol_and_number(alloc, symbol, signed(minus, number))?));
+        return Ok(Some(symbol_and_number(alloc, symbol, negated(number))?));
     }
     let Some(other) = operand_symbol(view, operand) else {
         return Ok(None);
     };
-    if !minus || !stands_for_itself(view, other) {
+    if !stands_for_itself(view, other) {
         return Ok(None);
     }
     Ok(Some(settled_difference(alloc, &view, symbol, other)?))
+}
+
+/// The form of a symbol that stands for itself and of what is added to it, if that is simple.
+#[inline(always)]
+fn short_form(
+    alloc: Global,
+    view: View,
+    symbol: SymId,
+    added: Added,
+) -> Result<Option<Linear>, NoMemory>
+    ensures { IfOk result (λ found. IfSome found (λ made.
+        made ≡ spec.added_form (known_in view.entry) (symbol_form symbol) added)) }
+{
+    match added {
+        Added::Nothing => Ok(Some(symbol_form(alloc, symbol)?)),
+        Added::Plus(operand) => symbol_plus(alloc, view, symbol, operand),
+        Added::Minus(operand) => symbol_minus(alloc, view, symbol, operand),
+    }
 }
 
 /// The form of any sum.
@@ -267,18 +312,15 @@ fn any_form(alloc: Global, view: View, sum: &SymbolSum) -> Result<Linear, ExprFa
     ensures { Returns result (Ok (spec.sum_form (known_in view.entry) sum.now)) }
 {
     let first = operand_form(alloc, view, sum.first)?;
-    let second = added_form(alloc, view, first, sum.second)?;
-    added_form(alloc, view, second, sum.third)
+    added_form(alloc, view, first, sum.second)
 }
 
 /// The form of a sum.
+#[inline(always)]
 #[tactic(auto, unfolding(crate::specs::SumForms::sum_form), using(crate::proofs::SumLemmas::symbol_alone))]
 fn sum_form(alloc: Global, view: View, sum: &SymbolSum) -> Result<Linear, ExprFault>
     ensures { Returns result (Ok (spec.sum_form (known_in view.entry) sum.now)) }
 {
-    if sum.third.is_some() {
-        return any_form(alloc, view, sum);
-    }
     match operand_symbol(view, sum.first) {
         Some(symbol) if stands_for_itself(view, symbol) => {
             match short_form(alloc, view, symbol, sum.second)? {

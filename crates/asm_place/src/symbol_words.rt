@@ -1,6 +1,6 @@
 //! What directives say of symbols (GNU as manual, ".globl", ".weak", ".local", ".hidden", ".protected", ".internal", ".type", ".size").
 
-ghost use Rattle.std.specs.Prelude.{◌≡◌, map, Ok};
+ghost use Rattle.std.specs.Prelude.{◌≡◌, map, option_map, Ok};
 ghost use Rattle.asm_base.specs.Tokens.{spelled};
 ghost use Rattle.asm_expr.specs.Trees.{tree_of};
 ghost use Rattle.asm_base.specs.Refusals.{GivesBy, Returns};
@@ -9,11 +9,12 @@ ghost use Rattle.asm_place.specs.Operands.{name_of, each};
 ghost use Rattle.asm_place.specs.SectionWords.{needed};
 ghost use Rattle.asm_place.specs.SymbolWords as spec;
 ghost use Rattle.asm_place.specs.NamedTrees.{named_tree_in};
+ghost use Rattle.asm_place.specs.BareNames.{FindsLoneName, FindsKind, FindsBareKind};
 
 use crate::assemblers::Assembler;
 use crate::directives::SymbolAttribute;
 use crate::expressions::form_in;
-use crate::few_sums::{NamedNumber, NamedSum, named_number, named_sum};
+use crate::few_sums::{NamedNumber, NamedSum, bare_name, named_number, named_sum};
 use crate::operands::{Operands, begins_with_place, has_dot, is_name, name_of};
 use crate::place_faults::{PlaceCause, PlaceFault};
 use crate::places::{View, uses_place};
@@ -21,8 +22,8 @@ use crate::section_words::{begins_type, needed_name};
 use crate::sums::{SymbolSum, sum_form_in};
 use crate::tables::{Naming, SymbolUses};
 use crate::up_to_three::{first_tree, no_more};
-use asm_base::{NoMemory, Pos, Text, Token};
-use asm_expr::{Expr, Name, constant_form};
+use asm_base::{NoMemory, Pos, Token};
+use asm_expr::{Expr, Name, Spelling, constant_form};
 use asm_symbols::{Kind, SymId};
 use std::alloc::Global;
 
@@ -31,7 +32,7 @@ use std::alloc::Global;
 fn plain_of(alloc: Global, operand: &[Token]) -> Result<Name, PlaceFault>
     ensures { GivesBy (λ name. name) result (spec.plain_of (map spelled operand.now)) }
 {
-    Ok(Name::Plain(Text::new(name_of(alloc, operand)?)))
+    Ok(Name::Plain(name_of(alloc, operand)?))
 }
 
 /// The names that operands give symbols.
@@ -105,16 +106,58 @@ fn named_kind(alloc: Global, operands: &mut Operands) -> Result<NamedKind, Place
     no_more(
         operands,
         NamedKind {
-            name: Name::Plain(Text::new(name)),
+            name: Name::Plain(name),
             kind,
         },
     )
 }
 
+/// The name that the only operand is, if it is one without quotes. None says nothing of the operands.
+#[inline(always)]
+fn lone_name<'a>(tokens: &[Token<'a>]) -> Option<&'a [u8]>
+    ensures { FindsLoneName (map spelled tokens.now) (option_map (λ name. name.now) result) }
+{
+    let mut operands = Operands::new(tokens);
+    let name = bare_name(operands.next()?)?;
+    match operands.next() {
+        None => Some(name),
+        Some(_) => None,
+    }
+}
+
+/// A name without quotes and a kind.
+#[derive(Clone, Copy)]
+struct BareKind<'a> {
+    name: &'a [u8],
+    kind: Kind,
+}
+
+/// The kind that an operand is. None says nothing of the operand.
+#[inline(always)]
+fn kind_found(operand: &[Token]) -> Option<Kind>
+    ensures { FindsKind (map spelled operand.now) result }
+{
+    kind_of(operand).ok()
+}
+
+/// The name without quotes and the kind that two operands are. None says nothing of the operands.
+#[inline(always)]
+fn bare_kind<'a>(tokens: &[Token<'a>]) -> Option<BareKind<'a>>
+    ensures { FindsBareKind (map spelled tokens.now) result }
+{
+    let mut operands = Operands::new(tokens);
+    let name = bare_name(operands.next()?)?;
+    let kind = kind_found(operands.next()?)?;
+    match operands.next() {
+        None => Some(BareKind { name, kind }),
+        Some(_) => None,
+    }
+}
+
 /// A name and an expression.
 #[derive(Drop)]
 pub(crate) struct NamedExpr {
-    pub(crate) name: Text,
+    pub(crate) name: Spelling,
     pub(crate) expr: Expr,
 }
 
@@ -125,13 +168,7 @@ pub(crate) fn named_tree(alloc: Global, operands: &mut Operands) -> Result<Named
 {
     let name = needed_name(alloc, operands)?;
     let expr = first_tree(alloc, operands)?;
-    no_more(
-        operands,
-        NamedExpr {
-            name: Text::new(name),
-            expr,
-        },
-    )
+    no_more(operands, NamedExpr { name, expr })
 }
 
 impl SymbolUses {
@@ -185,9 +222,9 @@ impl SymbolUses {
         ensures named { IfOk result (λ made. IsNamed self.new.symbols words.now.sum made.2) }
     {
         let before = self.symbols().len();
+        let meant = self.is_sum_meant(&words.sum);
         let id = self.intern_text(pos, words.name)?;
         let sum = self.intern_sum(pos, &words.sum)?;
-        let meant = sum.meant;
         Ok((id, Naming { before, meant }, sum))
     }
 
@@ -202,6 +239,21 @@ impl SymbolUses {
         ensures { Gives self.new result (say_one pos attribute name.now self.old) }
     {
         let id = self.symbol_of(pos, name)?;
+        self.say(id, attribute)
+    }
+
+    /// This is said of the symbol whose name is the text.
+    #[inline(always)]
+    #[tactic(auto, unfolding(crate::specs::Tables::symbol_of))]
+    fn say_text(
+        &mut self,
+        pos: Pos,
+        attribute: SymbolAttribute,
+        text: &[u8],
+    ) -> Result<(), PlaceFault>
+        ensures { Gives self.new result (say_one pos attribute (Plain text.now) self.old) }
+    {
+        let id = self.symbol_of_text(pos, text)?;
         self.say(id, attribute)
     }
 
@@ -228,13 +280,48 @@ impl Assembler {
     ghost use Rattle.asm_base.specs.Refusals.{Gives};
     ghost use Rattle.asm_place.specs.SymbolWords.{place_said, place_type, size_words, place_size};
     ghost use Rattle.asm_place.specs.NamedNumbers.{size_number};
+    ghost use Rattle.asm_place.specs.BareNames.{say_name};
     ghost use Rattle.asm_place.specs.NamedTrees.{named_tree_in};
     ghost use Rattle.asm_place.specs.FewSums.{named_sum_tree};
     ghost use Rattle.asm_place.specs.PlacedBy.{placed_by, PlacesBy};
 
-    /// `.globl` and the others, with a name at least.
-    #[tactic(auto, unfolding(crate::specs::SymbolWords::place_said))]
+    /// This is said of the symbol of the name, unless a symbol is named by `.`.
+    #[inline(always)]
+    fn say_name(
+        &mut self,
+        pos: Pos,
+        attribute: SymbolAttribute,
+        name: &[u8],
+        dot: bool,
+    ) -> Result<(), PlaceFault>
+        ensures placed { PlacesBy (say_name pos attribute name.now dot) self.old self.new result }
+        ensures kept { self.new.notes ≡ self.old.notes }
+    {
+        self.table.say_text(pos, attribute, name)?;
+        self.unless_dot(dot)
+    }
+
+    /// `.globl` and the others, with a name at least: one name needs no list.
     pub(crate) fn place_said(
+        &mut self,
+        pos: Pos,
+        attribute: SymbolAttribute,
+        tokens: &[Token],
+    ) -> Result<(), PlaceFault>
+        ensures placed { PlacesBy (place_said pos attribute (map spelled tokens.now))
+            self.old self.new result }
+        ensures kept { self.new.notes ≡ self.old.notes }
+    {
+        match lone_name(tokens) {
+            Some(name) => self.say_name(pos, attribute, name, has_dot(tokens)),
+            None => self.place_any_said(pos, attribute, tokens),
+        }
+    }
+
+    /// `.globl` and the others, of any operands.
+    #[inline(never)]
+    #[tactic(auto, unfolding(crate::specs::SymbolWords::place_said))]
+    fn place_any_said(
         &mut self,
         pos: Pos,
         attribute: SymbolAttribute,
@@ -255,6 +342,24 @@ impl Assembler {
     /// `.type`
     #[tactic(auto, unfolding(crate::specs::SymbolWords::place_type, crate::specs::Tables::symbol_of))]
     pub(crate) fn place_type(&mut self, pos: Pos, tokens: &[Token]) -> Result<(), PlaceFault>
+        ensures placed { PlacesBy (place_type pos (map spelled tokens.now))
+            self.old self.new result }
+        ensures kept { self.new.notes ≡ self.old.notes }
+    {
+        match bare_kind(tokens) {
+            Some(words) => {
+                let id = self.table.symbol_of_text(pos, words.name)?;
+                self.table.set_kind(id, words.kind)?;
+                self.unless_dot(begins_with_place(tokens))
+            }
+            None => self.place_any_type(pos, tokens),
+        }
+    }
+
+    /// `.type` of any operands.
+    #[inline(never)]
+    #[tactic(auto, unfolding(crate::specs::SymbolWords::place_type, crate::specs::Tables::symbol_of))]
+    fn place_any_type(&mut self, pos: Pos, tokens: &[Token]) -> Result<(), PlaceFault>
         ensures placed { PlacesBy (place_type pos (map spelled tokens.now))
             self.old self.new result }
         ensures kept { self.new.notes ≡ self.old.notes }

@@ -203,9 +203,24 @@ impl Assembler {
     ghost use Rattle.std.specs.Prelude.{◌≡◌, ◌≤◌, length, OnOk};
     ghost use Rattle.asm_base.specs.Refusals.{GivesBy};
     ghost use Rattle.asm_place.specs.OperandParts.{operands_left};
-    ghost use Rattle.asm_place.specs.Expressions.{known_operands};
-    ghost use Rattle.asm_place.specs.UpToThreeTrees.{known_operands_in};
+    ghost use Rattle.asm_place.specs.Expressions.{known_values, known_operands};
+    ghost use Rattle.asm_place.specs.UpToThreeTrees.{trees_in, known_operands_in};
     ghost use Rattle.asm_place.specs.PlacedBy.{placed_by};
+
+    /// The values of expressions whose names have symbols, each of which has to be known: the forms
+    /// of all are made before a value is asked for.
+    fn known_values(
+        &self,
+        exprs: &UpToThree<Expr>,
+        naming: Naming,
+    ) -> Result<KnownOperands, PlaceFault>
+        ensures { GivesBy (known_operands_in (placed_by self.now)) result
+            (known_values (trees_in exprs.now) naming (placed_by self.now)) }
+    {
+        let forms = up_to_three_forms(self.alloc, self.view(), exprs)?;
+        let values = up_to_three_constants(&forms)?;
+        Ok(KnownOperands { naming, values })
+    }
 
     /// Operands whose values have to be known once each name has a symbol: all are read, and the
     /// forms of all are made, before a value is asked for.
@@ -224,8 +239,6 @@ impl Assembler {
     {
         let exprs = up_to_three_trees(self.alloc, most, operands)?;
         let naming = self.table.intern_up_to_three(pos, &exprs)?;
-        let forms = up_to_three_forms(self.alloc, self.view(), &exprs)?;
-        let values = up_to_three_constants(&forms)?;
-        Ok(KnownOperands { naming, values })
+        self.known_values(&exprs, naming)
     }
 }

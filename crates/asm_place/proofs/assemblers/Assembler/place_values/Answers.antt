@@ -1,15 +1,13 @@
--- The data that was found is what the operands make.
-use Rattle.std.proofs.Common.{map, sym, subst}
+-- The number that was found is the one operand.
+use Rattle.std.proofs.Common.{subst, map}
 use Rattle.asm_base.specs.Tokens.{spelled}
 use Rattle.asm_base.specs.Refusals.{Gives}
-use Rattle.asm_place.specs.ConstantData.{FindsData}
 use Rattle.asm_place.specs.PlacedBy.{placed_by}
-use Rattle.asm_place.proofs.ConstantDataLemmas.{constants_place}
+use Rattle.asm_place.proofs.ConstantDataLemmas.{lone_places}
 use Rattle.asm_place.proofs.assemblers.Assembler.place_values.Goals as goal
 
 pub returns-in-Some-clause-placed : goal.returns-in-Some-clause-placed
 returns-in-Some-clause-placed c =
-    subst (Gives (placed_by c.put_constants.new.self) c.put_constants.result)
-    (sym (constants_place c.args.pos c.args.size c.constant_data.new.out.items c.in-Some.cut (map spelled c.args.tokens.now) (placed_by c.args.self.now)
-    (subst (FindsData c.args.size (map spelled c.args.tokens.now) c.constant_data.new.out.items) c.in-Some.is c.in_ok-cut.ensures)))
-    c.put_constants.ensures.placed
+    subst (Gives (placed_by c.put_lone.new.self) c.put_lone.result)
+    (lone_places c.args.pos c.args.size c.in-Some.value (map spelled c.args.tokens.now) (placed_by c.args.self.now) c.in-Some.ensures)
+    c.put_lone.ensures.placed
