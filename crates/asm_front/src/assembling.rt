@@ -89,16 +89,18 @@ fn place_text(
     }
 }
 
-/// The object of a text that is not too large, with its notes, or the first fault.
+/// The object of a text that is not too large, with its notes, or the first fault. The text's room
+/// is given back before the object takes some.
 #[tactic(auto, unfolding(crate::specs::Assembly::assembly_of_lines))]
 fn assemble_text(
     alloc: Global,
     options: &Options,
-    text: &Text,
+    text: Text,
 ) -> Result<NotedObject, Refusal<FaultAt>>
-    ensures { Returns result (assembly_of_lines (flags_of options.now) main_file text.now) }
+    ensures { Returns result (assembly_of_lines (flags_of options.now) main_file text) }
 {
-    let placer = place_text(alloc, options.no_warn, text)?;
+    let placer = place_text(alloc, options.no_warn, &text)?;
+    drop(text);
     finished(alloc, options.fatal_warnings, placer.into_parts())
 }
 
@@ -170,7 +172,7 @@ pub fn assemble<I: Inputs>(
 {
     let name = options.file.as_str();
     match read_text(alloc, ins, name) {
-        Ok(text) => answered(alloc, name, assemble_text(alloc, options, &text)),
+        Ok(text) => answered(alloc, name, assemble_text(alloc, options, text)),
         Err(TextFault::TooLarge) => {
             let fault = fault_on_line(alloc, StatementFault::FileTooLarge, 1);
             answered(alloc, name, Err(Refusal::Fault(fault)))
