@@ -1,14 +1,13 @@
 //! What a symbol map tells of its symbols.
 
-use asm_base::Text;
-use asm_expr::{Look, Name, constant_form};
+use asm_expr::{Look, Name, Spelling, constant_form};
 use asm_symbols::{Definition, Spot, SymFault, SymId, Symbols};
 use std::alloc::{AllocError, Global};
 use std::io::{self, Write};
 
 /// A symbol's name.
 fn plain(alloc: Global, text: &[u8]) -> Result<Name, AllocError> {
-    Ok(Name::Plain(Text::new(Vec::from_slice(alloc, text)?)))
+    Ok(Name::Plain(Spelling::new(alloc, text)?))
 }
 
 /// Where the labels of the map stand.
