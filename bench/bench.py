@@ -83,6 +83,13 @@ def relocations() -> Iterator[str]:
         yield f"label_{n}:\t.quad label_{n >> 1}+8, outside_{n & 1023}\n\t.long outside_{n & 1023}-label_{n}\n"
 
 
+def distances() -> Iterator[str]:
+    """Data of three operands: a distance and a number, within a section and to a symbol of another object."""
+    yield "\t.data\nhere:\t.byte 1\nthere:\t.byte 2\n"
+    for n in itertools.count():
+        yield f"\t.long there-here+{n & 1023}, outside-here+{n & 1023}\n"
+
+
 def fills() -> Iterator[str]:
     """`.zero` and `.fill` of 1 to 4,096 bytes."""
     state = 1
@@ -128,8 +135,8 @@ SOURCES_OF_TEXT: list[Callable[[], Iterator[str]]] = [nops, byte_lists, expressi
 SIZES_IN_MIB = [1, 4, 16]
 SIZES_IN_LINES = [10_000, 100_000, 1_000_000]
 SOURCES_OF_LINES: list[tuple[Callable[[], Iterator[str]], list[int]]] = [
-    (data, SIZES_IN_LINES), (relocations, SIZES_IN_LINES), (fills, [100_000]), (sections, [60_000]), (chain, [20_000]), (chain_back, [20_000]),
-    (sums, [10_000]), (space, [16]),
+    (data, SIZES_IN_LINES), (relocations, SIZES_IN_LINES), (distances, [100_000]), (fills, [100_000]), (sections, [60_000]),
+    (chain, [20_000]), (chain_back, [20_000]), (sums, [10_000]), (space, [16]),
 ]
 
 
