@@ -54,21 +54,26 @@ fn define(symbols: &mut Symbols, id: Option<SymId>) -> Result<(), SymFault> {
     }
 }
 
-/// `instances`: the instance behind, the one ahead twice, and after its definition the one behind, the one ahead, and how
-/// many there are of this number and of another.
-pub fn write_instances(alloc: Global, out: &mut Vec<u8>) -> io::Result<()> {
-    let mut symbols = Symbols::new(alloc);
+/// The instance behind, the one ahead twice, and after its definition the one behind, the one ahead, and how many there are
+/// of this number and of another.
+fn write_sevens(symbols: &mut Symbols, out: &mut Vec<u8>) -> io::Result<()> {
     write_index(symbols.numeric_back(7), &mut *out)?;
-    let first = write_next(&mut symbols, &mut *out)?;
-    write_next(&mut symbols, &mut *out)?;
-    if let Err(fault) = define(&mut symbols, first) {
+    let first = write_next(symbols, &mut *out)?;
+    write_next(symbols, &mut *out)?;
+    if let Err(fault) = define(symbols, first) {
         writeln!(out, "{fault}")?;
     }
     write_index(symbols.numeric_back(7), &mut *out)?;
-    write_next(&mut symbols, &mut *out)?;
+    write_next(symbols, &mut *out)?;
     let sevens = symbols.count(7);
     let ones = symbols.count(1);
     writeln!(out, "{sevens} {ones}")
+}
+
+/// `instances`: what an empty map tells of the instances of a numeric label.
+pub fn write_instances(alloc: Global, out: &mut Vec<u8>) -> io::Result<()> {
+    let mut symbols = Symbols::new(alloc);
+    write_sevens(&mut symbols, out)
 }
 
 /// A map with the symbol `low`, which is assigned -5, and the answer for assigning it again.
@@ -93,14 +98,19 @@ fn write_known(symbols: &Symbols, name: &Name, out: &mut Vec<u8>) -> io::Result<
     }
 }
 
-/// `assigned`: the fault of assigning once a symbol that is assigned, and what the map says of it and of another name.
-pub fn write_assigned(alloc: Global, out: &mut Vec<u8>) -> io::Result<()> {
-    let mut symbols = Symbols::new(alloc);
-    match assigned(alloc, &mut symbols) {
+/// The answer for assigning once a symbol that is assigned, and what the map says of it and of another name.
+fn write_answers(alloc: Global, symbols: &mut Symbols, out: &mut Vec<u8>) -> io::Result<()> {
+    match assigned(alloc, symbols) {
         Ok(Ok(())) => writeln!(out, "assigned again")?,
         Ok(Err(fault)) => writeln!(out, "{fault}")?,
         Err(fault) => writeln!(out, "{fault}")?,
     }
-    write_known(&symbols, &plain(alloc, b"low")?, &mut *out)?;
-    write_known(&symbols, &plain(alloc, b"high")?, out)
+    write_known(symbols, &plain(alloc, b"low")?, &mut *out)?;
+    write_known(symbols, &plain(alloc, b"high")?, out)
+}
+
+/// `assigned`: what an empty map answers for two assignments of one symbol.
+pub fn write_assigned(alloc: Global, out: &mut Vec<u8>) -> io::Result<()> {
+    let mut symbols = Symbols::new(alloc);
+    write_answers(alloc, &mut symbols, out)
 }
