@@ -40,6 +40,25 @@ fn name_length(bytes: &[u8]) -> usize
     bytes.iter().take_while(|byte| is_name_byte(**byte)).count()
 }
 
+/// How many bytes of a number go on at the front. Most numbers are short, and how short they are
+/// cannot be guessed: nothing branches on it.
+#[inline(always)]
+fn number_length(bytes: &[u8]) -> usize
+    ensures value { result ≡ prefix_len is_name_byte bytes.now }
+    ensures within { result ≤ length bytes.now }
+{
+    match bytes {
+        [one, two, three, ..] => {
+            let first = is_name_byte(*one);
+            let second = first & is_name_byte(*two);
+            let third = second & is_name_byte(*three);
+            let count = first as usize + second as usize + third as usize;
+            if count < 3 { count } else { name_length(bytes) }
+        }
+        _ => name_length(bytes),
+    }
+}
+
 /// How many bytes stand before the first line feed.
 #[inline(always)]
 fn line_length(bytes: &[u8]) -> usize
@@ -156,7 +175,9 @@ pub(crate) fn lexeme_at(source: &[u8], at: usize) -> Lexeme
         ByteClass::NameStart => {
             Lexeme::Token(TokenKind::Name, 1 + name_length(&source[at + 1..]))
         }
-        ByteClass::Digit => { Lexeme::Token(TokenKind::Digits, 1 + name_length(&source[at + 1..])) }
+        ByteClass::Digit => {
+            Lexeme::Token(TokenKind::Digits, 1 + number_length(&source[at + 1..]))
+        }
         ByteClass::Dollar | ByteClass::Operator => Lexeme::Token(TokenKind::Operator, 1),
         ByteClass::LongOperator => {
             Lexeme::Token(

@@ -1,5 +1,5 @@
 -- A comma is no number, no operator and no parenthesis.
-use Rattle.std.proofs.Common.{◌≡◌, ℕ, ◌==◌, Bool, true, false, ◌&&◌, List, [], ◌∷◌, Option, Some, None, Result, Ok, Err, refl, sym, ap, ◌∙◌, arith, codes}
+use Rattle.std.proofs.Common.{◌≡◌, ℕ, ◌==◌, Bool, true, false, ◌&&◌, List, [], ◌∷◌, Option, Some, None, Ok, refl, sym, ap, ◌∙◌, arith, codes}
 use Rattle.std.proofs.lemmas.Bool.Decides.{nat_tests}
 use Rattle.std.specs.Str.{bytes_eq}
 use Rattle.asm_base.specs.declared.tokens.TokenKind.{TokenKind}
@@ -7,10 +7,9 @@ use Rattle.asm_base.specs.declared.tokens.TokenKind.TheVariants.{Name, Digits, C
 use Rattle.asm_base.specs.Digits.{digit_of}
 use Rattle.asm_base.specs.Strings.{string_value_from}
 use Rattle.asm_base.specs.Tokens.{SpelledToken}
-use Rattle.asm_expr.specs.declared.faults.ExprCause.{ExprCause}
 use Rattle.asm_expr.specs.declared.trees.UnaryOp.{UnaryOp}
 use Rattle.asm_expr.specs.declared.trees.BinaryOp.{BinaryOp}
-use Rattle.asm_expr.specs.Trees.{Tree, number}
+use Rattle.asm_expr.specs.Trees.{number}
 use Rattle.asm_expr.specs.Numbers.{numeral, spelled_number}
 use Rattle.asm_expr.specs.Operators.{mark_by, mark_of, opens, closes, prefix_by, prefix_of, operator_by, operator_byte, operator_of}
 use Rattle.asm_expr.specs.Leaves.{character_code, digits_leaf, leaf_by, leaf_of}

@@ -17,7 +17,7 @@ use Rattle.asm_expr.specs.Reading.{Reading, Read, read, whole, closed, closed_by
 use Rattle.asm_expr.specs.Found.{spelled_from, operator_in}
 use Rattle.asm_operands.specs.declared.constants.Counted.{Counted}
 use Rattle.asm_operands.specs.Constants.{IsConstant}
-use Rattle.asm_operands.specs.Levels.{level_by, token_level}
+use Rattle.asm_operands.specs.Levels.{level_by}
 use Rattle.asm_operands.specs.Counting.{Counts, operand_in, first_level, ReadsOperand, ReadsExpression, ReadsMore, IsRead}
 use Rattle.asm_operands.proofs.LeafLemmas.{leaf_reads}
 use Rattle.asm_operands.proofs.TokenLists.{none_left, one_left}

@@ -1,5 +1,5 @@
 -- What is counted in tokens, also where these are cut behind it.
-use Rattle.std.proofs.Common.{◌≡◌, ℕ, zero, suc, ◌+◌, ◌-◌, ◌<◌, ◌≤◌, Bool, true, false, nat_lt, List, [], ◌∷◌, Option, Some, None, Ok, length, take, drop, map, get_or, refl, sym, ap, subst, ◌∙◌, arith}
+use Rattle.std.proofs.Common.{◌≡◌, ℕ, zero, suc, ◌+◌, ◌<◌, ◌≤◌, Bool, true, false, nat_lt, List, [], ◌∷◌, Option, Some, None, Ok, length, take, map, get_or, refl, sym, ap, subst, ◌∙◌, arith}
 use Rattle.std.proofs.lemmas.Bool.Decides.{nat_tests}
 use Rattle.std.specs.List.{list_any}
 use Rattle.std.proofs.lemmas.List.{length-take-le, get_or-take, length-map, take-map}
@@ -8,7 +8,7 @@ use Rattle.asm_base.specs.Tokens.{SpelledToken, spelled}
 use Rattle.asm_expr.specs.declared.trees.UnaryOp.{UnaryOp}
 use Rattle.asm_expr.specs.declared.trees.BinaryOp.{BinaryOp}
 use Rattle.asm_expr.specs.Trees.{number}
-use Rattle.asm_expr.specs.Arithmetic.{turned, combined}
+use Rattle.asm_expr.specs.Arithmetic.{turned}
 use Rattle.asm_expr.specs.Operators.{opens, closes, prefix_of, operator_of, level_of}
 use Rattle.asm_expr.specs.Leaves.{leaf_of}
 use Rattle.asm_expr.specs.Reading.{operator_at}
@@ -19,7 +19,7 @@ use Rattle.asm_operands.specs.Commas.{is_comma}
 use Rattle.asm_operands.specs.Constants.{IsConstant, IsFront}
 use Rattle.asm_operands.specs.Counting.{first_level, ReadsOperand, ReadsExpression, IsRead, IsCut, AreApart, IsCounted, FindsCounted, IsExpression, FindsValue}
 use Rattle.asm_operands.proofs.CommaLemmas.{leaf_apart, opens_apart, closes_apart, prefix_apart, prefix_unopened, operator_apart}
-use Rattle.asm_operands.proofs.TokenLists.{none_left, one_left, level_none, level_one}
+use Rattle.asm_operands.proofs.TokenLists.{one_left, level_none, level_one}
 use Rattle.asm_operands.proofs.CountingLemmas.{begun_by, ended_by, gone_on, leaf_read, opened_read, prefix_read, whole_read, IsBegun, HasOperator, from_some, levels_low}
 
 -- one token, and what follows it, are no commas

@@ -1,5 +1,5 @@
 -- Tokens that are numbers alone.
-use Rattle.std.proofs.Common.{◌≡◌, ℕ, zero, suc, ◌-◌, ◌==◌, ◌<◌, ◌≤◌, Bool, true, false, ◌&&◌, ◌||◌, List, [], ◌∷◌, Result, Ok, Err, length, get_or, take, drop, refl, sym, ap, arith, nat_lt, ◌≢◌, Option, Some, None, map, length-drop, lit≤, cond, ◌∙◌}
+use Rattle.std.proofs.Common.{◌≡◌, ℕ, zero, suc, ◌+◌, ◌-◌, ◌*◌, ◌/◌, ◌⊎◌, inl, inr, ◌==◌, ◌<◌, ◌≤◌, Bool, true, false, ◌&&◌, ◌||◌, List, [], ◌∷◌, Result, Ok, Err, length, get_or, take, drop, refl, sym, ap, arith, nat_lt, ◌≢◌, Option, Some, None, map, length-drop, lit≤, cond, ◌∙◌}
 use Rattle.std.proofs.lemmas.List.{take_all}
 use Rattle.std.specs.List.{list_all}
 use Rattle.std.specs.Result.{result_ok}
@@ -17,9 +17,9 @@ use Rattle.asm_expr.specs.Operators.{prefix_by}
 use Rattle.asm_expr.specs.Leaves.{last_byte, without_last, is_numeric_label, digits_leaf, leaf_by, leaf_of}
 use Rattle.asm_expr.specs.Linear.{linear}
 use Rattle.asm_expr.specs.Reading.{Read, read, operand_of, reading, read_at, read_more}
-use Rattle.asm_operands.specs.Numbers.{FindsDigit, FindsNumeral, FindsNumber, FindsLeaf}
+use Rattle.asm_operands.specs.Numbers.{FindsNumeral, FindsNumber, FindsLeaf}
 use Rattle.asm_operands.specs.Constants.{FindsConstant}
-use Rattle.asm_operands.proofs.NumberLemmas.{numeral_all, one_decimal}
+use Rattle.asm_operands.proofs.NumberLemmas.{numeral_all, one_decimal, two_decimal, three_decimal}
 
 -- one of the digits is one of the radix
 all_at : (radix i : ℕ) (digits : List ℕ) → list_all (is_digit_of radix) digits ≡ true → i < length digits → digit_of (get_or digits i 0) < radix
@@ -139,12 +139,6 @@ hexadecimal_is (a ∷ []) long first second = absurd (omega arith)
 hexadecimal_is (a ∷ b ∷ rest) long first second = rw (first, second) refl
 
 -- what is found of them is what their token spells
-pub one_found : (digits : List ℕ) (d : ℕ) (answer : Option ℕ) → 1 ≤ length digits → length digits < 2 → FindsDigit 10 (get_or digits 0 d) answer → FindsNumber digits answer
-one_found [] d answer some few is = absurd (omega arith)
-one_found (a ∷ []) d (Some n) some few is = number_leaf (a ∷ []) n (one_is (a ∷ []) (omega arith) ∙ one_decimal a n is)
-one_found (a ∷ []) d None some few is = tt
-one_found (a ∷ b ∷ rest) d answer some few is = absurd (omega arith)
-
 pub decimal_found : (digits : List ℕ) (answer : Option ℕ) → 0 < length digits → get_or digits 0 0 ≢ 48 → FindsNumeral 10 digits answer → FindsNumber digits answer
 decimal_found digits (Some n) long other is = number_leaf digits n (decimal_is digits long other ∙ is)
 decimal_found digits None long other is = tt
@@ -155,22 +149,26 @@ hexadecimal_found digits (Some n) long first second is =
     number_leaf digits n (hexadecimal_is digits long first second ∙ rw (take_all (length digits - 2) (drop 2 digits) (omega (arith, length-drop 2 digits))) at is)
 hexadecimal_found digits None long first second is = tt
 
--- and so are those of two, three and four digits
-pub two_found : (digits : List ℕ) (d e : ℕ) (answer : Option ℕ) → 2 ≤ length digits → length digits < 3 → get_or digits 0 d ≢ 48
-    → FindsNumeral 10 (get_or digits 0 d ∷ get_or digits 1 e ∷ []) answer → FindsNumber digits answer
-two_found [] d e answer some few other is = absurd (omega arith)
-two_found (a ∷ []) d e answer some few other is = absurd (omega arith)
-two_found (a ∷ b ∷ []) d e answer some few other is = decimal_found (a ∷ b ∷ []) answer (omega arith) other is
-two_found (a ∷ b ∷ c ∷ rest) d e answer some few other is = absurd (omega arith)
+-- and so are one to three decimal digits, by the first, the middle and the last
+pub short_found : (digits : List ℕ) (first middle last value : ℕ) → 1 ≤ length digits → length digits ≤ 3
+    → (first ≡ digit_of (get_or digits 0 0)) × (first < 10) → (middle ≡ digit_of (get_or digits (length digits / 2) 0)) × (middle < 10)
+    → (last ≡ digit_of (get_or digits (length digits - 1) 0)) × (last < 10)
+    → ((get_or digits 0 0 ≡ 48 → ⊥) ⊎ (length digits ≡ 1))
+    → (length digits ≡ 1 → value ≡ first) → (length digits ≡ 2 → value ≡ first * 10 + last) → (length digits ≡ 3 → value ≡ (first * 10 + middle) * 10 + last)
+    → FindsNumber digits (Some value)
+short_found [] first middle last value some few one two three plain alone pair all = absurd (omega arith)
+short_found (a ∷ []) first middle last value some few one two three plain alone pair all =
+    let same = alone refl in
+    rw same (number_leaf (a ∷ []) first (one_is (a ∷ []) refl ∙ one_decimal a first one))
+short_found (a ∷ b ∷ []) first middle last value some few one two three (inl other) alone pair all =
+    rw (pair refl) (decimal_found (a ∷ b ∷ []) (Some (first * 10 + last)) (omega arith) other (two_decimal a b first last one three))
+short_found (a ∷ b ∷ []) first middle last value some few one two three (inr long) alone pair all = absurd (omega arith)
+short_found (a ∷ b ∷ c ∷ []) first middle last value some few one two three (inl other) alone pair all =
+    rw (all refl) (decimal_found (a ∷ b ∷ c ∷ []) (Some ((first * 10 + middle) * 10 + last)) (omega arith) other (three_decimal a b c first middle last one two three))
+short_found (a ∷ b ∷ c ∷ []) first middle last value some few one two three (inr long) alone pair all = absurd (omega arith)
+short_found (a ∷ b ∷ c ∷ d ∷ rest) first middle last value some few one two three plain alone pair all = absurd (omega arith)
 
-pub three_found : (digits : List ℕ) (d e f : ℕ) (answer : Option ℕ) → 3 ≤ length digits → length digits < 4 → get_or digits 0 d ≢ 48
-    → FindsNumeral 10 (get_or digits 0 d ∷ get_or digits 1 e ∷ get_or digits 2 f ∷ []) answer → FindsNumber digits answer
-three_found [] d e f answer some few other is = absurd (omega arith)
-three_found (a ∷ []) d e f answer some few other is = absurd (omega arith)
-three_found (a ∷ b ∷ []) d e f answer some few other is = absurd (omega arith)
-three_found (a ∷ b ∷ c ∷ []) d e f answer some few other is = decimal_found (a ∷ b ∷ c ∷ []) answer (omega arith) other is
-three_found (a ∷ b ∷ c ∷ x ∷ rest) d e f answer some few other is = absurd (omega arith)
-
+-- and so are two hexadecimal digits behind `0x`
 pub four_found : (digits : List ℕ) (d e f g : ℕ) (answer : Option ℕ) → 4 ≤ length digits → length digits < 5 → get_or digits 0 d ≡ 48 → get_or digits 1 e ≡ 120
     → FindsNumeral 16 (get_or digits 2 f ∷ get_or digits 3 g ∷ []) answer → FindsNumber digits answer
 four_found [] d e f g answer some few nought mark is = absurd (omega arith)

@@ -1,9 +1,8 @@
 -- The tokens from an index on.
-use Rattle.std.proofs.Common.{◌≡◌, ℕ, ◌+◌, ◌<◌, ◌≤◌, Bool, true, false, nat_lt, List, [], ◌∷◌, None, IsSome, length, get_or, drop, map, refl, ap, arith, add-one, drop-cons, length-drop}
-use Rattle.std.proofs.lemmas.Bool.Decides.{nat_tests}
+use Rattle.std.proofs.Common.{◌≡◌, ℕ, ◌+◌, ◌<◌, ◌≤◌, List, [], ◌∷◌, length, get_or, drop, map, ap, arith, add-one, drop-cons, length-drop}
 use Rattle.std.proofs.lemmas.List.{nil_from_length}
 use Rattle.asm_base.specs.declared.tokens.Token.{Token}
-use Rattle.asm_base.specs.Tokens.{SpelledToken, spelled}
+use Rattle.asm_base.specs.Tokens.{spelled}
 use Rattle.asm_expr.specs.Found.{spelled_from}
 use Rattle.asm_operands.specs.Levels.{token_level}
 use Rattle.asm_operands.specs.Counting.{first_level}

@@ -1,6 +1,7 @@
 //! The numbers that single tokens are.
 
-ghost use Rattle.std.specs.Prelude.{◌<◌, ◌≤◌, ◌^◌, [], ◌∷◌, length};
+ghost use Rattle.std.specs.Prelude.{◌≡◌, ◌+◌, ◌*◌, ◌<◌, ◌≤◌, ◌^◌, ◌⊎◌, [], ◌∷◌, length, IsTrue};
+ghost use Rattle.asm_base.specs.Digits.{digit_of};
 ghost use Rattle.asm_base.specs.Tokens.{spelled};
 ghost use Rattle.asm_operands.specs.Numbers.{FindsDigit, FindsNumeral, FindsNumber, FindsLeaf};
 
@@ -57,16 +58,6 @@ fn long_number(digits: &[u8]) -> Option<u64>
     any_number(digits)
 }
 
-/// The value of a decimal digit.
-#[inline(always)]
-#[tactic(auto, unfolding(asm_base::specs::Digits::digit_of))]
-fn decimal_digit(byte: u8) -> Option<u64>
-    ensures { FindsDigit 10 byte result }
-{
-    let digit = u64::from(byte).wrapping_sub(48);
-    if digit < 10 { Some(digit) } else { None }
-}
-
 /// The value of a hexadecimal digit that is a capital letter.
 #[inline(never)]
 fn capital_digit(byte: u8) -> Option<u64>
@@ -93,27 +84,6 @@ fn hexadecimal_digit(byte: u8) -> Option<u64>
     }
 }
 
-/// The number of two decimal digits.
-#[inline(always)]
-fn two_digits(first: u8, second: u8) -> Option<u64>
-    ensures { FindsNumeral 10 (first ∷ second ∷ []) result }
-{
-    let tens = decimal_digit(first)?;
-    let ones = decimal_digit(second)?;
-    Some(tens * 10 + ones)
-}
-
-/// The number of three decimal digits.
-#[inline(always)]
-fn three_digits(first: u8, second: u8, third: u8) -> Option<u64>
-    ensures { FindsNumeral 10 (first ∷ second ∷ third ∷ []) result }
-{
-    let hundreds = decimal_digit(first)?;
-    let tens = decimal_digit(second)?;
-    let ones = decimal_digit(third)?;
-    Some((hundreds * 10 + tens) * 10 + ones)
-}
-
 /// The number of two hexadecimal digits.
 #[inline(always)]
 fn two_hexadecimal_digits(first: u8, second: u8) -> Option<u64>
@@ -124,15 +94,75 @@ fn two_hexadecimal_digits(first: u8, second: u8) -> Option<u64>
     Some(sixteens * 16 + ones)
 }
 
+/// The value of a byte as a decimal digit, which is 10 or more where it is none.
+#[inline(always)]
+#[tactic(auto, unfolding(asm_base::specs::Digits::digit_of))]
+fn decimal_value(byte: u8) -> u64
+    ensures { result < 10 → result ≡ digit_of byte }
+{
+    u64::from(byte).wrapping_sub(48)
+}
+
+/// Whether these are decimal digits, the first of so many by its byte: a zero there, with others
+/// behind it, means octal digits.
+#[inline(always)]
+fn are_decimal(length: usize, byte: u8, first: u64, middle: u64, last: u64) -> bool
+    ensures digits { IsTrue result → (first < 10) × (middle < 10) × (last < 10) }
+    ensures plain { IsTrue result → (byte ≡ 48 → ⊥) ⊎ (length ≡ 1) }
+{
+    (first < 10) & (middle < 10) & (last < 10) & ((byte != b'0') | (length == 1))
+}
+
+/// The number of one to three decimal digits, by the first, the middle and the last.
+#[inline(always)]
+fn decimal_number(length: usize, first: u64, middle: u64, last: u64) -> u64
+    requires first { first < 10 }
+    requires middle { middle < 10 }
+    requires last { last < 10 }
+    ensures one { length ≡ 1 → result ≡ first }
+    ensures two { length ≡ 2 → result ≡ first * 10 + last }
+    ensures three { length ≡ 3 → result ≡ (first * 10 + middle) * 10 + last }
+{
+    let front = if length == 3 {
+        first * 10 + middle
+    } else {
+        first
+    };
+    if length == 1 {
+        front
+    } else {
+        front * 10 + last
+    }
+}
+
+/// The number that a token of one to three digits is. Most are decimal. How many they are cannot
+/// be guessed: nothing branches on it.
+#[inline(always)]
+fn short_number(digits: &[u8]) -> Option<u64>
+    requires some { 1 ≤ length digits.now }
+    requires few { length digits.now ≤ 3 }
+    ensures { FindsNumber digits.now result }
+{
+    let length = digits.len();
+    let first = decimal_value(digits[0]);
+    let middle = decimal_value(digits[length / 2]);
+    let last = decimal_value(digits[length - 1]);
+    if are_decimal(length, digits[0], first, middle, last) {
+        Some(decimal_number(length, first, middle, last))
+    } else {
+        any_number(digits)
+    }
+}
+
 /// The number that a token of digits is. The shortest are read with no loop.
 #[inline(always)]
 fn number(digits: &[u8]) -> Option<u64>
     ensures { FindsNumber digits.now result }
 {
+    if digits.len().wrapping_sub(1) < 3 {
+        return short_number(digits);
+    }
     match digits {
-        [first, second, third] if *first != b'0' => three_digits(*first, *second, *third),
-        [first, second] if *first != b'0' => two_digits(*first, *second),
-        [only] => decimal_digit(*only),
         [zero, mark, first, second] if *zero == b'0' && *mark == b'x' => {
             two_hexadecimal_digits(*first, *second)
         }

@@ -34,7 +34,7 @@ returns-in-NameStart-clause-stands c =
 
 pub returns-in-Digit-clause-stands : goal.returns-in-Digit-clause-stands
 returns-in-Digit-clause-stands c =
-    digits_stand _ (drop (c.args.at + 1) c.args.source.now) _ (said_of (slice_index_or c.args.source.now c.args.at 0) _ class.Digit (omega arith) c.class_of.ensures c.in-Digit.is) (c.name_length-in-Digit.ensures.value ∙ ap (prefix_len is_name_byte) (take_rest c.args.source.now (c.args.at + 1)))
+    digits_stand _ (drop (c.args.at + 1) c.args.source.now) _ (said_of (slice_index_or c.args.source.now c.args.at 0) _ class.Digit (omega arith) c.class_of.ensures c.in-Digit.is) (c.number_length.ensures.value ∙ ap (prefix_len is_name_byte) (take_rest c.args.source.now (c.args.at + 1)))
 
 pub returns-in-Dollar-clause-stands : goal.returns-in-Dollar-clause-stands
 returns-in-Dollar-clause-stands c = one_byte_operator _ (slice_index_or c.args.source.now c.args.at 0) _ (omega arith) c.class_of.ensures c.in-Dollar.is
