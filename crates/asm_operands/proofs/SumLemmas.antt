@@ -1,4 +1,4 @@
--- Sums of one or two summands, as the reading of an expression finds them.
+-- Sums of one to three summands, as the reading of an expression finds them.
 use Rattle.std.proofs.Common.{◌≡◌, ℕ, ◌+◌, ◌<◌, ◌≤◌, Bool, true, false, cond, List, [], ◌∷◌, Some, None, Result, Ok, length, get_or, map, refl, sym, ap, ◌∙◌, arith}
 use Rattle.asm_base.specs.declared.tokens.Token.{Token}
 use Rattle.asm_base.specs.Tokens.{SpelledToken, spelled}
@@ -68,7 +68,17 @@ addend_read left operator token rest minus found all is none low more =
     (rw level at (summand_alone 5 token rest found is.summand none))
     (omega arith) (omega arith) more
 
--- one and three tokens are read as the trees of sums
+-- what is added to a summand ends before a sign
+sign_ends : (minus : Bool) → None ≡ operator_from 5 (Some (sign_operator minus))
+unfolding level_of
+sign_ends false = refl
+sign_ends true = refl
+
+sign_after : (operator token : SpelledToken) (rest : List SpelledToken) (minus : Bool) (found : Summand) → IsSigned operator token minus found → None ≡ operator_in 5 (operator ∷ rest)
+unfolding operator_in
+sign_after operator token rest minus found is = sign_ends minus ∙ ap (operator_from 5) (sym is.sign)
+
+-- one, three and five tokens are read as the trees of sums
 one_reads : (one : SpelledToken) (first : Summand) → IsSummand one first → reading 1 0 (one ∷ []) ≡ Ok (read (summand_tree first) [])
 unfolding reading operator_in
 one_reads one first is = summand_alone 1 one [] first is refl 1 (omega arith)
@@ -89,6 +99,32 @@ two_read one operator other first Nothing is second_is = absurd second_is
 two_read one operator other first (Plus second) is second_is = two_by one operator other first false second is second_is
 two_read one operator other first (Minus second) is second_is = two_by one operator other first true second is second_is
 
+three_by : (one operator other behind last : SpelledToken) (first : Summand) (minus less : Bool) (second third : Summand) → IsSummand one first → IsSigned operator other minus second
+    → IsSigned behind last less third
+    → reading 1 0 (one ∷ operator ∷ other ∷ behind ∷ last ∷ [])
+    ≡ Ok (read (binary (sign_operator less) (binary (sign_operator minus) (summand_tree first) (summand_tree second)) (summand_tree third)) [])
+unfolding reading operator_in height
+three_by one operator other behind last first minus less second third is second_is third_is =
+    let left = binary (sign_operator minus) (summand_tree first) (summand_tree second) in
+    let tree = binary (sign_operator less) left (summand_tree third) in
+    let low = summand_height first in
+    let right = summand_height second in
+    begins 1 0 (one ∷ operator ∷ other ∷ behind ∷ last ∷ []) (operator ∷ other ∷ behind ∷ last ∷ []) (summand_tree first) (read tree []) (omega arith)
+    (summand_read one (operator ∷ other ∷ behind ∷ last ∷ []) first is)
+    (addend_read (summand_tree first) operator other (behind ∷ last ∷ []) minus second (read tree []) second_is (sign_after behind last (last ∷ []) less third third_is) (omega arith)
+    (addend_read left behind last [] less third (read tree []) third_is refl (omega arith) (stops 1 0 tree [] refl)))
+    5 (omega arith)
+
+three_read : (one operator other behind last : SpelledToken) (first : Summand) (second third : Addend) → IsSummand one first → IsAddend operator other second → IsAddend behind last third
+    → reading 1 0 (one ∷ operator ∷ other ∷ behind ∷ last ∷ []) ≡ Ok (read (added_tree (added_tree (summand_tree first) second) third) [])
+three_read one operator other behind last first Nothing third is second_is third_is = absurd second_is
+three_read one operator other behind last first (Plus second) Nothing is second_is third_is = absurd third_is
+three_read one operator other behind last first (Plus second) (Plus third) is second_is third_is = three_by one operator other behind last first false false second third is second_is third_is
+three_read one operator other behind last first (Plus second) (Minus third) is second_is third_is = three_by one operator other behind last first false true second third is second_is third_is
+three_read one operator other behind last first (Minus second) Nothing is second_is third_is = absurd third_is
+three_read one operator other behind last first (Minus second) (Plus third) is second_is third_is = three_by one operator other behind last first true false second third is second_is third_is
+three_read one operator other behind last first (Minus second) (Minus third) is second_is third_is = three_by one operator other behind last first true true second third is second_is third_is
+
 -- the same of as many tokens of the program
 pub one_sum : (tokens : List Token) (d : Token) (first : Summand) → 1 ≤ length tokens → length tokens < 2 → IsSummand (spelled (get_or tokens 0 d)) first
     → reading 1 0 (map spelled tokens) ≡ Ok (read (summand_tree first) [])
@@ -103,3 +139,15 @@ two_sum (one ∷ []) d e f first second some few is second_is = absurd (omega ar
 two_sum (one ∷ operator ∷ []) d e f first second some few is second_is = absurd (omega arith)
 two_sum (one ∷ operator ∷ other ∷ []) d e f first second some few is second_is = two_read (spelled one) (spelled operator) (spelled other) first second is second_is
 two_sum (one ∷ operator ∷ other ∷ behind ∷ rest) d e f first second some few is second_is = absurd (omega arith)
+
+pub three_sum : (tokens : List Token) (d e f g h : Token) (first : Summand) (second third : Addend) → 5 ≤ length tokens → length tokens < 6 → IsSummand (spelled (get_or tokens 0 d)) first
+    → IsAddend (spelled (get_or tokens 1 e)) (spelled (get_or tokens 2 f)) second → IsAddend (spelled (get_or tokens 3 g)) (spelled (get_or tokens 4 h)) third
+    → reading 1 0 (map spelled tokens) ≡ Ok (read (added_tree (added_tree (summand_tree first) second) third) [])
+three_sum [] d e f g h first second third some few is second_is third_is = absurd (omega arith)
+three_sum (one ∷ []) d e f g h first second third some few is second_is third_is = absurd (omega arith)
+three_sum (one ∷ operator ∷ []) d e f g h first second third some few is second_is third_is = absurd (omega arith)
+three_sum (one ∷ operator ∷ other ∷ []) d e f g h first second third some few is second_is third_is = absurd (omega arith)
+three_sum (one ∷ operator ∷ other ∷ behind ∷ []) d e f g h first second third some few is second_is third_is = absurd (omega arith)
+three_sum (one ∷ operator ∷ other ∷ behind ∷ last ∷ []) d e f g h first second third some few is second_is third_is =
+    three_read (spelled one) (spelled operator) (spelled other) (spelled behind) (spelled last) first second third is second_is third_is
+three_sum (one ∷ operator ∷ other ∷ behind ∷ last ∷ more ∷ rest) d e f g h first second third some few is second_is third_is = absurd (omega arith)

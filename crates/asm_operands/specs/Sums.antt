@@ -1,4 +1,4 @@
--- Operands that are one or two numbers, names or places: they are read without a tree.
+-- Operands that are one to three numbers, names or places: they are read without a tree.
 use Rattle.std.specs.Prelude.{◌≡◌, ℕ, Bool, true, false, List, [], Option, None, Some, Ok}
 use Rattle.asm_base.specs.Tokens.{SpelledToken}
 use Rattle.asm_expr.specs.declared.trees.Written.TheVariants as written
@@ -13,6 +13,7 @@ use Rattle.asm_operands.specs.declared.sums.Summand.TheVariants.{Number, Name, B
 use Rattle.asm_operands.specs.declared.sums.Addend.{Addend}
 use Rattle.asm_operands.specs.declared.sums.Addend.TheVariants.{Nothing, Plus, Minus}
 use Rattle.asm_operands.specs.declared.sums.Sum.{Sum}
+use Rattle.asm_operands.specs.declared.sums.LongSum.{LongSum}
 
 -- the tree of what one token spells
 abbrev pub summand_tree : Summand → Tree
@@ -36,6 +37,10 @@ added_tree tree (Minus summand) = binary Sub tree (summand_tree summand)
 -- the tree of a sum
 abbrev pub sum_tree : Sum → Tree
 sum_tree sum = added_tree (summand_tree sum.first) sum.second
+
+-- the tree of a sum with one summand more behind it, if there is one
+abbrev pub long_tree : LongSum → Tree
+long_tree sum = added_tree (sum_tree sum.front) sum.third
 
 -- the token is an operand of its own, which spells this
 pub record IsSummand (token : SpelledToken) (found : Summand) : Type 0 where
@@ -78,3 +83,8 @@ FindsAddend operator token None = Unit {0}
 abbrev pub FindsSum : List SpelledToken → Option Sum → Type 0
 FindsSum tokens (Some found) = reading 1 0 tokens ≡ Ok (read (sum_tree found) [])
 FindsSum tokens None = Unit {0}
+
+-- the same of a sum with one summand more behind it
+abbrev pub FindsLongSum : List SpelledToken → Option LongSum → Type 0
+FindsLongSum tokens (Some found) = reading 1 0 tokens ≡ Ok (read (long_tree found) [])
+FindsLongSum tokens None = Unit {0}

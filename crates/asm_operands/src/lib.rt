@@ -7,4 +7,4 @@ mod numbers;
 mod sums;
 
 pub use constants::{FrontConstant, constant_operand, front_constant, single_constant};
-pub use sums::{Addend, Sum, Summand, sum_operand};
+pub use sums::{Addend, LongSum, Sum, Summand, long_sum_operand, sum_operand};

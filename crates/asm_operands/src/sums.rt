@@ -1,9 +1,9 @@
-//! Operands that are one or two numbers, names or places, read without a tree.
+//! Operands that are one to three numbers, names or places, read without a tree.
 
 ghost use Rattle.std.specs.Prelude.{◌≡◌, map};
 ghost use Rattle.asm_base.specs.Tokens.{spelled};
 ghost use Rattle.asm_base.specs.declared.tokens.TokenKind.TheVariants.{Digits};
-ghost use Rattle.asm_operands.specs.Sums.{FindsLabel, FindsSummand, FindsMinus, FindsAddend, FindsSum};
+ghost use Rattle.asm_operands.specs.Sums.{FindsLabel, FindsSummand, FindsMinus, FindsAddend, FindsSum, FindsLongSum};
 
 use crate::numbers::leaf;
 use asm_base::{Token, TokenKind};
@@ -36,6 +36,14 @@ pub enum Addend<'t, 'a> {
 pub struct Sum<'t, 'a> {
     pub first: Summand<'t, 'a>,
     pub second: Addend<'t, 'a>,
+}
+
+/// A sum with one summand more behind it, if there is one. Few operands have it, so sums are kept
+/// apart from it.
+#[derive(Clone, Copy)]
+pub struct LongSum<'t, 'a> {
+    pub front: Sum<'t, 'a>,
+    pub third: Addend<'t, 'a>,
 }
 
 /// The numeric label that a token of digits is: decimal digits, and a letter behind them.
@@ -132,5 +140,25 @@ pub fn sum_operand<'t, 'a>(tokens: &'t [Token<'a>]) -> Option<Sum<'t, 'a>>
             second: addend_of(operator, other)?,
         }),
         _ => None,
+    }
+}
+
+/// The sum of up to three summands that an operand is. None says nothing of the operand.
+#[inline(always)]
+pub fn long_sum_operand<'t, 'a>(tokens: &'t [Token<'a>]) -> Option<LongSum<'t, 'a>>
+    ensures { FindsLongSum (map spelled tokens.now) result }
+{
+    match tokens {
+        [one, operator, other, sign, last] => Some(LongSum {
+            front: Sum {
+                first: summand_of(one)?,
+                second: addend_of(operator, other)?,
+            },
+            third: addend_of(sign, last)?,
+        }),
+        _ => Some(LongSum {
+            front: sum_operand(tokens)?,
+            third: Addend::Nothing,
+        }),
     }
 }

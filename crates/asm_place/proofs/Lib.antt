@@ -18,6 +18,7 @@ pub mod TextLemmas
 pub mod SumNames
 pub mod SumLemmas
 pub mod PlainLemmas
+pub mod LongSumLemmas
 pub mod ConstantDataLemmas
 pub mod ConstantOperandsLemmas
 pub mod NamedNumberLemmas

@@ -1,17 +1,17 @@
 -- Sums of symbols whose forms are the same wherever a statement stands.
-use Rattle.std.proofs.Common.{◌≡◌, ℕ, ◌+◌, ◌==◌, ◌||◌, Bool, true, false, cond, List, [], ◌∷◌, length, Option, None, Some, unwrap_or, Ok, refl, sym, ap, ◌∙◌, arith}
+use Rattle.std.proofs.Common.{◌≡◌, ℕ, ◌+◌, ◌==◌, ◌||◌, Bool, not, map, true, false, cond, List, [], ◌∷◌, length, Option, None, Some, unwrap_or, Ok, refl, sym, ap, ◌∙◌, arith}
 use Rattle.std.specs.Option.{option_map}
 use Rattle.std.proofs.lemmas.Bool.Decides.{nat_tests}
 use Rattle.asm_expr.specs.declared.naming.Name.{Name}
 use Rattle.asm_expr.specs.declared.naming.Name.TheVariants as naming
 use Rattle.asm_expr.specs.declared.trees.Written.{Written}
 use Rattle.asm_expr.specs.declared.trees.Written.TheVariants as written
-use Rattle.asm_expr.specs.Forms.{Form, term_of, symbol_form, constant_form, joined, signed, with_term, with_terms}
+use Rattle.asm_expr.specs.Forms.{Form, term_of, symbol_form, constant_form, joined, signed, wrapped, with_term, with_terms}
 use Rattle.asm_expr.specs.Knowledge.{Told, constant, label, Knowledge}
 use Rattle.asm_expr.specs.Linear.{form_by, form_of}
 use Rattle.asm_expr.specs.Names.{same_name}
 use Rattle.asm_expr.specs.declared.forms.Term.{Term}
-use Rattle.asm_expr.specs.Settled.{settled, put_all, put_one}
+use Rattle.asm_expr.specs.Settled.{settled, put_all, put_one, spot_of, cancelled_number}
 use Rattle.asm_operands.specs.declared.sums.Summand.{Summand}
 use Rattle.asm_operands.specs.declared.sums.Summand.TheVariants as summands
 use Rattle.asm_operands.specs.declared.sums.Addend.{Addend}
@@ -36,6 +36,7 @@ use Rattle.asm_place.specs.Expressions.{form_in}
 use Rattle.asm_place.specs.declared.sums.SymbolSum.{SymbolSum}
 use Rattle.asm_place.specs.SumForms.{sum_form, stands_for_itself}
 use Rattle.asm_place.specs.SymbolSums.{IsSymbol, IsOperand, IsAdded, IsNamed}
+use Rattle.asm_expr.proofs.SettledLemmas.{stays, none_cancel}
 use Rattle.asm_place.proofs.SumLemmas.{itself_by}
 use Rattle.asm_place.proofs.SumLemmas as sums
 
@@ -161,6 +162,28 @@ unfolding settled put_all with_term with_terms
 apart_by told other one second true same first more = rw same refl
 apart_by told other one second false same first more = rw (same, first, more) refl
 
+-- two terms of which some have cancelled stay, and a number that is added to them cancels nothing
+two_still : (told : ℕ → Told) (one other : Term) (first second : Option ℕ) (total number : ℕ) → not (wrapped one.coefficient == 0) ≡ true → not (wrapped other.coefficient == 0) ≡ true
+    → cancelled_number (map (spot_of told) (one ∷ other ∷ [])) (spot_of told one) ≡ first
+    → cancelled_number (map (spot_of told) (one ∷ other ∷ [])) (spot_of told other) ≡ second
+    → (let moved = joined false (put_one (put_one (constant_form total) one first) other second) (constant_form number) in moved ≡ settled told moved)
+unfolding with_terms
+two_still told one other None None total number some more here there = none_cancel told _ (rw (here, there) refl)
+two_still told one other None (Some at) total number some more here there = stays told _ some
+two_still told one other (Some at) None total number some more here there = stays told _ more
+two_still told one other (Some at) (Some behind) total number some more here there = stays told _ refl
+
+apart_settled : (told : ℕ → Told) (one second number : ℕ) (b : Bool) → (one == second) ≡ b
+    → (let moved = joined false (settled told (joined true (symbol_form one) (symbol_form second))) (constant_form number) in moved ≡ settled told moved)
+unfolding settled put_all with_term with_terms
+apart_settled told one second number true same = rw same (stays told _ refl)
+apart_settled told one second number false same = rw same (two_still told (term_of one 1) (term_of second _) _ _ _ number refl refl refl refl)
+
+apart_still : (told other : ℕ → Told) (one second number : ℕ) → told one ≡ other one → told second ≡ other second
+    → (let moved = joined false (settled other (joined true (symbol_form one) (symbol_form second))) (constant_form number) in moved ≡ settled told moved)
+apart_still told other one second number first more =
+    rw (← apart_by told other one second (one == second) refl first more) (apart_settled told one second number (one == second) refl)
+
 put_free : (place : ℕ) (made : Form) (one other : Term) (first second : Option ℕ) → made.terms ≡ [] → (one.symbol == place) ≡ false → (other.symbol == place) ≡ false
     → uses_place place (put_one (put_one made one first) other second) ≡ false
 put_free place made one other None None empty here there = rw empty (free_by _ _ here (free_by _ _ there refl))
@@ -176,9 +199,11 @@ apart_free told place one other false same here there = rw same (put_free place 
 
 module _ (map : SymbolMap) where
   pub number_alone : (symbol number : ℕ) → told map symbol ≡ constant number → IsPlain map (Symbol symbol) Nothing (plain.Number number)
+  unfolding with_terms
   number_alone symbol number is = record {
     form = λ known at more. elsewhere_form map known symbol at ∙ ap (form_by known.told symbol) is;
     free = λ known at more. refl;
+    still = λ known at more by. stays known.told _ refl;
   }
 
   pub symbol_alone : (symbol : ℕ) → stands_for_itself (told map symbol) ≡ true → IsPlain map (Symbol symbol) Nothing (plain.Moved symbol 0)
@@ -186,6 +211,7 @@ module _ (map : SymbolMap) where
   symbol_alone symbol is = record {
     form = λ known at more. itself map known symbol at is;
     free = λ known at more. free_by _ _ at.other refl;
+    still = λ known at more by. stays known.told _ refl;
   }
 
   pub number_more : (symbol number : ℕ) → stands_for_itself (told map symbol) ≡ true → IsPlain map (Symbol symbol) (Plus (Number number)) (plain.Moved symbol number)
@@ -193,6 +219,7 @@ module _ (map : SymbolMap) where
   number_more symbol number is = record {
     form = λ known at more. ap (λ made. settled known.told (joined false made (constant_form number))) (itself map known symbol at is) ∙ sym (sums.number_more known.told symbol number);
     free = λ known at more. free_by _ _ at.other refl;
+    still = λ known at more by. stays known.told _ refl;
   }
 
   pub number_less : (symbol number : ℕ) → stands_for_itself (told map symbol) ≡ true
@@ -201,6 +228,7 @@ module _ (map : SymbolMap) where
   number_less symbol number is = record {
     form = λ known at more. ap (λ made. settled known.told (joined true made (constant_form number))) (itself map known symbol at is) ∙ sym (sums.number_less known.told symbol number);
     free = λ known at more. free_by _ _ at.other refl;
+    still = λ known at more by. stays known.told _ refl;
   }
 
   pub symbol_less : (symbol other : ℕ) → stands_for_itself (told map symbol) ≡ true → stands_for_itself (told map other) ≡ true
@@ -211,6 +239,7 @@ module _ (map : SymbolMap) where
         ∙ (ap (λ made. settled known.told (joined true (symbol_form symbol) made)) (itself map known other more more_is)
         ∙ apart_by known.told (told map) symbol other (symbol == other) refl at.told more.told);
     free = λ known at more. apart_free (told map) known.place symbol other (symbol == other) refl at.other more.other;
+    still = λ known at more by. apart_still known.told (told map) symbol other by at.told more.told;
   }
 
 -- the form of a sum whose names are symbols of the map is that of its tree, and none of them is the place

@@ -15,7 +15,8 @@ use Rattle.asm_operands.specs.declared.sums.Summand.TheVariants as summands
 use Rattle.asm_operands.specs.declared.sums.Addend.{Addend}
 use Rattle.asm_operands.specs.declared.sums.Addend.TheVariants as addends
 use Rattle.asm_operands.specs.declared.sums.Sum.{Sum}
-use Rattle.asm_operands.specs.Sums.{summand_tree, added_tree, sum_tree}
+use Rattle.asm_operands.specs.declared.sums.LongSum.{LongSum}
+use Rattle.asm_operands.specs.Sums.{summand_tree, added_tree, sum_tree, long_tree}
 use Rattle.asm_symbols.specs.declared.entries.Spot.{Spot}
 use Rattle.asm_symbols.specs.Counting.{meant_name}
 use Rattle.asm_symbols.specs.Interning.{number_of}
@@ -26,6 +27,8 @@ use Rattle.asm_place.specs.declared.sums.Operand.TheVariants.{Number, Symbol, He
 use Rattle.asm_place.specs.declared.sums.Added.{Added}
 use Rattle.asm_place.specs.declared.sums.Added.TheVariants as adds
 use Rattle.asm_place.specs.declared.sums.SymbolSum.{SymbolSum}
+use Rattle.asm_place.specs.declared.long_sums.LongSymbolSum.{LongSymbolSum}
+use Rattle.asm_place.specs.LongSums.{IsLongNamed, long_form}
 use Rattle.asm_place.specs.ExprFaults.{in_statement}
 use Rattle.asm_place.specs.Expressions.{form_in}
 use Rattle.asm_place.specs.KnownIn.{known_in}
@@ -111,6 +114,16 @@ module _ (map : SymbolMap) (place : ℕ) (spot : Spot) where
   sum_linear sum named is =
       ap in_statement
       (linear_added (summand_tree sum.first) (operand_form (known_by map place spot) named.first) sum.second named.second is.second (linear_summand sum.first named.first is.first))
+
+  -- and so is the form of a longer one
+  pub long_linear : (sum : LongSum) (named : LongSymbolSum) → IsLongNamed map sum named
+      → form_in (known_by map place spot) (long_tree sum) ≡ Ok (long_form (known_by map place spot) named)
+  unfolding form_in sum_form long_form
+  long_linear sum named is =
+      ap in_statement
+      (linear_added (sum_tree sum.front) (added_form (known_by map place spot) (operand_form (known_by map place spot) named.front.first) named.front.second) sum.third named.third is.third
+      (linear_added (summand_tree sum.front.first) (operand_form (known_by map place spot) named.front.first) sum.front.second named.front.second is.front.second
+      (linear_summand sum.front.first named.front.first is.front.first)))
 
 -- the same where a view is had
 pub linear_sum : (view : View) (sum : Sum) (named : SymbolSum) → IsNamed view.symbols.now sum named

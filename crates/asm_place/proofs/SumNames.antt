@@ -45,7 +45,7 @@ name_keeps pos name table = record {
 }
 
 -- the names of an expression become symbols
-tree_keeps : (pos : Pos) (tree : Tree) (table : Table) → KeepsNames table.symbols (with_tree pos tree table).symbols
+pub tree_keeps : (pos : Pos) (tree : Tree) (table : Table) → KeepsNames table.symbols (with_tree pos tree table).symbols
 unfolding with_tree
 tree_keeps pos (trees.number value) table = keeps_same table.symbols
 tree_keeps pos (trees.name meant) table = name_keeps pos (meant_name table.symbols.counts meant) table
@@ -54,7 +54,7 @@ tree_keeps pos (trees.unary op operand) table = tree_keeps pos operand table
 tree_keeps pos (trees.binary op left right) table =
     keeps_on table.symbols (with_tree pos left table).symbols _ (tree_keeps pos left table) (tree_keeps pos right (with_tree pos left table))
 
-addend_keeps : (pos : Pos) (addend : Addend) (table : Table) → KeepsNames table.symbols (with_addend pos addend table).symbols
+pub addend_keeps : (pos : Pos) (addend : Addend) (table : Table) → KeepsNames table.symbols (with_addend pos addend table).symbols
 addend_keeps pos addends.Nothing table = keeps_same table.symbols
 addend_keeps pos (addends.Plus summand) table = tree_keeps pos (summand_tree summand) table
 addend_keeps pos (addends.Minus summand) table = tree_keeps pos (summand_tree summand) table
@@ -73,7 +73,7 @@ module _ (old new : SymbolMap) (keeps : KeepsNames old new) where
   operand_kept (summands.Next digits) operand is = symbol_kept (written.Next digits) operand is
   operand_kept summands.Here operand is = is
 
-  added_kept : (addend : Addend) (added : Added) → IsAdded old addend added → IsAdded new addend added
+  pub added_kept : (addend : Addend) (added : Added) → IsAdded old addend added → IsAdded new addend added
   added_kept addends.Nothing Nothing is = is
   added_kept addends.Nothing (Plus operand) is = is
   added_kept addends.Nothing (Minus operand) is = is
@@ -84,7 +84,7 @@ module _ (old new : SymbolMap) (keeps : KeepsNames old new) where
   added_kept (addends.Minus summand) (Plus operand) is = is
   added_kept (addends.Minus summand) (Minus operand) is = operand_kept summand operand is
 
-  named_kept : (sum : Sum) (named : SymbolSum) → IsNamed old sum named → IsNamed new sum named
+  pub named_kept : (sum : Sum) (named : SymbolSum) → IsNamed old sum named → IsNamed new sum named
   named_kept sum named is = record {
     first = operand_kept sum.first named.first is.first;
     second = added_kept sum.second named.second is.second;
@@ -96,14 +96,14 @@ pub named_stays : (pos : Pos) (tree : Tree) (old new : Table) (sum : Sum) (named
 named_stays pos tree old new sum named is first =
     subst (λ (table : Table). IsNamed table.symbols sum named) (sym is) (named_kept old.symbols (with_tree pos tree old).symbols (tree_keeps pos tree old) sum named first)
 
-names_added : (pos : Pos) (tree : Tree) (addend : Addend) (table : Table)
+pub names_added : (pos : Pos) (tree : Tree) (addend : Addend) (table : Table)
     → with_addend pos addend (with_tree pos tree table) ≡ with_tree pos (added_tree tree addend) table
 unfolding with_tree
 names_added pos tree addends.Nothing table = refl
 names_added pos tree (addends.Plus summand) table = refl
 names_added pos tree (addends.Minus summand) table = refl
 
-meant_added : (counts : List (ℕ × ℕ)) (tree : Tree) (addend : Addend)
+pub meant_added : (counts : List (ℕ × ℕ)) (tree : Tree) (addend : Addend)
     → (is_meant counts tree && is_addend_meant counts addend) ≡ is_meant counts (added_tree tree addend)
 unfolding is_meant
 meant_added counts tree addends.Nothing = by (is_meant counts tree)

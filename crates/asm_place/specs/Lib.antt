@@ -18,6 +18,7 @@ pub mod UpToThreeTrees
 pub mod SumForms
 pub mod SymbolSums
 pub mod PlainSums
+pub mod LongSums
 pub mod DataItems
 pub mod ConstantOperands
 pub mod Spaces

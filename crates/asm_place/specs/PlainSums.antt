@@ -43,11 +43,13 @@ pub record NamesElsewhere (map : SymbolMap) (known : Knowledge) (sum : SymbolSum
   pub first : StandsElsewhere map known sum.first
   pub second : AddsElsewhere map known sum.second
 
--- wherever a statement stands, this is the form of the sum, and does not keep the place
+-- wherever a statement stands, this is the form of the sum, and does not keep the place; and nothing cancels in it, nor with a number more
 pub record IsPlain (map : SymbolMap) (first : Operand) (second : Added) (plain : Plain) : Type 0 where
   pub form : (known : Knowledge) → StandsElsewhere map known first → AddsElsewhere map known second
       → added_form known (operand_form known first) second ≡ plain_form (told map) plain
   pub free : (known : Knowledge) → StandsElsewhere map known first → AddsElsewhere map known second → uses_place known.place (plain_form (told map) plain) ≡ false
+  pub still : (known : Knowledge) → StandsElsewhere map known first → AddsElsewhere map known second → (number : ℕ)
+      → (let moved = joined false (plain_form (told map) plain) (constant_form number) in moved ≡ settled known.told moved)
 
 -- a form that is found is that of the sum; where none is found nothing is said
 abbrev pub FindsPlain : SymbolMap → Operand → Added → Option Plain → Type 0

@@ -93,7 +93,7 @@ impl Assembler {
     /// Data of any operands: all are read before a form is made.
     #[inline(never)]
     #[tactic(auto, unfolding(crate::specs::Placing::place_data))]
-    fn place_any_data(
+    pub(crate) fn place_any_data(
         &mut self,
         pos: Pos,
         size: FieldSize,
@@ -120,7 +120,7 @@ impl Assembler {
         match few_sums(tokens) {
             Some(FewSums::One(sum)) => self.place_one(pos, size, &sum),
             Some(FewSums::Two(sum, other)) => self.place_two(pos, size, &sum, &other),
-            None => self.place_any_data(pos, size, tokens),
+            None => self.place_sums(pos, size, tokens),
         }
     }
 

@@ -109,7 +109,7 @@ impl Assembler {
 
     /// Puts one value.
     #[tactic(auto, unfolding(crate::specs::Placing::put_data, crate::specs::DataItems::put_forms, crate::specs::Results::all_steps))]
-    fn put_one(
+    pub(crate) fn put_one(
         &mut self,
         pos: Pos,
         size: FieldSize,
@@ -133,7 +133,7 @@ impl Assembler {
 
     /// Puts two values.
     #[tactic(auto, unfolding(crate::specs::Placing::put_data, crate::specs::DataItems::put_forms, crate::specs::Results::all_steps))]
-    fn put_two(
+    pub(crate) fn put_two(
         &mut self,
         pos: Pos,
         size: FieldSize,
@@ -161,6 +161,51 @@ impl Assembler {
     /// Puts one value whose form does not keep the place.
     #[inline(always)]
     #[tactic(auto, unfolding(crate::specs::Placing::put_data, crate::specs::DataItems::put_forms, crate::specs::Results::all_steps, crate::specs::Places::name_here))]
+    pub(crate) fn put_free(
+        &mut self,
+        pos: Pos,
+        size: FieldSize,
+        naming: Naming,
+        form: Linear,
+    ) -> Result<(), PlaceFault>
+        requires { uses_place (known_here (placed_by self.old)).place form ≡ false }
+        ensures placed { PlacesBy (put_data pos size naming (form ∷ [])) self.old self.new result }
+        ensures kept { KeepsNotes result self.old.notes self.new.notes }
+    {
+        let cut = is_cut(size, &form) as usize;
+        self.put_form(pos, size, form)?;
+        self.table.allow(naming)?;
+        self.warn(pos, cut)?;
+        Ok(())
+    }
+
+    /// Puts two values whose forms do not keep the place.
+    #[inline(always)]
+    #[tactic(auto, unfolding(crate::specs::Placing::put_data, crate::specs::DataItems::put_forms, crate::specs::Results::all_steps, crate::specs::Places::name_here))]
+    pub(crate) fn put_two_free(
+        &mut self,
+        pos: Pos,
+        size: FieldSize,
+        naming: Naming,
+        form: Linear,
+        other: Linear,
+    ) -> Result<(), PlaceFault>
+        requires one { uses_place (known_here (placed_by self.old)).place form ≡ false }
+        requires other { uses_place (known_here (placed_by self.old)).place other ≡ false }
+        ensures placed { PlacesBy (put_data pos size naming (form ∷ other ∷ []))
+            self.old self.new result }
+        ensures kept { KeepsNotes result self.old.notes self.new.notes }
+    {
+        let cut = is_cut(size, &form) as usize + is_cut(size, &other) as usize;
+        self.put_form(pos, size, form)?;
+        self.put_form(pos, size, other)?;
+        self.table.allow(naming)?;
+        self.warn(pos, cut)?;
+        Ok(())
+    }
+
+    /// Puts one sum whose form does not keep the place.
+    #[inline(always)]
     fn put_plain(
         &mut self,
         pos: Pos,
@@ -175,16 +220,11 @@ impl Assembler {
         ensures kept { KeepsNotes result self.old.notes self.new.notes }
     {
         let form = plain_form(self.alloc, self.table.symbols(), plain)?;
-        let cut = is_cut(size, &form) as usize;
-        self.put_form(pos, size, form)?;
-        self.table.allow(naming)?;
-        self.warn(pos, cut)?;
-        Ok(())
+        self.put_free(pos, size, naming, form)
     }
 
-    /// Puts two values whose forms do not keep the place.
+    /// Puts two sums whose forms do not keep the place.
     #[inline(always)]
-    #[tactic(auto, unfolding(crate::specs::Placing::put_data, crate::specs::DataItems::put_forms, crate::specs::Results::all_steps, crate::specs::Places::name_here))]
     fn put_plain_two(
         &mut self,
         pos: Pos,
@@ -205,12 +245,7 @@ impl Assembler {
         let symbols = self.table.symbols();
         let one = plain_form(self.alloc, symbols, plain)?;
         let another = plain_form(self.alloc, symbols, other)?;
-        let cut = is_cut(size, &one) as usize + is_cut(size, &another) as usize;
-        self.put_form(pos, size, one)?;
-        self.put_form(pos, size, another)?;
-        self.table.allow(naming)?;
-        self.warn(pos, cut)?;
-        Ok(())
+        self.put_two_free(pos, size, naming, one, another)
     }
 
     /// Puts one sum.

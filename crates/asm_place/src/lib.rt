@@ -13,6 +13,7 @@ mod few_sums;
 mod idents;
 mod instructions;
 mod laws;
+mod long_sums;
 mod naming;
 mod operands;
 mod place_faults;

@@ -93,7 +93,7 @@ impl SymbolUses {
 
     /// Whether what is added is no `Nb`, or one that means a label that came before.
     #[inline(always)]
-    fn is_addend_meant(&self, addend: Addend) -> bool
+    pub(crate) fn is_addend_meant(&self, addend: Addend) -> bool
         ensures { result ≡ is_addend_meant self.now.symbols.counts addend.entry }
     {
         match addend {
@@ -104,7 +104,7 @@ impl SymbolUses {
 
     /// What is added names symbols from now on, whatever room there is. Answers what it stands for.
     #[inline(always)]
-    fn intern_addend(&mut self, pos: Pos, addend: Addend) -> Result<Added, NoMemory>
+    pub(crate) fn intern_addend(&mut self, pos: Pos, addend: Addend) -> Result<Added, NoMemory>
         ensures ok { OnOk result (self.new ≡ with_addend pos addend.entry self.old) }
         ensures added { IfOk result (λ added. IsAdded self.new.symbols addend.entry added) }
         ensures counts { OnOk result (self.new.symbols.counts ≡ self.old.symbols.counts) }
@@ -220,7 +220,12 @@ fn operand_form(alloc: Global, view: View, operand: Operand) -> Result<Linear, E
 }
 
 /// The form with one operand more, if there is one.
-fn added_form(alloc: Global, view: View, made: Linear, added: Added) -> Result<Linear, ExprFault>
+pub(crate) fn added_form(
+    alloc: Global,
+    view: View,
+    made: Linear,
+    added: Added,
+) -> Result<Linear, ExprFault>
     ensures { Returns result (Ok (spec.added_form (known_in view.entry) made added)) }
 {
     match added {
@@ -318,7 +323,7 @@ fn any_form(alloc: Global, view: View, sum: &SymbolSum) -> Result<Linear, ExprFa
 /// The form of a sum.
 #[inline(always)]
 #[tactic(auto, unfolding(crate::specs::SumForms::sum_form), using(crate::proofs::SumLemmas::symbol_alone))]
-fn sum_form(alloc: Global, view: View, sum: &SymbolSum) -> Result<Linear, ExprFault>
+pub(crate) fn sum_form(alloc: Global, view: View, sum: &SymbolSum) -> Result<Linear, ExprFault>
     ensures { Returns result (Ok (spec.sum_form (known_in view.entry) sum.now)) }
 {
     match operand_symbol(view, sum.first) {

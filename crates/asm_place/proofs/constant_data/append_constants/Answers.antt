@@ -1,7 +1,5 @@
 -- A number more, and the last one.
-use Rattle.std.proofs.Common.{◌+◌, List, [], map, drop, refl, sym, subst, arith}
-use Rattle.std.specs.List.{slice_split}
-use Rattle.asm_base.specs.Tokens.{spelled}
+use Rattle.std.proofs.Common.{◌+◌, [], refl, sym, subst, arith}
 use Rattle.asm_place.specs.ConstantData.{MakesData}
 use Rattle.asm_place.proofs.ConstantDataLemmas.{loop_more, loop_end, still_few}
 use Rattle.asm_place.proofs.OperandEnds.{with_more, with_none, operands_split}
