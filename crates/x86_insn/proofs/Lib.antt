@@ -1,0 +1,2 @@
+-- Lemmas on values.
+mod MovedValues

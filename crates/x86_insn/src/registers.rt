@@ -1,0 +1,25 @@
+//! The registers (Intel SDM, volume 1, sections 3.4.1 and 10.2.2).
+
+/// The registers that share a width and a way of being encoded.
+#[derive(Clone, Copy, PartialEq, Eq, Debug)]
+pub enum Class {
+    /// 8 bits: al to dil, and r8b to r15b.
+    Byte,
+    /// 8 bits: ah, ch, dh and bh, whose numbers are 4 to 7.
+    High,
+    /// 16 bits.
+    Word,
+    /// 32 bits.
+    Long,
+    /// 64 bits.
+    Quad,
+    /// 128 bits: xmm0 to xmm15.
+    Xmm,
+}
+
+/// A register, by its number in the encoding: 0 to 15.
+#[derive(Clone, Copy, PartialEq, Eq, Debug)]
+pub struct Reg {
+    pub class: Class,
+    pub number: u8,
+}
