@@ -1,0 +1,21 @@
+//! What holds of the whole table, and of all bytes that read.
+
+ghost use Rattle.std.specs.Prelude.{IsTrue};
+ghost use Rattle.x86_table.specs.Rows.{the_rows};
+ghost use Rattle.x86_table.specs.Heads.{all_apart, all_stand};
+ghost use Rattle.x86_table.specs.WorkedReadings.{WorkedReadings};
+
+/// No two rows admit one head.
+pub fn rows_are_apart()
+    ensures { IsTrue (all_apart the_rows) }
+{}
+
+/// No opcode is a prefix, REX or an escape byte.
+pub fn opcodes_stand()
+    ensures { IsTrue (all_stand the_rows) }
+{}
+
+/// The bytes of instructions that were worked out by hand.
+pub fn worked_readings()
+    ensures { WorkedReadings }
+{}

@@ -1,0 +1,16 @@
+//! The instruction table, and what bytes read as.
+#![tactic(auto)]
+
+mod forms;
+mod laws;
+mod mnemonics;
+mod parts;
+mod rows;
+
+pub use forms::{
+    Destinations, Immediate, Implied, Lead, Map, Pattern, Repeat, Rm, Row, Shape, StoreKind, Words,
+    Written,
+};
+pub use laws::{opcodes_stand, rows_are_apart, worked_readings};
+pub use parts::{Parts, Place, Width};
+pub use rows::ROWS;
