@@ -1,5 +1,5 @@
 -- Which fields a row admits.
-use Rattle.std.specs.Prelude.{◌<◌, ◌+◌, ◌-◌, ◌%◌, ◌^◌, ◌==◌, ◌&&◌, ◌||◌, ℕ, nat_lt, nat_le, Bool, true, false, not, Option, Some, None, length, take}
+use Rattle.std.specs.Prelude.{◌≡◌, ◌<◌, ◌+◌, ◌-◌, ◌%◌, ◌^◌, ◌==◌, ◌&&◌, ◌||◌, ℕ, nat_lt, nat_le, Bool, true, false, not, Option, Some, None, slice_get, length, take}
 use Rattle.x86_insn.specs.declared.registers.Class.{Class}
 use Rattle.x86_insn.specs.declared.registers.Class.TheVariants as class
 use Rattle.x86_insn.specs.declared.insns.Prefix.{Prefix}
@@ -22,6 +22,7 @@ use Rattle.x86_table.specs.declared.forms.Words.TheVariants as words
 use Rattle.x86_table.specs.declared.forms.Row.{Row}
 use Rattle.x86_table.specs.declared.parts.Width.{Width}
 use Rattle.x86_table.specs.declared.parts.Width.TheVariants as width
+use Rattle.x86_table.specs.Rows.{the_rows}
 use Rattle.x86_table.specs.Fields.{Location, Fields, nowhere, direct, from_rip, bare, based}
 use Rattle.x86_table.specs.Bytes.{rex_bits, bytes_of}
 
@@ -265,3 +266,7 @@ pub record AreBytes (r : Row) (p : Fields) : Type 0 where
   pub bits : rex_bits r p < 16
   pub code : r.code + p.low % 8 < 256
   pub scale : place_scale p.place < 4
+
+-- fields that fit a row of the table have bytes
+abbrev pub FieldsHaveBytes : Type 0
+FieldsHaveBytes = (i : ℕ) (r : Row) (p : Fields) → slice_get the_rows i ≡ Some r → fields_fit r p ≡ true → AreBytes r p

@@ -3,6 +3,8 @@
 ghost use Rattle.std.specs.Prelude.{IsTrue};
 ghost use Rattle.x86_table.specs.Rows.{the_rows};
 ghost use Rattle.x86_table.specs.Heads.{all_apart, all_stand};
+ghost use Rattle.x86_table.specs.Reads.{ReadsOneWay};
+ghost use Rattle.x86_table.specs.Fits.{FieldsHaveBytes};
 ghost use Rattle.x86_table.specs.WorkedReadings.{WorkedReadings};
 
 /// No two rows admit one head.
@@ -18,4 +20,14 @@ pub fn opcodes_stand()
 /// The bytes of instructions that were worked out by hand.
 pub fn worked_readings()
     ensures { WorkedReadings }
+{}
+
+/// No bytes read as two instructions, and none that read begin others that read.
+pub fn read_one_way()
+    ensures { ReadsOneWay }
+{}
+
+/// Fields that fit a row of the table have bytes.
+pub fn fields_have_bytes()
+    ensures { FieldsHaveBytes }
 {}

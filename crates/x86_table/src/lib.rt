@@ -11,6 +11,6 @@ pub use forms::{
     Destinations, Immediate, Implied, Lead, Map, Pattern, Repeat, Rm, Row, Shape, StoreKind, Words,
     Written,
 };
-pub use laws::{opcodes_stand, rows_are_apart, worked_readings};
+pub use laws::{fields_have_bytes, opcodes_stand, read_one_way, rows_are_apart, worked_readings};
 pub use parts::{Parts, Place, Width};
 pub use rows::ROWS;
