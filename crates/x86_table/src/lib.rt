@@ -1,12 +1,15 @@
 //! The instruction table, and what bytes read as.
 #![tactic(auto)]
 
+mod fitting;
 mod forms;
 mod laws;
 mod mnemonics;
 mod parts;
 mod rows;
+mod spelling;
 
+pub use fitting::parts_fit;
 pub use forms::{
     Destinations, Immediate, Implied, Lead, Map, Pattern, Repeat, Rm, Row, Shape, StoreKind, Words,
     Written,
@@ -14,3 +17,4 @@ pub use forms::{
 pub use laws::{fields_have_bytes, opcodes_stand, read_one_way, rows_are_apart, worked_readings};
 pub use parts::{Parts, Place, Width};
 pub use rows::ROWS;
+pub use spelling::{Bytes, bytes_of};
