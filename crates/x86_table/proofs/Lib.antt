@@ -1,5 +1,6 @@
--- Lemmas on what bytes read as.
+-- Lemmas on what bytes read as, and on the spans of names.
 mod Peeling
 mod FieldBytes
 mod RowHeads
 mod OneReading
+mod SpanLaws

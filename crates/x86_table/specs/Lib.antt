@@ -6,3 +6,4 @@ pub mod Fits
 pub mod Reads
 pub mod WorkedReadings
 pub mod Heads
+pub mod Ranges

@@ -1,6 +1,6 @@
 -- The rows of the instruction table.
 use Rattle.std.specs.Prelude.{List}
-use Rattle.x86_table.specs.declared.rows.TheConstants.{ROWS}
+use Rattle.x86_table.specs.declared.table.TheConstants.{ROWS}
 use Rattle.x86_table.specs.declared.forms.Row.{Row}
 
 -- all rows, in order

@@ -6,8 +6,10 @@ mod forms;
 mod laws;
 mod mnemonics;
 mod parts;
-mod rows;
+mod ranges;
+mod spans;
 mod spelling;
+mod table;
 
 pub use fitting::parts_fit;
 pub use forms::{
@@ -16,5 +18,6 @@ pub use forms::{
 };
 pub use laws::{fields_have_bytes, opcodes_stand, read_one_way, rows_are_apart, worked_readings};
 pub use parts::{Parts, Place, Width};
-pub use rows::ROWS;
+pub use ranges::{RowRange, rows, rows_of, rows_of_size};
 pub use spelling::{Bytes, bytes_of};
+pub use table::ROWS;

@@ -1,0 +1,92 @@
+-- Where the rows of a name stand.
+use Rattle.std.specs.Prelude.{◌≡◌, ◌≤◌, ◌+◌, ◌==◌, ◌&&◌, ◌||◌, ◌∷◌, [], ℕ, nat_lt, nat_le, List, Bool, true, false, not, Option, Some, None, slice_get, length, if◌then◌else◌}
+use Rattle.x86_table.specs.declared.spans.TheConstants.{SPANS}
+use Rattle.x86_table.specs.declared.spans.Span.{Span}
+use Rattle.x86_table.specs.declared.ranges.RowRange.{RowRange}
+use Rattle.x86_table.specs.declared.forms.Row.{Row}
+use Rattle.x86_table.specs.Rows.{the_rows}
+use Rattle.x86_table.specs.Heads.{span}
+
+-- where the rows of all names stand, in the order of their numbers
+unfoldable pub the_spans : List Span
+the_spans = SPANS
+
+-- no rows
+abbrev pub no_span : Span
+no_span = record { 0 = 0; 1 = 0; 2 = 0; 3 = 0; 4 = 0; 5 = 0 }
+
+-- the span, or none
+abbrev pub span_or : Option Span → Span
+span_or None = no_span
+span_or (Some span) = span
+
+-- where the rows of the name of this number stand
+unfoldable pub span_of : ℕ → Span
+span_of name = span_or (slice_get the_spans name)
+
+-- from one index on, before another
+abbrev pub range : ℕ → ℕ → RowRange
+range start stop = record { start = start; stop = stop }
+
+-- all rows of a span
+abbrev pub by_name : Span → RowRange
+by_name span = range span.0 span.5
+
+-- those of a size
+abbrev pub by_size : Span → ℕ → RowRange
+by_size span size = if size == 0 then range span.0 span.1 else (if size == 8 then range span.1 span.2 else (if size == 16 then range span.2 span.3
+    else (if size == 32 then range span.3 span.4 else (if size == 64 then range span.4 span.5 else range 0 0))))
+
+-- the index lies in the range
+abbrev pub is_in : RowRange → ℕ → Bool
+is_in rows i = nat_le rows.start i && nat_lt i rows.stop
+
+-- the range lies in the table
+pub record IsWithin (rows : RowRange) : Type 0 where
+  pub start : rows.start ≤ rows.stop
+  pub stop : rows.stop ≤ length the_rows
+
+-- the row has the name of this number
+abbrev pub is_named : ℕ → Row → Bool
+is_named name r = r.name.0 == name
+
+-- and this size
+abbrev pub is_sized : ℕ → ℕ → Row → Bool
+is_sized name size r = (r.name.0 == name) && (r.size == size)
+
+-- just the rows that pass the test have an index in the range
+abbrev pub AreRowsOf : (Row → Bool) → RowRange → Type 0
+AreRowsOf test rows = (i : ℕ) (r : Row) → slice_get the_rows i ≡ Some r → is_in rows i ≡ test r
+
+-- both are true, or none
+abbrev pub agree : Bool → Bool → Bool
+agree true b = b
+agree false b = not b
+
+-- of the spans, whose names are numbered from k on, the index lies in that of the name alone
+abbrev pub is_alone : ℕ → ℕ → ℕ → List Span → Bool
+is_alone i name k [] = true
+is_alone i name k (span ∷ spans) = agree (is_in (by_name span) i) (name == k) && is_alone i name (k + 1) spans
+
+-- a size of operands in bits, or 0
+abbrev pub is_size : ℕ → Bool
+is_size size = size == 0 || (size == 8 || (size == 16 || (size == 32 || size == 64)))
+
+-- of the parts of the span, the index lies in that of the size alone
+abbrev pub is_by_size : ℕ → ℕ → Span → Bool
+is_by_size i size span = agree (is_in (by_size span 0) i) (size == 0) && (agree (is_in (by_size span 8) i) (size == 8) && (agree (is_in (by_size span 16) i) (size == 16)
+    && (agree (is_in (by_size span 32) i) (size == 32) && (agree (is_in (by_size span 64) i) (size == 64) && is_size size))))
+
+-- each row lies in the span of its name alone, and there in the part of its size
+abbrev pub all_spanned : ℕ → List Row → Bool
+all_spanned i [] = true
+all_spanned i (r ∷ rows) = nat_lt r.name.0 (length the_spans) && (is_alone i r.name.0 0 the_spans && (is_by_size i r.size (span_of r.name.0) && all_spanned (i + 1) rows))
+
+-- the parts of a span follow each other, in the table
+abbrev pub is_ordered : ℕ → Span → Bool
+is_ordered n span = nat_le span.0 span.1 && (nat_le span.1 span.2 && (nat_le span.2 span.3 && (nat_le span.3 span.4 && (nat_le span.4 span.5 && nat_le span.5 n))))
+
+-- those of all spans
+abbrev pub all_ordered : ℕ → List Span → Bool
+all_ordered n [] = true
+all_ordered n (span ∷ spans) = is_ordered n span && all_ordered n spans

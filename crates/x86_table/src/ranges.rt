@@ -1,0 +1,83 @@
+//! The rows of a name, found by its number.
+
+ghost use Rattle.std.specs.Prelude.{◌≡◌, ◌≤◌, length};
+ghost use Rattle.x86_table.specs.declared.forms.Row.{Row};
+ghost use Rattle.x86_table.specs.Rows.{the_rows};
+ghost use Rattle.x86_table.specs.Ranges.{the_spans, span_of, by_name, by_size, IsWithin, AreRowsOf, is_named, is_sized};
+
+use crate::forms::Row;
+use crate::spans::{SPANS, Span};
+use crate::table::ROWS;
+use x86_insn::Mnemonic;
+
+/// Rows that stand together, by their indices in the table: from `start` on, before `stop`.
+#[derive(Clone, Copy)]
+pub struct RowRange {
+    pub start: u16,
+    pub stop: u16,
+}
+
+/// The rows of the table, in order.
+#[tactic(auto, unfolding(crate::specs::Rows::the_rows))]
+pub fn rows() -> &'static [Row]
+    ensures { result.now ≡ the_rows }
+{
+    &ROWS
+}
+
+/// Where the rows of the names stand.
+#[tactic(auto, unfolding(crate::specs::Ranges::the_spans))]
+fn spans() -> &'static [Span]
+    ensures { result.now ≡ the_spans }
+{
+    &SPANS
+}
+
+/// Where the rows of the name stand.
+#[tactic(auto, unfolding(crate::specs::Ranges::span_of))]
+fn span_of(name: Mnemonic) -> Span
+    ensures { result ≡ span_of name.0 }
+{
+    match spans().get(usize::from(name.0)) {
+        Some(span) => *span,
+        None => Span(0, 0, 0, 0, 0, 0),
+    }
+}
+
+/// The rows of the name: none where no row has it.
+#[tactic(auto, using(crate::proofs::SpanLaws::name_within, crate::proofs::SpanLaws::name_rows))]
+pub fn rows_of(name: &Mnemonic) -> RowRange
+    ensures within { IsWithin result }
+    ensures just { AreRowsOf (is_named name.now.0) result }
+{
+    let span = span_of(*name);
+    RowRange {
+        start: span.0,
+        stop: span.5,
+    }
+}
+
+/// The rows of the name and the operand size in bits, or 0 where the name alone says it: none where
+/// no row has them.
+#[tactic(auto, using(crate::proofs::SpanLaws::size_within, crate::proofs::SpanLaws::size_rows))]
+pub fn rows_of_size(name: &Mnemonic, size: u8) -> RowRange
+    ensures within { IsWithin result }
+    ensures just { AreRowsOf (is_sized name.now.0 size) result }
+{
+    by_size(span_of(*name), size)
+}
+
+/// The part of a span that has this size.
+fn by_size(span: Span, size: u8) -> RowRange
+    ensures { result ≡ by_size span size }
+{
+    let (start, stop) = match size {
+        0 => (span.0, span.1),
+        8 => (span.1, span.2),
+        16 => (span.2, span.3),
+        32 => (span.3, span.4),
+        64 => (span.4, span.5),
+        _ => (0, 0),
+    };
+    RowRange { start, stop }
+}
