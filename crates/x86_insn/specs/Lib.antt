@@ -1,4 +1,5 @@
 -- The definitions that contracts cite, in reading order.
+pub mod Registers
 pub mod Amounts
 pub mod Operands
 pub mod OperandFolds

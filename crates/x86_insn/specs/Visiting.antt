@@ -1,11 +1,8 @@
 -- What the visitors of operands answer.
-use Rattle.std.specs.Prelude.{◌≡◌, ℕ, ◌+◌, ◌==◌, ◌&&◌, ◌||◌, Bool, true, false, List, []}
+use Rattle.std.specs.Prelude.{◌≡◌, ℕ, ◌==◌, Bool, false, List}
 use Rattle.asm_expr.specs.NamesOf.{names_of}
 use Rattle.asm_expr.specs.declared.trees.Written.{Written}
 use Rattle.x86_insn.specs.Amounts.{amount_tree}
-use Rattle.x86_insn.specs.declared.registers.Class.{Class}
-use Rattle.x86_insn.specs.declared.registers.Class.TheVariants as class
-use Rattle.x86_insn.specs.declared.registers.Reg.{Reg}
 use Rattle.x86_insn.specs.declared.amounts.Value.{Value}
 use Rattle.x86_insn.specs.declared.insns.Base.{Base}
 use Rattle.x86_insn.specs.declared.insns.Base.TheVariants as base
@@ -16,18 +13,6 @@ use Rattle.x86_insn.specs.declared.insns.Index.TheVariants as index
 pub record Answers {V Out : Type 0} (before : V) (answer : Out) (after : V) (wanted : Out) : Type 0 where
   pub same : after ≡ before
   pub given : answer ≡ wanted
-
--- the register is a part of the general-purpose register of this number, or all of it
-abbrev pub is_part_of : ℕ → Reg → Bool
-is_part_of number reg = by_class reg.class number reg.number
-  where
-    by_class : Class → ℕ → ℕ → Bool
-    by_class class.Byte n own = own == n
-    by_class class.High n own = own == 4 + n
-    by_class class.Word n own = own == n
-    by_class class.Long n own = own == n
-    by_class class.Quad n own = own == n
-    by_class class.Xmm n own = false
 
 -- the base is this register
 abbrev pub base_is : ℕ → Base → Bool

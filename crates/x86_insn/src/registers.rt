@@ -1,5 +1,8 @@
 //! The registers (Intel SDM, volume 1, sections 3.4.1 and 10.2.2).
 
+ghost use Rattle.std.specs.Prelude.{◌≡◌};
+ghost use Rattle.x86_insn.specs.Registers.{is_part_of};
+
 /// The registers that share a width and a way of being encoded.
 #[derive(Clone, Copy, PartialEq, Eq, Debug)]
 pub enum Class {
@@ -22,4 +25,17 @@ pub enum Class {
 pub struct Reg {
     pub class: Class,
     pub number: u8,
+}
+
+impl Reg {
+    /// Whether the register is the general-purpose register of this number, or a part of it.
+    pub fn is_part_of(self, number: u8) -> bool
+        ensures { result ≡ is_part_of number self }
+    {
+        match self.class {
+            Class::Byte | Class::Word | Class::Long | Class::Quad => self.number == number,
+            Class::High => self.number >= 4 && self.number - 4 == number,
+            Class::Xmm => false,
+        }
+    }
 }

@@ -2,7 +2,8 @@
 
 ghost use Rattle.std.specs.Prelude.{◌≡◌, ◌||◌, Bool, false, true, [], Ok, Some, None};
 ghost use Rattle.asm_base.specs.Refusals.{GivesBy};
-ghost use Rattle.x86_insn.specs.Visiting.{Answers, is_part_of, base_is, index_is, names_in};
+ghost use Rattle.x86_insn.specs.Registers.{is_part_of};
+ghost use Rattle.x86_insn.specs.Visiting.{Answers, base_is, index_is, names_in};
 ghost use Rattle.x86_insn.specs.declared.visitors.Kind.TheVariants as kind;
 ghost use Rattle.x86_insn.specs.declared.visitors.Field.TheVariants as field;
 
@@ -63,17 +64,6 @@ pub struct UsesRegister {
     pub number: u8,
 }
 
-/// Whether the register is the general-purpose register of this number, or a part of it.
-fn is_part_of(number: u8, reg: Reg) -> bool
-    ensures { result ≡ is_part_of number reg }
-{
-    match reg.class {
-        Class::Byte | Class::Word | Class::Long | Class::Quad => reg.number == number,
-        Class::High => reg.number >= 4 && reg.number - 4 == number,
-        Class::Xmm => false,
-    }
-}
-
 /// Whether the base is the register of this number.
 fn base_is(number: u8, base: Base) -> bool
     ensures { result ≡ base_is number base }
@@ -108,7 +98,7 @@ impl OperandFold for UsesRegister {
     ghost target_gives = { λ before held answer after. Answers before answer after false };
 
     fn register(&mut self, reg: &Reg) -> bool {
-        is_part_of(self.number, *reg)
+        reg.is_part_of(self.number)
     }
 
     fn immediate(&mut self, _value: &Value) -> bool {

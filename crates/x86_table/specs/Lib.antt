@@ -7,3 +7,5 @@ pub mod Reads
 pub mod WorkedReadings
 pub mod Heads
 pub mod Ranges
+pub mod Writing
+pub mod WorkedWrites

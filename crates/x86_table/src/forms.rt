@@ -148,8 +148,10 @@ pub enum StoreKind {
     Operand,
     /// The same, at an address that the second operand moves.
     BitString,
-    /// So many bytes below the top of the stack.
-    Stack(u8),
+    /// Eight bytes below the top of the stack.
+    PushQuad,
+    /// Two bytes below the top of the stack.
+    PushWord,
     /// Bytes at an address that no operand shows.
     Unfixed,
 }

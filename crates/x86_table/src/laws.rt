@@ -6,6 +6,7 @@ ghost use Rattle.x86_table.specs.Heads.{all_apart, all_stand};
 ghost use Rattle.x86_table.specs.Reads.{ReadsOneWay};
 ghost use Rattle.x86_table.specs.Fits.{FieldsHaveBytes};
 ghost use Rattle.x86_table.specs.WorkedReadings.{WorkedReadings};
+ghost use Rattle.x86_table.specs.WorkedWrites.{WorkedWrites};
 
 /// No two rows admit one head.
 pub fn rows_are_apart()
@@ -30,4 +31,9 @@ pub fn read_one_way()
 /// Fields that fit a row of the table have bytes.
 pub fn fields_have_bytes()
     ensures { FieldsHaveBytes }
+{}
+
+/// What some instructions write, by the Intel manual.
+pub fn worked_writes()
+    ensures { WorkedWrites }
 {}

@@ -10,14 +10,18 @@ mod ranges;
 mod spans;
 mod spelling;
 mod table;
+mod writing;
 
 pub use fitting::parts_fit;
 pub use forms::{
     Destinations, Immediate, Implied, Lead, Map, Pattern, Repeat, Rm, Row, Shape, StoreKind, Words,
     Written,
 };
-pub use laws::{fields_have_bytes, opcodes_stand, read_one_way, rows_are_apart, worked_readings};
+pub use laws::{
+    fields_have_bytes, opcodes_stand, read_one_way, rows_are_apart, worked_readings, worked_writes,
+};
 pub use parts::{Parts, Place, Width};
 pub use ranges::{RowRange, rows, rows_of, rows_of_size};
 pub use spelling::{Bytes, bytes_of};
 pub use table::ROWS;
+pub use writing::{Store, Writes, written};

@@ -99,8 +99,8 @@ macro_rules! written {
     (FIRST) => { Written(Destinations::First, Implied::Absent, StoreKind::Operand) };
     (BOTH) => { Written(Destinations::FirstAndSecond, Implied::Absent, StoreKind::Operand) };
     (BIT_STRING) => { Written(Destinations::First, Implied::Absent, StoreKind::BitString) };
-    (PUSH8) => { Written(Destinations::Nothing, Implied::Rsp, StoreKind::Stack(8)) };
-    (PUSH2) => { Written(Destinations::Nothing, Implied::Rsp, StoreKind::Stack(2)) };
+    (PUSH8) => { Written(Destinations::Nothing, Implied::Rsp, StoreKind::PushQuad) };
+    (PUSH2) => { Written(Destinations::Nothing, Implied::Rsp, StoreKind::PushWord) };
     (FIRST_RSP) => { Written(Destinations::First, Implied::Rsp, StoreKind::Operand) };
     (JUST_RSP) => { Written(Destinations::Nothing, Implied::Rsp, StoreKind::Absent) };
     (FIRST_RAX) => { Written(Destinations::First, Implied::Rax, StoreKind::Operand) };
