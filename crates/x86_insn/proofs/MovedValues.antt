@@ -1,12 +1,12 @@
 -- What a symbol and a number more count, by what the symbol is known as.
-use Rattle.std.proofs.Common.{◌≡◌, ◌<◌, ap, ℕ, ◌+◌, ◌%◌, ◌^◌, List, [], ◌∷◌, Option, Some, None, Result, Ok, refl, arith, eq-eqb, sym, ◌∙◌}
+use Rattle.std.proofs.Common.{◌≡◌, ◌<◌, ap, ℕ, ◌+◌, ◌%◌, ◌^◌, List, Option, Some, None, Result, Ok, refl, arith, eq-eqb, sym, ◌∙◌}
 use Rattle.asm_expr.specs.declared.knowledge.Look.{Look}
 use Rattle.asm_expr.specs.declared.knowledge.Look.TheVariants as look
 use Rattle.asm_expr.specs.Knowledge.{told_by}
 use Rattle.asm_expr.specs.declared.faults.ExprCause.{ExprCause}
 use Rattle.asm_expr.specs.declared.trees.Written.TheVariants.{Plain}
-use Rattle.asm_expr.specs.Forms.{sum_of, constant_form, with_terms}
-use Rattle.asm_expr.specs.Knowledge.{Told, absent, constant, label, form, Knowledge}
+use Rattle.asm_expr.specs.Forms.{with_terms}
+use Rattle.asm_expr.specs.Knowledge.{Told, absent, constant, label, Knowledge}
 use Rattle.asm_expr.specs.Settled.{settled, put_all}
 use Rattle.asm_expr.specs.Linear.{linear, binary_form}
 use Rattle.x86_insn.specs.Amounts.{amount_tree, named_tree}

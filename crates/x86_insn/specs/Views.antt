@@ -1,5 +1,5 @@
 -- An instruction as it is looked at where bytes are read and written: its values are numbers, or not known.
-use Rattle.std.specs.Prelude.{ℕ, Option, Some, None}
+use Rattle.std.specs.Prelude.{ℕ, Option, None}
 use Rattle.x86_insn.specs.declared.registers.Reg.{Reg}
 use Rattle.x86_insn.specs.declared.insns.Mnemonic.{Mnemonic}
 use Rattle.x86_insn.specs.declared.insns.Prefix.{Prefix}

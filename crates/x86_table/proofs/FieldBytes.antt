@@ -1,5 +1,5 @@
 -- Fields that fit are told by their bytes.
-use Rattle.std.proofs.Common.{◌≡◌, ◌<◌, ◌≤◌, ℕ, ◌+◌, ◌-◌, ◌/◌, ◌%◌, ◌^◌, ◌==◌, ◌&&◌, ◌||◌, nat_lt, nat_le, List, ◌∷◌, ◌++◌, Bool, true, false, not, Option, Some, None, refl, arith, sym, ap, ◌∙◌, inl, inr, ◌⊎◌, subst}
+use Rattle.std.proofs.Common.{◌≡◌, ◌<◌, ◌≤◌, ℕ, ◌-◌, ◌/◌, ◌%◌, ◌^◌, ◌==◌, ◌&&◌, ◌||◌, nat_lt, nat_le, List, ◌∷◌, ◌++◌, Bool, true, false, not, Option, Some, None, refl, arith, sym, ap, ◌∙◌, inl, inr, ◌⊎◌, subst}
 use Rattle.std.proofs.lemmas.Bool.{eqb-true, eqb-false, not-true, ltb-true, leb-true, or_cases}
 use Rattle.std.specs.Int.{to_le_bytes, from_le_bytes, w16, w32, w64}
 use Rattle.std.proofs.lemmas.Nat.{from_le_bytes-to_le_bytes_2, from_le_bytes-to_le_bytes_4, from_le_bytes-to_le_bytes_8}

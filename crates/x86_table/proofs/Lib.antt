@@ -1,4 +1,4 @@
--- Lemmas on what bytes read as, on the rows of names, and on what rows write.
+-- Lemmas on what bytes read as, on the rows of names, on what rows write, and on mnemonics.
 mod Peeling
 mod FieldBytes
 mod RowHeads
@@ -6,3 +6,4 @@ mod OneReading
 mod SpanLaws
 mod RowLookups
 mod RowWrites
+mod NameLookups

@@ -1,5 +1,5 @@
 -- No two rows share a head, and a row is told its fields by their bytes.
-use Rattle.std.proofs.Common.{◌≡◌, ◌<◌, ℕ, ◌+◌, ◌-◌, ◌/◌, ◌%◌, nat_le, List, [], ◌∷◌, ◌++◌, Bool, true, false, not, Option, Some, slice_get, refl, arith, zero, suc, append_assoc, sym, ◌∙◌, inl, inr}
+use Rattle.std.proofs.Common.{◌≡◌, ◌<◌, ℕ, ◌+◌, ◌/◌, ◌%◌, nat_le, List, [], ◌∷◌, ◌++◌, Bool, true, false, not, Option, Some, slice_get, refl, arith, zero, suc, append_assoc, sym, ◌∙◌, inl, inr}
 use Rattle.std.proofs.lemmas.Bool.{cases_order, eqb-true, not-true, both_ways, and_parts}
 use Rattle.x86_insn.specs.Views.{View}
 use Rattle.x86_insn.specs.declared.insns.Prefix.{Prefix}

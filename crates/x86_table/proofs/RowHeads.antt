@@ -1,5 +1,5 @@
 -- Heads that are one are of rows that share a head.
-use Rattle.std.proofs.Common.{◌≡◌, ◌<◌, ℕ, ◌+◌, ◌-◌, ◌*◌, ◌/◌, ◌%◌, ◌==◌, ◌&&◌, ◌||◌, nat_lt, nat_le, List, ◌∷◌, ◌++◌, length, Bool, true, false, not, Option, Some, None, refl, arith, append_assoc, eq-eqb, sym, ap, ◌∙◌, inl, inr, subst}
+use Rattle.std.proofs.Common.{◌≡◌, ◌<◌, ℕ, ◌+◌, ◌*◌, ◌/◌, ◌%◌, ◌==◌, ◌&&◌, ◌||◌, nat_lt, nat_le, List, ◌∷◌, ◌++◌, length, Bool, true, false, not, Option, Some, None, refl, arith, append_assoc, eq-eqb, sym, ap, ◌∙◌, inl, inr, subst}
 use Rattle.std.proofs.lemmas.Bool.{eqb-true, eqb-false, not-true, ltb-true, leb-true, lt-ltb, le-leb, and_parts, and_from, ltb-false, cases_Bool}
 use Rattle.x86_insn.specs.declared.insns.Index.{Index}
 use Rattle.x86_insn.specs.declared.insns.Index.TheVariants as index

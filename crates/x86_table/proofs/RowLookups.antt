@@ -1,5 +1,5 @@
 -- What is found among the rows of a name and a size.
-use Rattle.std.proofs.Common.{◌≡◌, ◌<◌, ◌≤◌, ℕ, ◌+◌, ◌-◌, ◌==◌, ◌&&◌, nat_lt, nat_le, List, [], ◌∷◌, length, take, drop, slice_range, Bool, true, false, Option, Some, None, slice_get, refl, arith, zero, suc, sym, ap, ◌∙◌, inl, inr, subst}
+use Rattle.std.proofs.Common.{◌≡◌, ◌<◌, ◌≤◌, ℕ, ◌+◌, ◌-◌, ◌==◌, ◌&&◌, nat_lt, nat_le, List, [], ◌∷◌, take, drop, slice_range, Bool, true, false, Option, Some, None, slice_get, refl, arith, zero, suc, sym, ap, ◌∙◌, inl, inr, subst}
 use Rattle.std.proofs.lemmas.Bool.{and_parts, and_from, both_ways, ltb-true, leb-true, cases_Bool}
 use Rattle.std.specs.List.{find}
 use Rattle.x86_insn.specs.declared.insns.Insn.{Insn}

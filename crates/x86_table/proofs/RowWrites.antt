@@ -1,6 +1,6 @@
 -- Rows that admit one instruction say the same of what it writes.
-use Rattle.std.proofs.Common.{◌≡◌, ℕ, ◌+◌, ◌==◌, ◌&&◌, ◌||◌, List, [], ◌∷◌, Bool, true, false, not, if◌then◌else◌, Option, Some, None, slice_get, refl, arith, zero, suc, sym, ap, ◌∙◌, inl, inr, subst, eq-eqb}
-use Rattle.std.proofs.lemmas.Bool.{and_parts, and_from, both_ways, eqb-true, eqb-false, or_cases, not-true, cases_Bool}
+use Rattle.std.proofs.Common.{◌≡◌, ℕ, ◌==◌, ◌&&◌, ◌||◌, List, [], ◌∷◌, Bool, true, false, not, if◌then◌else◌, Some, None, slice_get, refl, zero, suc, sym, ap, ◌∙◌, subst, eq-eqb}
+use Rattle.std.proofs.lemmas.Bool.{and_parts, and_from, both_ways, eqb-true}
 use Rattle.x86_insn.specs.declared.insns.Slot.{Slot}
 use Rattle.x86_insn.specs.declared.insns.Slot.TheVariants as slot
 use Rattle.x86_insn.specs.declared.insns.Insn.{Insn}
@@ -12,9 +12,8 @@ use Rattle.x86_table.specs.declared.forms.StoreKind.{StoreKind}
 use Rattle.x86_table.specs.declared.forms.StoreKind.TheVariants as kind
 use Rattle.x86_table.specs.declared.forms.Pattern.{Pattern}
 use Rattle.x86_table.specs.declared.forms.Row.{Row}
-use Rattle.x86_table.specs.declared.writing.Writes.{Writes}
 use Rattle.x86_table.specs.Rows.{the_rows}
-use Rattle.x86_table.specs.Writing.{is_absent, takes_register, takes_memory, is_immediate, is_target, kind_fits, admits, FindsRow, bytes_in_memory, first_written, second_written, is_repeat, stored, writes_by, no_writes, IsWritten, kinds_meet, may_meet, destinations_number, implied_number, store_number, write_same, agrees_with, all_agree}
+use Rattle.x86_table.specs.Writing.{is_absent, takes_register, takes_memory, is_immediate, is_target, kind_fits, admits, FindsRow, bytes_in_memory, stored, writes_by, no_writes, IsWritten, kinds_meet, may_meet, destinations_number, implied_number, store_number, write_same, agrees_with, all_agree}
 
 agree_all : all_agree the_rows the_rows ≡ true
 unfolding the_rows

@@ -1,11 +1,11 @@
 -- Each row lies in the span of its name alone.
-use Rattle.std.proofs.Common.{◌≡◌, ◌<◌, ◌≤◌, ℕ, ◌+◌, ◌==◌, ◌&&◌, ◌||◌, nat_lt, nat_le, List, [], ◌∷◌, length, Bool, true, false, not, Option, Some, None, slice_get, refl, arith, zero, suc, sym, ap, ◌∙◌, inl, inr, ◌⊎◌, subst, eq-eqb}
-use Rattle.std.proofs.lemmas.Bool.{cases_order, eqb-true, eqb-false, not-true, both_ways, ltb-true, leb-true, lt-ltb, le-leb, and_parts, or_cases, and_from, ltb-false, leb-false, cases_Bool}
+use Rattle.std.proofs.Common.{◌≡◌, ◌<◌, ◌≤◌, ℕ, ◌+◌, ◌==◌, ◌&&◌, nat_lt, nat_le, List, [], ◌∷◌, length, Bool, true, false, Some, None, slice_get, refl, arith, zero, suc, sym, ap, ◌∙◌, inl, inr, subst}
+use Rattle.std.proofs.lemmas.Bool.{eqb-true, both_ways, ltb-true, leb-true, lt-ltb, le-leb, and_parts, and_from, ltb-false, cases_Bool}
 use Rattle.x86_table.specs.declared.forms.Row.{Row}
 use Rattle.x86_table.specs.declared.spans.Span.{Span}
 use Rattle.x86_table.specs.declared.ranges.RowRange.{RowRange}
 use Rattle.x86_table.specs.Rows.{the_rows}
-use Rattle.x86_table.specs.Ranges.{agree, is_size, the_spans, no_span, span_or, span_of, range, by_name, by_size, is_in, IsWithin, is_named, is_sized, AreRowsOf, is_alone, is_by_size, all_spanned, is_ordered, all_ordered}
+use Rattle.x86_table.specs.Ranges.{agree, is_size, the_spans, span_or, span_of, range, by_name, by_size, is_in, IsWithin, is_named, is_sized, AreRowsOf, is_alone, is_by_size, all_spanned, is_ordered, all_ordered}
 
 spanned : all_spanned 0 the_rows ≡ true
 unfolding the_rows the_spans span_of

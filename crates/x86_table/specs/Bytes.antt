@@ -1,5 +1,5 @@
 -- The bytes of an instruction, by its row and its fields (Intel SDM, volume 2, section 2.1).
-use Rattle.std.specs.Prelude.{◌+◌, ◌*◌, ◌/◌, ◌%◌, ◌^◌, ◌||◌, ◌∷◌, ◌++◌, [], ℕ, nat_lt, List, Bool, true, false, not, Option, Some, None, if◌then◌else◌}
+use Rattle.std.specs.Prelude.{◌+◌, ◌*◌, ◌/◌, ◌%◌, ◌^◌, ◌||◌, ◌∷◌, ◌++◌, [], ℕ, nat_lt, List, Bool, true, false, Option, Some, None, if◌then◌else◌}
 use Rattle.std.specs.Int.{to_le_bytes, w16, w32, w64}
 use Rattle.x86_insn.specs.declared.insns.Prefix.{Prefix}
 use Rattle.x86_insn.specs.declared.insns.Prefix.TheVariants as prefix

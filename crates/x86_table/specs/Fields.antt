@@ -1,5 +1,5 @@
 -- What the bytes of an instruction hold.
-use Rattle.std.specs.Prelude.{ℕ, Bool, not, Option}
+use Rattle.std.specs.Prelude.{ℕ, Bool, Option}
 use Rattle.x86_insn.specs.declared.insns.Prefix.{Prefix}
 use Rattle.x86_insn.specs.declared.insns.Segment.{Segment}
 use Rattle.x86_insn.specs.declared.insns.Index.{Index}

@@ -1,5 +1,5 @@
 -- Which fields a row admits.
-use Rattle.std.specs.Prelude.{◌≡◌, ◌<◌, ◌+◌, ◌-◌, ◌%◌, ◌^◌, ◌==◌, ◌&&◌, ◌||◌, ℕ, nat_lt, nat_le, Bool, true, false, not, Option, Some, None, slice_get, length, take}
+use Rattle.std.specs.Prelude.{◌≡◌, ◌<◌, ◌+◌, ◌-◌, ◌%◌, ◌^◌, ◌==◌, ◌&&◌, ◌||◌, ℕ, nat_lt, nat_le, Bool, true, false, not, Option, Some, None, slice_get, length}
 use Rattle.x86_insn.specs.declared.registers.Class.{Class}
 use Rattle.x86_insn.specs.declared.registers.Class.TheVariants as class
 use Rattle.x86_insn.specs.declared.insns.Prefix.{Prefix}

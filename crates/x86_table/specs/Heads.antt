@@ -10,7 +10,7 @@ use Rattle.x86_table.specs.declared.forms.Shape.{Shape}
 use Rattle.x86_table.specs.declared.forms.Shape.TheVariants as shape
 use Rattle.x86_table.specs.declared.forms.Words.{Words}
 use Rattle.x86_table.specs.declared.forms.Row.{Row}
-use Rattle.x86_table.specs.Bytes.{bit, mode}
+use Rattle.x86_table.specs.Bytes.{bit}
 use Rattle.x86_table.specs.Fits.{takes_none, may_rep, may_repne}
 
 -- F2 may stand

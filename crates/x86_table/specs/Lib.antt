@@ -9,3 +9,4 @@ pub mod Heads
 pub mod Ranges
 pub mod Writing
 pub mod WorkedWrites
+pub mod Names

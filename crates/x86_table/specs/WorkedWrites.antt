@@ -1,19 +1,12 @@
 -- What some instructions write beside flags, by the Intel manual (volume 2, chapters 3 and 4).
 use Rattle.std.specs.Prelude.{◌≡◌, ◌==◌, ◌&&◌, ◌∷◌, [], ℕ, List, Option, Some, None, if◌then◌else◌}
 use Rattle.x86_table.specs.declared.forms.Written.{Written}
-use Rattle.x86_insn.specs.declared.insns.Slot.{Slot}
-use Rattle.x86_insn.specs.declared.insns.Slot.TheVariants as slot
-use Rattle.x86_insn.specs.declared.insns.Insn.{Insn}
-use Rattle.x86_insn.specs.Registers.{is_part_of}
 use Rattle.x86_table.specs.declared.forms.Destinations.{Destinations}
 use Rattle.x86_table.specs.declared.forms.Destinations.TheVariants as destinations
 use Rattle.x86_table.specs.declared.forms.Implied.{Implied}
 use Rattle.x86_table.specs.declared.forms.Implied.TheVariants as implied
 use Rattle.x86_table.specs.declared.forms.StoreKind.{StoreKind}
 use Rattle.x86_table.specs.declared.forms.StoreKind.TheVariants as kind
-use Rattle.x86_table.specs.declared.writing.Store.{Store}
-use Rattle.x86_table.specs.declared.writing.Store.TheVariants as store
-use Rattle.x86_table.specs.declared.writing.Writes.{Writes}
 use Rattle.x86_table.specs.declared.mnemonics.TheConstants.{ADD, BSWAP, BT, BTS, CALL, CDQE, CMOVO, CMP, CMPS, CMPXCHG, CMPXCHG16B, CMPXCHG8B, CPUID, CQO, IDIV, INT, JMP, JRCXZ, LAHF, LDMXCSR, LEA, LEAVE, LODS, LOOP, MOV, MOVNTI, MOVS, MUL, NOP, PCMPESTRM, PCMPISTRI, POP, POPF, PTEST, PUSH, PUSHF, RDTSC, RET, SAHF, SCAS, SETO, SHL, STMXCSR, STOS, SYSCALL, TEST, UCOMISD, XADD, XCHG}
 use Rattle.x86_table.specs.declared.forms.Row.{Row}
 use Rattle.x86_table.specs.Rows.{the_rows}

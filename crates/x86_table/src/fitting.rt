@@ -364,58 +364,6 @@ fn segment_fits(segment: Option<Segment>, place: Place, moved: Option<u64>) -> b
     }
 }
 
-/// Whether the row has no F2 or F3 of its own.
-fn takes_none(repeat: Repeat) -> bool
-    ensures { result ≡ takes_none repeat }
-{
-    match repeat {
-        Repeat::Absent => true,
-        Repeat::F2 => false,
-        Repeat::F3 => false,
-    }
-}
-
-/// Whether the row takes `rep`.
-fn may_rep(words: Words) -> bool
-    ensures { result ≡ may_rep words }
-{
-    match words {
-        Words::Rep => true,
-        Words::Repe => true,
-        _ => false,
-    }
-}
-
-/// Whether the row takes `repne`.
-fn may_repne(words: Words) -> bool
-    ensures { result ≡ may_repne words }
-{
-    match words {
-        Words::Repe => true,
-        _ => false,
-    }
-}
-
-/// Whether the row takes `lock`.
-fn may_lock(words: Words) -> bool
-    ensures { result ≡ may_lock words }
-{
-    match words {
-        Words::Lock => true,
-        _ => false,
-    }
-}
-
-/// Whether the row takes `notrack`.
-fn may_notrack(words: Words) -> bool
-    ensures { result ≡ may_notrack words }
-{
-    match words {
-        Words::Notrack => true,
-        _ => false,
-    }
-}
-
 /// Whether the row takes the prefix word.
 fn prefix_fits(row: &Row, parts: &Parts) -> bool
     ensures { let place = located parts.now.displacement parts.now.place in
@@ -423,10 +371,16 @@ fn prefix_fits(row: &Row, parts: &Parts) -> bool
 {
     match parts.prefix {
         Prefix::Absent => true,
-        Prefix::Lock => may_lock(row.words) && is_memory(parts.place, parts.displacement),
-        Prefix::Rep => may_rep(row.words) && takes_none(row.lead.1),
-        Prefix::Repne => may_repne(row.words) && takes_none(row.lead.1),
-        Prefix::Notrack => may_notrack(row.words) && is_no_segment(parts.segment),
+        Prefix::Lock => {
+            matches!(row.words, Words::Lock) && is_memory(parts.place, parts.displacement)
+        }
+        Prefix::Rep => {
+            matches!(row.words, Words::Rep | Words::Repe) && matches!(row.lead.1, Repeat::Absent)
+        }
+        Prefix::Repne => {
+            matches!(row.words, Words::Repe) && matches!(row.lead.1, Repeat::Absent)
+        }
+        Prefix::Notrack => matches!(row.words, Words::Notrack) && is_no_segment(parts.segment),
     }
 }
 

@@ -31,16 +31,6 @@ pub struct Writes {
     pub store: Store,
 }
 
-/// Whether the pattern shows no operand.
-fn is_absent(pattern: Pattern) -> bool
-    ensures { result ≡ is_absent pattern }
-{
-    match pattern {
-        Pattern::Absent => true,
-        _ => false,
-    }
-}
-
 /// Whether the pattern shows registers.
 fn takes_register(pattern: Pattern) -> bool
     ensures { result ≡ takes_register pattern }
@@ -55,47 +45,16 @@ fn takes_register(pattern: Pattern) -> bool
     }
 }
 
-/// Whether the pattern shows memory.
-fn takes_memory(pattern: Pattern) -> bool
-    ensures { result ≡ takes_memory pattern }
-{
-    match pattern {
-        Pattern::RegMem(_, _) => true,
-        _ => false,
-    }
-}
-
-/// Whether the pattern shows immediates.
-fn is_immediate(pattern: Pattern) -> bool
-    ensures { result ≡ is_immediate pattern }
-{
-    match pattern {
-        Pattern::One => true,
-        Pattern::Immediate => true,
-        _ => false,
-    }
-}
-
-/// Whether the pattern shows branch targets.
-fn is_target(pattern: Pattern) -> bool
-    ensures { result ≡ is_target pattern }
-{
-    match pattern {
-        Pattern::Target => true,
-        _ => false,
-    }
-}
-
 /// Whether the pattern shows operands of this kind.
 fn kind_fits(pattern: Pattern, slot: Slot) -> bool
     ensures { result ≡ kind_fits pattern slot }
 {
     match slot {
-        Slot::Absent => is_absent(pattern),
+        Slot::Absent => matches!(pattern, Pattern::Absent),
         Slot::Register(_) => takes_register(pattern),
-        Slot::Immediate => is_immediate(pattern),
-        Slot::Memory => takes_memory(pattern),
-        Slot::Target => is_target(pattern),
+        Slot::Immediate => matches!(pattern, Pattern::One | Pattern::Immediate),
+        Slot::Memory => matches!(pattern, Pattern::RegMem(_, _)),
+        Slot::Target => matches!(pattern, Pattern::Target),
     }
 }
 
