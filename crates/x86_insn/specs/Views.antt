@@ -1,4 +1,5 @@
--- An instruction as it is looked at where bytes are read and written: its values are numbers, or not known.
+-- An instruction as it is looked at where bytes are read and written: its values are numbers, or not known (Intel SDM, volume 2,
+-- section 2.1).
 use Rattle.std.specs.Prelude.{ℕ, Option, None}
 use Rattle.x86_insn.specs.declared.registers.Reg.{Reg}
 use Rattle.x86_insn.specs.declared.insns.Mnemonic.{Mnemonic}

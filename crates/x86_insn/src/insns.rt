@@ -13,8 +13,10 @@ pub enum Prefix {
     Absent,
     /// `lock`
     Lock,
-    /// `rep`, `repe` or `repz`
+    /// `rep`
     Rep,
+    /// `repe` or `repz`
+    Repe,
     /// `repne` or `repnz`
     Repne,
     /// `notrack`
@@ -76,10 +78,10 @@ pub struct Insn<'a> {
     pub first: Slot,
     pub second: Slot,
     pub third: Slot,
-    /// What no operand shows, is anything.
+    /// What memory shows, and anything where there is none.
     pub address: Address,
-    /// 0 where no operand shows it.
+    /// What an immediate operand shows. Where there is none, readers put the number 0.
     pub immediate: Value<'a>,
-    /// 0 where no operand shows it.
+    /// What memory or a branch target shows. Where there is none, readers put the number 0.
     pub displacement: Value<'a>,
 }

@@ -104,7 +104,8 @@ fn amount_value<K: Known>(
 }
 
 /// What is known now of the instruction's values, or the first fault, that of the immediate first:
-/// a division by zero, or an operator that wants a constant and has none.
+/// a division by zero, or an operator that wants a constant and has none. Both values count, also
+/// where no operand shows them.
 pub fn values<K: Known>(alloc: Global, insn: &Insn, known: &K) -> Result<Values, ExprFault>
     ensures { let knows = knowledge_by K.told K.meant K.place known.now in
         Returns result (values_of knows insn.now) }

@@ -1,11 +1,9 @@
 //! Visitors of operands: their kind, the registers and the field that they use, and their names.
 
-ghost use Rattle.std.specs.Prelude.{◌≡◌, ◌||◌, Bool, false, true, [], Ok, Some, None};
+ghost use Rattle.std.specs.Prelude.{◌≡◌, Ok};
 ghost use Rattle.asm_base.specs.Refusals.{GivesBy};
-ghost use Rattle.x86_insn.specs.Registers.{is_part_of};
-ghost use Rattle.x86_insn.specs.Visiting.{Answers, base_is, index_is, names_in};
-ghost use Rattle.x86_insn.specs.declared.visitors.Kind.TheVariants as kind;
-ghost use Rattle.x86_insn.specs.declared.visitors.Field.TheVariants as field;
+ghost use Rattle.x86_insn.specs.Operands.{register, immediate, memory, target};
+ghost use Rattle.x86_insn.specs.Visiting.{Answers, base_is, index_is, names_in, kind_of, uses_register, field_of, names_of_operand};
 
 use crate::amounts::{Amount, Value};
 use crate::insns::{Base, Index};
@@ -31,14 +29,16 @@ impl OperandFold for KindOf {
     type Out = Kind;
 
     ghost register_gives = { λ before reg answer after.
-        Answers before answer after (kind.Register reg.class) };
+        Answers before answer after (kind_of (register reg)) };
 
     ghost immediate_gives = { λ before held answer after.
-        Answers before answer after kind.Immediate };
+        Answers before answer after (kind_of (immediate held)) };
 
-    ghost memory_gives = { λ before place answer after. Answers before answer after kind.Memory };
+    ghost memory_gives = { λ before place answer after.
+        Answers before answer after (kind_of (memory place.address place.displacement.now)) };
 
-    ghost target_gives = { λ before held answer after. Answers before answer after kind.Target };
+    ghost target_gives = { λ before held answer after.
+        Answers before answer after (kind_of (target held)) };
 
     fn register(&mut self, reg: &Reg) -> Kind {
         Kind::Register(reg.class)
@@ -88,14 +88,17 @@ impl OperandFold for UsesRegister {
     type Out = bool;
 
     ghost register_gives = { λ before reg answer after.
-        Answers before answer after (is_part_of before.number reg) };
+        Answers before answer after (uses_register before.number (register reg)) };
 
-    ghost immediate_gives = { λ before held answer after. Answers before answer after false };
+    ghost immediate_gives = { λ before held answer after.
+        Answers before answer after (uses_register before.number (immediate held)) };
 
-    ghost memory_gives = { λ before place answer after. Answers before answer after
-        (base_is before.number place.address.base || index_is before.number place.address.index) };
+    ghost memory_gives = { λ before place answer after.
+        Answers before answer after
+        (uses_register before.number (memory place.address place.displacement.now)) };
 
-    ghost target_gives = { λ before held answer after. Answers before answer after false };
+    ghost target_gives = { λ before held answer after.
+        Answers before answer after (uses_register before.number (target held)) };
 
     fn register(&mut self, reg: &Reg) -> bool {
         reg.is_part_of(self.number)
@@ -128,16 +131,17 @@ pub struct FieldOf;
 impl OperandFold for FieldOf {
     type Out = Option<Field>;
 
-    ghost register_gives = { λ before reg answer after. Answers before answer after None };
+    ghost register_gives = { λ before reg answer after.
+        Answers before answer after (field_of (register reg)) };
 
     ghost immediate_gives = { λ before held answer after.
-        Answers before answer after (Some field.Immediate) };
+        Answers before answer after (field_of (immediate held)) };
 
     ghost memory_gives = { λ before place answer after.
-        Answers before answer after (Some field.Displacement) };
+        Answers before answer after (field_of (memory place.address place.displacement.now)) };
 
     ghost target_gives = { λ before held answer after.
-        Answers before answer after (Some field.Displacement) };
+        Answers before answer after (field_of (target held)) };
 
     fn register(&mut self, _reg: &Reg) -> Option<Field> {
         None
@@ -181,16 +185,17 @@ impl OperandFold for NamesOf {
     type Out = Result<Vec<Written>, ExprFault>;
 
     ghost register_gives = { λ before reg answer after.
-        GivesBy (λ names. names.items) answer (Ok []) };
+        GivesBy (λ names. names.items) answer (Ok (names_of_operand (register reg))) };
 
     ghost immediate_gives = { λ before held answer after.
-        GivesBy (λ names. names.items) answer (Ok (names_in held)) };
+        GivesBy (λ names. names.items) answer (Ok (names_of_operand (immediate held))) };
 
     ghost memory_gives = { λ before place answer after.
-        GivesBy (λ names. names.items) answer (Ok (names_in place.displacement.now)) };
+        GivesBy (λ names. names.items) answer
+        (Ok (names_of_operand (memory place.address place.displacement.now))) };
 
     ghost target_gives = { λ before held answer after.
-        GivesBy (λ names. names.items) answer (Ok (names_in held)) };
+        GivesBy (λ names. names.items) answer (Ok (names_of_operand (target held))) };
 
     fn register(&mut self, _reg: &Reg) -> Result<Vec<Written>, ExprFault> {
         Ok(Vec::new(self.alloc))

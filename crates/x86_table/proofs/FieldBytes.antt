@@ -10,7 +10,7 @@ use Rattle.x86_table.specs.declared.forms.Immediate.TheVariants as immediate
 use Rattle.x86_table.specs.declared.parts.Width.{Width}
 use Rattle.x86_table.specs.declared.parts.Width.TheVariants as width
 use Rattle.x86_table.specs.Fields.{Location, nowhere, direct, from_rip, bare, based}
-use Rattle.x86_table.specs.Bytes.{index_high, place_x, place_b, long, displacement_bytes, mode, sib, mod_of, rm_of, sib_bytes, offset_bytes, immediate_bytes}
+use Rattle.x86_table.specs.Bytes.{index_high, place_x, place_b, long, displacement_bytes, mode, sib, mod_of, rm_of, sib_bytes, place_displacement, immediate_bytes}
 use Rattle.x86_table.specs.Fits.{is_signed, long_fits, displacement_fits, index_fits, sib_fits, mode_fits, some_place_fits, immediate_fits}
 use Rattle.x86_table.specs.Reads.{is_known, is_known_place}
 use Rattle.x86_table.proofs.Peeling.{both, byte_same}
@@ -207,7 +207,7 @@ based_false a c i j w v d e xs ys f g k l b m low h =
 -- mod, rm and the rest fix the place
 pub place_same : (p q : Location) (xs ys : List ℕ) → some_place_fits p ≡ true → some_place_fits q ≡ true → is_known_place p ≡ true → is_known_place q ≡ true
     → place_x p ≡ place_x q → place_b p ≡ place_b q → mod_of p ≡ mod_of q → rm_of p ≡ rm_of q
-    → sib_bytes p ++ (offset_bytes p ++ xs) ≡ sib_bytes q ++ (offset_bytes q ++ ys) → (p ≡ q) × (xs ≡ ys)
+    → sib_bytes p ++ (place_displacement p ++ xs) ≡ sib_bytes q ++ (place_displacement q ++ ys) → (p ≡ q) × (xs ≡ ys)
 place_same nowhere q xs ys f g k l x b m r h = cc
 place_same (direct n) nowhere xs ys f g k l x b m r h = cc
 place_same (direct n) (direct o) xs ys f g k l x b m r h = (ap direct (omega arith), h)

@@ -86,7 +86,7 @@ fields_same (shape.Slash m) a b xs ys f g pa pb k l fa fb r x c w h =
     placed a b xs ys (eqb-true a.low 0 fa) (eqb-true b.low 0 fb) (and_parts _ _ pa).0 (and_parts _ _ pb).0 k l r x c h
 
 made : Prefix → Option Segment → Bool → ℕ → ℕ → Location → Option ℕ → Fields
-made q s l r w p i = record { «prefix» = q; segment = s; plain = l; reg = r; low = w; place = p; held = i }
+made q s l r w p i = record { «prefix» = q; segment = s; bare_rex = l; reg = r; low = w; place = p; held = i }
 
 pub one_row : (r : Row) (a b : Fields) (p q : List ℕ) → row_stands r ≡ true → fits r a ≡ true → fits r b ≡ true → is_known a.held ≡ true → is_known b.held ≡ true
     → is_known_place a.place ≡ true → is_known_place b.place ≡ true → bytes_of r a ++ p ≡ bytes_of r b ++ q → (a ≡ b) × (p ≡ q)
@@ -100,10 +100,10 @@ one_row r a b p q st f g ki li kp lp h =
     let code = hd.code in
     let same = fields_same r.shape a b (immediate_bytes r.immediate a.held ++ p) (immediate_bytes r.immediate b.held ++ q) fa.reg fb.reg fa.place fb.place kp lp fa.low fb.low bits.r_bit bits.x bits.b_bit (omega arith) (simp append_assoc at hd.rest) in
     let im = held_same r.immediate a.held b.held p q ki li fa.imm fb.imm same.rest in
-    let fs = first_same a.segment b.segment a.«prefix» b.«prefix» r.lead.1 r.lead.1 r.words r.words a.place b.place fa.words fb.words hd.first in
-    let pw = word_same r.lead.1 r.words a.«prefix» b.«prefix» a.segment b.segment a.place b.place fa.words fb.words hd.rep in
-    let pr = prefix_same a.«prefix» b.«prefix» fs.1 pw hd.lock in
-    let whole : made a.«prefix» a.segment a.plain a.reg a.low a.place a.held ≡ made b.«prefix» b.segment b.plain b.reg b.low b.place b.held = rw (pr, fs.0, bits.plain, same.reg, same.low, same.place, im.0) refl in
+    let fs = first_same a.segment b.segment a.«prefix» b.«prefix» r.lead.repeat r.lead.repeat r.words r.words a.place b.place fa.words fb.words hd.first in
+    let pw = word_same r.lead.repeat r.words a.«prefix» b.«prefix» a.segment b.segment a.place b.place fa.words fb.words hd.rep in
+    let pr = prefix_same r.lead.repeat r.words a.«prefix» b.«prefix» a.segment b.segment a.place b.place fa.words fb.words fs.1 pw hd.lock in
+    let whole : made a.«prefix» a.segment a.bare_rex a.reg a.low a.place a.held ≡ made b.«prefix» b.segment b.bare_rex b.reg b.low b.place b.held = rw (pr, fs.0, bits.bare_rex, same.reg, same.low, same.place, im.0) refl in
     (whole, im.1)
 
 same_row : (x y p q : List ℕ) (a b : View) (i j : ℕ) (r s : Row) (u v : Fields) → ReadsRow x a i r u → ReadsRow y b j s v → i ≡ j → bytes_of r u ++ p ≡ bytes_of s v ++ q → (a ≡ b) × (x ≡ y)

@@ -10,9 +10,10 @@ use Rattle.x86_table.specs.declared.forms.Repeat.TheVariants as repeat
 use Rattle.x86_table.specs.declared.forms.Map.{Map}
 use Rattle.x86_table.specs.declared.forms.Map.TheVariants as map
 use Rattle.x86_table.specs.declared.forms.Words.{Words}
+use Rattle.x86_table.specs.declared.forms.Words.TheVariants as words
 use Rattle.x86_table.specs.Fields.{Location}
 use Rattle.x86_table.specs.Bytes.{opt, notrack_byte, first_byte, size_byte, word_byte, repeat_byte, lock_byte, rex_byte, escape_byte, second_escape}
-use Rattle.x86_table.specs.Fits.{takes_none, may_rep, may_repne, may_notrack, prefix_fits}
+use Rattle.x86_table.specs.Fits.{takes_none, may_rep, may_repe, may_repne, may_notrack, prefix_fits}
 use Rattle.x86_table.specs.Heads.{takes_f2, takes_f3, rank, none_leads, none_escapes, opcode_stands}
 
 pub both : {a b : Bool} → (a && b) ≡ true → (a ≡ true) × (b ≡ true)
@@ -59,6 +60,7 @@ guard_notrack : (p : Prefix) (xs : List ℕ) → Above 1 xs → Guarded 1 (notra
 guard_notrack prefix.Absent xs h = h
 guard_notrack prefix.Lock xs h = h
 guard_notrack prefix.Rep xs h = h
+guard_notrack prefix.Repe xs h = h
 guard_notrack prefix.Repne xs h = h
 guard_notrack prefix.Notrack xs h = refl
 
@@ -71,6 +73,7 @@ guard_word : (p : Prefix) (xs : List ℕ) → Above 3 xs → Guarded 3 (word_byt
 guard_word prefix.Absent xs h = h
 guard_word prefix.Lock xs h = h
 guard_word prefix.Rep xs h = refl
+guard_word prefix.Repe xs h = refl
 guard_word prefix.Repne xs h = refl
 guard_word prefix.Notrack xs h = h
 
@@ -83,6 +86,7 @@ pub guard_lock : (p : Prefix) (xs : List ℕ) → Above 4 xs → Guarded 4 (lock
 guard_lock prefix.Absent xs h = h
 guard_lock prefix.Lock xs h = refl
 guard_lock prefix.Rep xs h = h
+guard_lock prefix.Repe xs h = h
 guard_lock prefix.Repne xs h = h
 guard_lock prefix.Notrack xs h = h
 
@@ -140,32 +144,52 @@ apart_numbers : (m n : ℕ) → (m < n) ⊎ (n < m) → m ≡ n → ⊥
 apart_numbers m n (inl l) e = omega arith
 apart_numbers m n (inr l) e = omega arith
 
-pub prefix_same : (p q : Prefix) → notrack_byte p ≡ notrack_byte q → word_byte p ≡ word_byte q → lock_byte p ≡ lock_byte q → p ≡ q
-prefix_same prefix.Absent prefix.Absent a b c = refl
-prefix_same prefix.Absent prefix.Lock a b c = cc
-prefix_same prefix.Absent prefix.Rep a b c = cc
-prefix_same prefix.Absent prefix.Repne a b c = cc
-prefix_same prefix.Absent prefix.Notrack a b c = cc
-prefix_same prefix.Lock prefix.Absent a b c = cc
-prefix_same prefix.Lock prefix.Lock a b c = refl
-prefix_same prefix.Lock prefix.Rep a b c = cc
-prefix_same prefix.Lock prefix.Repne a b c = cc
-prefix_same prefix.Lock prefix.Notrack a b c = cc
-prefix_same prefix.Rep prefix.Absent a b c = cc
-prefix_same prefix.Rep prefix.Lock a b c = cc
-prefix_same prefix.Rep prefix.Rep a b c = refl
-prefix_same prefix.Rep prefix.Repne a b c = absurd (apart_numbers 243 242 (inr (omega arith)) (some_is b))
-prefix_same prefix.Rep prefix.Notrack a b c = cc
-prefix_same prefix.Repne prefix.Absent a b c = cc
-prefix_same prefix.Repne prefix.Lock a b c = cc
-prefix_same prefix.Repne prefix.Rep a b c = absurd (apart_numbers 242 243 (inl (omega arith)) (some_is b))
-prefix_same prefix.Repne prefix.Repne a b c = refl
-prefix_same prefix.Repne prefix.Notrack a b c = cc
-prefix_same prefix.Notrack prefix.Absent a b c = cc
-prefix_same prefix.Notrack prefix.Lock a b c = cc
-prefix_same prefix.Notrack prefix.Rep a b c = cc
-prefix_same prefix.Notrack prefix.Repne a b c = cc
-prefix_same prefix.Notrack prefix.Notrack a b c = refl
+-- `rep` and `repe` stand with different rows
+not_both : (a : Words) → may_rep a ≡ true → may_repe a ≡ true → ⊥
+not_both words.Absent g h = cc
+not_both words.Lock g h = cc
+not_both words.Rep g h = cc
+not_both words.Repe g h = cc
+not_both words.Notrack g h = cc
+
+pub prefix_same : (e : Repeat) (w : Words) (p q : Prefix) (s t : Option Segment) (l m : Location) → prefix_fits e w p s l ≡ true → prefix_fits e w q t m ≡ true
+    → notrack_byte p ≡ notrack_byte q → word_byte p ≡ word_byte q → lock_byte p ≡ lock_byte q → p ≡ q
+prefix_same e w prefix.Absent prefix.Absent s t l m f g a b c = refl
+prefix_same e w prefix.Absent prefix.Lock s t l m f g a b c = cc
+prefix_same e w prefix.Absent prefix.Rep s t l m f g a b c = cc
+prefix_same e w prefix.Absent prefix.Repe s t l m f g a b c = cc
+prefix_same e w prefix.Absent prefix.Repne s t l m f g a b c = cc
+prefix_same e w prefix.Absent prefix.Notrack s t l m f g a b c = cc
+prefix_same e w prefix.Lock prefix.Absent s t l m f g a b c = cc
+prefix_same e w prefix.Lock prefix.Lock s t l m f g a b c = refl
+prefix_same e w prefix.Lock prefix.Rep s t l m f g a b c = cc
+prefix_same e w prefix.Lock prefix.Repe s t l m f g a b c = cc
+prefix_same e w prefix.Lock prefix.Repne s t l m f g a b c = cc
+prefix_same e w prefix.Lock prefix.Notrack s t l m f g a b c = cc
+prefix_same e w prefix.Rep prefix.Absent s t l m f g a b c = cc
+prefix_same e w prefix.Rep prefix.Lock s t l m f g a b c = cc
+prefix_same e w prefix.Rep prefix.Rep s t l m f g a b c = refl
+prefix_same e w prefix.Rep prefix.Repe s t l m f g a b c = absurd (not_both w (and_parts (may_rep w) (takes_none e) f).0 (and_parts (may_repe w) (takes_none e) g).0)
+prefix_same e w prefix.Rep prefix.Repne s t l m f g a b c = absurd (apart_numbers 243 242 (inr (omega arith)) (some_is b))
+prefix_same e w prefix.Rep prefix.Notrack s t l m f g a b c = cc
+prefix_same e w prefix.Repe prefix.Absent s t l m f g a b c = cc
+prefix_same e w prefix.Repe prefix.Lock s t l m f g a b c = cc
+prefix_same e w prefix.Repe prefix.Rep s t l m f g a b c = absurd (not_both w (and_parts (may_rep w) (takes_none e) g).0 (and_parts (may_repe w) (takes_none e) f).0)
+prefix_same e w prefix.Repe prefix.Repe s t l m f g a b c = refl
+prefix_same e w prefix.Repe prefix.Repne s t l m f g a b c = absurd (apart_numbers 243 242 (inr (omega arith)) (some_is b))
+prefix_same e w prefix.Repe prefix.Notrack s t l m f g a b c = cc
+prefix_same e w prefix.Repne prefix.Absent s t l m f g a b c = cc
+prefix_same e w prefix.Repne prefix.Lock s t l m f g a b c = cc
+prefix_same e w prefix.Repne prefix.Rep s t l m f g a b c = absurd (apart_numbers 242 243 (inl (omega arith)) (some_is b))
+prefix_same e w prefix.Repne prefix.Repe s t l m f g a b c = absurd (apart_numbers 242 243 (inl (omega arith)) (some_is b))
+prefix_same e w prefix.Repne prefix.Repne s t l m f g a b c = refl
+prefix_same e w prefix.Repne prefix.Notrack s t l m f g a b c = cc
+prefix_same e w prefix.Notrack prefix.Absent s t l m f g a b c = cc
+prefix_same e w prefix.Notrack prefix.Lock s t l m f g a b c = cc
+prefix_same e w prefix.Notrack prefix.Rep s t l m f g a b c = cc
+prefix_same e w prefix.Notrack prefix.Repe s t l m f g a b c = cc
+prefix_same e w prefix.Notrack prefix.Repne s t l m f g a b c = cc
+prefix_same e w prefix.Notrack prefix.Notrack s t l m f g a b c = refl
 
 no_true : (b : Bool) → (b && false) ≡ true → ⊥
 no_true true h = cc
@@ -175,6 +199,7 @@ no_notrack : (s : Segment) (e : Repeat) (a : Words) (p : Prefix) (l : Location) 
 no_notrack s e a prefix.Absent l h = refl
 no_notrack s e a prefix.Lock l h = refl
 no_notrack s e a prefix.Rep l h = refl
+no_notrack s e a prefix.Repe l h = refl
 no_notrack s e a prefix.Repne l h = refl
 no_notrack s e a prefix.Notrack l h = absurd (no_true (may_notrack a) h)
 
@@ -182,6 +207,7 @@ never_fs : (p : Prefix) (n : ℕ) → 62 < n → notrack_byte p ≡ Some n → �
 never_fs prefix.Absent n lt h = cc
 never_fs prefix.Lock n lt h = cc
 never_fs prefix.Rep n lt h = cc
+never_fs prefix.Repe n lt h = cc
 never_fs prefix.Repne n lt h = cc
 never_fs prefix.Notrack n lt h = (let e : 62 ≡ n = cc in omega arith)
 
@@ -207,12 +233,23 @@ size_same false true h = cc
 abbrev pub Stands : Option ℕ → Repeat → Words → Type 0
 Stands o e a = (o ≡ None) × (takes_none e ≡ true) ⊎ ((o ≡ Some 242) × (takes_f2 e a ≡ true) ⊎ (o ≡ Some 243) × (takes_f3 e a ≡ true))
 
+of_rep : (a : Words) → may_rep a ≡ true → (may_rep a || may_repe a) ≡ true
+of_rep a h = rw h refl
+
+of_repe : (a : Words) → may_repe a ≡ true → (may_rep a || may_repe a) ≡ true
+of_repe words.Absent h = cc
+of_repe words.Lock h = cc
+of_repe words.Rep h = cc
+of_repe words.Repe h = refl
+of_repe words.Notrack h = cc
+
 pub stands : (e : Repeat) (a : Words) (p : Prefix) (s : Option Segment) (l : Location) → prefix_fits e a p s l ≡ true → Stands (repeat_byte e p) e a
 stands repeat.F2 a p s l h = inr (inl (refl, refl))
 stands repeat.F3 a p s l h = inr (inr (refl, refl))
 stands repeat.Absent a prefix.Absent s l h = inl (refl, refl)
 stands repeat.Absent a prefix.Lock s l h = inl (refl, refl)
-stands repeat.Absent a prefix.Rep s l h = inr (inr (refl, (both {a = may_rep a} {b = true} h).0))
+stands repeat.Absent a prefix.Rep s l h = inr (inr (refl, of_rep a (both {a = may_rep a} {b = true} h).0))
+stands repeat.Absent a prefix.Repe s l h = inr (inr (refl, of_repe a (both {a = may_repe a} {b = true} h).0))
 stands repeat.Absent a prefix.Repne s l h = inr (inl (refl, (both {a = may_repne a} {b = true} h).0))
 stands repeat.Absent a prefix.Notrack s l h = inl (refl, refl)
 
@@ -225,6 +262,7 @@ own_none : (e : Repeat) (a : Words) (p : Prefix) (s : Option Segment) (l : Locat
 own_none e a prefix.Absent s l n h = refl
 own_none e a prefix.Lock s l n h = refl
 own_none e a prefix.Rep s l n h = absurd (no_word e (may_rep a) n h)
+own_none e a prefix.Repe s l n h = absurd (no_word e (may_repe a) n h)
 own_none e a prefix.Repne s l n h = absurd (no_word e (may_repne a) n h)
 own_none e a prefix.Notrack s l n h = refl
 

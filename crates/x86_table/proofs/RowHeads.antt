@@ -13,14 +13,14 @@ use Rattle.x86_table.specs.declared.forms.Row.{Row}
 use Rattle.x86_table.specs.declared.parts.Width.{Width}
 use Rattle.x86_table.specs.declared.parts.Width.TheVariants as width
 use Rattle.x86_table.specs.Fields.{Location, Fields, nowhere, direct, from_rip, bare, based}
-use Rattle.x86_table.specs.Bytes.{opt, first_byte, size_byte, repeat_byte, lock_byte, bit, index_high, place_x, place_b, rex_bits, rex_byte, escape_byte, second_escape, mode, mod_of, based_rm, rm_of, sib_bytes, offset_bytes, place_bytes, modrm_bytes, immediate_bytes, bytes_of}
+use Rattle.x86_table.specs.Bytes.{opt, first_byte, size_byte, repeat_byte, lock_byte, bit, index_high, place_x, place_b, rex_bits, rex_byte, escape_byte, second_escape, mode, mod_of, based_rm, rm_of, sib_bytes, place_displacement, place_bytes, modrm_bytes, immediate_bytes, bytes_of}
 use Rattle.x86_table.specs.Fits.{index_fits, some_place_fits, is_memory, rm_fits, is_nowhere, place_fits, reg_fits, low_fits, immediate_fits, wants_rex, rex_fits, segment_fits, takes_none, prefix_fits, fields_fit, fits, scale_of, place_scale, AreBytes}
 use Rattle.x86_table.specs.Heads.{takes_f2, takes_f3, map_number, span, is_left_out, share_opcode, share_rm, share_fixed, share_modrm, share_head, opcode_stands, row_stands}
 use Rattle.x86_table.proofs.Peeling.{both, Guarded, above, peel, guard_size, guard_first, guard_rep, guard_lock, guard_rex, guard_opcode, size_same, Stands, stands, rex_same, byte_same, is_opcode, map_same}
 
 -- the tests of what fits
 pub record Fit (r : Row) (p : Fields) : Type 0 where
-  pub words : prefix_fits r.lead.1 r.words p.«prefix» p.segment p.place ≡ true
+  pub words : prefix_fits r.lead.repeat r.words p.«prefix» p.segment p.place ≡ true
   pub segment : segment_fits p.segment p.place ≡ true
   pub reg : reg_fits r.shape p.reg ≡ true
   pub low : low_fits r.shape p.low ≡ true
@@ -127,10 +127,10 @@ tail_of r p = modrm_bytes r.shape (p.reg % 8) p.place ++ immediate_bytes r.immed
 
 pub record Head (r s : Row) (a b : Fields) (xs ys : List ℕ) : Type 0 where
   pub first : first_byte a.segment a.«prefix» ≡ first_byte b.segment b.«prefix»
-  pub size : size_byte r.lead.0 ≡ size_byte s.lead.0
-  pub rep : repeat_byte r.lead.1 a.«prefix» ≡ repeat_byte s.lead.1 b.«prefix»
+  pub size : size_byte r.lead.operand_size ≡ size_byte s.lead.operand_size
+  pub rep : repeat_byte r.lead.repeat a.«prefix» ≡ repeat_byte s.lead.repeat b.«prefix»
   pub lock : lock_byte a.«prefix» ≡ lock_byte b.«prefix»
-  pub rex : rex_byte (rex_bits r a) a.plain ≡ rex_byte (rex_bits s b) b.plain
+  pub rex : rex_byte (rex_bits r a) a.bare_rex ≡ rex_byte (rex_bits s b) b.bare_rex
   pub map : r.map ≡ s.map
   pub code : r.code + a.low % 8 ≡ s.code + b.low % 8
   pub rest : xs ≡ ys
@@ -145,7 +145,7 @@ bits_below r p f =
     let a = reg_below r.shape p.reg f.reg in
     let b = x_below r.shape p.place f.place in
     let c = sum_of r.shape p.place p.low f.low f.place in
-    let w = bit_below r.lead.2 in
+    let w = bit_below r.lead.wide in
     omega arith
 
 scale_below : (i : Index) → index_fits i ≡ true → scale_of i < 4
@@ -181,28 +181,28 @@ are_bytes r p st h =
 
 -- the bytes as a chain of bytes that may stand
 abbrev pub chain : Row → Fields → List ℕ → List ℕ
-chain r p xs = opt (first_byte p.segment p.«prefix») ++ (opt (size_byte r.lead.0) ++ (opt (repeat_byte r.lead.1 p.«prefix») ++ (opt (lock_byte p.«prefix»)
-    ++ (opt (rex_byte (rex_bits r p) p.plain) ++ (opt (escape_byte r.map) ++ (opt (second_escape r.map) ++ ((r.code + p.low % 8) ∷ xs)))))))
+chain r p xs = opt (first_byte p.segment p.«prefix») ++ (opt (size_byte r.lead.operand_size) ++ (opt (repeat_byte r.lead.repeat p.«prefix») ++ (opt (lock_byte p.«prefix»)
+    ++ (opt (rex_byte (rex_bits r p) p.bare_rex) ++ (opt (escape_byte r.map) ++ (opt (second_escape r.map) ++ ((r.code + p.low % 8) ∷ xs)))))))
 
 pub as_chain : (r : Row) (p : Fields) (xs : List ℕ) → bytes_of r p ++ xs ≡ chain r p (tail_of r p ++ xs)
 unfolding bytes_of tail_of
 as_chain r p xs = simp append_assoc
 
 pub record Guards (r : Row) (p : Fields) (xs : List ℕ) : Type 0 where
-  pub first : Guarded 1 (first_byte p.segment p.«prefix») (opt (size_byte r.lead.0) ++ (opt (repeat_byte r.lead.1 p.«prefix») ++ (opt (lock_byte p.«prefix») ++ (opt (rex_byte (rex_bits r p) p.plain) ++ (opt (escape_byte r.map) ++ (opt (second_escape r.map) ++ ((r.code + p.low % 8) ∷ xs)))))))
-  pub size : Guarded 2 (size_byte r.lead.0) (opt (repeat_byte r.lead.1 p.«prefix») ++ (opt (lock_byte p.«prefix») ++ (opt (rex_byte (rex_bits r p) p.plain) ++ (opt (escape_byte r.map) ++ (opt (second_escape r.map) ++ ((r.code + p.low % 8) ∷ xs))))))
-  pub rep : Guarded 3 (repeat_byte r.lead.1 p.«prefix») (opt (lock_byte p.«prefix») ++ (opt (rex_byte (rex_bits r p) p.plain) ++ (opt (escape_byte r.map) ++ (opt (second_escape r.map) ++ ((r.code + p.low % 8) ∷ xs)))))
-  pub lock : Guarded 4 (lock_byte p.«prefix») (opt (rex_byte (rex_bits r p) p.plain) ++ (opt (escape_byte r.map) ++ (opt (second_escape r.map) ++ ((r.code + p.low % 8) ∷ xs))))
-  pub rex : Guarded 5 (rex_byte (rex_bits r p) p.plain) (opt (escape_byte r.map) ++ (opt (second_escape r.map) ++ ((r.code + p.low % 8) ∷ xs)))
+  pub first : Guarded 1 (first_byte p.segment p.«prefix») (opt (size_byte r.lead.operand_size) ++ (opt (repeat_byte r.lead.repeat p.«prefix») ++ (opt (lock_byte p.«prefix») ++ (opt (rex_byte (rex_bits r p) p.bare_rex) ++ (opt (escape_byte r.map) ++ (opt (second_escape r.map) ++ ((r.code + p.low % 8) ∷ xs)))))))
+  pub size : Guarded 2 (size_byte r.lead.operand_size) (opt (repeat_byte r.lead.repeat p.«prefix») ++ (opt (lock_byte p.«prefix») ++ (opt (rex_byte (rex_bits r p) p.bare_rex) ++ (opt (escape_byte r.map) ++ (opt (second_escape r.map) ++ ((r.code + p.low % 8) ∷ xs))))))
+  pub rep : Guarded 3 (repeat_byte r.lead.repeat p.«prefix») (opt (lock_byte p.«prefix») ++ (opt (rex_byte (rex_bits r p) p.bare_rex) ++ (opt (escape_byte r.map) ++ (opt (second_escape r.map) ++ ((r.code + p.low % 8) ∷ xs)))))
+  pub lock : Guarded 4 (lock_byte p.«prefix») (opt (rex_byte (rex_bits r p) p.bare_rex) ++ (opt (escape_byte r.map) ++ (opt (second_escape r.map) ++ ((r.code + p.low % 8) ∷ xs))))
+  pub rex : Guarded 5 (rex_byte (rex_bits r p) p.bare_rex) (opt (escape_byte r.map) ++ (opt (second_escape r.map) ++ ((r.code + p.low % 8) ∷ xs)))
   pub escape : Guarded 6 (escape_byte r.map) (opt (second_escape r.map) ++ ((r.code + p.low % 8) ∷ xs))
 
 pub guards : (r : Row) (p : Fields) (xs : List ℕ) → Fit r p → opcode_stands r.map r.code (span r.shape) ≡ true → Guards r p xs
 guards r p xs f o =
     let escape = guard_opcode r.map r.code (span r.shape) (p.low % 8) xs o (low_width r.shape p.low f.low) in
-    let rex = guard_rex (rex_bits r p) p.plain _ (bits_below r p f) (above 6 5 _ _ (omega arith) escape) in
+    let rex = guard_rex (rex_bits r p) p.bare_rex _ (bits_below r p f) (above 6 5 _ _ (omega arith) escape) in
     let lock = guard_lock p.«prefix» _ (above 5 4 _ _ (omega arith) rex) in
-    let rep = guard_rep r.lead.1 p.«prefix» _ (above 4 3 _ _ (omega arith) lock) in
-    let size = guard_size r.lead.0 _ (above 3 2 _ _ (omega arith) rep) in
+    let rep = guard_rep r.lead.repeat p.«prefix» _ (above 4 3 _ _ (omega arith) lock) in
+    let size = guard_size r.lead.operand_size _ (above 3 2 _ _ (omega arith) rep) in
     let first = guard_first p.segment p.«prefix» _ (above 2 1 _ _ (omega arith) size) in
     record { first = first; size = size; rep = rep; lock = lock; rex = rex; escape = escape }
 
@@ -335,14 +335,14 @@ pub record PlaceHead (p q : Location) (a b : ℕ) (xs ys : List ℕ) : Type 0 wh
   pub mode : mod_of p ≡ mod_of q
   pub reg : a ≡ b
   pub rm : rm_of p ≡ rm_of q
-  pub rest : sib_bytes p ++ (offset_bytes p ++ xs) ≡ sib_bytes q ++ (offset_bytes q ++ ys)
+  pub rest : sib_bytes p ++ (place_displacement p ++ xs) ≡ sib_bytes q ++ (place_displacement q ++ ys)
 
 pub place_head : (p q : Location) (a b : ℕ) (xs ys : List ℕ) → some_place_fits p ≡ true → some_place_fits q ≡ true → a < 8 → b < 8
     → place_bytes a p ++ xs ≡ place_bytes b q ++ ys → PlaceHead p q a b xs ys
 place_head p q a b xs ys f g la lb h =
     let x = mod_of_place p f in
     let y = mod_of_place q g in
-    let heads = byte_same (64 * mod_of p + 8 * a + rm_of p) (64 * mod_of q + 8 * b + rm_of q) ((sib_bytes p ++ offset_bytes p) ++ xs) ((sib_bytes q ++ offset_bytes q) ++ ys) h in
+    let heads = byte_same (64 * mod_of p + 8 * a + rm_of p) (64 * mod_of q + 8 * b + rm_of q) ((sib_bytes p ++ place_displacement p) ++ xs) ((sib_bytes q ++ place_displacement q) ++ ys) h in
     let e = parted (mod_of p) (mod_of q) a b (rm_of p) (rm_of q) x.mod_below y.mod_below la lb x.rm_below y.rm_below heads.0 in
     record { mode = e.0; reg = e.1; rm = e.2; rest = simp append_assoc at heads.1 }
 
@@ -394,13 +394,13 @@ modrm_shared (shape.Slash m) (shape.Fixed e) a b p q xs ys f g k l h = refl
 modrm_shared (shape.Fixed c) (shape.Digit d n) a b p q xs ys f g k l h =
     let v = digit_of d b g in
     let fq = and_parts (some_place_fits q) (rm_fits n q) l in
-    let e = byte_same c (64 * mod_of q + 8 * (b % 8) + rm_of q) xs ((sib_bytes q ++ offset_bytes q) ++ ys) h in
+    let e = byte_same c (64 * mod_of q + 8 * (b % 8) + rm_of q) xs ((sib_bytes q ++ place_displacement q) ++ ys) h in
     let byte : c ≡ 64 * mod_of q + 8 * (b % 8) + rm_of q = e.0 in
     fixed_shared c d n q fq.0 fq.1 v.1 (omega arith)
 modrm_shared (shape.Digit d m) (shape.Fixed c) a b p q xs ys f g k l h =
     let v = digit_of d a f in
     let fp = and_parts (some_place_fits p) (rm_fits m p) k in
-    let e = byte_same (64 * mod_of p + 8 * (a % 8) + rm_of p) c ((sib_bytes p ++ offset_bytes p) ++ xs) ys h in
+    let e = byte_same (64 * mod_of p + 8 * (a % 8) + rm_of p) c ((sib_bytes p ++ place_displacement p) ++ xs) ys h in
     let byte : 64 * mod_of p + 8 * (a % 8) + rm_of p ≡ c = e.0 in
     fixed_shared c d m p fp.0 fp.1 v.1 (omega arith)
 modrm_shared (shape.Digit d m) (shape.Digit e n) a b p q xs ys f g k l h =
@@ -429,11 +429,11 @@ modrm_shared (shape.Slash m) (shape.Slash n) a b p q xs ys f g k l h =
 
 -- the bits of REX
 pub record Bits (r s : Row) (a b : Fields) : Type 0 where
-  pub w : r.lead.2 ≡ s.lead.2
+  pub w : r.lead.wide ≡ s.lead.wide
   pub r_bit : a.reg / 8 ≡ b.reg / 8
   pub x : place_x a.place ≡ place_x b.place
   pub b_bit : place_b a.place + a.low / 8 ≡ place_b b.place + b.low / 8
-  pub plain : a.plain ≡ b.plain
+  pub bare_rex : a.bare_rex ≡ b.bare_rex
 
 bit_same : (a b : Bool) → bit a ≡ bit b → a ≡ b
 bit_same true true h = refl
@@ -441,8 +441,8 @@ bit_same false false h = refl
 bit_same true false h = absurd (omega arith)
 bit_same false true h = absurd (omega arith)
 
-pub rex_premise : (r : Row) (p : Fields) → rex_fits r p ≡ true → (not p.plain || (rex_bits r p == 0)) ≡ true
-rex_premise r p h = weaken (not p.plain) (rex_bits r p == 0) (wants_rex p r.first || (wants_rex p r.second || wants_rex p r.third)) h
+pub rex_premise : (r : Row) (p : Fields) → rex_fits r p ≡ true → (not p.bare_rex || (rex_bits r p == 0)) ≡ true
+rex_premise r p h = weaken (not p.bare_rex) (rex_bits r p == 0) (wants_rex p r.first || (wants_rex p r.second || wants_rex p r.third)) h
   where
     weaken : (a b c : Bool) → (a || (b && c)) ≡ true → (a || b) ≡ true
     weaken true b c h = refl
@@ -452,7 +452,7 @@ four_bits : (w v r s x y b c : ℕ) → w < 2 → v < 2 → r < 2 → s < 2 → 
     → (w ≡ v) × (r ≡ s) × (x ≡ y) × (b ≡ c)
 four_bits w v r s x y b c l1 l2 l3 l4 l5 l6 l7 l8 h = (omega arith, omega arith, omega arith, omega arith)
 
-same_bits : (r s : Row) (a b : Fields) → Fit r a → Fit s b → rex_bits r a ≡ rex_bits s b → a.plain ≡ b.plain → Bits r s a b
+same_bits : (r s : Row) (a b : Fields) → Fit r a → Fit s b → rex_bits r a ≡ rex_bits s b → a.bare_rex ≡ b.bare_rex → Bits r s a b
 unfolding rex_bits
 same_bits r s a b f g h p =
     let ra = reg_below r.shape a.reg f.reg in
@@ -461,24 +461,24 @@ same_bits r s a b f g h p =
     let xb = x_below s.shape b.place g.place in
     let ba = sum_of r.shape a.place a.low f.low f.place in
     let bb = sum_of s.shape b.place b.low g.low g.place in
-    let e = four_bits (bit r.lead.2) (bit s.lead.2) (a.reg / 8) (b.reg / 8) (place_x a.place) (place_x b.place) (place_b a.place + a.low / 8) (place_b b.place + b.low / 8)
-    (bit_below r.lead.2) (bit_below s.lead.2) (omega arith) (omega arith) xa xb ba.below bb.below h in
-    record { w = bit_same r.lead.2 s.lead.2 e.0; r_bit = e.1; x = e.2; b_bit = e.3; plain = p }
+    let e = four_bits (bit r.lead.wide) (bit s.lead.wide) (a.reg / 8) (b.reg / 8) (place_x a.place) (place_x b.place) (place_b a.place + a.low / 8) (place_b b.place + b.low / 8)
+    (bit_below r.lead.wide) (bit_below s.lead.wide) (omega arith) (omega arith) xa xb ba.below bb.below h in
+    record { w = bit_same r.lead.wide s.lead.wide e.0; r_bit = e.1; x = e.2; b_bit = e.3; bare_rex = p }
 
 pub bits_of : (r s : Row) (a b : Fields) (xs ys : List ℕ) → Fit r a → Fit s b → Head r s a b xs ys → Bits r s a b
 bits_of r s a b xs ys f g h =
-    let e = rex_same (rex_bits r a) (rex_bits s b) a.plain b.plain (rex_premise r a f.rex) (rex_premise s b g.rex) h.rex in
+    let e = rex_same (rex_bits r a) (rex_bits s b) a.bare_rex b.bare_rex (rex_premise r a f.rex) (rex_premise s b g.rex) h.rex in
     same_bits r s a b f g e.0 e.1
 
 pub shared : (r s : Row) (a b : Fields) (p q : List ℕ) → Fit r a → Fit s b → Head r s a b (tail_of r a ++ p) (tail_of s b ++ q) → share_head r s ≡ true
 unfolding tail_of
 shared r s a b p q f g h =
     let bits = bits_of r s a b _ _ f g h in
-    let st = stands r.lead.1 r.words a.«prefix» a.segment a.place f.words in
-    let su = stands s.lead.1 s.words b.«prefix» b.segment b.place g.words in
-    let su' : Stands (repeat_byte r.lead.1 a.«prefix») s.lead.1 s.words = subst (λ (o : Option ℕ). Stands o s.lead.1 s.words) (sym h.rep) su in
-    and_from _ _ (eq_bits r.lead.0 s.lead.0 (size_same r.lead.0 s.lead.0 h.size))
-    (and_from _ _ (eq_bits r.lead.2 s.lead.2 bits.w)
+    let st = stands r.lead.repeat r.words a.«prefix» a.segment a.place f.words in
+    let su = stands s.lead.repeat s.words b.«prefix» b.segment b.place g.words in
+    let su' : Stands (repeat_byte r.lead.repeat a.«prefix») s.lead.repeat s.words = subst (λ (o : Option ℕ). Stands o s.lead.repeat s.words) (sym h.rep) su in
+    and_from _ _ (eq_bits r.lead.operand_size s.lead.operand_size (size_same r.lead.operand_size s.lead.operand_size h.size))
+    (and_from _ _ (eq_bits r.lead.wide s.lead.wide bits.w)
     (and_from _ _ (opcode_shared r s a b f g h.map h.code bits.b_bit)
-    (and_from _ _ (repeat_shared (repeat_byte r.lead.1 a.«prefix») r.lead.1 s.lead.1 r.words s.words st su')
+    (and_from _ _ (repeat_shared (repeat_byte r.lead.repeat a.«prefix») r.lead.repeat s.lead.repeat r.words s.words st su')
     (modrm_shared r.shape s.shape a.reg b.reg a.place b.place (immediate_bytes r.immediate a.held ++ p) (immediate_bytes s.immediate b.held ++ q) f.reg g.reg f.place g.place (simp append_assoc at h.rest)))))

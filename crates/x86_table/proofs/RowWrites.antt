@@ -145,15 +145,15 @@ same_writes insn i j r s e f a b =
     let x = admitted r insn a in
     let y = admitted s insn b in
     let alike = implies (may_meet r s) (write_same r s) (with_one r s the_rows j (of_one the_rows r the_rows i agree_all e) f) (both_meet r s insn x y) in
-    let p = and_parts (destinations_number r.written.0 == destinations_number s.written.0) ((implied_number r.written.1 == implied_number s.written.1)
-    && ((store_number r.written.2 == store_number s.written.2) && (not (takes_memory r.first && takes_memory s.first) || (bytes_in_memory r.first == bytes_in_memory s.first)))) alike in
-    let q = and_parts (implied_number r.written.1 == implied_number s.written.1)
-    ((store_number r.written.2 == store_number s.written.2) && (not (takes_memory r.first && takes_memory s.first) || (bytes_in_memory r.first == bytes_in_memory s.first))) p.1 in
-    let t = and_parts (store_number r.written.2 == store_number s.written.2) (not (takes_memory r.first && takes_memory s.first) || (bytes_in_memory r.first == bytes_in_memory s.first)) q.1 in
-    let d = destinations_same r.written.0 s.written.0 p.0 in
-    let m = implied_same r.written.1 s.written.1 q.0 in
-    let k = store_same r.written.2 s.written.2 t.0 in
-    let w = stored_same r.first s.first insn.first x.first y.first t.1 s.written.2 in
+    let p = and_parts (destinations_number r.outputs.0 == destinations_number s.outputs.0) ((implied_number r.outputs.1 == implied_number s.outputs.1)
+    && ((store_number r.outputs.2 == store_number s.outputs.2) && (not (takes_memory r.first && takes_memory s.first) || (bytes_in_memory r.first == bytes_in_memory s.first)))) alike in
+    let q = and_parts (implied_number r.outputs.1 == implied_number s.outputs.1)
+    ((store_number r.outputs.2 == store_number s.outputs.2) && (not (takes_memory r.first && takes_memory s.first) || (bytes_in_memory r.first == bytes_in_memory s.first))) p.1 in
+    let t = and_parts (store_number r.outputs.2 == store_number s.outputs.2) (not (takes_memory r.first && takes_memory s.first) || (bytes_in_memory r.first == bytes_in_memory s.first)) q.1 in
+    let d = destinations_same r.outputs.0 s.outputs.0 p.0 in
+    let m = implied_same r.outputs.1 s.outputs.1 q.0 in
+    let k = store_same r.outputs.2 s.outputs.2 t.0 in
+    let w = stored_same r.first s.first insn.first x.first y.first t.1 s.outputs.2 in
     rw (d, m, k, w) refl
 
 pub by_found : (insn : Insn) (r : Row) → FindsRow insn (Some r) → IsWritten insn (writes_by r insn)

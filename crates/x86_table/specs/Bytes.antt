@@ -25,12 +25,13 @@ abbrev pub opt : Option ℕ → List ℕ
 opt None = []
 opt (Some b) = b ∷ []
 
--- 3E
+-- 3E, the prefix of `notrack`
 abbrev pub notrack_byte : Prefix → Option ℕ
 notrack_byte prefix.Notrack = Some 62
 notrack_byte prefix.Absent = None
 notrack_byte prefix.Lock = None
 notrack_byte prefix.Rep = None
+notrack_byte prefix.Repe = None
 notrack_byte prefix.Repne = None
 
 -- 64 for fs, 65 for gs, 3E for notrack
@@ -39,7 +40,7 @@ first_byte (Some segment.Fs) p = Some 100
 first_byte (Some segment.Gs) p = Some 101
 first_byte None p = notrack_byte p
 
--- 66
+-- 66, the operand-size prefix
 abbrev pub size_byte : Bool → Option ℕ
 size_byte true = Some 102
 size_byte false = None
@@ -47,6 +48,7 @@ size_byte false = None
 -- F3 or F2 of a repeat prefix
 abbrev pub word_byte : Prefix → Option ℕ
 word_byte prefix.Rep = Some 243
+word_byte prefix.Repe = Some 243
 word_byte prefix.Repne = Some 242
 word_byte prefix.Absent = None
 word_byte prefix.Lock = None
@@ -58,11 +60,12 @@ repeat_byte repeat.F2 p = Some 242
 repeat_byte repeat.F3 p = Some 243
 repeat_byte repeat.Absent p = word_byte p
 
--- F0
+-- F0, the prefix of `lock`
 abbrev pub lock_byte : Prefix → Option ℕ
 lock_byte prefix.Lock = Some 240
 lock_byte prefix.Absent = None
 lock_byte prefix.Rep = None
+lock_byte prefix.Repe = None
 lock_byte prefix.Repne = None
 lock_byte prefix.Notrack = None
 
@@ -94,15 +97,15 @@ place_b (based b i s w d) = b / 8
 
 -- the bits of REX, as 0000WRXB
 unfoldable pub rex_bits : Row → Fields → ℕ
-rex_bits r p = 8 * bit r.lead.2 + 4 * (p.reg / 8) + 2 * place_x p.place + (place_b p.place + p.low / 8)
+rex_bits r p = 8 * bit r.lead.wide + 4 * (p.reg / 8) + 2 * place_x p.place + (place_b p.place + p.low / 8)
 
--- REX stands where one of its bits is 1, or plain
+-- REX stands where one of its bits is 1, or where it has to stand without them
 unfoldable pub rex_byte : ℕ → Bool → Option ℕ
-rex_byte bits plain = if nat_lt 0 bits || plain then Some (64 + bits) else None
+rex_byte bits alone = if nat_lt 0 bits || alone then Some (64 + bits) else None
 
 -- REX stands
 abbrev pub has_rex : Row → Fields → Bool
-has_rex r p = nat_lt 0 (rex_bits r p) || p.plain
+has_rex r p = nat_lt 0 (rex_bits r p) || p.bare_rex
 
 -- 0F before an opcode of the other maps
 abbrev pub escape_byte : Map → Option ℕ
@@ -119,18 +122,18 @@ second_escape map.Three38 = Some 56
 second_escape map.Three3A = Some 58
 
 -- a number that is not known now stands as 0
-abbrev pub value : Option ℕ → ℕ
-value None = 0
-value (Some v) = v
+abbrev pub number_or_zero : Option ℕ → ℕ
+number_or_zero None = 0
+number_or_zero (Some v) = v
 
 -- the low 32 bits, little-endian
 abbrev pub long : Option ℕ → List ℕ
-long v = to_le_bytes w32 (value v % 2 ^ 32)
+long v = to_le_bytes w32 (number_or_zero v % 2 ^ 32)
 
 -- a displacement of this width
 abbrev pub displacement_bytes : Width → Option ℕ → List ℕ
 displacement_bytes width.Absent v = []
-displacement_bytes width.Byte v = (value v % 256) ∷ []
+displacement_bytes width.Byte v = (number_or_zero v % 256) ∷ []
 displacement_bytes width.Long v = long v
 
 -- ModRM.mod of a displacement of this width
@@ -179,16 +182,16 @@ sib_bytes (bare i d) = sib i 5 ∷ []
 sib_bytes (based b i s w d) = based_sib s i b
 
 -- the displacement
-abbrev pub offset_bytes : Location → List ℕ
-offset_bytes nowhere = []
-offset_bytes (direct n) = []
-offset_bytes (from_rip d) = long d
-offset_bytes (bare i d) = long d
-offset_bytes (based b i s w d) = displacement_bytes w d
+abbrev pub place_displacement : Location → List ℕ
+place_displacement nowhere = []
+place_displacement (direct n) = []
+place_displacement (from_rip d) = long d
+place_displacement (bare i d) = long d
+place_displacement (based b i s w d) = displacement_bytes w d
 
 -- ModRM with this reg, SIB and displacement
 abbrev pub place_bytes : ℕ → Location → List ℕ
-place_bytes reg p = (64 * mod_of p + 8 * reg + rm_of p) ∷ (sib_bytes p ++ offset_bytes p)
+place_bytes reg p = (64 * mod_of p + 8 * reg + rm_of p) ∷ (sib_bytes p ++ place_displacement p)
 
 -- what follows the opcode in a row of this shape
 abbrev pub modrm_bytes : Shape → ℕ → Location → List ℕ
@@ -202,21 +205,21 @@ modrm_bytes (shape.Slash m) reg p = place_bytes reg p
 -- the immediate of a row
 abbrev pub immediate_bytes : Immediate → Option ℕ → List ℕ
 immediate_bytes immediate.Absent v = []
-immediate_bytes immediate.Byte v = (value v % 256) ∷ []
-immediate_bytes immediate.Count v = (value v % 256) ∷ []
-immediate_bytes immediate.Sext16 v = (value v % 256) ∷ []
-immediate_bytes immediate.Sext32 v = (value v % 256) ∷ []
-immediate_bytes immediate.Sext64 v = (value v % 256) ∷ []
-immediate_bytes immediate.Word v = to_le_bytes w16 (value v % 2 ^ 16)
+immediate_bytes immediate.Byte v = (number_or_zero v % 256) ∷ []
+immediate_bytes immediate.Count v = (number_or_zero v % 256) ∷ []
+immediate_bytes immediate.Sext16 v = (number_or_zero v % 256) ∷ []
+immediate_bytes immediate.Sext32 v = (number_or_zero v % 256) ∷ []
+immediate_bytes immediate.Sext64 v = (number_or_zero v % 256) ∷ []
+immediate_bytes immediate.Word v = to_le_bytes w16 (number_or_zero v % 2 ^ 16)
 immediate_bytes immediate.Long v = long v
 immediate_bytes immediate.LongSext v = long v
-immediate_bytes immediate.Quad v = to_le_bytes w64 (value v)
-immediate_bytes immediate.Rel8 v = (value v % 256) ∷ []
-immediate_bytes immediate.Short v = (value v % 256) ∷ []
+immediate_bytes immediate.Quad v = to_le_bytes w64 (number_or_zero v)
+immediate_bytes immediate.Rel8 v = (number_or_zero v % 256) ∷ []
+immediate_bytes immediate.Short v = (number_or_zero v % 256) ∷ []
 immediate_bytes immediate.Rel32 v = long v
 
 -- the bytes of an instruction: prefixes, REX, opcode, ModRM, SIB, displacement, immediate
 unfoldable pub bytes_of : Row → Fields → List ℕ
-bytes_of r p = opt (first_byte p.segment p.«prefix») ++ (opt (size_byte r.lead.0) ++ (opt (repeat_byte r.lead.1 p.«prefix») ++ (opt (lock_byte p.«prefix»)
-    ++ (opt (rex_byte (rex_bits r p) p.plain) ++ (opt (escape_byte r.map) ++ (opt (second_escape r.map)
+bytes_of r p = opt (first_byte p.segment p.«prefix») ++ (opt (size_byte r.lead.operand_size) ++ (opt (repeat_byte r.lead.repeat p.«prefix») ++ (opt (lock_byte p.«prefix»)
+    ++ (opt (rex_byte (rex_bits r p) p.bare_rex) ++ (opt (escape_byte r.map) ++ (opt (second_escape r.map)
     ++ (r.code + p.low % 8) ∷ (modrm_bytes r.shape (p.reg % 8) p.place ++ immediate_bytes r.immediate p.held)))))))

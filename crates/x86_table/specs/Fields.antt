@@ -21,7 +21,7 @@ pub data Location : Type 0 where
 pub record Fields : Type 0 where
   pub «prefix» : Prefix
   pub segment : Option Segment
-  pub plain : Bool
+  pub bare_rex : Bool
   pub reg : ℕ
   pub low : ℕ
   pub place : Location
@@ -40,7 +40,7 @@ abbrev pub fields_of : Parts → Fields
 fields_of parts = record {
   «prefix» = parts.«prefix»;
   segment = parts.segment;
-  plain = parts.plain;
+  bare_rex = parts.bare_rex;
   reg = parts.reg;
   low = parts.low;
   place = located parts.displacement parts.place;

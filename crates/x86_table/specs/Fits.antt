@@ -1,4 +1,4 @@
--- Which fields a row admits.
+-- Which fields a row admits (Intel SDM, volume 2, sections 2.1 and 2.2.1).
 use Rattle.std.specs.Prelude.{◌≡◌, ◌<◌, ◌+◌, ◌-◌, ◌%◌, ◌^◌, ◌==◌, ◌&&◌, ◌||◌, ℕ, nat_lt, nat_le, Bool, true, false, not, Option, Some, None, slice_get, length}
 use Rattle.x86_insn.specs.declared.registers.Class.{Class}
 use Rattle.x86_insn.specs.declared.registers.Class.TheVariants as class
@@ -159,7 +159,7 @@ is_byte class.Xmm = false
 abbrev pub is_middle : ℕ → Bool
 is_middle n = nat_le 4 n && nat_lt n 8
 
--- the same of a place
+-- the place is a register of such a number
 abbrev pub is_middle_place : Location → Bool
 is_middle_place nowhere = false
 is_middle_place (direct n) = is_middle n
@@ -181,7 +181,7 @@ wants_rex p pattern.Target = false
 
 -- REX without any of its bits stands only where it makes one of these
 abbrev pub rex_fits : Row → Fields → Bool
-rex_fits r p = not p.plain || ((rex_bits r p == 0) && (wants_rex p r.first || (wants_rex p r.second || wants_rex p r.third)))
+rex_fits r p = not p.bare_rex || ((rex_bits r p == 0) && (wants_rex p r.first || (wants_rex p r.second || wants_rex p r.third)))
 
 -- there is no segment
 abbrev pub is_no_segment : Option Segment → Bool
@@ -204,8 +204,16 @@ abbrev pub may_rep : Words → Bool
 may_rep words.Absent = false
 may_rep words.Lock = false
 may_rep words.Rep = true
-may_rep words.Repe = true
+may_rep words.Repe = false
 may_rep words.Notrack = false
+
+-- `repe` may stand
+abbrev pub may_repe : Words → Bool
+may_repe words.Absent = false
+may_repe words.Lock = false
+may_repe words.Rep = false
+may_repe words.Repe = true
+may_repe words.Notrack = false
 
 -- `repne` may stand
 abbrev pub may_repne : Words → Bool
@@ -236,15 +244,16 @@ abbrev pub prefix_fits : Repeat → Words → Prefix → Option Segment → Loca
 prefix_fits e a prefix.Absent s p = true
 prefix_fits e a prefix.Lock s p = may_lock a && is_memory p
 prefix_fits e a prefix.Rep s p = may_rep a && takes_none e
+prefix_fits e a prefix.Repe s p = may_repe a && takes_none e
 prefix_fits e a prefix.Repne s p = may_repne a && takes_none e
 prefix_fits e a prefix.Notrack s p = may_notrack a && is_no_segment s
 
 -- each field is one that the row gives a meaning
 unfoldable pub fields_fit : Row → Fields → Bool
-fields_fit r p = prefix_fits r.lead.1 r.words p.«prefix» p.segment p.place && (segment_fits p.segment p.place && (reg_fits r.shape p.reg && (low_fits r.shape p.low
+fields_fit r p = prefix_fits r.lead.repeat r.words p.«prefix» p.segment p.place && (segment_fits p.segment p.place && (reg_fits r.shape p.reg && (low_fits r.shape p.low
     && (place_fits r.shape p.place && (immediate_fits r.immediate p.held && rex_fits r p)))))
 
--- and there are 15 bytes at most
+-- the fields fit the row, and the instruction has 15 bytes at most (Intel SDM, volume 2, section 2.3.11)
 unfoldable pub fits : Row → Fields → Bool
 fits r p = fields_fit r p && nat_le (length (bytes_of r p)) 15
 

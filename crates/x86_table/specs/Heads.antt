@@ -1,4 +1,4 @@
--- Whether two rows admit one head: prefixes, REX.W, opcode, and what a row fixes of ModRM.
+-- Whether two rows admit one head: prefixes, REX.W, opcode, and what a row fixes of ModRM (Intel SDM, volume 2, section 2.1).
 use Rattle.std.specs.Prelude.{zero, suc, ◌+◌, ◌/◌, ◌%◌, ◌==◌, ◌&&◌, ◌||◌, ◌∷◌, [], ℕ, nat_lt, nat_le, List, Bool, true, false, not, cond}
 use Rattle.x86_table.specs.declared.forms.Repeat.{Repeat}
 use Rattle.x86_table.specs.declared.forms.Repeat.TheVariants as repeat
@@ -11,7 +11,7 @@ use Rattle.x86_table.specs.declared.forms.Shape.TheVariants as shape
 use Rattle.x86_table.specs.declared.forms.Words.{Words}
 use Rattle.x86_table.specs.declared.forms.Row.{Row}
 use Rattle.x86_table.specs.Bytes.{bit}
-use Rattle.x86_table.specs.Fits.{takes_none, may_rep, may_repne}
+use Rattle.x86_table.specs.Fits.{takes_none, may_rep, may_repe, may_repne}
 
 -- F2 may stand
 abbrev pub takes_f2 : Repeat → Words → Bool
@@ -23,14 +23,14 @@ takes_f2 repeat.Absent a = may_repne a
 abbrev pub takes_f3 : Repeat → Words → Bool
 takes_f3 repeat.F3 a = true
 takes_f3 repeat.F2 a = false
-takes_f3 repeat.Absent a = may_rep a
+takes_f3 repeat.Absent a = may_rep a || may_repe a
 
 -- neither F2 nor F3 stands in both, or one of them does
 abbrev pub share_repeat : Row → Row → Bool
-share_repeat r s = takes_none r.lead.1 && takes_none s.lead.1
-    || (takes_f2 r.lead.1 r.words && takes_f2 s.lead.1 s.words || takes_f3 r.lead.1 r.words && takes_f3 s.lead.1 s.words)
+share_repeat r s = takes_none r.lead.repeat && takes_none s.lead.repeat
+    || (takes_f2 r.lead.repeat r.words && takes_f2 s.lead.repeat s.words || takes_f3 r.lead.repeat r.words && takes_f3 s.lead.repeat s.words)
 
--- maps by numbers
+-- the maps of opcodes, by numbers
 abbrev pub map_number : Map → ℕ
 map_number map.One = 1
 map_number map.Two = 2
@@ -82,7 +82,7 @@ share_modrm a b = true
 
 -- both rows admit one head
 abbrev pub share_head : Row → Row → Bool
-share_head r s = (bit r.lead.0 == bit s.lead.0) && ((bit r.lead.2 == bit s.lead.2) && (share_opcode r s && (share_repeat r s && share_modrm r.shape s.shape)))
+share_head r s = (bit r.lead.operand_size == bit s.lead.operand_size) && ((bit r.lead.wide == bit s.lead.wide) && (share_opcode r s && (share_repeat r s && share_modrm r.shape s.shape)))
 
 -- the row shares its head with none of these
 abbrev pub is_apart_from : Row → List Row → Bool
@@ -104,7 +104,7 @@ abbrev pub none_leads : ℕ → ℕ → Bool
 none_leads o zero = true
 none_leads o (suc n) = (rank (o + n) == 7) && none_leads o n
 
--- none of them is 38 or 3A
+-- none of so many bytes from this one on is 38 or 3A, the second byte of an escape
 abbrev pub none_escapes : ℕ → ℕ → Bool
 none_escapes o zero = true
 none_escapes o (suc n) = not (o + n == 56 || o + n == 58) && none_escapes o n
@@ -116,11 +116,11 @@ opcode_stands map.Two o n = none_escapes o n
 opcode_stands map.Three38 o n = true
 opcode_stands map.Three3A o n = true
 
--- the opcodes of the row stand, and are bytes
+-- no opcode of the row is what may stand before one, and each is a byte
 abbrev pub row_stands : Row → Bool
 row_stands r = opcode_stands r.map r.code (span r.shape) && nat_le (r.code + span r.shape) 256
 
--- those of all rows
+-- this holds of all rows
 abbrev pub all_stand : List Row → Bool
 all_stand [] = true
 all_stand (r ∷ rows) = row_stands r && all_stand rows

@@ -1,5 +1,6 @@
--- Which bytes read as an instruction: those of some row and some fields that fit it, which the row shows as that instruction.
-use Rattle.std.specs.Prelude.{◌≡◌, ◌+◌, ◌%◌, ◌^◌, ◌&&◌, ◌++◌, ℕ, List, Bool, true, false, Option, Some, None, slice_get, length, if◌then◌else◌}
+-- Which bytes read as an instruction (Intel SDM, volume 2, chapter 2): those of some row and some fields that fit it, which the row shows as
+-- that instruction.
+use Rattle.std.specs.Prelude.{◌≡◌, ◌==◌, ◌+◌, ◌%◌, ◌^◌, ◌&&◌, ◌++◌, ℕ, List, Bool, true, false, Option, Some, None, slice_get, length, if◌then◌else◌}
 use Rattle.x86_insn.specs.Views.{Seen, absent, register, immediate as shown_immediate, memory, target, View}
 use Rattle.x86_insn.specs.declared.registers.Class.{Class}
 use Rattle.x86_insn.specs.declared.registers.Class.TheVariants as class
@@ -11,6 +12,7 @@ use Rattle.x86_insn.specs.declared.insns.Index.TheVariants as index
 use Rattle.x86_table.specs.declared.forms.Pattern.{Pattern}
 use Rattle.x86_table.specs.declared.forms.Pattern.TheVariants as pattern
 use Rattle.x86_table.specs.declared.forms.Row.{Row}
+use Rattle.x86_table.specs.declared.mnemonics.TheConstants.{XCHG}
 use Rattle.x86_table.specs.Rows.{the_rows}
 use Rattle.x86_table.specs.Fields.{Location, Fields, nowhere, direct, from_rip, bare, based}
 use Rattle.x86_table.specs.Bytes.{has_rex, bytes_of}
@@ -25,7 +27,7 @@ class_shown false c n = if is_byte c && is_middle n then class.High else c
 abbrev pub register_shown : Bool → Class → ℕ → Seen
 register_shown rex c n = register (record { class = class_shown rex c n; number = n })
 
--- a place counted from the instruction's first byte, so many bytes before the end of the field
+-- a place that is counted from the end of an instruction of so many bytes, counted from its first byte
 abbrev pub from_start : ℕ → Option ℕ → Option ℕ
 from_start len None = None
 from_start len (Some v) = Some ((v + len) % 2 ^ 64)
@@ -54,16 +56,37 @@ shown rex len p pattern.One = shown_immediate (Some 1)
 shown rex len p pattern.Immediate = shown_immediate p.held
 shown rex len p pattern.Target = target (from_start len p.held)
 
+-- the operand is a register
+abbrev pub is_register : Seen → Bool
+is_register absent = false
+is_register (register r) = true
+is_register (shown_immediate v) = false
+is_register (memory a d) = false
+is_register (target v) = false
+
+-- the operand is the accumulator of its class
+abbrev pub is_accumulator : Seen → Bool
+is_accumulator absent = false
+is_accumulator (register r) = r.number == 0
+is_accumulator (shown_immediate v) = false
+is_accumulator (memory a d) = false
+is_accumulator (target v) = false
+
+-- of two registers that `xchg` exchanges, the accumulator stands first: here they have to change places
+abbrev pub change_places : Row → Seen → Seen → Bool
+change_places r one other = (r.name.0 == XCHG) && (is_register one && is_accumulator other)
+
 -- the instruction that a row shows of the fields
 unfoldable pub meaning : Row → Fields → View
-meaning r p = let rex = has_rex r p in let len = length (bytes_of r p) in record {
-  name = r.name;
-  size = r.size;
-  «prefix» = p.«prefix»;
-  first = shown rex len p r.first;
-  second = shown rex len p r.second;
-  third = shown rex len p r.third;
-}
+meaning r p = let rex = has_rex r p in let len = length (bytes_of r p) in
+    let one = shown rex len p r.first in let other = shown rex len p r.second in let changed = change_places r one other in record {
+      name = r.name;
+      size = r.size;
+      «prefix» = p.«prefix»;
+      first = if changed then other else one;
+      second = if changed then one else other;
+      third = shown rex len p r.third;
+    }
 
 -- the number stands
 abbrev pub is_known : Option ℕ → Bool

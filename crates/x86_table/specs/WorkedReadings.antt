@@ -1,8 +1,8 @@
 -- Instructions and their bytes, worked out by hand (Intel SDM, volume 2, chapters 2 to 4).
-use Rattle.std.specs.Prelude.{◌∷◌, [], ℕ, Some, None}
+use Rattle.std.specs.Prelude.{◌+◌, ◌∷◌, [], ℕ, not, Some, None}
 use Rattle.x86_insn.specs.Views.{Seen, absent, register, immediate as shown_immediate, memory, target, View}
 use Rattle.x86_table.specs.Reads.{Reads}
-use Rattle.x86_table.specs.declared.mnemonics.TheConstants.{ADD, ADDSD, CALL, CMPXCHG, CRC32, LEA, MOV, MOVZX_BYTE, NOP, NOT, PEXTRW, PSHUFB, XCHG}
+use Rattle.x86_table.specs.declared.mnemonics.TheConstants.{ADD, ADDSD, CALL, CMPS, CMPXCHG, CRC32, JMP, LEA, MOV, MOVS, MOVZX_BYTE, NOP, NOT, PAUSE, PEXTRW, PSHUFB, SCAS, XCHG}
 use Rattle.x86_insn.specs.declared.registers.Class.TheVariants as class
 use Rattle.x86_insn.specs.declared.insns.Prefix.{Prefix}
 use Rattle.x86_insn.specs.declared.insns.Prefix.TheVariants as prefix
@@ -48,3 +48,23 @@ pub record WorkedReadings : Type 0 where
   pub call : Reads (232 ∷ 2 ∷ 0 ∷ 0 ∷ 0 ∷ []) (worked CALL 64 prefix.Absent (target (Some 7)) absent absent)
   -- lea -2(%rip),%rax, counted from its first byte 5: 48 8D 05 FE FF FF FF
   pub lea : Reads (72 ∷ 141 ∷ 5 ∷ 254 ∷ 255 ∷ 255 ∷ 255 ∷ []) (worked LEA 64 prefix.Absent (register (record { class = class.Quad; number = 0 })) (memory (record { segment = None; base = base.Rip; index = index.Absent }) (Some 5)) absent)
+  -- xchg %eax,%ecx, by the row of any registers: 87 C1
+  pub xchg_second : Reads (135 ∷ 193 ∷ []) (worked XCHG 32 prefix.Absent (register (record { class = class.Long; number = 0 })) (register (record { class = class.Long; number = 1 })) absent)
+  -- xchg %ecx,%eax, the other way round: 87 C8
+  pub xchg_first : Reads (135 ∷ 200 ∷ []) (worked XCHG 32 prefix.Absent (register (record { class = class.Long; number = 0 })) (register (record { class = class.Long; number = 1 })) absent)
+  -- xchg %bl,%al: 86 C3
+  pub xchg_byte : Reads (134 ∷ 195 ∷ []) (worked XCHG 8 prefix.Absent (register (record { class = class.Byte; number = 0 })) (register (record { class = class.Byte; number = 3 })) absent)
+  -- movl $5,(%rip), counted from its first byte 10: C7 05 00 00 00 00 05 00 00 00
+  pub mov_rip : Reads (199 ∷ 5 ∷ 0 ∷ 0 ∷ 0 ∷ 0 ∷ 5 ∷ 0 ∷ 0 ∷ 0 ∷ []) (worked MOV 32 prefix.Absent (memory (record { segment = None; base = base.Rip; index = index.Absent }) (Some 10)) (shown_immediate (Some 5)) absent)
+  -- rep movsb: F3 A4
+  pub rep_movs : Reads (243 ∷ 164 ∷ []) (worked MOVS 8 prefix.Rep absent absent absent)
+  -- repe cmpsb: F3 A6
+  pub repe_cmps : Reads (243 ∷ 166 ∷ []) (worked CMPS 8 prefix.Repe absent absent absent)
+  -- repne scasb: F2 AE
+  pub repne_scas : Reads (242 ∷ 174 ∷ []) (worked SCAS 8 prefix.Repne absent absent absent)
+  -- notrack jmp *%rax: 3E FF E0
+  pub notrack_jmp : Reads (62 ∷ 255 ∷ 224 ∷ []) (worked JMP 64 prefix.Notrack (register (record { class = class.Quad; number = 0 })) absent absent)
+  -- mov (%rax),%eax, with a SIB byte that need not stand: 8B 04 20
+  pub mov_sib : Reads (139 ∷ 4 ∷ 32 ∷ []) (worked MOV 32 prefix.Absent (register (record { class = class.Long; number = 0 })) (memory (record { segment = None; base = base.Of 0; index = index.Absent }) (Some 0)) absent)
+  -- pause: F3 90
+  pub pause : Reads (243 ∷ 144 ∷ []) (worked PAUSE 0 prefix.Absent absent absent absent)

@@ -1,6 +1,6 @@
 -- What some instructions write beside flags, by the Intel manual (volume 2, chapters 3 and 4).
 use Rattle.std.specs.Prelude.{◌≡◌, ◌==◌, ◌&&◌, ◌∷◌, [], ℕ, List, Option, Some, None, if◌then◌else◌}
-use Rattle.x86_table.specs.declared.forms.Written.{Written}
+use Rattle.x86_table.specs.declared.forms.Outputs.{Outputs}
 use Rattle.x86_table.specs.declared.forms.Destinations.{Destinations}
 use Rattle.x86_table.specs.declared.forms.Destinations.TheVariants as destinations
 use Rattle.x86_table.specs.declared.forms.Implied.{Implied}
@@ -12,12 +12,12 @@ use Rattle.x86_table.specs.declared.forms.Row.{Row}
 use Rattle.x86_table.specs.Rows.{the_rows}
 
 -- what the first row of the name and the size says that it writes
-abbrev pub first_writes : ℕ → ℕ → List Row → Option Written
+abbrev pub first_writes : ℕ → ℕ → List Row → Option Outputs
 first_writes name size [] = None
-first_writes name size (r ∷ rows) = if (r.name.0 == name) && (r.size == size) then Some r.written else first_writes name size rows
+first_writes name size (r ∷ rows) = if (r.name.0 == name) && (r.size == size) then Some r.outputs else first_writes name size rows
 
 -- what a row writes
-abbrev pub writing : Destinations → Implied → StoreKind → Option Written
+abbrev pub writing : Destinations → Implied → StoreKind → Option Outputs
 writing operands own memory = Some (record { 0 = operands; 1 = own; 2 = memory })
 
 -- these write so

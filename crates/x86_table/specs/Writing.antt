@@ -137,6 +137,7 @@ abbrev pub is_repeat : Prefix → Bool
 is_repeat prefix.Absent = false
 is_repeat prefix.Lock = false
 is_repeat prefix.Rep = true
+is_repeat prefix.Repe = true
 is_repeat prefix.Repne = true
 is_repeat prefix.Notrack = false
 
@@ -169,11 +170,11 @@ stored slot.Target k n = elsewhere k
 -- what the row says that the instruction writes
 unfoldable pub writes_by : Row → Insn → Writes
 writes_by r insn = record {
-  first = first_written r.written.0 insn.first;
-  second = second_written r.written.0 insn.second;
-  implied = r.written.1;
+  first = first_written r.outputs.0 insn.first;
+  second = second_written r.outputs.0 insn.second;
+  implied = r.outputs.1;
   repeats = is_repeat insn.«prefix»;
-  store = stored insn.first r.written.2 (bytes_in_memory r.first);
+  store = stored insn.first r.outputs.2 (bytes_in_memory r.first);
 }
 
 -- nothing is written
@@ -290,8 +291,8 @@ store_number kind.Unfixed = 5
 
 -- both rows say the same of what is written
 abbrev pub write_same : Row → Row → Bool
-write_same r s = (destinations_number r.written.0 == destinations_number s.written.0) && ((implied_number r.written.1 == implied_number s.written.1)
-    && ((store_number r.written.2 == store_number s.written.2) && (not (takes_memory r.first && takes_memory s.first) || (bytes_in_memory r.first == bytes_in_memory s.first))))
+write_same r s = (destinations_number r.outputs.0 == destinations_number s.outputs.0) && ((implied_number r.outputs.1 == implied_number s.outputs.1)
+    && ((store_number r.outputs.2 == store_number s.outputs.2) && (not (takes_memory r.first && takes_memory s.first) || (bytes_in_memory r.first == bytes_in_memory s.first))))
 
 -- the row says the same of what is written as each that may admit what it does
 abbrev pub agrees_with : Row → List Row → Bool

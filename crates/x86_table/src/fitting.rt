@@ -3,7 +3,7 @@
 ghost use Rattle.std.specs.Prelude.{◌≡◌, ◌≤◌};
 ghost use Rattle.x86_table.specs.Fields.{located, fields_of};
 ghost use Rattle.x86_table.specs.Bytes.{rex_bits, place_x, place_b, index_high, has_rex};
-ghost use Rattle.x86_table.specs.Fits.{is_signed, long_fits, displacement_fits, index_fits, sib_fits, mode_fits, some_place_fits, is_memory, rm_fits, is_nowhere, place_fits, reg_fits, low_fits, immediate_fits, is_byte, is_middle, is_middle_place, wants_rex, rex_fits, is_no_segment, segment_fits, takes_none, may_rep, may_repne, may_lock, may_notrack, prefix_fits, fields_fit};
+ghost use Rattle.x86_table.specs.Fits.{is_signed, long_fits, displacement_fits, index_fits, sib_fits, mode_fits, some_place_fits, is_memory, rm_fits, is_nowhere, place_fits, reg_fits, low_fits, immediate_fits, is_byte, is_middle, is_middle_place, wants_rex, rex_fits, is_no_segment, segment_fits, takes_none, may_rep, may_repe, may_repne, may_lock, may_notrack, prefix_fits, fields_fit};
 
 use crate::forms::{Immediate, Pattern, Repeat, Rm, Row, Shape, Words};
 use crate::parts::{Parts, Place, Width};
@@ -328,7 +328,7 @@ pub(crate) fn rex_bits(row: &Row, parts: &Parts) -> u16
     ensures value { result ≡ rex_bits row.now (fields_of parts.now) }
     ensures small { result ≤ 1000 }
 {
-    let wide: u16 = if row.lead.2 { 8 } else { 0 };
+    let wide: u16 = if row.lead.wide { 8 } else { 0 };
     wide + 4 * u16::from(parts.reg / 8)
         + 2 * u16::from(place_x(parts.place, parts.displacement))
         + (u16::from(place_b(parts.place, parts.displacement)) + u16::from(parts.low / 8))
@@ -338,7 +338,7 @@ pub(crate) fn rex_bits(row: &Row, parts: &Parts) -> u16
 fn rex_fits(row: &Row, parts: &Parts) -> bool
     ensures { result ≡ rex_fits row.now (fields_of parts.now) }
 {
-    !parts.plain
+    !parts.bare_rex
         || (rex_bits(row, parts) == 0
             && (wants_rex(parts, row.first)
                 || (wants_rex(parts, row.second) || wants_rex(parts, row.third))))
@@ -367,7 +367,7 @@ fn segment_fits(segment: Option<Segment>, place: Place, moved: Option<u64>) -> b
 /// Whether the row takes the prefix word.
 fn prefix_fits(row: &Row, parts: &Parts) -> bool
     ensures { let place = located parts.now.displacement parts.now.place in
-        result ≡ prefix_fits row.now.lead.1 row.now.words parts.now.prefix parts.now.segment place }
+        result ≡ prefix_fits row.now.lead.repeat row.now.words parts.now.prefix parts.now.segment place }
 {
     match parts.prefix {
         Prefix::Absent => true,
@@ -375,10 +375,13 @@ fn prefix_fits(row: &Row, parts: &Parts) -> bool
             matches!(row.words, Words::Lock) && is_memory(parts.place, parts.displacement)
         }
         Prefix::Rep => {
-            matches!(row.words, Words::Rep | Words::Repe) && matches!(row.lead.1, Repeat::Absent)
+            matches!(row.words, Words::Rep) && matches!(row.lead.repeat, Repeat::Absent)
+        }
+        Prefix::Repe => {
+            matches!(row.words, Words::Repe) && matches!(row.lead.repeat, Repeat::Absent)
         }
         Prefix::Repne => {
-            matches!(row.words, Words::Repe) && matches!(row.lead.1, Repeat::Absent)
+            matches!(row.words, Words::Repe) && matches!(row.lead.repeat, Repeat::Absent)
         }
         Prefix::Notrack => matches!(row.words, Words::Notrack) && is_no_segment(parts.segment),
     }

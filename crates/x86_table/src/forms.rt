@@ -10,9 +10,16 @@ pub enum Repeat {
     F3,
 }
 
-/// What the row itself has before the opcode: whether 66 stands, which of F2 and F3, and REX.W.
+/// What the row itself has before the opcode.
 #[derive(Clone, Copy)]
-pub struct Lead(pub bool, pub Repeat, pub bool);
+pub struct Lead {
+    /// 66, the operand-size prefix.
+    pub operand_size: bool,
+    /// F2 or F3, as a part of the opcode.
+    pub repeat: Repeat,
+    /// REX.W.
+    pub wide: bool,
+}
 
 /// The map of an opcode, by the bytes before it.
 #[derive(Clone, Copy)]
@@ -158,7 +165,7 @@ pub enum StoreKind {
 
 /// What an instruction of the row writes beside flags.
 #[derive(Clone, Copy)]
-pub struct Written(pub Destinations, pub Implied, pub StoreKind);
+pub struct Outputs(pub Destinations, pub Implied, pub StoreKind);
 
 /// One form of an instruction.
 #[derive(Clone, Copy)]
@@ -176,5 +183,5 @@ pub struct Row {
     pub third: Pattern,
     pub immediate: Immediate,
     pub words: Words,
-    pub written: Written,
+    pub outputs: Outputs,
 }

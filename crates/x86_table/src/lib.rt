@@ -18,8 +18,8 @@ mod writing;
 
 pub use fitting::parts_fit;
 pub use forms::{
-    Destinations, Immediate, Implied, Lead, Map, Pattern, Repeat, Rm, Row, Shape, StoreKind, Words,
-    Written,
+    Destinations, Immediate, Implied, Lead, Map, Outputs, Pattern, Repeat, Rm, Row, Shape,
+    StoreKind, Words,
 };
 pub use laws::{
     fields_have_bytes, mnemonics_have_rows, opcodes_stand, read_one_way, rows_are_apart,

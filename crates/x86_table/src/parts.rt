@@ -31,7 +31,7 @@ pub struct Parts {
     pub prefix: Prefix,
     pub segment: Option<Segment>,
     /// Whether REX stands without any of its bits.
-    pub plain: bool,
+    pub bare_rex: bool,
     /// ModRM.reg.
     pub reg: u8,
     /// The register in the opcode.

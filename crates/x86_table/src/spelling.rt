@@ -4,7 +4,7 @@ ghost use Rattle.std.specs.Prelude.{◌≡◌, ◌≤◌, ◌<◌, ◌+◌, ◌+
 ghost use Rattle.std.specs.Int.{to_le_bytes, w16, w64};
 ghost use Rattle.arrayvec.specs.ArrayVec.{array_vec_len};
 ghost use Rattle.x86_table.specs.Fields.{based, located, fields_of};
-ghost use Rattle.x86_table.specs.Bytes.{opt, first_byte, size_byte, repeat_byte, lock_byte, rex_byte, escape_byte, second_escape, value, long, displacement_bytes, mode, sib, place_bytes, modrm_bytes, immediate_bytes, bytes_of};
+ghost use Rattle.x86_table.specs.Bytes.{opt, first_byte, size_byte, repeat_byte, lock_byte, rex_byte, escape_byte, second_escape, number_or_zero, long, displacement_bytes, mode, sib, place_bytes, modrm_bytes, immediate_bytes, bytes_of};
 ghost use Rattle.x86_table.specs.Fits.{scale_of, place_scale, AreBytes};
 
 use crate::fitting::rex_bits;
@@ -28,6 +28,7 @@ fn first_byte(segment: Option<Segment>, prefix: Prefix) -> Option<u8>
             Prefix::Absent => None,
             Prefix::Lock => None,
             Prefix::Rep => None,
+            Prefix::Repe => None,
             Prefix::Repne => None,
         },
     }
@@ -49,6 +50,7 @@ fn repeat_byte(repeat: Repeat, prefix: Prefix) -> Option<u8>
         Repeat::F3 => Some(0xF3),
         Repeat::Absent => match prefix {
             Prefix::Rep => Some(0xF3),
+            Prefix::Repe => Some(0xF3),
             Prefix::Repne => Some(0xF2),
             Prefix::Absent => None,
             Prefix::Lock => None,
@@ -65,6 +67,7 @@ fn lock_byte(prefix: Prefix) -> Option<u8>
         Prefix::Lock => Some(0xF0),
         Prefix::Absent => None,
         Prefix::Rep => None,
+        Prefix::Repe => None,
         Prefix::Repne => None,
         Prefix::Notrack => None,
     }
@@ -132,8 +135,8 @@ fn sib(index: Index, low: u8) -> u8
 }
 
 /// The number, or 0 where it is not known now.
-fn value(held: Option<u64>) -> u64
-    ensures { result ≡ value held }
+fn number_or_zero(held: Option<u64>) -> u64
+    ensures { result ≡ number_or_zero held }
 {
     match held {
         Some(number) => number,
@@ -144,19 +147,19 @@ fn value(held: Option<u64>) -> u64
 /// Appends the low 8 bits of the number.
 fn push_byte(out: &mut Bytes, held: Option<u64>)
     requires { array_vec_len out.old + 1 ≤ 24 }
-    ensures bytes { out.new.items ≡ out.old.items ++ (value held % 256) ∷ [] }
+    ensures bytes { out.new.items ≡ out.old.items ++ (number_or_zero held % 256) ∷ [] }
     ensures len { array_vec_len out.new ≡ array_vec_len out.old + 1 }
 {
-    out.push((value(held) % 256) as u8);
+    out.push((number_or_zero(held) % 256) as u8);
 }
 
 /// Appends the low 16 bits of the number, little-endian.
 fn push_word(out: &mut Bytes, held: Option<u64>)
     requires { array_vec_len out.old + 2 ≤ 24 }
-    ensures bytes { out.new.items ≡ out.old.items ++ to_le_bytes w16 (value held % 2 ^ 16) }
+    ensures bytes { out.new.items ≡ out.old.items ++ to_le_bytes w16 (number_or_zero held % 2 ^ 16) }
     ensures len { array_vec_len out.new ≡ array_vec_len out.old + 2 }
 {
-    let bytes = ((value(held) % 0x1_0000) as u16).to_le_bytes();
+    let bytes = ((number_or_zero(held) % 0x1_0000) as u16).to_le_bytes();
     out.push(bytes[0]);
     out.push(bytes[1]);
 }
@@ -167,7 +170,7 @@ fn push_long(out: &mut Bytes, held: Option<u64>)
     ensures bytes { out.new.items ≡ out.old.items ++ long held }
     ensures len { array_vec_len out.new ≡ array_vec_len out.old + 4 }
 {
-    let bytes = ((value(held) % 0x1_0000_0000) as u32).to_le_bytes();
+    let bytes = ((number_or_zero(held) % 0x1_0000_0000) as u32).to_le_bytes();
     out.push(bytes[0]);
     out.push(bytes[1]);
     out.push(bytes[2]);
@@ -188,10 +191,10 @@ fn push_eight(out: &mut Bytes, bytes: [u8; 8])
 /// Appends the number, little-endian.
 fn push_quad(out: &mut Bytes, held: Option<u64>)
     requires { array_vec_len out.old + 8 ≤ 24 }
-    ensures bytes { out.new.items ≡ out.old.items ++ to_le_bytes w64 (value held) }
+    ensures bytes { out.new.items ≡ out.old.items ++ to_le_bytes w64 (number_or_zero held) }
     ensures len { array_vec_len out.new ≡ array_vec_len out.old + 8 }
 {
-    push_eight(out, value(held).to_le_bytes());
+    push_eight(out, number_or_zero(held).to_le_bytes());
 }
 
 /// Appends a displacement of this width.
@@ -320,10 +323,10 @@ pub fn bytes_of(row: &Row, parts: &Parts) -> Bytes
 {
     let mut out = Bytes::new();
     push_opt(&mut out, first_byte(parts.segment, parts.prefix));
-    push_opt(&mut out, size_byte(row.lead.0));
-    push_opt(&mut out, repeat_byte(row.lead.1, parts.prefix));
+    push_opt(&mut out, size_byte(row.lead.operand_size));
+    push_opt(&mut out, repeat_byte(row.lead.repeat, parts.prefix));
     push_opt(&mut out, lock_byte(parts.prefix));
-    push_opt(&mut out, rex_byte(rex_bits(row, parts), parts.plain));
+    push_opt(&mut out, rex_byte(rex_bits(row, parts), parts.bare_rex));
     push_opt(&mut out, escape_byte(row.map));
     push_opt(&mut out, second_escape(row.map));
     out.push(row.code + parts.low % 8);

@@ -1,24 +1,24 @@
 //! The instruction table (Intel SDM, volume 2): one row a line, in the order that breaks ties.
 
 use crate::forms::{
-    Destinations, Immediate, Implied, Lead, Map, Pattern, Repeat, Rm, Row, Shape, StoreKind, Words,
-    Written,
+    Destinations, Immediate, Implied, Lead, Map, Outputs, Pattern, Repeat, Rm, Row, Shape,
+    StoreKind, Words,
 };
 use crate::mnemonics::*;
 use x86_insn::{Class, Mnemonic};
 
 /// What stands before the opcode: 66, F2, F3, REX.W.
 macro_rules! lead {
-    (NP) => { Lead(false, Repeat::Absent, false) };
-    (P66) => { Lead(true, Repeat::Absent, false) };
-    (PF2) => { Lead(false, Repeat::F2, false) };
-    (PF3) => { Lead(false, Repeat::F3, false) };
-    (W) => { Lead(false, Repeat::Absent, true) };
-    (P66W) => { Lead(true, Repeat::Absent, true) };
-    (PF2W) => { Lead(false, Repeat::F2, true) };
-    (PF3W) => { Lead(false, Repeat::F3, true) };
-    (P66F2) => { Lead(true, Repeat::F2, false) };
-    (P66F3) => { Lead(true, Repeat::F3, false) };
+    (NP) => { Lead { operand_size: false, repeat: Repeat::Absent, wide: false } };
+    (P66) => { Lead { operand_size: true, repeat: Repeat::Absent, wide: false } };
+    (PF2) => { Lead { operand_size: false, repeat: Repeat::F2, wide: false } };
+    (PF3) => { Lead { operand_size: false, repeat: Repeat::F3, wide: false } };
+    (W) => { Lead { operand_size: false, repeat: Repeat::Absent, wide: true } };
+    (P66W) => { Lead { operand_size: true, repeat: Repeat::Absent, wide: true } };
+    (PF2W) => { Lead { operand_size: false, repeat: Repeat::F2, wide: true } };
+    (PF3W) => { Lead { operand_size: false, repeat: Repeat::F3, wide: true } };
+    (P66F2) => { Lead { operand_size: true, repeat: Repeat::F2, wide: false } };
+    (P66F3) => { Lead { operand_size: true, repeat: Repeat::F3, wide: false } };
 }
 
 /// O is a register in the opcode (O1: but the accumulator), R is /r, D0 to D7 are /0 to /7 (M: with
@@ -94,36 +94,36 @@ macro_rules! operand {
 }
 
 /// What is written beside flags.
-macro_rules! written {
-    (NOTHING) => { Written(Destinations::Nothing, Implied::Absent, StoreKind::Absent) };
-    (FIRST) => { Written(Destinations::First, Implied::Absent, StoreKind::Operand) };
-    (BOTH) => { Written(Destinations::FirstAndSecond, Implied::Absent, StoreKind::Operand) };
-    (BIT_STRING) => { Written(Destinations::First, Implied::Absent, StoreKind::BitString) };
-    (PUSH8) => { Written(Destinations::Nothing, Implied::Rsp, StoreKind::PushQuad) };
-    (PUSH2) => { Written(Destinations::Nothing, Implied::Rsp, StoreKind::PushWord) };
-    (FIRST_RSP) => { Written(Destinations::First, Implied::Rsp, StoreKind::Operand) };
-    (JUST_RSP) => { Written(Destinations::Nothing, Implied::Rsp, StoreKind::Absent) };
-    (FIRST_RAX) => { Written(Destinations::First, Implied::Rax, StoreKind::Operand) };
-    (FIRST_RAX_RDX) => { Written(Destinations::First, Implied::RaxRdx, StoreKind::Operand) };
-    (JUST_RAX) => { Written(Destinations::Nothing, Implied::Rax, StoreKind::Absent) };
-    (JUST_RDX) => { Written(Destinations::Nothing, Implied::Rdx, StoreKind::Absent) };
-    (JUST_RCX) => { Written(Destinations::Nothing, Implied::Rcx, StoreKind::Absent) };
-    (JUST_RDI) => { Written(Destinations::Nothing, Implied::Rdi, StoreKind::Absent) };
-    (JUST_XMM0) => { Written(Destinations::Nothing, Implied::Xmm0, StoreKind::Absent) };
-    (RAX_RDX) => { Written(Destinations::Nothing, Implied::RaxRdx, StoreKind::Absent) };
-    (RAX_RSI) => { Written(Destinations::Nothing, Implied::RaxRsi, StoreKind::Absent) };
-    (RSI_RDI) => { Written(Destinations::Nothing, Implied::RsiRdi, StoreKind::Absent) };
-    (RSP_RBP) => { Written(Destinations::Nothing, Implied::RspRbp, StoreKind::Absent) };
-    (RAX_RBX_RCX_RDX) => { Written(Destinations::Nothing, Implied::RaxRbxRcxRdx, StoreKind::Absent) };
-    (MOVES) => { Written(Destinations::Nothing, Implied::RsiRdi, StoreKind::Unfixed) };
-    (STORES) => { Written(Destinations::Nothing, Implied::Rdi, StoreKind::Unfixed) };
-    (INTERRUPTS) => { Written(Destinations::Nothing, Implied::Rax, StoreKind::Unfixed) };
-    (CALLS_SYSTEM) => { Written(Destinations::Nothing, Implied::RaxRcxR11, StoreKind::Unfixed) };
+macro_rules! outputs {
+    (NOTHING) => { Outputs(Destinations::Nothing, Implied::Absent, StoreKind::Absent) };
+    (FIRST) => { Outputs(Destinations::First, Implied::Absent, StoreKind::Operand) };
+    (BOTH) => { Outputs(Destinations::FirstAndSecond, Implied::Absent, StoreKind::Operand) };
+    (BIT_STRING) => { Outputs(Destinations::First, Implied::Absent, StoreKind::BitString) };
+    (PUSH8) => { Outputs(Destinations::Nothing, Implied::Rsp, StoreKind::PushQuad) };
+    (PUSH2) => { Outputs(Destinations::Nothing, Implied::Rsp, StoreKind::PushWord) };
+    (FIRST_RSP) => { Outputs(Destinations::First, Implied::Rsp, StoreKind::Operand) };
+    (JUST_RSP) => { Outputs(Destinations::Nothing, Implied::Rsp, StoreKind::Absent) };
+    (FIRST_RAX) => { Outputs(Destinations::First, Implied::Rax, StoreKind::Operand) };
+    (FIRST_RAX_RDX) => { Outputs(Destinations::First, Implied::RaxRdx, StoreKind::Operand) };
+    (JUST_RAX) => { Outputs(Destinations::Nothing, Implied::Rax, StoreKind::Absent) };
+    (JUST_RDX) => { Outputs(Destinations::Nothing, Implied::Rdx, StoreKind::Absent) };
+    (JUST_RCX) => { Outputs(Destinations::Nothing, Implied::Rcx, StoreKind::Absent) };
+    (JUST_RDI) => { Outputs(Destinations::Nothing, Implied::Rdi, StoreKind::Absent) };
+    (JUST_XMM0) => { Outputs(Destinations::Nothing, Implied::Xmm0, StoreKind::Absent) };
+    (RAX_RDX) => { Outputs(Destinations::Nothing, Implied::RaxRdx, StoreKind::Absent) };
+    (RAX_RSI) => { Outputs(Destinations::Nothing, Implied::RaxRsi, StoreKind::Absent) };
+    (RSI_RDI) => { Outputs(Destinations::Nothing, Implied::RsiRdi, StoreKind::Absent) };
+    (RSP_RBP) => { Outputs(Destinations::Nothing, Implied::RspRbp, StoreKind::Absent) };
+    (RAX_RBX_RCX_RDX) => { Outputs(Destinations::Nothing, Implied::RaxRbxRcxRdx, StoreKind::Absent) };
+    (MOVES) => { Outputs(Destinations::Nothing, Implied::RsiRdi, StoreKind::Unfixed) };
+    (STORES) => { Outputs(Destinations::Nothing, Implied::Rdi, StoreKind::Unfixed) };
+    (INTERRUPTS) => { Outputs(Destinations::Nothing, Implied::Rax, StoreKind::Unfixed) };
+    (CALLS_SYSTEM) => { Outputs(Destinations::Nothing, Implied::RaxRcxR11, StoreKind::Unfixed) };
 }
 
 macro_rules! rows {
     ($($name:ident $size:literal $lead:ident $map:ident $code:literal $shape:ident
-        $first:ident $second:ident $third:ident $immediate:ident $words:ident $written:ident;)*) => {
+        $first:ident $second:ident $third:ident $immediate:ident $words:ident $outputs:ident;)*) => {
         [$(Row {
             name: Mnemonic($name),
             size: $size,
@@ -136,7 +136,7 @@ macro_rules! rows {
             third: operand!($third),
             immediate: Immediate::$immediate,
             words: Words::$words,
-            written: written!($written),
+            outputs: outputs!($outputs),
         }),*]
     };
 }
