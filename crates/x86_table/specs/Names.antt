@@ -34,6 +34,10 @@ text_of named = take named.1 named.0
 abbrev pub has_text : List ℕ → Named → Bool
 has_text text named = str_eq_ignore_ascii_case text (text_of named)
 
+-- the mnemonic names the rows of this number and fixes this size
+abbrev pub is_of : ℕ → ℕ → Named → Bool
+is_of name size named = (named.2.0 == name) && (named.3 == size)
+
 -- the hash of a text
 abbrev pub mixed : ℕ → List ℕ → ℕ
 mixed hash [] = hash

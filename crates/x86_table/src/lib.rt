@@ -6,7 +6,7 @@ mod fitting;
 mod forms;
 mod intel_mnemonics;
 mod laws;
-mod mnemonics;
+pub mod mnemonics;
 mod names;
 mod parts;
 mod ranges;
@@ -25,7 +25,7 @@ pub use laws::{
     fields_have_bytes, mnemonics_have_rows, opcodes_stand, read_one_way, rows_are_apart,
     worked_readings, worked_writes,
 };
-pub use names::{Named, Rule, att_name, att_names, intel_name, intel_names};
+pub use names::{Named, Rule, att_name, att_names, intel_name, intel_names, shown_as};
 pub use parts::{Parts, Place, Width};
 pub use ranges::{RowRange, rows, rows_of, rows_of_size};
 pub use spelling::{Bytes, bytes_of};

@@ -3,7 +3,7 @@
 ghost use Rattle.std.specs.Prelude.{◌≡◌, option_map, Some};
 ghost use Rattle.std.specs.List.{find};
 ghost use Rattle.std.specs.Str.{str_to_ascii_lowercase};
-ghost use Rattle.x86_table.specs.Names.{text_of, has_text, the_att_names, the_intel_names, the_att_slots, the_intel_slots, mixed, slot_at, name_at, name_by};
+ghost use Rattle.x86_table.specs.Names.{text_of, has_text, is_of, the_att_names, the_intel_names, the_att_slots, the_intel_slots, mixed, slot_at, name_at, name_by};
 
 use crate::att_mnemonics::ATT_NAMES;
 use crate::intel_mnemonics::INTEL_NAMES;
@@ -139,6 +139,17 @@ fn name_by(names: &'static [Named], slots: &[u16], text: &[u8]) -> Option<&'stat
         Some(index) => name_at(names, text, index),
         None => None,
     }
+}
+
+/// The first of the mnemonics that names these rows and fixes this size, if there is one: its text
+/// shows the name in documents and messages.
+pub fn shown_as(names: &'static [Named], name: &Mnemonic, size: u8) -> Option<&'static Named>
+    ensures { let due = find (is_of name.now.0 size) names.now in
+        option_map (λ named. named.now) result ≡ due }
+{
+    names
+        .iter()
+        .find(|named| named.2.0 == name.0 && named.3 == size)
 }
 
 /// The mnemonic of AT&T syntax with this text, in either case, if there is one.
