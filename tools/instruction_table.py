@@ -1,0 +1,264 @@
+"""Reads the instruction table from its source text: `tools/instructions.py` prints it, and `checks/rows.py` compares it with objdump.
+
+The rows stand in one file, one a line, behind the arms of macros that say what the short words of their columns are, in the types of `forms.rt`; the numbers
+of their names stand in `mnemonics.rt`. What cannot be read is a TableError that tells its place, and so is a row whose columns do not belong together.
+"""
+import pathlib
+import re
+from dataclasses import dataclass
+
+
+class TableError(Exception):
+    """A table that is not what this module reads."""
+
+
+# ---- Constants of the source text
+
+CLASSES = ["Byte", "High", "Word", "Long", "Quad", "Xmm"]
+BITS = {"Byte": 8, "Word": 16, "Long": 32, "Quad": 64, "Xmm": 128}
+COLUMNS = ["name", "size", "lead", "map", "code", "shape", "first", "second", "third", "immediate", "words", "outputs"]
+
+
+@dataclass(frozen=True)
+class Term:
+    """A value of an enum or a struct: its type, its variant, and its parts."""
+    type: str
+    variant: str
+    parts: tuple
+
+
+class Forms:
+    """The types of `forms.rt`: of each enum and struct the variants, with the names and types of their parts."""
+
+    def __init__(self, path: pathlib.Path):
+        text = re.sub(r"//.*", "", path.read_text())
+        self.variants: dict[str, dict[str, list[tuple[str, str]]]] = {"Class": {name: [] for name in CLASSES}}
+        for name, body in re.findall(r"pub enum (\w+) \{(.*?)\n\}", text, re.DOTALL):
+            self.variants[name] = {variant: [("", part) for part in parts.split(", ") if part] for variant, parts in re.findall(r"(\w+)(?:\((.*?)\))?,", body)}
+        for name, parts in re.findall(r"pub struct (\w+)\((.*?)\);", text):
+            self.variants[name] = {name: [("", part.removeprefix("pub ")) for part in parts.split(", ")]}
+        for name, body in re.findall(r"pub struct (\w+) \{(.*?)\n\}", text, re.DOTALL):
+            self.variants[name] = {name: re.findall(r"pub (\w+): (\w+),", body)}
+        self.columns = self.variants.get("Row", {}).get("Row", [])
+        if [name for name, _ in self.columns] != COLUMNS:
+            raise TableError(f"{path}: a Row has other fields: {self.columns}")
+
+    def value(self, kind: str, text: str) -> Term | int | bool:
+        """The value of a constant expression of this type."""
+        tokens = re.findall(r"\w+|::|[(){},:]", text)
+        if "".join(tokens) != re.sub(r"\s", "", text):
+            raise TableError(f"no constant: {text}")
+        value = self.term(kind, tokens)
+        if tokens:
+            raise TableError(f"more than a constant: {text}")
+        return value
+
+    def term(self, kind: str, tokens: list[str]) -> Term | int | bool:
+        """The value at the beginning of the tokens, which are taken away."""
+        try:
+            variant = tokens.pop(0)
+            if kind == "bool":
+                return {"true": True, "false": False}[variant]
+            if kind == "u8":
+                return range(256)[int(variant, 0)]
+            if tokens[:1] == ["::"] and variant == kind:
+                variant = tokens.pop(1)
+                tokens.pop(0)
+            parts = []
+            for number, (name, part) in enumerate(self.variants[kind][variant]):
+                due = ["," if number else "{" if name else "("] + ([name, ":"] if name else [])
+                if [tokens.pop(0) for _ in due] != due:
+                    raise TableError(f"{kind}::{variant} has other parts")
+                parts.append(self.term(part, tokens))
+            if parts and tokens[0] == ",":
+                tokens.pop(0)
+            if parts and tokens.pop(0) not in (")", "}"):
+                raise TableError(f"{kind}::{variant} has more parts")
+            return Term(kind, variant, tuple(parts))
+        except (KeyError, IndexError, ValueError) as fault:
+            raise TableError(f"no {kind}: {fault}") from fault
+
+
+# ---- Rows
+
+ESCAPES = {"One": b"", "Two": b"\x0f", "Three38": b"\x0f\x38", "Three3A": b"\x0f\x3a"}
+
+# The bytes of each kind of immediate.
+WIDTHS = {"Absent": 0, "Byte": 1, "Count": 1, "Sext16": 1, "Sext32": 1, "Sext64": 1, "Word": 2, "Long": 4, "LongSext": 4, "Quad": 8, "Rel8": 1, "Short": 1,
+          "Rel32": 4}
+RELATIVE = ["Rel8", "Short", "Rel32"]
+
+
+@dataclass(frozen=True)
+class Operand:
+    """An operand of a row: what it is (`RegMem`, `Reg`, `Low`, `Accumulator`, `Cl`, `One`, `Immediate`, `Target`), the class of its register, and the bytes of
+    its memory."""
+    kind: str
+    register: str = ""
+    memory: int = 0
+
+
+@dataclass(frozen=True)
+class Row:
+    """A form of an instruction, with its chapter, its line in the table, and its columns."""
+    chapter: str
+    line: int
+    text: str
+    name: str
+    size: int
+    has_66: bool
+    repeat: str  # `Absent`, `F2` or `F3`
+    rex_w: bool
+    map: str
+    code: int
+    shape: str  # `Plain`, `Low`, `LowNotFirst`, `Fixed`, `Digit` or `Slash`
+    digit: int  # of `Digit`; the byte of `Fixed`
+    rm: str  # of `Digit` and `Slash`: `Any`, `Memory` or `Register`
+    operands: tuple[Operand, ...]
+    immediate: str
+    words: str
+    destinations: str
+    implied: str
+    store: str
+
+    def operand(self, kind: str) -> Operand | None:
+        """The operand of this kind."""
+        return next((operand for operand in self.operands if operand.kind == kind), None)
+
+    def fault(self) -> str | None:
+        """Why the columns do not belong together, if they do not."""
+        kinds = [operand.kind for operand in self.operands]
+        places = {"Plain": [], "Fixed": [], "Low": ["Low"], "LowNotFirst": ["Low"], "Digit": ["RegMem"], "Slash": ["Reg", "RegMem"]}[self.shape]
+        if sorted(kind for kind in kinds if kind in ("RegMem", "Reg", "Low")) != places:
+            return "its shape has no place for its operands"
+        if (self.immediate != "Absent") != (kinds.count("Immediate") + kinds.count("Target") == 1) or ("Target" in kinds) != (self.immediate in RELATIVE):
+            return "its immediate is of another kind than its operands"
+        if self.shape == "Digit" and self.digit > 7 or self.shape in ("Low", "LowNotFirst") and self.code % 8:
+            return "its digit or its opcode is no number for registers"
+        if (self.words == "Lock") and (self.rm == "Register" or kinds[:1] != ["RegMem"]) or self.words in ("Rep", "Repe") and self.repeat != "Absent":
+            return "it takes no such prefix word"
+        bits = [BITS[operand.register] for operand in self.operands if operand.register not in ("", "Xmm")]
+        if self.size and bits and self.size not in bits or "Target" in kinds and self.size != 64:
+            return "no operand has its size"
+        if len(kinds) < {"Nothing": 0, "First": 1, "FirstAndSecond": 2}[self.destinations]:
+            return "it writes more operands than it has"
+        return None
+
+
+def words_in(text: str, forms: Forms) -> dict[str, Term]:
+    """The short words of the columns, by the arms of macros that have one word."""
+    words: dict[str, Term] = {}
+    for word, value in re.findall(r"^ *\((\w+)\) => \{ (.*?) \};", text, re.MULTILINE | re.DOTALL):
+        term = forms.value(re.match(r"\w*", value)[0], value)
+        if word in words:
+            raise TableError(f"{word} says two things")
+        words[word] = term
+    return words
+
+
+def rows_in(folder: pathlib.Path) -> list[Row]:
+    """The rows of the table."""
+    forms = Forms(folder / "forms.rt")
+    path, lines, count = file_with(folder, "ROWS")
+    text = path.read_text()
+    columns = re.findall(r"\$(\w+):(?:ident|literal)", text)
+    if columns != COLUMNS:
+        raise TableError(f"{path}: a row has other columns: {columns}")
+    words = words_in(text, forms)
+    first = text[:text.index("\n".join(lines))].count("\n") + 1
+    rows, chapter = [], ""
+    for number, line in enumerate(map(str.strip, lines), first):
+        if line.startswith("// "):
+            chapter = line[3:]
+        elif line:
+            try:
+                rows.append(row_of(chapter, number, line, forms, words))
+            except (TableError, KeyError) as fault:
+                raise TableError(f"{path}:{number}: {fault}") from fault
+    if not rows or len(rows) != count:
+        raise TableError(f"{path}: it has {len(rows)} rows, and says {count}")
+    return rows
+
+
+def row_of(chapter: str, number: int, line: str, forms: Forms, words: dict[str, Term]) -> Row:
+    """The row that a line has."""
+    columns = line.removesuffix(";").split()
+    if len(columns) != len(COLUMNS) or not line.endswith(";") or not chapter:
+        raise TableError("no row")
+    said: list[Term | int] = []
+    for (_, kind), column in zip(forms.columns[1:], columns[1:]):
+        said.append(words[column] if column in words and words[column].type == kind else forms.value(kind, column))
+    size, lead, map_, code, shape, first, second, third, immediate, prefixes, outputs = said
+    operands = [operand_of(term) for term in (first, second, third)]
+    present = [operand for operand in operands if operand.kind != "Absent"]
+    if operands[:len(present)] != present or size not in (0, 8, 16, 32, 64):
+        raise TableError("an operand stands behind none, or the size is none")
+    digit = shape.parts[0] if shape.variant in ("Digit", "Fixed") else 0
+    rm = shape.parts[-1].variant if shape.variant in ("Digit", "Slash") else "Any"
+    destinations, implied, store = outputs.parts
+    has_66, repeat, rex_w = lead.parts
+    row = Row(chapter, number, " ".join(columns), columns[0], size, has_66, repeat.variant, rex_w, map_.variant, code, shape.variant, digit, rm, tuple(present),
+              immediate.variant, prefixes.variant, destinations.variant, implied.variant, store.variant)
+    if fault := row.fault():
+        raise TableError(fault)
+    return row
+
+
+def operand_of(term: Term) -> Operand:
+    """What a pattern says."""
+    parts = [part.variant if isinstance(part, Term) else part for part in term.parts]
+    return Operand(term.variant, *parts)
+
+
+def check_names(rows: list[Row], path: pathlib.Path) -> None:
+    """Raises TableError where the numbers of names are not their order in the table, or the rows of a name do not stand together, by their sizes."""
+    text = path.read_text()
+    numbers = {name: int(number) for name, number in re.findall(r"pub const (\w+): u16 = (\d+);", text)}
+    if list(dict.fromkeys(row.name for row in rows)) != list(numbers) or list(numbers.values()) != list(range(text.count("pub const"))):
+        raise TableError(f"{path}: the names are not those of the table, by their order")
+    for one, other in zip(rows, rows[1:]):
+        if (numbers[one.name], one.size) > (numbers[other.name], other.size):
+            raise TableError(f"line {other.line} is not where the rows of its name and size stand: {other.text}")
+
+
+def file_with(folder: pathlib.Path, table: str) -> tuple[pathlib.Path, list[str], int]:
+    """The file of the folder that has this table, the lines of the table, and how many entries it says it has."""
+    paths = [path for path in sorted(folder.glob("*.rt")) if f"pub static {table}:" in path.read_text()]
+    if len(paths) != 1:
+        raise TableError(f"{folder}: {len(paths)} files have {table}")
+    found = re.search(rf"^pub static {table}: \[\w+; (\d+)\] = \w+! \{{\n(.*?)^\}};", paths[0].read_text(), re.MULTILINE | re.DOTALL)
+    if not found:
+        raise TableError(f"{paths[0]}: {table} has another form")
+    return paths[0], found[2].splitlines(), int(found[1])
+
+
+def read_table(folder: pathlib.Path) -> list[Row]:
+    """The rows of the table in this folder, in their order. Raises TableError or OSError."""
+    rows = rows_in(folder)
+    check_names(rows, folder / "mnemonics.rt")
+    return rows
+
+
+# ---- Names in AT&T syntax
+
+@dataclass(frozen=True)
+class Name:
+    """A mnemonic of AT&T syntax: the name of rows that it stands for, the size in bits that it fixes or 0, and by which rule its operands are read."""
+    text: str
+    row: str
+    size: int
+    rule: str
+
+
+def read_att_names(folder: pathlib.Path) -> list[Name]:
+    """The mnemonics of AT&T syntax. Raises TableError or OSError."""
+    path, lines, count = file_with(folder, "ATT_NAMES")
+    names = []
+    for line in filter(None, map(str.strip, lines)):
+        found = re.fullmatch(r'b"(\w+) *" +(\d+) +(\w+) +(\d+) +(\w+)(\(\w+\))?;', line)
+        if not found or len(found[1]) != int(found[2]):
+            raise TableError(f"{path}: no name: {line}")
+        names.append(Name(found[1], found[3], int(found[4]), found[5]))
+    if not names or len(names) != count:
+        raise TableError(f"{path}: it has {len(names)} names, and says {count}")
+    return names
