@@ -26,13 +26,16 @@ check:
 	rt ci
 
 # What no clause can say: the built program on files and devices that fail, and its objects linked by gcc. Random expressions beside
-# Python's integers, and the objects of random sources beside those of the machine's GNU as.
+# Python's integers, and the objects of random sources beside those of the machine's GNU as. The rows of the instruction table beside
+# the machine's objdump, and the document that is made of them.
 check-outside: all
 	checks/outside.sh build/as
 	checks/tables.sh build/as
 	checks/gcc.sh build/gcc
 	checks/expressions.py build/as
 	checks/compare.py --ours build/as
+	checks/rows.py
+	tools/instructions.py --check
 
 # No test, and no part of the gate: times build/as beside the machine's GNU as.
 bench: build/as
