@@ -18,9 +18,9 @@ TOP = pathlib.Path(__file__).resolve().parent.parent
 INTRODUCTION = """\
 # Instructions
 
-The forms of instructions that the assembler knows: all {count} rows of the table in crate `x86_table`, of which
-`tools/instructions.py` writes this document. Where several forms take an instruction, the shortest is chosen, and of
-equally short ones the first.
+Forms of instructions: all {count} rows of the table in crate `x86_table`, of which `tools/instructions.py` writes this
+document. Which of them a source may have stands in the README. Of the forms that take an instruction the shortest
+counts, and of equally short ones the first.
 
 - *Bytes*, as the Intel manual writes them (volume 2, section 3.1.1). `/r` is a ModRM byte with a register and a
   register or memory, `/0` to `/7` one with that digit; `+rb +rw +rd +ro` a register in the opcode's low bits; `ib iw id
