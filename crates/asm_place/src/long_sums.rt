@@ -340,8 +340,8 @@ impl Assembler {
         sum: &LongSum,
         other: &LongSum,
     ) -> Result<(), PlaceFault>
-        ensures placed { PlacesBy (data_read pos size (long_tree sum.now ∷ long_tree other.now ∷ []))
-            self.old self.new result }
+        ensures placed { PlacesBy
+            (data_read pos size (long_tree sum.now ∷ long_tree other.now ∷ [])) self.old self.new result }
         ensures kept { KeepsNotes result self.old.notes self.new.notes }
     {
         let (naming, one, another) = self.table.intern_two_long(pos, sum, other)?;
