@@ -1,5 +1,5 @@
 -- Instructions and their bytes, worked out by hand (Intel SDM, volume 2, chapters 2 to 4).
-use Rattle.std.specs.Prelude.{◌+◌, ◌∷◌, [], ℕ, not, Some, None}
+use Rattle.std.specs.Prelude.{◌∷◌, [], ℕ, Some, None}
 use Rattle.x86_insn.specs.Views.{Seen, absent, register, immediate as shown_immediate, memory, target, View}
 use Rattle.x86_table.specs.Reads.{Reads}
 use Rattle.x86_table.specs.declared.mnemonics.TheConstants.{ADD, ADDSD, CALL, CMPS, CMPXCHG, CRC32, JMP, LEA, MOV, MOVS, MOVZX_BYTE, NOP, NOT, PAUSE, PEXTRW, PSHUFB, SCAS, XCHG}
