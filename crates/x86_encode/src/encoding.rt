@@ -1,0 +1,100 @@
+//! The shortest bytes of an instruction.
+
+ghost use Rattle.std.specs.Prelude.{◌≡◌, ◌&&◌};
+ghost use Rattle.x86_insn.specs.Views.{view_of};
+ghost use Rattle.x86_encode.specs.Answers.{Encodes};
+ghost use Rattle.x86_encode.specs.Codes.{is_quad, is_wide, name_meant, meant};
+ghost use Rattle.x86_encode.specs.Filling.{Fills};
+
+use crate::building::laid_out;
+use crate::encoded::{EncodeFault, Encoded};
+use crate::filling::{displacement_field, immediate_field};
+use crate::immediates::is_signed_32;
+use crate::searching::shortest;
+use x86_insn::{Class, Insn, Mnemonic, Slot, Values};
+use x86_table::mnemonics::{MOV, MOVABS};
+use x86_table::{bytes_of, fields_have_bytes, rows};
+
+/// Whether the value goes into a 64-bit register and 32 bits, sign-extended, do not hold it.
+fn is_wide_move(insn: &Insn, values: &Values) -> bool
+    ensures { let view = view_of insn.now values.now in
+        result ≡ (is_quad view.first && is_wide view.second) }
+{
+    match insn.first {
+        Slot::Register(reg) => match reg.class {
+            Class::Quad => match insn.second {
+                Slot::Immediate => match values.immediate {
+                    Some(value) => !is_signed_32(value),
+                    None => false,
+                },
+                _ => false,
+            },
+            _ => false,
+        },
+        _ => false,
+    }
+}
+
+/// The name that is meant: mov of a wide value is movabs.
+fn name_meant(insn: &Insn, values: &Values) -> Mnemonic
+    ensures { result.0 ≡ name_meant (view_of insn.now values.now) }
+{
+    if insn.name.0 == MOV && (insn.size == 64 && is_wide_move(insn, values)) {
+        Mnemonic(MOVABS)
+    } else {
+        insn.name
+    }
+}
+
+#[inline(never)]
+fn fault_of(insn: &Insn, values: &Values) -> EncodeFault {
+    let any = Values {
+        immediate: Some(1),
+        displacement: Some(0),
+    };
+    if shortest(insn.name, &laid_out(insn, &any), insn, &any).is_none() {
+        return EncodeFault::NoSuchForm;
+    }
+    if values.immediate.is_none() {
+        let unknown = Values {
+            immediate: None,
+            displacement: Some(0),
+        };
+        if shortest(insn.name, &laid_out(insn, &unknown), insn, &unknown).is_none() {
+            return EncodeFault::ValueNotKnown;
+        }
+    }
+    EncodeFault::OutOfRange
+}
+
+/// The shortest bytes that mean the instruction.
+pub fn encode(insn: &Insn, values: &Values) -> Result<Encoded, EncodeFault>
+    ensures code { Encodes (meant (view_of insn.now values.now)) result }
+    ensures fields { Fills (meant (view_of insn.now values.now)) result }
+{
+    let name = name_meant(insn, values);
+    let laid = laid_out(insn, values);
+    match shortest(name, &laid, insn, values) {
+        None => Err(fault_of(insn, values)),
+        Some(found) => {
+            fields_have_bytes();
+            let row = &rows()[found.row];
+            Ok(Encoded {
+                bytes: bytes_of(row, &found.parts),
+                displacement: displacement_field(
+                    found.length,
+                    row.immediate,
+                    found.parts.place,
+                    found.parts.displacement,
+                    insn,
+                ),
+                immediate: immediate_field(
+                    found.length,
+                    row.immediate,
+                    found.parts.immediate,
+                    insn,
+                ),
+            })
+        }
+    }
+}
