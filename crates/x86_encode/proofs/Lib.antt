@@ -13,3 +13,4 @@ pub mod FilledFields
 pub mod FilledOperands
 pub mod FilledBytes
 pub mod Filled
+pub mod Positions

@@ -1,5 +1,5 @@
 -- Fields of values that are not known now, and the bytes with values in them.
-use Rattle.std.specs.Prelude.{◌≡◌, ◌+◌, ◌*◌, ◌%◌, ◌^◌, ◌==◌, ◌∷◌, ◌++◌, if◌then◌else◌, Bool, List, None, Option, Some, [], drop, length, nat_lt, take, true, ℕ, Result, Ok, Err}
+use Rattle.std.specs.Prelude.{◌≡◌, ◌+◌, ◌*◌, ◌%◌, ◌^◌, ◌==◌, ◌∷◌, ◌++◌, if◌then◌else◌, Bool, List, None, Option, Some, [], drop, false, length, nat_lt, take, true, ℕ, Result, Ok, Err}
 use Rattle.std.specs.Int.{to_le_bytes, w16, w32, w64}
 use Rattle.x86_insn.specs.declared.insns.Base.{Base}
 use Rattle.x86_insn.specs.declared.insns.Prefix.{Prefix}
@@ -15,6 +15,7 @@ use Rattle.x86_insn.specs.declared.insns.Base.TheVariants as base
 use Rattle.x86_table.specs.declared.forms.Immediate.TheVariants as immediate
 use Rattle.x86_encode.specs.declared.encoded.FieldKind.TheVariants as kind
 use Rattle.x86_table.specs.declared.forms.Pattern.TheVariants as pattern
+use Rattle.x86_encode.specs.declared.encoded.Position.TheVariants as position
 use Rattle.x86_insn.specs.Views.{Seen, absent, register, immediate as shown_immediate, memory, target, View, displaced}
 use Rattle.x86_table.specs.Bytes.{has_rex, bytes_of}
 use Rattle.x86_table.specs.Fields.{Location, nowhere, direct, from_rip, bare, based, Fields}
@@ -137,3 +138,43 @@ held_field at here i (Some v) = None
 abbrev pub Fills : View → Result Encoded EncodeFault → Type 0
 Fills insn (Ok made) = FieldsFill insn made
 Fills insn (Err cause) = Unit {0}
+
+-- WHOSE A FIELD IS
+
+-- the operand is in memory
+abbrev pub in_memory : Seen → Bool
+in_memory absent = false
+in_memory (register r) = false
+in_memory (shown_immediate v) = false
+in_memory (memory a d) = true
+in_memory (target v) = false
+
+-- the operand is an immediate or a branch target
+abbrev pub holds_number : Seen → Bool
+holds_number absent = false
+holds_number (register r) = false
+holds_number (shown_immediate v) = true
+holds_number (memory a d) = false
+holds_number (target v) = true
+
+-- the operand at a position
+abbrev pub operand_in : View → Position → Seen
+operand_in insn position.First = insn.first
+operand_in insn position.Second = insn.second
+operand_in insn position.Third = insn.third
+
+-- the first position, if the first passes, else the second, if that does, else the third
+abbrev pub position_by : Bool → Bool → Position
+position_by true b = position.First
+position_by false true = position.Second
+position_by false false = position.Third
+
+-- the operand at the field's position passes
+abbrev pub FieldAt : (Seen → Bool) → View → Option Field → Type 0
+FieldAt test insn None = Unit {0}
+FieldAt test insn (Some f) = test (operand_in insn f.position) ≡ true
+
+-- each field is that of the operand at its position
+abbrev pub Placed : View → Result Encoded EncodeFault → Type 0
+Placed insn (Ok made) = FieldAt in_memory insn made.displacement × FieldAt holds_number insn made.immediate
+Placed insn (Err cause) = Unit {0}

@@ -4,7 +4,7 @@ ghost use Rattle.std.specs.Prelude.{◌≡◌, ◌&&◌};
 ghost use Rattle.x86_insn.specs.Views.{view_of};
 ghost use Rattle.x86_encode.specs.Answers.{Encodes};
 ghost use Rattle.x86_encode.specs.Codes.{is_quad, is_wide, name_meant, meant};
-ghost use Rattle.x86_encode.specs.Filling.{Fills};
+ghost use Rattle.x86_encode.specs.Filling.{Fills, Placed};
 
 use crate::building::laid_out;
 use crate::encoded::{EncodeFault, Encoded};
@@ -71,6 +71,7 @@ fn fault_of(insn: &Insn, values: &Values) -> EncodeFault {
 pub fn encode(insn: &Insn, values: &Values) -> Result<Encoded, EncodeFault>
     ensures code { Encodes (meant (view_of insn.now values.now)) result }
     ensures fields { Fills (meant (view_of insn.now values.now)) result }
+    ensures positions { Placed (meant (view_of insn.now values.now)) result }
 {
     let name = name_meant(insn, values);
     let laid = laid_out(insn, values);
@@ -87,12 +88,14 @@ pub fn encode(insn: &Insn, values: &Values) -> Result<Encoded, EncodeFault>
                     found.parts.place,
                     found.parts.displacement,
                     insn,
+                    values,
                 ),
                 immediate: immediate_field(
                     found.length,
                     row.immediate,
                     found.parts.immediate,
                     insn,
+                    values,
                 ),
             })
         }

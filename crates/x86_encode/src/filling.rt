@@ -1,36 +1,70 @@
 //! Where values stand that are not known now.
 
 ghost use Rattle.std.specs.Prelude.{◌≡◌, ◌-◌, length};
+ghost use Rattle.x86_insn.specs.Views.{seen_at, view_of};
 ghost use Rattle.x86_table.specs.Fields.{located};
-ghost use Rattle.x86_encode.specs.Filling.{moved_field, kind_of, held_field};
+ghost use Rattle.x86_encode.specs.Filling.{moved_field, kind_of, held_field, in_memory, holds_number, position_by};
 ghost use Rattle.x86_encode.specs.Keys.{immediate_length};
-ghost use Rattle.x86_encode.specs.declared.encoded.Position.{Position};
 
 use crate::encoded::{Field, FieldKind, Position};
 use crate::lengths::immediate_length;
-use x86_insn::{Insn, Slot};
+use x86_insn::{Insn, Slot, Values};
 use x86_table::{Immediate, Place};
 
-/// Which operand is in memory.
-fn position_of_memory(insn: &Insn) -> Position {
-    match insn.first {
-        Slot::Memory => Position::First,
-        _ => match insn.second {
-            Slot::Memory => Position::Second,
-            _ => Position::Third,
-        },
+/// Whether an operand is in memory.
+fn in_memory(slot: Slot, insn: &Insn, values: &Values) -> bool
+    ensures { result ≡ in_memory (seen_at insn.now values.now slot) }
+{
+    match slot {
+        Slot::Memory => true,
+        _ => false,
     }
 }
 
-/// Which operand is an immediate or a branch target.
-fn position_of_held(insn: &Insn) -> Position {
-    match insn.first {
-        Slot::Immediate | Slot::Target => Position::First,
-        _ => match insn.second {
-            Slot::Immediate | Slot::Target => Position::Second,
-            _ => Position::Third,
-        },
+/// Whether an operand is an immediate or a branch target.
+fn holds_number(slot: Slot, insn: &Insn, values: &Values) -> bool
+    ensures { result ≡ holds_number (seen_at insn.now values.now slot) }
+{
+    match slot {
+        Slot::Immediate => true,
+        Slot::Target => true,
+        _ => false,
     }
+}
+
+/// The first position that passes, or the third.
+fn position_by(is_first: bool, is_second: bool) -> Position
+    ensures { result ≡ position_by is_first is_second }
+{
+    if is_first {
+        Position::First
+    } else if is_second {
+        Position::Second
+    } else {
+        Position::Third
+    }
+}
+
+/// The position of the operand in memory.
+fn position_of_memory(insn: &Insn, values: &Values) -> Position
+    ensures { let view = view_of insn.now values.now in
+        result ≡ position_by (in_memory view.first) (in_memory view.second) }
+{
+    position_by(
+        in_memory(insn.first, insn, values),
+        in_memory(insn.second, insn, values),
+    )
+}
+
+/// The position of the immediate or the branch target.
+fn position_of_number(insn: &Insn, values: &Values) -> Position
+    ensures { let view = view_of insn.now values.now in
+        result ≡ position_by (holds_number view.first) (holds_number view.second) }
+{
+    position_by(
+        holds_number(insn.first, insn, values),
+        holds_number(insn.second, insn, values),
+    )
 }
 
 /// The field of a displacement.
@@ -73,16 +107,18 @@ pub fn displacement_field(
     place: Place,
     held: Option<u64>,
     insn: &Insn,
+    values: &Values,
 ) -> Option<Field>
-    ensures { (here : Position)
-        × (result ≡ moved_field (length - immediate_length immediate - 4) here (located held place)) }
+    ensures { let view = view_of insn.now values.now in
+        let here = position_by (in_memory view.first) (in_memory view.second) in
+        result ≡ moved_field (length - immediate_length immediate - 4) here (located held place) }
 {
     let at = length
         .saturating_sub(immediate_length(immediate))
         .saturating_sub(4);
     match held {
         Some(_) => None,
-        None => moved_field(at, position_of_memory(insn), place, held),
+        None => moved_field(at, position_of_memory(insn, values), place, held),
     }
 }
 
@@ -92,9 +128,11 @@ pub fn immediate_field(
     immediate: Immediate,
     held: Option<u64>,
     insn: &Insn,
+    values: &Values,
 ) -> Option<Field>
-    ensures { (here : Position)
-        × (result ≡ held_field (length - immediate_length immediate) here immediate held) }
+    ensures { let view = view_of insn.now values.now in
+        let here = position_by (holds_number view.first) (holds_number view.second) in
+        result ≡ held_field (length - immediate_length immediate) here immediate held }
 {
     match held {
         Some(_) => None,
@@ -104,7 +142,7 @@ pub fn immediate_field(
                 at: length.saturating_sub(size),
                 size,
                 kind: kind_of(immediate),
-                position: position_of_held(insn),
+                position: position_of_number(insn, values),
             })
         }
     }

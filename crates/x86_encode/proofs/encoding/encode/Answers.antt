@@ -4,6 +4,7 @@ use Rattle.x86_table.specs.Fields.{fields_of}
 use Rattle.x86_encode.specs.Codes.{meant}
 use Rattle.x86_encode.proofs.Search.{finds_meant, none_found, found_row, taking_fits, taking_code}
 use Rattle.x86_encode.proofs.Filled.{taking_fills}
+use Rattle.x86_encode.proofs.Positions.{moved_placed, held_placed}
 use Rattle.x86_encode.proofs.encoding.encode.Goals as goal
 
 pub bytes_of-requires : goal.bytes_of-requires
@@ -25,5 +26,11 @@ pub returns-in-Some-clause-fields : goal.returns-in-Some-clause-fields
 returns-in-Some-clause-fields c =
     let f = finds_meant c.name_meant-name.result (view_of c.args.insn.now c.args.values.now) c.shortest.result c.name_meant-name.ensures c.shortest.ensures in
     let t = found_row (meant (view_of c.args.insn.now c.args.values.now)) c.shortest.result c.in-Some.found c.rows.result.now _ c.in-Some.is c.rows.ensures f in
-    taking_fills (meant (view_of c.args.insn.now c.args.values.now)) c.in-Some.found _ c.bytes_of.result.items c.displacement_field.ensures.0 c.immediate_field.ensures.0 c.displacement_field.result c.immediate_field.result t c.bytes_of.ensures
-    c.displacement_field.ensures.1 c.immediate_field.ensures.1
+    taking_fills (meant (view_of c.args.insn.now c.args.values.now)) c.in-Some.found _ c.bytes_of.result.items _ _ c.displacement_field.result c.immediate_field.result t c.bytes_of.ensures
+    c.displacement_field.ensures c.immediate_field.ensures
+
+pub returns-in-Some-clause-positions : goal.returns-in-Some-clause-positions
+returns-in-Some-clause-positions c =
+    let f = finds_meant c.name_meant-name.result (view_of c.args.insn.now c.args.values.now) c.shortest.result c.name_meant-name.ensures c.shortest.ensures in
+    let t = found_row (meant (view_of c.args.insn.now c.args.values.now)) c.shortest.result c.in-Some.found c.rows.result.now _ c.in-Some.is c.rows.ensures f in
+    (moved_placed _ (meant (view_of c.args.insn.now c.args.values.now)) c.in-Some.found _ c.displacement_field.result t c.displacement_field.ensures, held_placed _ (meant (view_of c.args.insn.now c.args.values.now)) c.in-Some.found _ c.immediate_field.result t c.immediate_field.ensures)
