@@ -9,7 +9,6 @@ use Rattle.x86_table.specs.Rows.{the_rows}
 use Rattle.x86_encode.specs.Building.{built, takes, is_shaped, all_shaped, code_by, better, best_from}
 use Rattle.x86_encode.specs.Codes.{Means, Codes, AtMost, Before, Answers}
 use Rattle.x86_encode.proofs.Complete.{taken, takes_all}
-use Rattle.x86_encode.proofs.Least.{least}
 
 pub record BestBelow (n : ℕ) (code : List ℕ) (insn : View) : Type 0 where
   pub row : ℕ

@@ -17,7 +17,6 @@ use Rattle.x86_encode.specs.Building.{pick, without_rex, built, shows, takes, co
 use Rattle.x86_encode.specs.Codes.{Codes, IsCode, HasNoCode, named, name_meant, meant}
 use Rattle.x86_encode.specs.Keys.{the_keys, length_by, least_length, key_of, admits, Gives, Holds, is_reached, Offer, Offers, nearer, Steps, Finds}
 use Rattle.x86_encode.proofs.Best.{Below, some_is, answer, carried, one_more}
-use Rattle.x86_encode.proofs.Complete.{taken}
 use Rattle.x86_encode.proofs.Keyed.{skipped, key_at, as_many}
 use Rattle.x86_encode.proofs.Length.{length_is, at_least}
 

@@ -1,4 +1,4 @@
-use Rattle.std.proofs.Common.{rules, ◌≡◌, Bool, ◌&&◌, ◌==◌, ap, ◌∙◌, sym, refl}
+use Rattle.std.proofs.Common.{rules, ap, ◌∙◌}
 use Rattle.x86_insn.specs.Views.{view_of}
 use Rattle.x86_table.specs.Fields.{located}
 use Rattle.x86_encode.specs.Building.{segment_of, place_of}

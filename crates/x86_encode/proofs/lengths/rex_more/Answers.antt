@@ -1,4 +1,4 @@
-use Rattle.std.proofs.Common.{rules, ◌≡◌, ◌∙◌, sym}
+use Rattle.std.proofs.Common.{◌∙◌, sym}
 use Rattle.x86_table.specs.Bytes.{rex_bits}
 use Rattle.x86_table.specs.Fields.{fields_of}
 use Rattle.x86_encode.proofs.Length.{rex_more, rex_none, bits_least}

@@ -1,4 +1,4 @@
-use Rattle.std.proofs.Common.{rules, ◌≡◌, ◌∙◌, sym, subst, true}
+use Rattle.std.proofs.Common.{◌≡◌, ◌∙◌, sym, subst, true}
 use Rattle.x86_insn.specs.Views.{view_of}
 use Rattle.x86_encode.specs.Codes.{named}
 use Rattle.x86_encode.specs.Keys.{Steps, is_reached}

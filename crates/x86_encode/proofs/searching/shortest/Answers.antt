@@ -1,4 +1,4 @@
-use Rattle.std.proofs.Common.{rules, ◌≡◌, ◌≤◌, ◌<◌, ◌+◌, ℕ, arith, ap, sym, subst, ◌∙◌, false}
+use Rattle.std.proofs.Common.{◌+◌, arith, ap, sym, subst, ◌∙◌}
 use Rattle.x86_insn.specs.Views.{view_of}
 use Rattle.x86_encode.specs.declared.keys.Key.{Key}
 use Rattle.x86_encode.specs.Codes.{named}
