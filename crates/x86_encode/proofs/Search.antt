@@ -15,8 +15,10 @@ use Rattle.x86_table.specs.Ranges.{IsWithin, is_sized, AreRowsOf}
 use Rattle.x86_table.specs.Rows.{the_rows}
 use Rattle.x86_encode.specs.Building.{pick, without_rex, built, shows, takes, code_by, shorter, better}
 use Rattle.x86_encode.specs.Codes.{Codes, IsCode, HasNoCode, named, name_meant, meant}
+use Rattle.x86_encode.specs.Faults.{HasCode}
 use Rattle.x86_encode.specs.Keys.{the_keys, length_by, least_length, key_of, admits, Gives, Holds, is_reached, Offer, Offers, nearer, Steps, Finds}
 use Rattle.x86_encode.proofs.Best.{Below, some_is, answer, carried, one_more}
+use Rattle.x86_encode.proofs.Complete.{taken}
 use Rattle.x86_encode.proofs.Keyed.{skipped, key_at, as_many}
 use Rattle.x86_encode.proofs.Length.{length_is, at_least}
 
@@ -290,3 +292,9 @@ meant_is name insn e = ap (λ (n : ℕ). named (record { 0 = n }) insn) e
 
 pub finds_meant : (name : Mnemonic) (insn : View) (found : Option Found) → name.0 ≡ name_meant insn → Finds (named name insn) found → Finds (meant insn) found
 finds_meant name insn found e k = subst (λ (v : View). Finds v found) (meant_is name insn e) k
+
+pub some_found : (insn : View) (found : Option Found) (x : Found) → found ≡ Some x → Finds insn found → HasCode insn
+some_found insn found x e k =
+    let t = taking insn x (found_some insn found x e k) in
+    let c = t.1.code in
+    (bytes_of t.0 (built t.0 insn), c.row, c.codes)

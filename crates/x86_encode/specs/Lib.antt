@@ -4,3 +4,4 @@ pub mod Building
 pub mod Keys
 pub mod Answers
 pub mod Filling
+pub mod Faults

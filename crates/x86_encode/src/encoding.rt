@@ -4,6 +4,7 @@ ghost use Rattle.std.specs.Prelude.{◌≡◌, ◌&&◌};
 ghost use Rattle.x86_insn.specs.Views.{view_of};
 ghost use Rattle.x86_encode.specs.Answers.{Encodes};
 ghost use Rattle.x86_encode.specs.Codes.{is_quad, is_wide, name_meant, meant};
+ghost use Rattle.x86_encode.specs.Faults.{Coded, Causes, HasCause};
 ghost use Rattle.x86_encode.specs.Filling.{Fills, Placed};
 
 use crate::building::laid_out;
@@ -46,25 +47,44 @@ fn name_meant(insn: &Insn, values: &Values) -> Mnemonic
     }
 }
 
+/// Whether some bytes mean the instruction with these values.
+fn has_code(insn: &Insn, values: &Values) -> bool
+    ensures { Coded result (meant (view_of insn.now values.now)) }
+{
+    let name = name_meant(insn, values);
+    let laid = laid_out(insn, values);
+    match shortest(name, &laid, insn, values) {
+        None => false,
+        Some(_) => true,
+    }
+}
+
+/// Why no bytes mean the instruction.
 #[inline(never)]
-fn fault_of(insn: &Insn, values: &Values) -> EncodeFault {
+fn fault_of(insn: &Insn, values: &Values) -> EncodeFault
+    ensures { Causes insn.now values.now result }
+{
     let any = Values {
         immediate: Some(1),
         displacement: Some(0),
     };
-    if shortest(insn.name, &laid_out(insn, &any), insn, &any).is_none() {
+    if !has_code(insn, &any) {
         return EncodeFault::NoSuchForm;
     }
-    if values.immediate.is_none() {
-        let unknown = Values {
-            immediate: None,
-            displacement: Some(0),
-        };
-        if shortest(insn.name, &laid_out(insn, &unknown), insn, &unknown).is_none() {
-            return EncodeFault::ValueNotKnown;
+    let unknown = Values {
+        immediate: None,
+        displacement: Some(0),
+    };
+    match values.immediate {
+        Some(_) => EncodeFault::OutOfRange,
+        None => {
+            if has_code(insn, &unknown) {
+                EncodeFault::OutOfRange
+            } else {
+                EncodeFault::ValueNotKnown
+            }
         }
     }
-    EncodeFault::OutOfRange
 }
 
 /// The shortest bytes that mean the instruction.
@@ -72,6 +92,7 @@ pub fn encode(insn: &Insn, values: &Values) -> Result<Encoded, EncodeFault>
     ensures code { Encodes (meant (view_of insn.now values.now)) result }
     ensures fields { Fills (meant (view_of insn.now values.now)) result }
     ensures positions { Placed (meant (view_of insn.now values.now)) result }
+    ensures cause { HasCause insn.now values.now result }
 {
     let name = name_meant(insn, values);
     let laid = laid_out(insn, values);
