@@ -153,7 +153,7 @@ place_fill at here v (shape.Fixed b) p h k = nowhere_fill v p h
 place_fill at here v (shape.Digit d m) p h k = let q = and_parts (some_place_fits p) (rm_fits m p) h in and_from _ _ (fill_some_place at here v p q.0 k) (rm_fill m v p q.1)
 place_fill at here v (shape.Slash m) p h k = let q = and_parts (some_place_fits p) (rm_fits m p) h in and_from _ _ (fill_some_place at here v p q.0 k) (rm_fill m v p q.1)
 
-memory_prefix : (e : Repeat) (a : Words) (q : Prefix) (s : Option Segment) (p t : Location) → is_memory p ≡ is_memory t → prefix_fits e a q s p ≡ prefix_fits e a q s t
+pub memory_prefix : (e : Repeat) (a : Words) (q : Prefix) (s : Option Segment) (p t : Location) → is_memory p ≡ is_memory t → prefix_fits e a q s p ≡ prefix_fits e a q s t
 memory_prefix e a prefix.Absent s p t h = refl
 memory_prefix e a prefix.Lock s p t h = ap (λ (x : Bool). may_lock a && x) h
 memory_prefix e a prefix.Rep s p t h = refl

@@ -14,3 +14,6 @@ pub mod FilledOperands
 pub mod FilledBytes
 pub mod Filled
 pub mod Positions
+pub mod Nearest
+pub mod Values
+pub mod Forms

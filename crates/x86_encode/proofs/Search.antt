@@ -287,7 +287,7 @@ taking_code insn x r bytes t e =
     let same : bytes_of r (built r insn) ≡ bytes = ap (λ (y : Fields). bytes_of r y) (sym t.parts_are) ∙ sym e in
     subst (λ (y : List ℕ). IsCode y insn) same t.code
 
-meant_is : (name : Mnemonic) (insn : View) → name.0 ≡ name_meant insn → named name insn ≡ meant insn
+pub meant_is : (name : Mnemonic) (insn : View) → name.0 ≡ name_meant insn → named name insn ≡ meant insn
 meant_is name insn e = ap (λ (n : ℕ). named (record { 0 = n }) insn) e
 
 pub finds_meant : (name : Mnemonic) (insn : View) (found : Option Found) → name.0 ≡ name_meant insn → Finds (named name insn) found → Finds (meant insn) found

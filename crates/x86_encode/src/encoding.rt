@@ -4,7 +4,7 @@ ghost use Rattle.std.specs.Prelude.{◌≡◌, ◌&&◌};
 ghost use Rattle.x86_insn.specs.Views.{view_of};
 ghost use Rattle.x86_encode.specs.Answers.{Encodes};
 ghost use Rattle.x86_encode.specs.Codes.{is_quad, is_wide, name_meant, meant};
-ghost use Rattle.x86_encode.specs.Faults.{Coded, Causes, HasCause};
+ghost use Rattle.x86_encode.specs.Faults.{Coded, HasForm, Causes, HasCause};
 ghost use Rattle.x86_encode.specs.Filling.{Fills, Placed};
 
 use crate::building::laid_out;
@@ -59,25 +59,40 @@ fn has_code(insn: &Insn, values: &Values) -> bool
     }
 }
 
+/// Whether some bytes mean the instruction with any values: these two are as good as all.
+fn has_form(insn: &Insn) -> bool
+    ensures { HasForm result insn.now }
+{
+    let small = Values {
+        immediate: Some(1),
+        displacement: Some(0),
+    };
+    let large = Values {
+        immediate: Some(0x8000_0000_0000_0000),
+        displacement: Some(0),
+    };
+    if has_code(insn, &small) {
+        true
+    } else {
+        has_code(insn, &large)
+    }
+}
+
 /// Why no bytes mean the instruction.
 #[inline(never)]
 fn fault_of(insn: &Insn, values: &Values) -> EncodeFault
     ensures { Causes insn.now values.now result }
 {
-    let any = Values {
-        immediate: Some(1),
-        displacement: Some(0),
-    };
-    if !has_code(insn, &any) {
+    if !has_form(insn) {
         return EncodeFault::NoSuchForm;
     }
-    let unknown = Values {
-        immediate: None,
-        displacement: Some(0),
-    };
     match values.immediate {
         Some(_) => EncodeFault::OutOfRange,
         None => {
+            let unknown = Values {
+                immediate: None,
+                displacement: Some(0),
+            };
             if has_code(insn, &unknown) {
                 EncodeFault::OutOfRange
             } else {
