@@ -24,7 +24,7 @@ use Rattle.x86_table.specs.Fields.{Location, nowhere, direct, from_rip, bare, ba
 use Rattle.x86_table.specs.Fits.{some_place_fits, is_memory, rm_fits, is_nowhere, place_fits, is_byte, is_middle, is_no_segment, takes_none, may_rep, may_repe, may_repne, may_lock, may_notrack, prefix_fits}
 use Rattle.x86_table.specs.Reads.{register_shown, from_start, place_shown, shown}
 use Rattle.x86_table.specs.Rows.{the_rows}
-use Rattle.x86_encode.specs.Building.{built, takes, code_by}
+use Rattle.x86_encode.specs.Building.{built, takes}
 use Rattle.x86_encode.specs.Codes.{plain_immediate, plain_target, plain_memory, normal}
 use Rattle.x86_encode.specs.Keys.{the_keys, either, register_sort, immediate_sort, sort, register_sorts, rm_sorts, place_sorts, first_sort, sorts, words_of, key_of, has_bit, has_word, admits}
 use Rattle.x86_encode.proofs.Complete.{taken}
@@ -232,10 +232,6 @@ passed r insn h = elim (cases_Bool (takes r insn)) [
   | inl e ↦ absurd (both_ways (admits (key_of r) insn) h (admitted r insn e))
   | inr e ↦ e
 ]
-
-pub skipped : (r : Row) (insn : View) → admits (key_of r) insn ≡ false → code_by r insn ≡ None
-unfolding code_by
-skipped r insn h = rw (passed r insn h) refl
 
 -- each key is its row's
 pub keyed : map key_of the_rows ≡ the_keys

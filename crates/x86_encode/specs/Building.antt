@@ -1,5 +1,5 @@
 -- The fields that the encoder takes for a row: those with the fewest bytes.
-use Rattle.std.specs.Prelude.{◌%◌, ◌==◌, ◌&&◌, ◌||◌, ◌∷◌, if◌then◌else◌, Bool, List, None, Option, Some, [], false, length, nat_lt, not, true, ℕ}
+use Rattle.std.specs.Prelude.{◌%◌, ◌==◌, ◌&&◌, ◌||◌, ◌∷◌, if◌then◌else◌, Bool, List, None, Option, Some, [], false, length, not, true, ℕ}
 use Rattle.x86_insn.specs.declared.registers.Reg.{Reg}
 use Rattle.x86_insn.specs.declared.insns.Segment.{Segment}
 use Rattle.x86_insn.specs.declared.insns.Index.{Index}
@@ -320,24 +320,3 @@ is_shaped r = (not (has_low r.shape) || has is_low r) && ((not (has_reg r.shape)
 abbrev pub all_shaped : List Row → Bool
 all_shaped [] = true
 all_shaped (r ∷ rows) = is_shaped r && all_shaped rows
-
--- THE SEARCH
-
--- the bytes by one row
-unfoldable pub code_by : Row → View → Option (List ℕ)
-code_by r insn = if takes r insn then Some (bytes_of r (built r insn)) else None
-
--- the shorter of two, the first of equals
-abbrev pub shorter : List ℕ → List ℕ → Option (List ℕ)
-shorter old new = if nat_lt (length new) (length old) then Some new else Some old
-
--- the same where there may be none
-abbrev pub better : Option (List ℕ) → Option (List ℕ) → Option (List ℕ)
-better None new = new
-better (Some old) None = Some old
-better (Some old) (Some new) = shorter old new
-
--- the first of the shortest of these rows
-abbrev pub best_from : Option (List ℕ) → View → List Row → Option (List ℕ)
-best_from found insn [] = found
-best_from found insn (r ∷ rows) = best_from (better found (code_by r insn)) insn rows

@@ -127,11 +127,6 @@ pub record IsCode (bytes : List ℕ) (insn : View) : Type 0 where
 abbrev pub HasNoCode : View → Type 0
 HasNoCode insn = (bytes : List ℕ) (i : ℕ) → Codes bytes insn i → ⊥
 
--- the least bytes that mean the instruction, or none where none do
-abbrev pub Answers : Option (List ℕ) → View → Type 0
-Answers None insn = HasNoCode insn
-Answers (Some bytes) insn = IsCode bytes insn
-
 -- the 64-bit register of an operand
 abbrev pub is_quad : Seen → Bool
 is_quad absent = false

@@ -25,8 +25,8 @@ use Rattle.x86_insn.specs.Views.{Seen, absent, register, immediate as shown_imme
 use Rattle.x86_table.specs.Bytes.{first_byte, size_byte, repeat_byte, lock_byte, bit, rex_bits, rex_byte, escape_byte, second_escape, bytes_of}
 use Rattle.x86_table.specs.Fields.{Location, nowhere, direct, from_rip, bare, based, Fields, fields_of}
 use Rattle.x86_table.specs.Rows.{the_rows}
-use Rattle.x86_encode.specs.Building.{built, takes, code_by, better}
-use Rattle.x86_encode.specs.Codes.{Answers}
+use Rattle.x86_encode.specs.Building.{built, takes}
+use Rattle.x86_encode.specs.Codes.{Codes, Before, HasNoCode}
 
 -- the keys of the rows, in order
 unfoldable pub the_keys : List Key
@@ -224,21 +224,6 @@ pub record AreSorts (s : Sorts) (n : View) : Type 0 where
 
 -- WHAT IS FOUND
 
--- the row at the index takes the instruction, with these fields and so many bytes
-pub record Gives (insn : View) (x : Found) (code : List ℕ) : Type 0 where
-  pub row : Row
-  pub found : slice_get the_rows x.row ≡ Some row
-  pub code_is : code_by row insn ≡ Some code
-  pub parts_are : fields_of x.parts ≡ built row insn
-  pub length_is : x.length ≡ length code
-
--- what is found gives these bytes, or there are none
-abbrev pub Holds : View → Option Found → Option (List ℕ) → Type 0
-Holds insn None None = Unit {0}
-Holds insn None (Some code) = ⊥
-Holds insn (Some x) None = ⊥
-Holds insn (Some x) (Some code) = Gives insn x code
-
 -- what was found is no longer than this
 abbrev pub is_reached : Option Found → ℕ → Bool
 is_reached None n = false
@@ -262,10 +247,35 @@ nearer found None = found
 nearer None (Some new) = Some new
 nearer (Some old) (Some new) = if nat_lt new.length old.length then Some new else Some old
 
--- what is found after the row at the index is the better of what was found and of the row
-abbrev pub Steps : View → Row → ℕ → Option Found → Option Found → Type 0
-Steps insn r i found new = (code : Option (List ℕ)) → Holds insn found code → slice_get the_rows i ≡ Some r → Holds insn new (better code (code_by r insn))
+-- the row of what is found takes the instruction, and no row before n gives it bytes that come before
+pub record BestSofar (n : ℕ) (insn : View) (x : Found) : Type 0 where
+  pub r : Row
+  pub below : x.row < n
+  pub found : slice_get the_rows x.row ≡ Some r
+  pub taken : takes r insn ≡ true
+  pub parts_are : fields_of x.parts ≡ built r insn
+  pub length_is : x.length ≡ length (bytes_of r (built r insn))
+  pub least : (other : List ℕ) (j : ℕ) → j < n → Codes other insn j → Before (bytes_of r (built r insn)) x.row other j
 
--- what is found gives the least bytes that mean the instruction, or there are none
+-- what is found of the rows before n
+abbrev pub Sofar : ℕ → View → Option Found → Type 0
+Sofar n insn None = (bytes : List ℕ) (j : ℕ) → j < n → Codes bytes insn j → ⊥
+Sofar n insn (Some x) = BestSofar n insn x
+
+-- what is found after the row at the index
+abbrev pub Steps : View → Row → ℕ → Option Found → Option Found → Type 0
+Steps insn r i found new = slice_get the_rows i ≡ Some r → Sofar i insn found → Sofar (i + 1) insn new
+
+-- the row of what is found takes the instruction, and no row gives it bytes that come before
+pub record Best (insn : View) (x : Found) : Type 0 where
+  pub r : Row
+  pub found : slice_get the_rows x.row ≡ Some r
+  pub taken : takes r insn ≡ true
+  pub parts_are : fields_of x.parts ≡ built r insn
+  pub length_is : x.length ≡ length (bytes_of r (built r insn))
+  pub least : (other : List ℕ) (j : ℕ) → Codes other insn j → Before (bytes_of r (built r insn)) x.row other j
+
+-- what is found is the best, or there is none
 abbrev pub Finds : View → Option Found → Type 0
-Finds insn found = (code : Option (List ℕ)) × Holds insn found code × Answers code insn
+Finds insn None = HasNoCode insn
+Finds insn (Some x) = Best insn x

@@ -5,7 +5,7 @@ ghost use Rattle.x86_insn.specs.Views.{view_of};
 ghost use Rattle.x86_encode.specs.Answers.{Encodes};
 ghost use Rattle.x86_encode.specs.Codes.{is_quad, is_wide, name_meant, meant};
 ghost use Rattle.x86_encode.specs.Faults.{Coded, HasForm, Causes, HasCause};
-ghost use Rattle.x86_encode.specs.Filling.{Fills, Placed};
+ghost use Rattle.x86_encode.specs.Filling.{Fills, Placed, Notes};
 
 use crate::building::laid_out;
 use crate::encoded::{EncodeFault, Encoded};
@@ -107,6 +107,7 @@ pub fn encode(insn: &Insn, values: &Values) -> Result<Encoded, EncodeFault>
     ensures code { Encodes (meant (view_of insn.now values.now)) result }
     ensures fields { Fills (meant (view_of insn.now values.now)) result }
     ensures positions { Placed (meant (view_of insn.now values.now)) result }
+    ensures notes { Notes (meant (view_of insn.now values.now)) result }
     ensures cause { HasCause insn.now values.now result }
 {
     let name = name_meant(insn, values);

@@ -2,7 +2,7 @@ use Rattle.x86_insn.specs.Views.{view_of}
 use Rattle.x86_table.specs.Fields.{fields_of}
 use Rattle.x86_encode.specs.Codes.{meant}
 use Rattle.x86_encode.proofs.Search.{finds_meant, none_found, found_row, taking_fits, taking_code}
-use Rattle.x86_encode.proofs.Filled.{taking_fills}
+use Rattle.x86_encode.proofs.Filled.{taking_fills, taking_notes}
 use Rattle.x86_encode.proofs.Positions.{moved_placed, held_placed}
 use Rattle.x86_encode.proofs.encoding.encode.Goals as goal
 
@@ -33,3 +33,9 @@ returns-in-Some-clause-positions c =
     let f = finds_meant c.name_meant-name.result (view_of c.args.insn.now c.args.values.now) c.shortest.result c.name_meant-name.ensures c.shortest.ensures in
     let t = found_row (meant (view_of c.args.insn.now c.args.values.now)) c.shortest.result c.in-Some.found c.rows.result.now _ c.in-Some.is c.rows.ensures f in
     (moved_placed _ (meant (view_of c.args.insn.now c.args.values.now)) c.in-Some.found _ c.displacement_field.result t c.displacement_field.ensures, held_placed _ (meant (view_of c.args.insn.now c.args.values.now)) c.in-Some.found _ c.immediate_field.result t c.immediate_field.ensures)
+
+pub returns-in-Some-clause-notes : goal.returns-in-Some-clause-notes
+returns-in-Some-clause-notes c =
+    let f = finds_meant c.name_meant-name.result (view_of c.args.insn.now c.args.values.now) c.shortest.result c.name_meant-name.ensures c.shortest.ensures in
+    let t = found_row (meant (view_of c.args.insn.now c.args.values.now)) c.shortest.result c.in-Some.found c.rows.result.now _ c.in-Some.is c.rows.ensures f in
+    taking_notes (meant (view_of c.args.insn.now c.args.values.now)) c.in-Some.found _ _ t c.bytes_of.ensures c.displacement_field.ensures c.immediate_field.ensures
