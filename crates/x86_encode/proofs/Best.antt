@@ -7,7 +7,7 @@ use Rattle.x86_table.specs.Bytes.{bytes_of}
 use Rattle.x86_table.specs.Fits.{fits}
 use Rattle.x86_table.specs.Rows.{the_rows}
 use Rattle.x86_encode.specs.Building.{built, takes, is_shaped, all_shaped}
-use Rattle.x86_encode.specs.Codes.{Means, Codes, AtMost, Before}
+use Rattle.x86_encode.specs.Codes.{Means, OrderedCodes, AtMost, Before}
 use Rattle.x86_encode.proofs.Complete.{takes_all}
 
 at_most_same : (xs : List ℕ) → AtMost xs xs
@@ -18,7 +18,7 @@ pub some_is : {A : Type 0} {m n : A} → Some m ≡ Some n → m ≡ n
 some_is h = cc
 
 -- a row that is not taken codes nothing
-pub misses : (n : ℕ) (r : Row) (insn : View) → slice_get the_rows n ≡ Some r → is_shaped r ≡ true → takes r insn ≡ false → (bytes : List ℕ) → Codes bytes insn n → ⊥
+pub misses : (n : ℕ) (r : Row) (insn : View) → slice_get the_rows n ≡ Some r → is_shaped r ≡ true → takes r insn ≡ false → (bytes : List ℕ) → OrderedCodes bytes insn n → ⊥
 misses n r insn e w t bytes (s, p, c) =
     let same : s ≡ r = some_is (sym c.found ∙ e) in
     let P : Row → Type 0 = λ x. Means x p insn in
@@ -26,7 +26,7 @@ misses n r insn e w t bytes (s, p, c) =
     both_ways (takes r insn) t (takes_all r insn p w (subst Q same c.fit) (subst P same c.means)).takes
 
 -- all that a row codes is what it takes, or longer
-pub rest_longer : (n : ℕ) (r : Row) (insn : View) → slice_get the_rows n ≡ Some r → is_shaped r ≡ true → (other : List ℕ) → Codes other insn n
+pub rest_longer : (n : ℕ) (r : Row) (insn : View) → slice_get the_rows n ≡ Some r → is_shaped r ≡ true → (other : List ℕ) → OrderedCodes other insn n
     → (bytes_of r (built r insn) ≡ other) ⊎ (length (bytes_of r (built r insn)) < length other)
 rest_longer n r insn e w other (s, p, c) =
     let same : s ≡ r = some_is (sym c.found ∙ e) in
@@ -67,7 +67,7 @@ pub shaped : all_shaped the_rows ≡ true
 unfolding the_rows
 shaped = refl
 
-pub code_within : (bytes : List ℕ) (insn : View) (j : ℕ) → Codes bytes insn j → j < length the_rows
+pub code_within : (bytes : List ℕ) (insn : View) (j : ℕ) → OrderedCodes bytes insn j → j < length the_rows
 code_within bytes insn j (r, p, c) = within the_rows j r c.found
 
 -- a row of the table is shaped

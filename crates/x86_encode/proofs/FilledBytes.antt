@@ -116,7 +116,7 @@ append_nil : (y : List ℕ) → y ++ [] ≡ y
 append_nil [] = refl
 append_nil (x ∷ y) = ap (λ (z : List ℕ). x ∷ z) (append_nil y)
 
-drop_all : (f : List ℕ) (n : ℕ) → length f ≤ n → drop n f ≡ []
+pub drop_all : (f : List ℕ) (n : ℕ) → length f ≤ n → drop n f ≡ []
 drop_all [] zero e = refl
 drop_all [] (suc n) e = refl
 drop_all (x ∷ f) zero e = absurd (omega arith)

@@ -11,12 +11,14 @@ use Rattle.x86_table.specs.declared.forms.Immediate.TheVariants as immediate
 use Rattle.x86_insn.specs.declared.insns.Slot.TheVariants as slot
 use Rattle.x86_insn.specs.Views.{immediate as shown_immediate, View, seen_at, view_of}
 use Rattle.x86_table.specs.Fits.{immediate_fits, fits}
-use Rattle.x86_encode.specs.Codes.{last_of, reduced, HasNoCode, is_quad, is_wide, named, name_meant, meant}
-use Rattle.x86_encode.specs.Faults.{with_values, HasCode, Coded, HasCodeAs, HasForm, is_value, is_full, kinds_fit}
-use Rattle.x86_encode.proofs.Nearest.{values_by, with_zero}
+use Rattle.x86_encode.specs.Codes.{last_of, reduced, is_quad, is_wide, named, name_meant, meant}
+use Rattle.x86_encode.specs.Exchanges.{HasNoCode, HasCode}
+use Rattle.x86_encode.specs.Faults.{with_values, Coded, HasCodeAs, HasForm, is_value, is_full, kinds_fit}
+use Rattle.x86_encode.proofs.Nearest.{values_by}
+use Rattle.x86_encode.proofs.Orders.{any_zero, any_value}
 use Rattle.x86_encode.proofs.Roles.{or_rest}
 use Rattle.x86_encode.proofs.Search.{meant_is}
-use Rattle.x86_encode.proofs.Values.{Takes, with_value}
+use Rattle.x86_encode.proofs.Values.{Takes}
 use Rattle.x86_table.specs.declared.mnemonics.TheConstants.{MOV, MOVABS}
 
 -- A VALUE THAT EACH IMMEDIATE HOLDS
@@ -163,8 +165,8 @@ meant_code name insn values e h = subst (λ (v : View). HasCode v) (sym (meant_i
 plain_values : (insn : Insn) (held moved : Option ℕ) → wide_test insn (values_by held moved) ≡ false → HasCode (with_values insn held moved) → HasCode (with_values insn (Some 1) (Some 0))
 plain_values insn held moved t h =
     let a = meant_code insn.name insn (values_by held moved) (name_own insn (values_by held moved) t) h in
-    let b = with_value 1 insn.name insn held moved (λ r k e. takes_one r.immediate) (λ e. refl) a in
-    let c = with_zero insn.name insn (Some 1) moved b in
+    let b = any_value 1 insn.name insn held moved (λ r k e. takes_one r.immediate) (λ e. refl) a in
+    let c = any_zero insn.name insn (Some 1) moved b in
     own_code insn.name insn (values_by (Some 1) (Some 0)) (name_own insn (values_by (Some 1) (Some 0)) (test_one insn (Some 0))) c
 
 wide_values : (insn : Insn) (held moved : Option ℕ) → wide_test insn (values_by held moved) ≡ true → HasCode (with_values insn held moved) → HasCode (with_values insn (Some (2 ^ 63)) (Some 0))
@@ -176,8 +178,8 @@ wide_values insn held moved t h =
     let u : wide_test insn (values_by (Some (2 ^ 63)) (Some 0)) ≡ true =
     and_from _ _ p.0 (and_from _ _ q.0 (and_from _ _ (quad_any insn held moved insn.first r.0) (wide_full insn held moved insn.second r.1))) in
     let a = meant_code name insn (values_by held moved) (name_movabs insn (values_by held moved) t) h in
-    let b = with_value (2 ^ 63) name insn held moved (λ s k e. takes_full s k e) (λ e. wide_held insn held moved insn.second r.1 e) a in
-    let c = with_zero name insn (Some (2 ^ 63)) moved b in
+    let b = any_value (2 ^ 63) name insn held moved (λ s k e. takes_full s k e) (λ e. wide_held insn held moved insn.second r.1 e) a in
+    let c = any_zero name insn (Some (2 ^ 63)) moved b in
     own_code name insn (values_by (Some (2 ^ 63)) (Some 0)) (name_movabs insn (values_by (Some (2 ^ 63)) (Some 0)) u) c
 
 pub no_form : (insn : Insn) → HasNoCode (with_values insn (Some 1) (Some 0)) → HasNoCode (with_values insn (Some (2 ^ 63)) (Some 0)) → (held moved : Option ℕ) → HasNoCode (with_values insn held moved)
@@ -189,7 +191,7 @@ no_form insn one wide held moved bytes i c = elim (cases_Bool (wide_test insn (v
 pub none_unknown : (insn : Insn) → HasNoCode (with_values insn None (Some 0)) → (moved : Option ℕ) → HasNoCode (with_values insn None moved)
 none_unknown insn none moved bytes i c =
     let a = meant_code insn.name insn (values_by None moved) (name_own insn (values_by None moved) (test_none insn moved)) (bytes, i, c) in
-    let b = with_zero insn.name insn None moved a in
+    let b = any_zero insn.name insn None moved a in
     let h = own_code insn.name insn (values_by None (Some 0)) (name_own insn (values_by None (Some 0)) (test_none insn (Some 0))) b in
     none h.0 h.1 h.2
 

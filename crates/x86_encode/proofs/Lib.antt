@@ -17,3 +17,6 @@ pub mod Positions
 pub mod Nearest
 pub mod Values
 pub mod Forms
+pub mod Turning
+pub mod Comparing
+pub mod Orders

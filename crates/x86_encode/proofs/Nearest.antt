@@ -26,8 +26,7 @@ use Rattle.x86_table.specs.Bytes.{place_x, place_b, rex_bits, rex_byte, has_rex,
 use Rattle.x86_table.specs.Fields.{Location, nowhere, direct, from_rip, bare, based, Fields}
 use Rattle.x86_table.specs.Fits.{long_fits, displacement_fits, index_fits, sib_fits, mode_fits, some_place_fits, is_memory, rm_fits, is_nowhere, place_fits, is_byte, is_middle_place, wants_rex, rex_fits, segment_fits, fields_fit, fits}
 use Rattle.x86_table.specs.Reads.{from_start, place_shown, shown}
-use Rattle.x86_encode.specs.Codes.{plain_target, plain_memory, normal, named}
-use Rattle.x86_encode.specs.Faults.{HasCode}
+use Rattle.x86_encode.specs.Codes.{plain_target, plain_memory, normal, HasOrderedCode, named}
 use Rattle.x86_encode.specs.Filling.{in_memory}
 use Rattle.x86_encode.specs.Keys.{count, width_length, place_length, modrm_length, length_by}
 use Rattle.x86_encode.proofs.FilledFields.{memory_prefix}
@@ -274,7 +273,7 @@ slot_by r p q insn held moved s h =
     ∙ ap (λ (x : Bool). shown x (length (bytes_of r (zeroed p))) (zeroed p) q) (sym (zero_rex r p))
 
 -- with the displacement 0 bytes mean the instruction, if some do
-pub with_zero : (name : Mnemonic) (insn : Insn) (held moved : Option ℕ) → HasCode (named name (view_of insn (values_by held moved))) → HasCode (named name (view_of insn (values_by held (Some 0))))
+pub with_zero : (name : Mnemonic) (insn : Insn) (held moved : Option ℕ) → HasOrderedCode (named name (view_of insn (values_by held moved))) → HasOrderedCode (named name (view_of insn (values_by held (Some 0))))
 with_zero name insn held moved (bytes, i, (r, p, c)) = (
   bytes_of r (zeroed p),
   i,

@@ -14,8 +14,8 @@ use Rattle.x86_table.specs.Fits.{fields_fit, fits}
 use Rattle.x86_table.specs.Ranges.{IsWithin, is_sized, AreRowsOf}
 use Rattle.x86_table.specs.Rows.{the_rows}
 use Rattle.x86_encode.specs.Building.{pick, without_rex, built, shows, takes}
-use Rattle.x86_encode.specs.Codes.{Codes, Before, IsCode, HasNoCode, named, name_meant, meant}
-use Rattle.x86_encode.specs.Faults.{HasCode}
+use Rattle.x86_encode.specs.Codes.{OrderedCodes, Before, HasNoOrderedCode, HasOrderedCode, named, name_meant, meant}
+use Rattle.x86_encode.specs.Exchanges.{OrderedAt}
 use Rattle.x86_encode.specs.Keys.{the_keys, length_by, least_length, key_of, admits, is_reached, Offer, Offers, nearer, BestSofar, Sofar, Steps, Best, Finds}
 use Rattle.x86_encode.proofs.Best.{some_is, misses, rest_longer, own_before, later_by, shorter_before, shaped_at}
 use Rattle.x86_encode.proofs.Complete.{taken}
@@ -81,7 +81,7 @@ offered r insn i x p n a b c e len f le s = record {
 -- STEPS
 
 -- what was found stays, if the row codes nothing that is shorter
-stays : (n : ℕ) (insn : View) (x : Found) → BestSofar n insn x → ((other : List ℕ) → Codes other insn n → x.length ≤ length other) → BestSofar (n + 1) insn x
+stays : (n : ℕ) (insn : View) (x : Found) → BestSofar n insn x → ((other : List ℕ) → OrderedCodes other insn n → x.length ≤ length other) → BestSofar (n + 1) insn x
 stays n insn x b k = record {
   r = b.r;
   below = (let l = b.below in omega arith);
@@ -90,7 +90,7 @@ stays n insn x b k = record {
   parts_are = b.parts_are;
   length_is = b.length_is;
   least = λ other j lt c. elim (cases_order j n) [
-    | inl e ↦ let l = b.below in let z = b.length_is in let at : Codes other insn n = subst (λ (y : ℕ). Codes other insn y) e c in
+    | inl e ↦ let l = b.below in let z = b.length_is in let at : OrderedCodes other insn n = subst (λ (y : ℕ). OrderedCodes other insn y) e c in
         let m = k other at in
         subst (λ (y : ℕ). Before (bytes_of b.r (built b.r insn)) x.row other y) (sym e) (later_by x.row n (bytes_of b.r (built b.r insn)) other l (omega arith))
     | inr (inl l) ↦ b.least other j l c
@@ -100,7 +100,7 @@ stays n insn x b k = record {
 
 -- the row's offer comes before all that came before
 takes_over : (n : ℕ) (insn : View) (r : Row) (x : Found) → Offer insn r n x → slice_get the_rows n ≡ Some r
-    → ((other : List ℕ) (j : ℕ) → j < n → Codes other insn j → Before (bytes_of r (built r insn)) n other j) → BestSofar (n + 1) insn x
+    → ((other : List ℕ) (j : ℕ) → j < n → OrderedCodes other insn j → Before (bytes_of r (built r insn)) n other j) → BestSofar (n + 1) insn x
 takes_over n insn r x o s k = record {
   r = r;
   below = (let e = o.row_is in omega arith);
@@ -109,21 +109,21 @@ takes_over n insn r x o s k = record {
   parts_are = o.parts_are;
   length_is = o.length_is;
   least = λ other j lt c. subst (λ (y : ℕ). Before (bytes_of r (built r insn)) y other j) (sym o.row_is) (elim (cases_order j n) [
-    | inl e ↦ let at : Codes other insn n = subst (λ (y : ℕ). Codes other insn y) e c in
+    | inl e ↦ let at : OrderedCodes other insn n = subst (λ (y : ℕ). OrderedCodes other insn y) e c in
         subst (λ (y : ℕ). Before (bytes_of r (built r insn)) n other y) (sym e) (own_before n (bytes_of r (built r insn)) other (rest_longer n r insn s (shaped_at n r s) other at))
     | inr (inl l) ↦ k other j l c
     | inr (inr g) ↦ absurd (omega arith)
   ]);
 }
 
-none_yet : (n : ℕ) (insn : View) → Sofar n insn None → ((other : List ℕ) → Codes other insn n → ⊥) → Sofar (n + 1) insn None
+none_yet : (n : ℕ) (insn : View) → Sofar n insn None → ((other : List ℕ) → OrderedCodes other insn n → ⊥) → Sofar (n + 1) insn None
 none_yet n insn b k = λ bytes j l c. elim (cases_order j n) [
-  | inl e ↦ k bytes (subst (λ (y : ℕ). Codes bytes insn y) e c)
+  | inl e ↦ k bytes (subst (λ (y : ℕ). OrderedCodes bytes insn y) e c)
   | inr (inl m) ↦ b bytes j m c
   | inr (inr g) ↦ absurd (omega arith)
 ]
 
-passes : (n : ℕ) (insn : View) (found : Option Found) → ((other : List ℕ) → Codes other insn n → ⊥) → Sofar n insn found → Sofar (n + 1) insn found
+passes : (n : ℕ) (insn : View) (found : Option Found) → ((other : List ℕ) → OrderedCodes other insn n → ⊥) → Sofar n insn found → Sofar (n + 1) insn found
 passes n insn None k b = none_yet n insn b k
 passes n insn (Some x) k b = stays n insn x b (λ other c. absurd (k other c))
 
@@ -194,7 +194,7 @@ in_both start stop i h = let p = and_parts (nat_le start i) (nat_lt i stop) h in
 sized : (insn : View) (r : Row) → insn.name.0 ≡ r.name.0 → insn.size ≡ r.size → is_sized insn.name.0 insn.size r ≡ true
 sized insn r e f = and_from _ _ (eq-eqb _ _ (sym e)) (eq-eqb _ _ (sym f))
 
-coded_in : (insn : View) (x : RowRange) (bytes : List ℕ) (j : ℕ) → AreRowsOf (is_sized insn.name.0 insn.size) x → Codes bytes insn j → (x.start ≤ j) × (j < x.stop)
+coded_in : (insn : View) (x : RowRange) (bytes : List ℕ) (j : ℕ) → AreRowsOf (is_sized insn.name.0 insn.size) x → OrderedCodes bytes insn j → (x.start ≤ j) × (j < x.stop)
 coded_in insn x bytes j a (r, p, c) = in_both x.start x.stop j (a j r c.found ∙ sized insn r c.means.name c.means.size)
 
 pub sofar_at : (insn : View) (x : RowRange) → AreRowsOf (is_sized insn.name.0 insn.size) x → Sofar x.start insn None
@@ -213,7 +213,7 @@ key_inside x i keys w f lt =
     let m = as_many in
     omega arith
 
-past : (insn : View) (x : RowRange) (i : ℕ) (bytes : List ℕ) (j : ℕ) → AreRowsOf (is_sized insn.name.0 insn.size) x → x.stop ≤ i → Codes bytes insn j → j < i
+past : (insn : View) (x : RowRange) (i : ℕ) (bytes : List ℕ) (j : ℕ) → AreRowsOf (is_sized insn.name.0 insn.size) x → x.stop ≤ i → OrderedCodes bytes insn j → j < i
 past insn x i bytes j a le c = let m = (coded_in insn x bytes j a c).1 in omega arith
 
 pub sofar_ends : (insn : View) (x : RowRange) (i : ℕ) (found : Option Found) → IsWithin x → AreRowsOf (is_sized insn.name.0 insn.size) x → x.stop ≤ i → (x.start ≤ x.stop → i ≤ x.stop) → Sofar i insn found
@@ -230,7 +230,7 @@ sofar_ends insn x i (Some y) w a le up b = record {
 
 -- WHAT IS FOUND
 
-pub none_found : (insn : View) (found : Option Found) → found ≡ None → Finds insn found → HasNoCode insn
+pub none_found : (insn : View) (found : Option Found) → found ≡ None → Finds insn found → HasNoOrderedCode insn
 none_found insn None e k = k
 none_found insn (Some x) e k = cc
 
@@ -240,7 +240,7 @@ pub record Taking (insn : View) (x : Found) (r : Row) : Type 0 where
   pub taken : takes r insn ≡ true
   pub parts_are : fields_of x.parts ≡ built r insn
   pub length_is : x.length ≡ length (bytes_of r (built r insn))
-  pub least : (other : List ℕ) (j : ℕ) → Codes other insn j → Before (bytes_of r (built r insn)) x.row other j
+  pub least : (other : List ℕ) (j : ℕ) → OrderedCodes other insn j → Before (bytes_of r (built r insn)) x.row other j
 
 best_of : (insn : View) (found : Option Found) (x : Found) → found ≡ Some x → Finds insn found → Best insn x
 best_of insn found x e k = let q : Finds insn (Some x) = subst (λ (y : Option Found). Finds insn y) e k in q
@@ -265,13 +265,13 @@ unfolding takes fits
 taking_fits insn x r t =
     subst (λ (y : Fields). fields_fit r y ≡ true) (sym t.parts_are) (and_parts _ _ (and_parts _ _ t.taken).0).0
 
-taken_code : (insn : View) (x : Found) (r : Row) → Taking insn x r → Codes (bytes_of r (built r insn)) insn x.row
+taken_code : (insn : View) (x : Found) (r : Row) → Taking insn x r → OrderedCodes (bytes_of r (built r insn)) insn x.row
 taken_code insn x r t = let k = taken r insn t.taken in (r, built r insn, record { found = t.found; fit = k.0; means = k.1; bytes_are = refl })
 
-pub taking_code : (insn : View) (x : Found) (r : Row) (bytes : List ℕ) → Taking insn x r → bytes ≡ bytes_of r (fields_of x.parts) → IsCode bytes insn
+pub taking_code : (insn : View) (x : Found) (r : Row) (bytes : List ℕ) → Taking insn x r → bytes ≡ bytes_of r (fields_of x.parts) → OrderedAt x.row bytes insn
 taking_code insn x r bytes t e =
     let same : bytes_of r (built r insn) ≡ bytes = ap (λ (y : Fields). bytes_of r y) (sym t.parts_are) ∙ sym e in
-    subst (λ (y : List ℕ). IsCode y insn) same (record { row = x.row; codes = taken_code insn x r t; least = t.least })
+    subst (λ (y : List ℕ). OrderedAt x.row y insn) same (record { codes = taken_code insn x r t; least = t.least })
 
 pub meant_is : (name : Mnemonic) (insn : View) → name.0 ≡ name_meant insn → named name insn ≡ meant insn
 meant_is name insn e = ap (λ (n : ℕ). named (record { 0 = n }) insn) e
@@ -279,7 +279,7 @@ meant_is name insn e = ap (λ (n : ℕ). named (record { 0 = n }) insn) e
 pub finds_meant : (name : Mnemonic) (insn : View) (found : Option Found) → name.0 ≡ name_meant insn → Finds (named name insn) found → Finds (meant insn) found
 finds_meant name insn found e k = subst (λ (v : View). Finds v found) (meant_is name insn e) k
 
-pub some_found : (insn : View) (found : Option Found) (x : Found) → found ≡ Some x → Finds insn found → HasCode insn
+pub some_found : (insn : View) (found : Option Found) (x : Found) → found ≡ Some x → Finds insn found → HasOrderedCode insn
 some_found insn found x e k =
     let t = best_of insn found x e k in
     (bytes_of t.r (built t.r insn), x.row, taken_code insn x t.r (taking insn x t))

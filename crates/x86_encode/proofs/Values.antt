@@ -19,8 +19,8 @@ use Rattle.x86_table.specs.Fits.{immediate_fits, wants_rex, rex_fits, fields_fit
 use Rattle.x86_table.specs.Reads.{from_start, place_shown, shown}
 use Rattle.x86_table.specs.Rows.{the_rows}
 use Rattle.x86_encode.specs.Building.{held_of, takes}
-use Rattle.x86_encode.specs.Codes.{last_of, reduced, plain_immediate, normal, named}
-use Rattle.x86_encode.specs.Faults.{HasCode, is_value, kind_fits, kinds_fit, all_kinds}
+use Rattle.x86_encode.specs.Codes.{last_of, reduced, plain_immediate, normal, HasOrderedCode, named}
+use Rattle.x86_encode.specs.Faults.{is_value, kind_fits, kinds_fit, all_kinds}
 use Rattle.x86_encode.specs.Keys.{length_by}
 use Rattle.x86_encode.proofs.Best.{some_is}
 use Rattle.x86_encode.proofs.Fitted.{fit_of, fit_size}
@@ -214,7 +214,7 @@ kinds_at i r h = kinds_in the_rows i r kinds h
 
 -- with an immediate that the row holds bytes mean the instruction, if some do
 pub with_value : (v : ℕ) (name : Mnemonic) (insn : Insn) (held moved : Option ℕ) → ((r : Row) → kinds_fit r ≡ true → name.0 ≡ r.name.0 → Takes v r.immediate) → (held ≡ Some 1 → v ≡ 1)
-    → HasCode (named name (view_of insn (values_by held moved))) → HasCode (named name (view_of insn (values_by (Some v) moved)))
+    → HasOrderedCode (named name (view_of insn (values_by held moved))) → HasOrderedCode (named name (view_of insn (values_by (Some v) moved)))
 with_value v name insn held moved takes one (bytes, i, (r, p, c)) =
     let kind = kinds_at i r c.found in
     let t = takes r kind c.means.name in

@@ -97,15 +97,15 @@ pub record Means (r : Row) (p : Fields) (insn : View) : Type 0 where
   pub third : normal r.immediate r.third insn.third ≡ shown (has_rex r p) (length (bytes_of r p)) p r.third
 
 -- the bytes mean the instruction by the table's row at the index, with these fields
-pub record CodesRow (bytes : List ℕ) (insn : View) (i : ℕ) (r : Row) (p : Fields) : Type 0 where
+pub record OrderedRow (bytes : List ℕ) (insn : View) (i : ℕ) (r : Row) (p : Fields) : Type 0 where
   pub found : slice_get the_rows i ≡ Some r
   pub fit : fits r p ≡ true
   pub means : Means r p insn
   pub bytes_are : bytes ≡ bytes_of r p
 
 -- the bytes mean the instruction by this row; what is not known now stands in a full field of zeros
-abbrev pub Codes : List ℕ → View → ℕ → Type 0
-Codes bytes insn i = (r : Row) × (p : Fields) × CodesRow bytes insn i r p
+abbrev pub OrderedCodes : List ℕ → View → ℕ → Type 0
+OrderedCodes bytes insn i = (r : Row) × (p : Fields) × OrderedRow bytes insn i r p
 
 -- in order of the bytes
 abbrev pub AtMost : List ℕ → List ℕ → Type 0
@@ -118,14 +118,18 @@ abbrev pub Before : List ℕ → ℕ → List ℕ → ℕ → Type 0
 Before bytes i other j = (length bytes < length other) ⊎ ((length bytes ≡ length other) × ((i < j) ⊎ ((i ≡ j) × AtMost bytes other)))
 
 -- the bytes mean the instruction, and come before all others that do
-pub record IsCode (bytes : List ℕ) (insn : View) : Type 0 where
+pub record IsOrderedCode (bytes : List ℕ) (insn : View) : Type 0 where
   pub row : ℕ
-  pub codes : Codes bytes insn row
-  pub least : (other : List ℕ) (j : ℕ) → Codes other insn j → Before bytes row other j
+  pub codes : OrderedCodes bytes insn row
+  pub least : (other : List ℕ) (j : ℕ) → OrderedCodes other insn j → Before bytes row other j
 
 -- no bytes mean the instruction
-abbrev pub HasNoCode : View → Type 0
-HasNoCode insn = (bytes : List ℕ) (i : ℕ) → Codes bytes insn i → ⊥
+abbrev pub HasNoOrderedCode : View → Type 0
+HasNoOrderedCode insn = (bytes : List ℕ) (i : ℕ) → OrderedCodes bytes insn i → ⊥
+
+-- some bytes mean the instruction in the row's order
+abbrev pub HasOrderedCode : View → Type 0
+HasOrderedCode insn = (bytes : List ℕ) × (i : ℕ) × OrderedCodes bytes insn i
 
 -- the 64-bit register of an operand
 abbrev pub is_quad : Seen → Bool

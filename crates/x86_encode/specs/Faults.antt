@@ -12,16 +12,13 @@ use Rattle.x86_table.specs.declared.forms.Immediate.TheVariants as immediate
 use Rattle.x86_table.specs.declared.forms.Pattern.TheVariants as pattern
 use Rattle.x86_insn.specs.Views.{View, view_of}
 use Rattle.x86_table.specs.Reads.{is_known}
-use Rattle.x86_encode.specs.Codes.{Codes, HasNoCode, meant}
+use Rattle.x86_encode.specs.Codes.{meant}
+use Rattle.x86_encode.specs.Exchanges.{HasNoCode, HasCode}
 use Rattle.x86_table.specs.declared.mnemonics.TheConstants.{MOVABS}
 
 -- the instruction with these values in place of its own
 abbrev pub with_values : Insn → Option ℕ → Option ℕ → View
 with_values insn held moved = meant (view_of insn (record { immediate = held; displacement = moved }))
-
--- some bytes mean the instruction
-abbrev pub HasCode : View → Type 0
-HasCode insn = (bytes : List ℕ) × (i : ℕ) × Codes bytes insn i
 
 -- some bytes mean the instruction, or none do
 abbrev pub Coded : Bool → View → Type 0

@@ -1,5 +1,5 @@
 -- Fields of values that are not known now, and the bytes with values in them.
-use Rattle.std.specs.Prelude.{◌≡◌, ◌+◌, ◌-◌, ◌*◌, ◌%◌, ◌^◌, ◌==◌, ◌∷◌, ◌++◌, if◌then◌else◌, Bool, List, None, Option, Some, [], drop, false, length, nat_lt, take, true, ℕ, Result, Ok, Err}
+use Rattle.std.specs.Prelude.{◌≡◌, ◌+◌, ◌-◌, ◌*◌, ◌%◌, ◌^◌, ◌==◌, ◌∷◌, ◌++◌, if◌then◌else◌, Bool, List, None, Option, Some, [], drop, false, length, nat_lt, take, true, ℕ}
 use Rattle.std.specs.Int.{to_le_bytes, w16, w32, w64}
 use Rattle.x86_insn.specs.declared.insns.Base.{Base}
 use Rattle.x86_insn.specs.declared.insns.Prefix.{Prefix}
@@ -10,7 +10,6 @@ use Rattle.x86_encode.specs.declared.encoded.Field.{Field}
 use Rattle.x86_encode.specs.declared.encoded.FieldKind.{FieldKind}
 use Rattle.x86_encode.specs.declared.encoded.Position.{Position}
 use Rattle.x86_encode.specs.declared.encoded.Encoded.{Encoded}
-use Rattle.x86_encode.specs.declared.encoded.EncodeFault.{EncodeFault}
 use Rattle.x86_insn.specs.declared.insns.Base.TheVariants as base
 use Rattle.x86_table.specs.declared.forms.Immediate.TheVariants as immediate
 use Rattle.x86_encode.specs.declared.encoded.FieldKind.TheVariants as kind
@@ -22,7 +21,7 @@ use Rattle.x86_table.specs.Fields.{Location, nowhere, direct, from_rip, bare, ba
 use Rattle.x86_table.specs.Fits.{is_signed}
 use Rattle.x86_table.specs.Reads.{shown, meaning, ReadsRow}
 use Rattle.x86_encode.specs.Building.{shows}
-use Rattle.x86_encode.specs.Codes.{plain_immediate, CodesRow}
+use Rattle.x86_encode.specs.Codes.{plain_immediate, OrderedRow}
 use Rattle.x86_encode.specs.Keys.{immediate_length}
 
 -- what a field may hold
@@ -134,11 +133,6 @@ abbrev pub held_field : ℕ → Position → Immediate → Option ℕ → Option
 held_field at here i None = Some (record { at = at; size = immediate_length i; kind = kind_of i; position = here })
 held_field at here i (Some v) = None
 
--- what is encoded keeps the promise of its fields
-abbrev pub Fills : View → Result Encoded EncodeFault → Type 0
-Fills insn (Ok made) = FieldsFill insn made
-Fills insn (Err cause) = Unit {0}
-
 -- WHOSE A FIELD IS
 
 -- the operand is in memory
@@ -174,21 +168,13 @@ abbrev pub FieldAt : (Seen → Bool) → View → Option Field → Type 0
 FieldAt test insn None = Unit {0}
 FieldAt test insn (Some f) = test (operand_in insn f.position) ≡ true
 
--- each field is that of the operand at its position
-abbrev pub Placed : View → Result Encoded EncodeFault → Type 0
-Placed insn (Ok made) = FieldAt in_memory insn made.displacement × FieldAt holds_number insn made.immediate
-Placed insn (Err cause) = Unit {0}
-
 -- the fields are those of a row and of fields by which the bytes mean the instruction, where they end and whose they are
 pub record Noted (insn : View) (made : Encoded) : Type 0 where
   pub row : ℕ
   pub r : Row
   pub p : Fields
-  pub means : CodesRow made.bytes.items insn row r p
-  pub moved : made.displacement ≡ moved_field (length made.bytes.items - immediate_length r.immediate - 4) (position_by (in_memory insn.first) (in_memory insn.second)) p.place
-  pub held : made.immediate ≡ held_field (length made.bytes.items - immediate_length r.immediate) (position_by (holds_number insn.first) (holds_number insn.second)) r.immediate p.held
-
--- the same of an answer
-abbrev pub Notes : View → Result Encoded EncodeFault → Type 0
-Notes insn (Ok made) = Noted insn made
-Notes insn (Err cause) = Unit {0}
+  pub here : Position
+  pub there : Position
+  pub means : OrderedRow made.bytes.items insn row r p
+  pub moved : made.displacement ≡ moved_field (length made.bytes.items - immediate_length r.immediate - 4) here p.place
+  pub held : made.immediate ≡ held_field (length made.bytes.items - immediate_length r.immediate) there r.immediate p.held

@@ -26,7 +26,7 @@ use Rattle.x86_table.specs.Bytes.{first_byte, size_byte, repeat_byte, lock_byte,
 use Rattle.x86_table.specs.Fields.{Location, nowhere, direct, from_rip, bare, based, Fields, fields_of}
 use Rattle.x86_table.specs.Rows.{the_rows}
 use Rattle.x86_encode.specs.Building.{built, takes}
-use Rattle.x86_encode.specs.Codes.{Codes, Before, HasNoCode}
+use Rattle.x86_encode.specs.Codes.{OrderedCodes, Before, HasNoOrderedCode}
 
 -- the keys of the rows, in order
 unfoldable pub the_keys : List Key
@@ -255,11 +255,11 @@ pub record BestSofar (n : ℕ) (insn : View) (x : Found) : Type 0 where
   pub taken : takes r insn ≡ true
   pub parts_are : fields_of x.parts ≡ built r insn
   pub length_is : x.length ≡ length (bytes_of r (built r insn))
-  pub least : (other : List ℕ) (j : ℕ) → j < n → Codes other insn j → Before (bytes_of r (built r insn)) x.row other j
+  pub least : (other : List ℕ) (j : ℕ) → j < n → OrderedCodes other insn j → Before (bytes_of r (built r insn)) x.row other j
 
 -- what is found of the rows before n
 abbrev pub Sofar : ℕ → View → Option Found → Type 0
-Sofar n insn None = (bytes : List ℕ) (j : ℕ) → j < n → Codes bytes insn j → ⊥
+Sofar n insn None = (bytes : List ℕ) (j : ℕ) → j < n → OrderedCodes bytes insn j → ⊥
 Sofar n insn (Some x) = BestSofar n insn x
 
 -- what is found after the row at the index
@@ -273,9 +273,9 @@ pub record Best (insn : View) (x : Found) : Type 0 where
   pub taken : takes r insn ≡ true
   pub parts_are : fields_of x.parts ≡ built r insn
   pub length_is : x.length ≡ length (bytes_of r (built r insn))
-  pub least : (other : List ℕ) (j : ℕ) → Codes other insn j → Before (bytes_of r (built r insn)) x.row other j
+  pub least : (other : List ℕ) (j : ℕ) → OrderedCodes other insn j → Before (bytes_of r (built r insn)) x.row other j
 
 -- what is found is the best, or there is none
 abbrev pub Finds : View → Option Found → Type 0
-Finds insn None = HasNoCode insn
+Finds insn None = HasNoOrderedCode insn
 Finds insn (Some x) = Best insn x

@@ -1,7 +1,8 @@
 -- The definitions that contracts cite, in reading order.
 pub mod Codes
+pub mod Exchanges
 pub mod Building
 pub mod Keys
-pub mod Answers
 pub mod Filling
+pub mod Answers
 pub mod Faults

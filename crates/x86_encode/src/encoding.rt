@@ -2,19 +2,15 @@
 
 ghost use Rattle.std.specs.Prelude.{◌≡◌, ◌&&◌};
 ghost use Rattle.x86_insn.specs.Views.{view_of};
-ghost use Rattle.x86_encode.specs.Answers.{Encodes};
+ghost use Rattle.x86_encode.specs.Answers.{Encodes, Fills, Notes, Placed};
 ghost use Rattle.x86_encode.specs.Codes.{is_quad, is_wide, name_meant, meant};
 ghost use Rattle.x86_encode.specs.Faults.{Coded, HasForm, Causes, HasCause};
-ghost use Rattle.x86_encode.specs.Filling.{Fills, Placed, Notes};
 
-use crate::building::laid_out;
 use crate::encoded::{EncodeFault, Encoded};
-use crate::filling::{displacement_field, immediate_field};
 use crate::immediates::is_signed_32;
-use crate::searching::shortest;
+use crate::making::made_of;
 use x86_insn::{Class, Insn, Mnemonic, Slot, Values};
 use x86_table::mnemonics::{MOV, MOVABS};
-use x86_table::{bytes_of, fields_have_bytes, rows};
 
 /// Whether the value goes into a 64-bit register and 32 bits, sign-extended, do not hold it.
 fn is_wide_move(insn: &Insn, values: &Values) -> bool
@@ -51,9 +47,7 @@ fn name_meant(insn: &Insn, values: &Values) -> Mnemonic
 fn has_code(insn: &Insn, values: &Values) -> bool
     ensures { Coded result (meant (view_of insn.now values.now)) }
 {
-    let name = name_meant(insn, values);
-    let laid = laid_out(insn, values);
-    match shortest(name, &laid, insn, values) {
+    match made_of(name_meant(insn, values), insn, values) {
         None => false,
         Some(_) => true,
     }
@@ -110,31 +104,8 @@ pub fn encode(insn: &Insn, values: &Values) -> Result<Encoded, EncodeFault>
     ensures notes { Notes (meant (view_of insn.now values.now)) result }
     ensures cause { HasCause insn.now values.now result }
 {
-    let name = name_meant(insn, values);
-    let laid = laid_out(insn, values);
-    match shortest(name, &laid, insn, values) {
+    match made_of(name_meant(insn, values), insn, values) {
         None => Err(fault_of(insn, values)),
-        Some(found) => {
-            fields_have_bytes();
-            let row = &rows()[found.row];
-            Ok(Encoded {
-                bytes: bytes_of(row, &found.parts),
-                displacement: displacement_field(
-                    found.length,
-                    row.immediate,
-                    found.parts.place,
-                    found.parts.displacement,
-                    insn,
-                    values,
-                ),
-                immediate: immediate_field(
-                    found.length,
-                    row.immediate,
-                    found.parts.immediate,
-                    insn,
-                    values,
-                ),
-            })
-        }
+        Some(made) => Ok(made.encoded),
     }
 }

@@ -9,6 +9,7 @@ mod immediates;
 mod keying;
 mod keys;
 mod lengths;
+mod making;
 mod searching;
 mod showing;
 

@@ -1,0 +1,254 @@
+-- Codes of an instruction by those in the row's order.
+use Rattle.std.proofs.Common.{◌≡◌, ◌-◌, ◌==◌, ◌&&◌, ◌||◌, ◌∷◌, ◌∙◌, Bool, List, None, Option, Some, [], ap, arith, eq-eqb, false, inl, inr, length, nat_lt, refl, subst, sym, true, ℕ}
+use Rattle.std.proofs.lemmas.Bool.{cases_order, eqb-true, both_ways, ltb-true, and_parts, or_cases, ltb-false}
+use Rattle.x86_insn.specs.declared.insns.Mnemonic.{Mnemonic}
+use Rattle.x86_table.specs.declared.forms.Immediate.{Immediate}
+use Rattle.x86_encode.specs.declared.encoded.Field.{Field}
+use Rattle.x86_encode.specs.declared.encoded.Position.{Position}
+use Rattle.x86_encode.specs.declared.making.Made.{Made}
+use Rattle.x86_encode.specs.declared.encoded.Position.TheVariants as position
+use Rattle.x86_insn.specs.Views.{Seen, View}
+use Rattle.x86_table.specs.Fields.{Location, nowhere, direct, from_rip, bare, based}
+use Rattle.x86_table.specs.Reads.{is_register, is_accumulator}
+use Rattle.x86_encode.specs.Answers.{IsMade, Makes, IsMadeBack, MakesBack, IsAnswer, Answers, turned_position, turned_field, is_before}
+use Rattle.x86_encode.specs.Codes.{OrderedRow, OrderedCodes, AtMost, Before, HasNoOrderedCode, named, name_meant, meant}
+use Rattle.x86_encode.specs.Exchanges.{turned, exchanges, Codes, HasNoCode, OrderedAt, HasCode, at_most}
+use Rattle.x86_encode.specs.Filling.{field_holds, filled, moved_field, held_field, in_memory, holds_number, operand_in, FieldAt}
+use Rattle.x86_encode.specs.Keys.{immediate_length}
+use Rattle.x86_encode.proofs.Least.{least}
+use Rattle.x86_encode.proofs.Search.{meant_is}
+use Rattle.x86_table.specs.declared.mnemonics.TheConstants.{XCHG}
+
+-- ORDER OF BYTES
+
+at_most_all : (xs ys zs : List ℕ) → AtMost xs ys → AtMost ys zs → AtMost xs zs
+at_most_all [] ys zs a b = tt
+at_most_all (x ∷ xs) [] zs a b = absurd a
+at_most_all (x ∷ xs) (y ∷ ys) [] a b = absurd b
+at_most_all (x ∷ xs) (y ∷ ys) (z ∷ zs) (inl l) (inl m) = inl (omega arith)
+at_most_all (x ∷ xs) (y ∷ ys) (z ∷ zs) (inl l) (inr m) = (let e = m.0 in inl (omega arith))
+at_most_all (x ∷ xs) (y ∷ ys) (z ∷ zs) (inr l) (inl m) = (let e = l.0 in inl (omega arith))
+at_most_all (x ∷ xs) (y ∷ ys) (z ∷ zs) (inr l) (inr m) = inr (l.0 ∙ m.0, at_most_all xs ys zs l.1 m.1)
+
+before_all : (a b c : List ℕ) (i j k : ℕ) → Before a i b j → Before b j c k → Before a i c k
+before_all a b c i j k (inl l) (inl m) = inl (omega arith)
+before_all a b c i j k (inl l) (inr m) = (let e = m.0 in inl (omega arith))
+before_all a b c i j k (inr l) (inl m) = (let e = l.0 in inl (omega arith))
+before_all a b c i j k (inr (e, inl l)) (inr (f, inl m)) = inr (e ∙ f, inl (omega arith))
+before_all a b c i j k (inr (e, inl l)) (inr (f, inr m)) = (let g = m.0 in inr (e ∙ f, inl (omega arith)))
+before_all a b c i j k (inr (e, inr l)) (inr (f, inl m)) = (let g = l.0 in inr (e ∙ f, inl (omega arith)))
+before_all a b c i j k (inr (e, inr l)) (inr (f, inr m)) = inr (e ∙ f, inr (l.0 ∙ m.0, at_most_all a b c l.1 m.1))
+
+at_most_is : (xs ys : List ℕ) → at_most xs ys ≡ true → AtMost xs ys
+at_most_is [] ys h = tt
+at_most_is (x ∷ xs) [] h = cc
+at_most_is (x ∷ xs) (y ∷ ys) h = elim (or_cases (nat_lt x y) ((x == y) && at_most xs ys) h) [
+  | inl e ↦ inl (ltb-true x y e)
+  | inr e ↦ let p = and_parts (x == y) (at_most xs ys) e in inr (eqb-true x y p.0, at_most_is xs ys p.1)
+]
+
+neither : (a b : Bool) → (a || b) ≡ false → (a ≡ false) × (b ≡ false)
+neither true b h = cc
+neither false b h = (refl, h)
+
+not_both : (a b : Bool) → (a && b) ≡ false → a ≡ true → b ≡ false
+not_both true b h e = h
+not_both false b h e = cc
+
+at_most_not : (xs ys : List ℕ) → at_most xs ys ≡ false → AtMost ys xs
+at_most_not [] ys h = cc
+at_most_not (x ∷ xs) [] h = tt
+at_most_not (x ∷ xs) (y ∷ ys) h =
+    let p = neither (nat_lt x y) ((x == y) && at_most xs ys) h in
+    let l = ltb-false x y p.0 in
+    elim (cases_order x y) [
+      | inl e ↦ inr (sym e, at_most_not xs ys (not_both (x == y) (at_most xs ys) p.1 (eq-eqb x y e)))
+      | inr (inl m) ↦ absurd (omega arith)
+      | inr (inr m) ↦ inl m
+    ]
+
+before_is : (a b : List ℕ) (i j : ℕ) → (nat_lt (length a) (length b) || ((length a == length b) && (nat_lt i j || ((i == j) && at_most a b)))) ≡ true → Before a i b j
+before_is a b i j h = elim (or_cases (nat_lt (length a) (length b)) ((length a == length b) && (nat_lt i j || ((i == j) && at_most a b))) h) [
+  | inl e ↦ inl (ltb-true (length a) (length b) e)
+  | inr e ↦ let p = and_parts (length a == length b) (nat_lt i j || ((i == j) && at_most a b)) e in
+      inr (
+        eqb-true (length a) (length b) p.0,
+        elim (or_cases (nat_lt i j) ((i == j) && at_most a b) p.1) [
+          | inl f ↦ inl (ltb-true i j f)
+          | inr f ↦ let q = and_parts (i == j) (at_most a b) f in inr (eqb-true i j q.0, at_most_is a b q.1)
+        ],
+      )
+]
+
+before_not : (a b : List ℕ) (i j : ℕ) → (nat_lt (length a) (length b) || ((length a == length b) && (nat_lt i j || ((i == j) && at_most a b)))) ≡ false → Before b j a i
+before_not a b i j h =
+    let p = neither (nat_lt (length a) (length b)) ((length a == length b) && (nat_lt i j || ((i == j) && at_most a b))) h in
+    let l = ltb-false (length a) (length b) p.0 in
+    elim (cases_order (length a) (length b)) [
+      | inl e ↦
+          let q = neither (nat_lt i j) ((i == j) && at_most a b) (not_both (length a == length b) (nat_lt i j || ((i == j) && at_most a b)) p.1 (eq-eqb (length a) (length b) e)) in
+          let m = ltb-false i j q.0 in
+          inr (
+            sym e,
+            elim (cases_order i j) [
+              | inl f ↦ inr (sym f, at_most_not a b (not_both (i == j) (at_most a b) q.1 (eq-eqb i j f)))
+              | inr (inl g) ↦ absurd (omega arith)
+              | inr (inr g) ↦ inl g
+            ],
+          )
+      | inr (inl m) ↦ absurd (omega arith)
+      | inr (inr m) ↦ inl m
+    ]
+
+-- ONE ORDER OR THE OTHER
+
+own_codes : (insn : View) (bytes : List ℕ) (i : ℕ) → exchanges (turned insn) ≡ false → Codes bytes insn i → OrderedCodes bytes insn i
+own_codes insn bytes i h (true, e, c) = absurd (both_ways (exchanges (turned insn)) h e)
+own_codes insn bytes i h (false, e, c) = c
+
+other_codes : (insn : View) (bytes : List ℕ) (i : ℕ) → exchanges insn ≡ true → Codes bytes insn i → OrderedCodes bytes (turned insn) i
+other_codes insn bytes i h (true, e, c) = c
+other_codes insn bytes i h (false, e, c) = absurd (both_ways (exchanges insn) e h)
+
+pub plain : (insn : View) (made : Option Made) → exchanges insn ≡ false → exchanges (turned insn) ≡ false → Makes insn made → Answers insn made
+plain insn None e h k = λ bytes i c. k bytes i (own_codes insn bytes i h c)
+plain insn (Some m) e h k = record {
+  code = record { codes = (false, e, k.code.codes); least = λ other j c. k.code.least other j (own_codes insn other j h c) };
+  fields = (false, e, k.fields);
+  notes = (false, e, k.notes);
+  moved = k.moved;
+  held = k.held;
+}
+
+pub back : (insn : View) (made : Option Made) → exchanges insn ≡ true → exchanges (turned insn) ≡ true → MakesBack insn made → Answers insn made
+back insn None e h k = λ bytes i c. k bytes i (other_codes insn bytes i e c)
+back insn (Some m) e h k = record {
+  code = record { codes = (true, h, k.code.codes); least = λ other j c. k.code.least other j (other_codes insn other j e c) };
+  fields = (true, h, k.fields);
+  notes = (true, h, k.notes);
+  moved = k.moved;
+  held = k.held;
+}
+
+pub never : (insn : View) → exchanges insn ≡ true → exchanges (turned insn) ≡ false → HasNoCode insn
+never insn e h bytes i (true, x, c) = both_ways (exchanges (turned insn)) h x
+never insn e h bytes i (false, x, c) = both_ways (exchanges insn) x e
+
+-- BOTH ORDERS
+
+by_own : (insn : View) (m : Made) → exchanges insn ≡ false → IsMade insn m → ((other : List ℕ) (j : ℕ) → OrderedCodes other (turned insn) j → Before m.encoded.bytes.items m.row other j) → IsAnswer insn m
+by_own insn m e k l = record {
+  code = record { codes = (false, e, k.code.codes); least = λ other j c. least other j c };
+  fields = (false, e, k.fields);
+  notes = (false, e, k.notes);
+  moved = k.moved;
+  held = k.held;
+}
+  where
+    least : (other : List ℕ) (j : ℕ) → Codes other insn j → Before m.encoded.bytes.items m.row other j
+    least other j (true, x, c) = l other j c
+    least other j (false, x, c) = k.code.least other j c
+
+by_other : (insn : View) (m : Made) → exchanges (turned insn) ≡ true → IsMadeBack insn m → ((other : List ℕ) (j : ℕ) → OrderedCodes other insn j → Before m.encoded.bytes.items m.row other j) → IsAnswer insn m
+by_other insn m h k l = record {
+  code = record { codes = (true, h, k.code.codes); least = λ other j c. least other j c };
+  fields = (true, h, k.fields);
+  notes = (true, h, k.notes);
+  moved = k.moved;
+  held = k.held;
+}
+  where
+    least : (other : List ℕ) (j : ℕ) → Codes other insn j → Before m.encoded.bytes.items m.row other j
+    least other j (true, x, c) = k.code.least other j c
+    least other j (false, x, c) = l other j c
+
+pub no_own : (insn : View) (made : Option Made) → exchanges (turned insn) ≡ true → HasNoOrderedCode insn → MakesBack insn made → Answers insn made
+no_own insn None h n k = λ bytes i c. none bytes i c
+  where
+    none : (bytes : List ℕ) (i : ℕ) → Codes bytes insn i → ⊥
+    none bytes i (true, x, c) = k bytes i c
+    none bytes i (false, x, c) = n bytes i c
+no_own insn (Some m) h n k = by_other insn m h k (λ other j c. absurd (n other j c))
+
+pub no_other : (insn : View) (m : Made) → exchanges insn ≡ false → IsMade insn m → HasNoOrderedCode (turned insn) → IsAnswer insn m
+no_other insn m e k n = by_own insn m e k (λ other j c. absurd (n other j c))
+
+pub first_of : (insn : View) (a b : Made) → exchanges insn ≡ false → is_before a b ≡ true → IsMade insn a → IsMadeBack insn b → IsAnswer insn a
+first_of insn a b e t k l = by_own insn a e k (λ other j c.
+    before_all a.encoded.bytes.items b.encoded.bytes.items other a.row b.row j (before_is a.encoded.bytes.items b.encoded.bytes.items a.row b.row t) (l.code.least other j c))
+
+pub second_of : (insn : View) (a b : Made) → exchanges (turned insn) ≡ true → is_before a b ≡ false → IsMade insn a → IsMadeBack insn b → IsAnswer insn b
+second_of insn a b h t k l = by_other insn b h l (λ other j c.
+    before_all b.encoded.bytes.items a.encoded.bytes.items other b.row a.row j (before_not a.encoded.bytes.items b.encoded.bytes.items a.row b.row t) (k.code.least other j c))
+
+-- FIELDS OF THE OTHER ORDER
+
+at_turned : (test : Seen → Bool) (insn : View) (f : Option Field) → FieldAt test (turned insn) f → FieldAt test insn (turned_field f)
+at_turned test insn None h = tt
+at_turned test insn (Some f) h = at_position f.position h
+  where
+    at_position : (p : Position) → test (operand_in (turned insn) p) ≡ true → test (operand_in insn (turned_position p)) ≡ true
+    at_position position.First h = h
+    at_position position.Second h = h
+    at_position position.Third h = h
+
+filled_turned : (f : Option Field) (v : ℕ) (bytes : List ℕ) → filled (turned_field f) v bytes ≡ filled f v bytes
+filled_turned None v bytes = refl
+filled_turned (Some f) v bytes = refl
+
+holds_turned : (f : Option Field) (v : ℕ) → field_holds (turned_field f) v ≡ field_holds f v
+holds_turned None v = refl
+holds_turned (Some f) v = refl
+
+moved_turned : (at : ℕ) (here : Position) (p : Location) → turned_field (moved_field at here p) ≡ moved_field at (turned_position here) p
+moved_turned at here nowhere = refl
+moved_turned at here (direct n) = refl
+moved_turned at here (from_rip None) = refl
+moved_turned at here (from_rip (Some v)) = refl
+moved_turned at here (bare i None) = refl
+moved_turned at here (bare i (Some v)) = refl
+moved_turned at here (based b i s w None) = refl
+moved_turned at here (based b i s w (Some v)) = refl
+
+held_turned : (at : ℕ) (here : Position) (i : Immediate) (d : Option ℕ) → turned_field (held_field at here i d) ≡ held_field at (turned_position here) i d
+held_turned at here i None = refl
+held_turned at here i (Some v) = refl
+
+pub made_turned : (insn : View) (m n : Made) → n.row ≡ m.row → n.encoded.bytes.items ≡ m.encoded.bytes.items → n.encoded.displacement ≡ turned_field m.encoded.displacement → n.encoded.immediate ≡ turned_field m.encoded.immediate
+    → IsMade (turned insn) m → IsMadeBack insn n
+made_turned insn m n e f g h k = record {
+  code = subst (λ (x : ℕ). OrderedAt x n.encoded.bytes.items (turned insn)) (sym e) (subst (λ (x : List ℕ). OrderedAt m.row x (turned insn)) (sym f) k.code);
+  fields = λ v w a b. (rw (f, g, h, filled_turned m.encoded.displacement v m.encoded.bytes.items, filled_turned m.encoded.immediate w (filled m.encoded.displacement v m.encoded.bytes.items))
+      (k.fields v w (sym (holds_turned m.encoded.displacement v) ∙ ap (λ (x : Option Field). field_holds x v) (sym g) ∙ a) (sym (holds_turned m.encoded.immediate w) ∙ ap (λ (x : Option Field). field_holds x w) (sym h) ∙ b)));
+  notes = record {
+    row = k.notes.row;
+    r = k.notes.r;
+    p = k.notes.p;
+    here = turned_position k.notes.here;
+    there = turned_position k.notes.there;
+    means = subst (λ (x : List ℕ). OrderedRow x (turned insn) k.notes.row k.notes.r k.notes.p) (sym f) k.notes.means;
+    moved = g ∙ ap turned_field k.notes.moved ∙ moved_turned _ k.notes.here k.notes.p.place ∙ ap (λ (x : List ℕ). moved_field (length x - immediate_length k.notes.r.immediate - 4) (turned_position k.notes.here) k.notes.p.place) (sym f);
+    held = h ∙ ap turned_field k.notes.held ∙ held_turned _ k.notes.there k.notes.r.immediate k.notes.p.held ∙ ap (λ (x : List ℕ). held_field (length x - immediate_length k.notes.r.immediate) (turned_position k.notes.there) k.notes.r.immediate k.notes.p.held) (sym f);
+  };
+  moved = subst (λ (x : Option Field). FieldAt in_memory insn x) (sym g) (at_turned in_memory insn m.encoded.displacement k.moved);
+  held = subst (λ (x : Option Field). FieldAt holds_number insn x) (sym h) (at_turned holds_number insn m.encoded.immediate k.held);
+}
+
+-- WHEN THE ORDERS COUNT
+
+pub not_named : (name : Mnemonic) (insn : View) → (name.0 == XCHG) ≡ false → (exchanges (named name insn) ≡ false) × (exchanges (turned (named name insn)) ≡ false)
+not_named name insn h = (rw h refl, rw h refl)
+
+pub as_named : (name : Mnemonic) (insn : View) (b : Bool) → (name.0 == XCHG) ≡ true → (is_register insn.first && is_accumulator insn.second) ≡ b → exchanges (named name insn) ≡ b
+as_named name insn b h e = rw h e
+
+pub back_named : (name : Mnemonic) (insn : View) (b : Bool) → (name.0 == XCHG) ≡ true → (is_register insn.second && is_accumulator insn.first) ≡ b → exchanges (turned (named name insn)) ≡ b
+back_named name insn b h e = rw h e
+
+-- WHAT IS ANSWERED
+
+pub meant_answers : (name : Mnemonic) (insn : View) (made : Option Made) → name.0 ≡ name_meant insn → Answers (named name insn) made → Answers (meant insn) made
+meant_answers name insn made e k = subst (λ (v : View). Answers v made) (meant_is name insn e) k
+
+pub coded_some : (insn : View) (m : Made) → IsAnswer insn m → HasCode insn
+coded_some insn m k = (m.encoded.bytes.items, m.row, k.code.codes)

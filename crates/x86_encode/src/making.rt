@@ -1,0 +1,219 @@
+//! The shortest bytes of an instruction, with their fields, in either order of its operands.
+
+ghost use Rattle.std.specs.Prelude.{◌≡◌, ◌==◌, false, true};
+ghost use Rattle.x86_insn.specs.Views.{seen_at, view_of};
+ghost use Rattle.x86_table.specs.Reads.{is_register, is_accumulator};
+ghost use Rattle.x86_encode.specs.Answers.{Makes, MakesBack, Answers, turned_position, turned_field, is_before};
+ghost use Rattle.x86_encode.specs.Codes.{named};
+ghost use Rattle.x86_encode.specs.Exchanges.{turned, exchanges, at_most};
+
+use crate::building::laid_out;
+use crate::encoded::{Encoded, Field, Position};
+use crate::filling::{displacement_field, immediate_field};
+use crate::searching::shortest;
+use x86_insn::{Insn, Mnemonic, Slot, Values};
+use x86_table::mnemonics::XCHG;
+use x86_table::{bytes_of, fields_have_bytes, rows};
+
+/// What is encoded, and the index of its row.
+#[derive(Drop)]
+pub struct Made {
+    pub row: usize,
+    pub encoded: Encoded,
+}
+
+/// What is made of the operands in the row's order.
+fn made_here(name: Mnemonic, insn: &Insn, values: &Values) -> Option<Made>
+    ensures { Makes (named name (view_of insn.now values.now)) result }
+{
+    let laid = laid_out(insn, values);
+    match shortest(name, &laid, insn, values) {
+        None => None,
+        Some(found) => {
+            fields_have_bytes();
+            let row = &rows()[found.row];
+            Some(Made {
+                row: found.row,
+                encoded: Encoded {
+                    bytes: bytes_of(row, &found.parts),
+                    displacement: displacement_field(
+                        found.length,
+                        row.immediate,
+                        found.parts.place,
+                        found.parts.displacement,
+                        insn,
+                        values,
+                    ),
+                    immediate: immediate_field(
+                        found.length,
+                        row.immediate,
+                        found.parts.immediate,
+                        insn,
+                        values,
+                    ),
+                },
+            })
+        }
+    }
+}
+
+/// The position in the other order.
+fn turned_position(position: Position) -> Position
+    ensures { result ≡ turned_position position }
+{
+    match position {
+        Position::First => Position::Second,
+        Position::Second => Position::First,
+        Position::Third => Position::Third,
+    }
+}
+
+/// The field of the other order.
+fn turned_field(field: Option<Field>) -> Option<Field>
+    ensures { result ≡ turned_field field }
+{
+    match field {
+        None => None,
+        Some(own) => Some(Field {
+            at: own.at,
+            size: own.size,
+            kind: own.kind,
+            position: turned_position(own.position),
+        }),
+    }
+}
+
+/// What is made of the operands in the other order.
+fn made_back(name: Mnemonic, insn: &Insn, values: &Values) -> Option<Made>
+    ensures { MakesBack (named name (view_of insn.now values.now)) result }
+{
+    let other = Insn {
+        name: insn.name,
+        size: insn.size,
+        prefix: insn.prefix,
+        first: insn.second,
+        second: insn.first,
+        third: insn.third,
+        address: insn.address,
+        immediate: x86_insn::Value {
+            amount: x86_insn::Amount::Number(0),
+            suffix: None,
+        },
+        displacement: x86_insn::Value {
+            amount: x86_insn::Amount::Number(0),
+            suffix: None,
+        },
+    };
+    match made_here(name, &other, values) {
+        None => None,
+        Some(own) => Some(Made {
+            row: own.row,
+            encoded: Encoded {
+                displacement: turned_field(own.encoded.displacement),
+                immediate: turned_field(own.encoded.immediate),
+                bytes: own.encoded.bytes,
+            },
+        }),
+    }
+}
+
+/// Whether the one comes before the other in order of their bytes, or is it.
+fn at_most(one: &[u8], other: &[u8]) -> bool
+    ensures { result ≡ at_most one.now other.now }
+{
+    for i in 0..one.len() {
+        if i >= other.len() {
+            return false;
+        }
+        if one[i] != other[i] {
+            return one[i] < other[i];
+        }
+    }
+    true
+}
+
+/// Whether the one comes before the other.
+fn is_before(one: &Made, other: &Made) -> bool
+    ensures { result ≡ is_before one.now other.now }
+{
+    let (length, own) = (one.encoded.bytes.len(), other.encoded.bytes.len());
+    length < own
+        || (length == own
+            && (one.row < other.row
+                || (one.row == other.row
+                    && at_most(one.encoded.bytes.as_slice(), other.encoded.bytes.as_slice()))))
+}
+
+/// Whether the operand is a register.
+fn is_register(slot: Slot, insn: &Insn, values: &Values) -> bool
+    ensures { result ≡ is_register (seen_at insn.now values.now slot) }
+{
+    match slot {
+        Slot::Register(_) => true,
+        _ => false,
+    }
+}
+
+/// Whether the operand is the accumulator.
+fn is_accumulator(slot: Slot, insn: &Insn, values: &Values) -> bool
+    ensures { result ≡ is_accumulator (seen_at insn.now values.now slot) }
+{
+    match slot {
+        Slot::Register(reg) => reg.number == 0,
+        _ => false,
+    }
+}
+
+/// The first of what is made in either order.
+fn made_either(name: Mnemonic, insn: &Insn, values: &Values) -> Option<Made>
+    requires own { exchanges (named name (view_of insn.now values.now)) ≡ false }
+    requires other { exchanges (turned (named name (view_of insn.now values.now))) ≡ true }
+    ensures { Answers (named name (view_of insn.now values.now)) result }
+{
+    let back = made_back(name, insn, values);
+    match made_here(name, insn, values) {
+        None => back,
+        Some(one) => match back {
+            None => Some(one),
+            Some(two) => {
+                if is_before(&one, &two) {
+                    Some(one)
+                } else {
+                    Some(two)
+                }
+            }
+        },
+    }
+}
+
+/// What is made of the operands of `xchg`, which shows the accumulator first.
+#[inline(never)]
+fn exchanged(name: Mnemonic, insn: &Insn, values: &Values) -> Option<Made>
+    requires { (name.0 == XCHG) ≡ true }
+    ensures { Answers (named name (view_of insn.now values.now)) result }
+{
+    let own = is_register(insn.first, insn, values) && is_accumulator(insn.second, insn, values);
+    let other = is_register(insn.second, insn, values) && is_accumulator(insn.first, insn, values);
+    if own {
+        if other {
+            made_back(name, insn, values)
+        } else {
+            None
+        }
+    } else if other {
+        made_either(name, insn, values)
+    } else {
+        made_here(name, insn, values)
+    }
+}
+
+/// What is made of the instruction.
+pub fn made_of(name: Mnemonic, insn: &Insn, values: &Values) -> Option<Made>
+    ensures { Answers (named name (view_of insn.now values.now)) result }
+{
+    if name.0 == XCHG {
+        exchanged(name, insn, values)
+    } else {
+        made_here(name, insn, values)
+    }
+}
