@@ -12,7 +12,6 @@ use Rattle.x86_table.specs.Fields.{Fields, located, fields_of}
 use Rattle.x86_table.specs.Fits.{fits}
 use Rattle.x86_table.specs.Reads.{shown}
 use Rattle.x86_table.specs.Rows.{the_rows}
-use Rattle.x86_encode.specs.Building.{shows}
 use Rattle.x86_encode.specs.Codes.{normal, Means}
 use Rattle.x86_encode.specs.Filling.{field_holds, filled, valued, exact, Shows, ReadsAs, moved_field, held_field, Noted}
 use Rattle.x86_encode.specs.Keys.{immediate_length}

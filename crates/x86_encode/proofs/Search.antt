@@ -20,7 +20,6 @@ use Rattle.x86_encode.specs.Keys.{the_keys, length_by, least_length, key_of, adm
 use Rattle.x86_encode.proofs.Best.{some_is, misses, rest_longer, own_before, later_by, shorter_before, shaped_at}
 use Rattle.x86_encode.proofs.Complete.{taken}
 use Rattle.x86_encode.proofs.Keyed.{passed, key_at, as_many}
-use Rattle.x86_encode.proofs.Least.{least}
 use Rattle.x86_encode.proofs.Length.{length_is, at_least}
 
 -- THE NAME ALONE CHANGES NOTHING ELSE

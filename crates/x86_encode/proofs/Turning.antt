@@ -15,7 +15,6 @@ use Rattle.x86_encode.specs.Codes.{OrderedRow, OrderedCodes, AtMost, Before, Has
 use Rattle.x86_encode.specs.Exchanges.{turned, exchanges, Codes, HasNoCode, OrderedAt, HasCode, at_most}
 use Rattle.x86_encode.specs.Filling.{field_holds, filled, moved_field, held_field, in_memory, holds_number, operand_in, FieldAt}
 use Rattle.x86_encode.specs.Keys.{immediate_length}
-use Rattle.x86_encode.proofs.Least.{least}
 use Rattle.x86_encode.proofs.Search.{meant_is}
 use Rattle.x86_table.specs.declared.mnemonics.TheConstants.{XCHG}
 

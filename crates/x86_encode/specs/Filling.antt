@@ -20,7 +20,6 @@ use Rattle.x86_table.specs.Bytes.{has_rex, bytes_of}
 use Rattle.x86_table.specs.Fields.{Location, nowhere, direct, from_rip, bare, based, Fields}
 use Rattle.x86_table.specs.Fits.{is_signed}
 use Rattle.x86_table.specs.Reads.{shown, meaning, ReadsRow}
-use Rattle.x86_encode.specs.Building.{shows}
 use Rattle.x86_encode.specs.Codes.{plain_immediate, OrderedRow}
 use Rattle.x86_encode.specs.Keys.{immediate_length}
 

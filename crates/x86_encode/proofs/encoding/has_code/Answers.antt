@@ -1,4 +1,4 @@
-use Rattle.std.proofs.Common.{◌≡◌, subst}
+use Rattle.std.proofs.Common.{subst}
 use Rattle.x86_insn.specs.Views.{view_of}
 use Rattle.x86_encode.specs.Answers.{Answers}
 use Rattle.x86_encode.specs.Codes.{meant}

@@ -1,4 +1,3 @@
-use Rattle.std.proofs.Common.{◌≡◌}
 use Rattle.x86_encode.proofs.Forms.{form_by, code_false}
 use Rattle.x86_encode.proofs.encoding.has_form.Goals as goal
 

@@ -1,4 +1,4 @@
-use Rattle.std.proofs.Common.{◌≡◌, ◌∙◌, sym, arith}
+use Rattle.std.proofs.Common.{◌∙◌, sym, arith}
 use Rattle.x86_encode.proofs.Comparing.{other_ends}
 use Rattle.x86_encode.proofs.making.at_most.Goals as goal
 

@@ -1,4 +1,4 @@
-use Rattle.std.proofs.Common.{◌≡◌, subst, refl}
+use Rattle.std.proofs.Common.{subst, refl}
 use Rattle.x86_insn.specs.Views.{view_of}
 use Rattle.x86_encode.specs.Answers.{Makes}
 use Rattle.x86_encode.specs.Codes.{named}

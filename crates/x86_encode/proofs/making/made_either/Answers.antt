@@ -1,6 +1,6 @@
-use Rattle.std.proofs.Common.{rules, ◌≡◌, ◌∙◌, sym, subst, true, false}
+use Rattle.std.proofs.Common.{◌∙◌, sym, subst}
 use Rattle.x86_insn.specs.Views.{view_of}
-use Rattle.x86_encode.specs.Answers.{Makes, MakesBack, is_before}
+use Rattle.x86_encode.specs.Answers.{Makes, MakesBack}
 use Rattle.x86_encode.specs.Codes.{named}
 use Rattle.x86_encode.proofs.Turning.{no_own, no_other, first_of, second_of}
 use Rattle.x86_encode.proofs.making.made_either.Goals as goal

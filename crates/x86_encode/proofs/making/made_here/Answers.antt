@@ -1,4 +1,3 @@
-use Rattle.std.proofs.Common.{◌≡◌}
 use Rattle.x86_insn.specs.Views.{view_of}
 use Rattle.x86_table.specs.Fields.{fields_of}
 use Rattle.x86_encode.specs.Codes.{named}
