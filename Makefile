@@ -27,7 +27,7 @@ check:
 
 # What no clause can say: the built program on files and devices that fail, and its objects linked by gcc. Random expressions beside
 # Python's integers, and the objects of random sources beside those of the machine's GNU as. The rows of the instruction table beside
-# the machine's objdump, and the document that is made of them.
+# the machine's objdump, and what is made of them: a document, and the indices and keys by which they are found.
 check-outside: all
 	checks/outside.sh build/as
 	checks/tables.sh build/as
@@ -36,6 +36,7 @@ check-outside: all
 	checks/compare.py --ours build/as
 	checks/rows.py
 	tools/instructions.py --check
+	tools/instruction_indices.py --check
 
 # No test, and no part of the gate: times build/as beside the machine's GNU as.
 bench: build/as

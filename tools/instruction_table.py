@@ -1,4 +1,5 @@
-"""Reads the instruction table from its source text: `tools/instructions.py` prints it, and `checks/rows.py` compares it with objdump.
+"""Reads the instruction table from its source text: `tools/instructions.py` prints it, `tools/instruction_indices.py` writes what is found by it, and
+`checks/rows.py` compares it with objdump.
 
 The rows stand in one file, one a line, behind the arms of macros that say what the short words of their columns are, in the types of `forms.rt`; the numbers
 of their names stand in `mnemonics.rt`. What cannot be read is a TableError that tells its place, and so is a row whose columns do not belong together.
@@ -239,20 +240,20 @@ def read_table(folder: pathlib.Path) -> list[Row]:
     return rows
 
 
-# ---- Names in AT&T syntax
+# ---- Mnemonics
 
 @dataclass(frozen=True)
 class Name:
-    """A mnemonic of AT&T syntax: the name of rows that it stands for, the size in bits that it fixes or 0, and by which rule its operands are read."""
+    """A mnemonic: the name of rows that it stands for, the size in bits that it fixes or 0, and by which rule its operands are read."""
     text: str
     row: str
     size: int
     rule: str
 
 
-def read_att_names(folder: pathlib.Path) -> list[Name]:
-    """The mnemonics of AT&T syntax. Raises TableError or OSError."""
-    path, lines, count = file_with(folder, "ATT_NAMES")
+def read_names(folder: pathlib.Path, table: str) -> list[Name]:
+    """The mnemonics of a syntax: ATT_NAMES or INTEL_NAMES. Raises TableError or OSError."""
+    path, lines, count = file_with(folder, table)
     names = []
     for line in filter(None, map(str.strip, lines)):
         found = re.fullmatch(r'b"(\w+) *" +(\d+) +(\w+) +(\d+) +(\w+)(\(\w+\))?;', line)

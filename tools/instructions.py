@@ -11,7 +11,7 @@ import sys
 from collections import defaultdict
 
 sys.dont_write_bytecode = True
-from instruction_table import BITS, ESCAPES, Name, Operand, Row, TableError, read_att_names, read_table  # noqa: E402
+from instruction_table import BITS, ESCAPES, Name, Operand, Row, TableError, read_names, read_table  # noqa: E402
 
 TOP = pathlib.Path(__file__).resolve().parent.parent
 
@@ -139,7 +139,7 @@ def main() -> int:
     parser.add_argument("--document", metavar="FILE", type=pathlib.Path, default=TOP / "docs/INSTRUCTIONS.md", help="the document")
     options = parser.parse_args()
     try:
-        text = document(read_table(options.table), read_att_names(options.table))
+        text = document(read_table(options.table), read_names(options.table, "ATT_NAMES"))
         if not options.check:
             options.document.write_text(text)
         elif options.document.read_text() != text:

@@ -1,0 +1,182 @@
+#!/usr/bin/env python3
+"""Writes what is found by the instruction table and its mnemonics: where the rows of a name stand, where the mnemonics stand by the hashes of their texts, and
+the keys of the rows.
+
+    tools/instruction_indices.py [--check] [--crates crates]
+
+With `--check` nothing is written: ends with 1 where a file is not what the table gives. That each of these is right is proved when its crate is checked (the
+rows of a range are those of the name, a mnemonic is found by its slot, a key is that of its row); this saves the writing by hand when the table changes.
+"""
+import argparse
+import pathlib
+import sys
+
+sys.dont_write_bytecode = True
+from instruction_table import ESCAPES, WIDTHS, Name, Operand, Row, TableError, read_names, read_table  # noqa: E402
+
+TOP = pathlib.Path(__file__).resolve().parent.parent
+WIDTH = 100
+
+# ---- Where the rows of a name stand
+
+SIZES = [0, 8, 16, 32, 64]
+SPANS_HEAD = """\
+//! Where the rows of each name stand in the table.
+
+/// The rows of a name: the index of the first, and where those of 0, 8, 16, 32 and 64 bits end.
+#[derive(Clone, Copy)]
+pub struct Span(pub u16, pub u16, pub u16, pub u16, pub u16, pub u16);
+
+/// In the order of the names' numbers.
+#[rattlefmt::skip]
+pub static SPANS: [Span; {count}] = [
+"""
+
+
+def spans_file(rows: list[Row]) -> str:
+    """The file of the spans: one a line, with its name."""
+    lines = []
+    for name in dict.fromkeys(row.name for row in rows):
+        first = next(index for index, row in enumerate(rows) if row.name == name)
+        ends = [first + sum(row.name == name and row.size <= size for row in rows) for size in SIZES]
+        span = f"Span({', '.join(map(str, [first, *ends]))}),"
+        lines.append(f"    {span:<36} // {name}\n")
+    return SPANS_HEAD.format(count=len(lines)) + "".join(lines) + "];\n"
+
+
+# ---- Where mnemonics stand by their hashes
+
+FACTOR, SHIFTS, PLACES, ON_A_LINE = 0x9E37_79B9_7F4A_7C15, 256, 1024, 14
+
+
+def hash_of(text: str) -> int:
+    """The hash of a text, of 64 bits."""
+    hashed = 0
+    for byte in text.encode():
+        hashed = (hashed + byte) * FACTOR % (1 << 64)
+    return hashed
+
+
+def slots_of(names: list[Name]) -> list[int]:
+    """A shift for each highest byte of a hash, and then the index of the mnemonic at each place: a hash's own place is moved by the shift. The largest groups of
+    one highest byte are placed first, each by the least shift that leaves all of it room."""
+    groups: dict[int, list[int]] = {}
+    for index, name in enumerate(names):
+        groups.setdefault(hash_of(name.text) >> 56, []).append(index)
+    shifts, places = [0] * SHIFTS, [-1] * PLACES
+    for group, indices in sorted(groups.items(), key=lambda it: -len(it[1])):
+        for shift in range(PLACES):
+            own = [((hash_of(names[index].text) >> 32) + shift) % PLACES for index in indices]
+            if len(set(own)) == len(own) and all(places[place] < 0 for place in own):
+                break
+        else:
+            raise TableError(f"the mnemonics with the highest byte {group} have no room")
+        shifts[group] = shift
+        for place, index in zip(own, indices):
+            places[place] = index
+    return shifts + [max(index, 0) for index in places]
+
+
+def slots_file(lists: list[tuple[str, str, list[Name]]]) -> str:
+    """The file of the slots, of each syntax by the name of its list."""
+    text = f"//! Where mnemonics stand in their lists, by the hashes of their texts: {SHIFTS} shifts, and {PLACES:,} indices.\n"
+    for syntax, table, names in lists:
+        slots = slots_of(names)
+        text += f"\n/// For the mnemonics of {syntax} syntax.\n#[rattlefmt::skip]\npub static {table}: [u16; {len(slots)}] = [\n"
+        for at in range(0, len(slots), ON_A_LINE):
+            text += f"    {' '.join(f'{slot},' for slot in slots[at:at + ON_A_LINE])}\n"
+        text += "];\n"
+    return text
+
+
+# ---- The keys of rows
+
+# A bit for each sort of operand that a row takes, as `specs/Keys.antt` of x86_encode numbers them. A register of a class may be al, cl, ax, eax or rax, which
+# have bits of their own.
+REGISTERS = {"Byte": 0x186, "High": 0x4, "Word": 0x208, "Long": 0x410, "Quad": 0x820, "Xmm": 0x40}
+ACCUMULATORS = {"Byte": 0x80, "High": 0x4, "Word": 0x200, "Long": 0x400, "Quad": 0x800, "Xmm": 0x40}
+MEMORY = 0x1000
+OTHERS = {"Absent": 0x1, "Cl": 0x100, "One": 0x8000, "Immediate": 0xA000, "Target": 0x4000}
+WORDS = {"Absent": 0, "Lock": 1, "Rep": 2, "Repe": 4, "Notrack": 8}
+
+KEYS_HEAD = """\
+//! The keys of the rows.
+
+/// What a row admits: the operand size, the prefix words, a bit each, how many bytes it has at least,
+/// and the sorts of the operands, a bit each.
+#[derive(Clone, Copy)]
+pub struct Key(pub u8, pub u8, pub u8, pub u16, pub u16, pub u16);
+
+/// The rows' keys, in their order.
+#[rattlefmt::skip]
+pub static KEYS: [Key; {count}] = [
+"""
+
+
+def sorts_of(row: Row, operand: Operand) -> int:
+    """The sorts that the operand of the row takes."""
+    if operand.kind == "RegMem":
+        register = 0 if row.rm == "Memory" else REGISTERS[operand.register]
+        return register | (0 if row.rm == "Register" else MEMORY)
+    if operand.kind in ("Reg", "Low"):
+        return REGISTERS[operand.register]
+    if operand.kind == "Accumulator":
+        return ACCUMULATORS[operand.register]
+    return OTHERS[operand.kind]
+
+
+def least_length(row: Row) -> int:
+    """The least number of bytes that the row has: 66, REX.W, escape bytes, opcode, ModRM and immediate."""
+    has_modrm = row.shape in ("Fixed", "Digit", "Slash")
+    return row.has_66 + row.rex_w + len(ESCAPES[row.map]) + 1 + has_modrm + WIDTHS[row.immediate]
+
+
+def key_of(row: Row) -> str:
+    """The key of a row, as it stands in the file."""
+    operands = [*row.operands, *[Operand("Absent")] * 3][:3]
+    sorts = ", ".join(f"0x{sorts_of(row, operand):X}" for operand in operands)
+    return f"Key({row.size}, {WORDS[row.words]}, {least_length(row)}, {sorts}),"
+
+
+def keys_file(rows: list[Row]) -> str:
+    """The file of the keys: as many on a line as have room."""
+    lines, line = [], "   "
+    for key in map(key_of, rows):
+        if len(line) + 1 + len(key) > WIDTH:
+            lines.append(line)
+            line = "   "
+        line += f" {key}"
+    return KEYS_HEAD.format(count=len(rows)) + "\n".join([*lines, line]) + "\n];\n"
+
+
+# ---- All files
+
+def files(crates: pathlib.Path) -> dict[pathlib.Path, str]:
+    """The text of each file."""
+    table = crates / "x86_table/src"
+    rows = read_table(table)
+    lists = [(syntax, f"{prefix}_SLOTS", read_names(table, f"{prefix}_NAMES")) for syntax, prefix in (("AT&T", "ATT"), ("Intel", "INTEL"))]
+    return {table / "spans.rt": spans_file(rows), table / "slots.rt": slots_file(lists), crates / "x86_encode/src/keys.rt": keys_file(rows)}
+
+
+def main() -> int:
+    parser = argparse.ArgumentParser(description="Writes what is found by the instruction table.")
+    parser.add_argument("--check", action="store_true", help="write nothing, and end with 1 where a file is another")
+    parser.add_argument("--crates", type=pathlib.Path, default=TOP / "crates", help="the folder of the crates")
+    options = parser.parse_args()
+    try:
+        made = files(options.crates)
+    except (TableError, OSError) as fault:
+        print(fault, file=sys.stderr)
+        return 1
+    stale = [path for path, text in made.items() if not path.exists() or path.read_text() != text]
+    for path in stale:
+        if options.check:
+            print(f"{path} is not what the table gives: run tools/instruction_indices.py", file=sys.stderr)
+        else:
+            path.write_text(made[path])
+    return int(options.check and bool(stale))
+
+
+if __name__ == "__main__":
+    sys.exit(main())
