@@ -13,7 +13,7 @@ use Rattle.elf_object.specs.declared.relocations.Target.TheVariants.{OfSection, 
 use Rattle.elf_object.specs.declared.symbol_values.SymbolValue.{SymbolValue}
 use Rattle.elf_object.specs.Contents.{relocations_of}
 use Rattle.elf_object.specs.Naming.{same_target, is_named_by, is_named, marks_from, named_of}
-use Rattle.elf_object.specs.Numbers.{section_numbers, symbol_numbers, first_section_symbol, first_local, first_other, numbers_of, target_number}
+use Rattle.elf_object.specs.Numbers.{section_numbers, standing_by, standing_of, symbol_numbers, first_section_symbol, first_local, first_other, numbers_of, target_number}
 use Rattle.elf_object.specs.SymbolValues.{symbol_value_of}
 use Rattle.elf_object.specs.SymbolTable.{SymbolEntry, is_local_entry, part, file_entry, section_entry, section_entries, entry_at, needs_naming, listed_if, listed, listed_by, listed_all, table_of}
 use Rattle.elf_object.specs.TableLaws.{named_targets, IsEntryOf, TargetsStand}
@@ -86,10 +86,10 @@ either P false first second = second
 abbrev Both : (local other : ℕ) (entry s : SymbolEntry) (more : List (Option SymbolEntry)) (i : ℕ) (bound : Bool) → Type 0
 Both local other entry s more i bound =
     IsAt (cond bound (s ∷ part true more) (part true more)) local
-    (slice_index_or (cond bound (local ∷ symbol_numbers (local + 1) other more) (other ∷ symbol_numbers local (other + 1) more)) i 0) entry
+    (slice_index_or (symbol_numbers local other (standing_by bound ∷ map standing_of more)) i 0) entry
 
 locals_at : (xs : List (Option SymbolEntry)) (local other i : ℕ) (entry : SymbolEntry) → slice_get xs i ≡ Some (Some entry) → is_local_entry entry ≡ true
-    → IsAt (part true xs) local (slice_index_or (symbol_numbers local other xs) i 0) entry
+    → IsAt (part true xs) local (slice_index_or (symbol_numbers local other (map standing_of xs)) i 0) entry
 locals_at [] local other i entry is so = absurd cc
 locals_at (None ∷ more) local other zero entry is so = absurd cc
 locals_at (None ∷ more) local other (suc i) entry is so = locals_at more local other i entry is so
@@ -102,7 +102,7 @@ locals_at (Some s ∷ more) local other (suc i) entry is so =
     (locals_at more local (other + 1) i entry is so)
 
 others_at : (xs : List (Option SymbolEntry)) (local other i : ℕ) (entry : SymbolEntry) → slice_get xs i ≡ Some (Some entry) → is_local_entry entry ≡ false
-    → IsAt (part false xs) other (slice_index_or (symbol_numbers local other xs) i 0) entry
+    → IsAt (part false xs) other (slice_index_or (symbol_numbers local other (map standing_of xs)) i 0) entry
 others_at [] local other i entry is so = absurd cc
 others_at (None ∷ more) local other zero entry is so = absurd cc
 others_at (None ∷ more) local other (suc i) entry is so = others_at more local other i entry is so
@@ -112,7 +112,7 @@ others_at (Some s ∷ more) local other zero entry is so =
     rw (bound, same) (at_first (part false more) other entry)
 others_at (Some s ∷ more) local other (suc i) entry is so =
     either (λ bound. IsAt (cond (not bound) (s ∷ part false more) (part false more)) other
-    (slice_index_or (cond bound (local ∷ symbol_numbers (local + 1) other more) (other ∷ symbol_numbers local (other + 1) more)) (suc i) 0) entry) (is_local_entry s)
+    (slice_index_or (symbol_numbers local other (standing_by bound ∷ map standing_of more)) (suc i) 0) entry) (is_local_entry s)
     (others_at more (local + 1) other i entry is so) (at_next (part false more) other _ s entry (others_at more local (other + 1) i entry is so))
 
 -- the entry stands behind a front of the table
@@ -193,7 +193,7 @@ symbol_number symbols sections i entry false so there =
     ) in
     let at = others_at all (first_local symbols named) (first_other symbols sections named) i entry there so in
     let (some, stands) = behind_front front (part false all) [] (first_other symbols sections named) _ entry base at in
-    let number = slice_index_or (symbol_numbers (first_local symbols named) (first_other symbols sections named) all) i 0 in
+    let number = slice_index_or (symbol_numbers (first_local symbols named) (first_other symbols sections named) (map standing_of all)) i 0 in
     (entry, there, some, sym (ap (λ (xs : List SymbolEntry). slice_get xs (number - 1)) (append-nil (front ++ part false all))) ∙ stands)
 
 symbol_stands : (symbols : SymbolMap) (sections : LaidSections) (i : ℕ) → Sits symbols sections (OfSymbol i) → is_named (relocations_of symbols sections) (OfSymbol i) ≡ true

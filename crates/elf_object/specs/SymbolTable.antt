@@ -1,5 +1,5 @@
 -- The symbol table: which symbols stand in it, in which order, and what their entries say (gABI, chapter 4, "Symbol Table").
-use Rattle.std.specs.Prelude.{ℕ, ◌+◌, ◌*◌, ◌&&◌, ◌||◌, not, Bool, true, false, List, [], ◌∷◌, ◌++◌, map, Option, None, Some, unwrap_or, slice_index_or, if◌then◌else◌}
+use Rattle.std.specs.Prelude.{◌≡◌, ℕ, ◌+◌, ◌*◌, ◌&&◌, ◌||◌, not, Bool, true, false, List, [], ◌∷◌, ◌++◌, map, Option, None, Some, unwrap_or, slice_index_or, if◌then◌else◌}
 use Rattle.asm_expr.specs.declared.naming.Name.{Name}
 use Rattle.asm_expr.specs.declared.naming.Name.TheVariants.{Plain, Numeric, Place}
 use Rattle.asm_expr.specs.Forms.{Form}
@@ -183,6 +183,10 @@ abbrev pub part : Bool → List (Option SymbolEntry) → List SymbolEntry
 part local [] = []
 part local (None ∷ more) = part local more
 part local (Some entry ∷ more) = if is_bound local entry then entry ∷ part local more else part local more
+
+-- the local ones of the entries, or the others, are put last
+abbrev pub PutsPart : Bool → List (Option SymbolEntry) → List SymbolEntry → List SymbolEntry → Type 0
+PutsPart local all before after = after ≡ before ++ part local all
 
 -- the entry of each symbol, if it stands in the table
 abbrev pub listed_all : SymbolMap → LaidSections → NamedOf → List (Option SymbolEntry)

@@ -1,14 +1,14 @@
 //! The symbols of the table in their order (gABI, chapter 4, "Symbol Table").
 
-ghost use Rattle.std.specs.Prelude.{◌≡◌, ◌++◌, [], ◌∷◌, length, map, option_map, IfOk, OnOk};
+ghost use Rattle.std.specs.Prelude.{◌≡◌, ◌++◌, [], ◌∷◌, true, false, length, map, option_map, IfOk, OnOk};
 ghost use Rattle.asm_relax.specs.Expanding.{AreExpansions};
-ghost use Rattle.elf_object.specs.Numbers.{first_other, numbers_of};
+ghost use Rattle.elf_object.specs.Numbers.{first_other, numbers_of, standing_of};
 ghost use Rattle.elf_object.specs.SymbolTable as spec;
 ghost use Rattle.elf_object.specs.Views.{symbol_view, named_view, numbers_view};
 
 use crate::entries::{TableSymbol, file_entry, is_local_entry, listed, section_entry};
 use crate::naming::Named;
-use crate::numbers::{Numbers, section_numbers, symbol_numbers};
+use crate::numbers::{Numbers, Standing, section_numbers, symbol_numbers};
 use crate::symbol_values::Placement;
 use asm_base::NoMemory;
 use asm_expr::Name;
@@ -16,24 +16,60 @@ use asm_relax::Expansions;
 use asm_symbols::Symbol;
 use std::alloc::{AllocError, Global};
 
-/// The entries of these symbols, each if it stands in the table; the marks tell which of them relocations name.
-pub(crate) fn listed_symbols<'a>(
+/// Puts the entry of a symbol last in its part of the table, if it stands there.
+#[tactic(auto, unfolding(crate::specs::SymbolTable::part))]
+fn put_listed<'a>(
+    one: Option<TableSymbol<'a>>,
+    locals: &mut Vec<TableSymbol<'a>>,
+    others: &mut Vec<TableSymbol<'a>>,
+) -> Result<Standing, AllocError>
+    ensures locals { let all = option_map symbol_view one.entry ∷ [] in OnOk result
+        (spec.PutsPart true all (map symbol_view locals.old.items) (map symbol_view locals.new.items)) }
+    ensures others { let all = option_map symbol_view one.entry ∷ [] in OnOk result
+        (spec.PutsPart false all (map symbol_view others.old.items) (map symbol_view others.new.items)) }
+    ensures standing { IfOk result (λ standing. standing
+        ≡ standing_of (option_map symbol_view one.entry)) }
+{
+    let Some(entry) = one else {
+        return Ok(Standing::Absent);
+    };
+    if is_local_entry(&entry) {
+        locals.push(entry)?;
+        Ok(Standing::Local)
+    } else {
+        others.push(entry)?;
+        Ok(Standing::Other)
+    }
+}
+
+/// Appends the entries of these symbols, each if it stands in the table, to those of its part; the
+/// marks tell which of them relocations name.
+fn put_symbols<'a>(
     alloc: Global,
     at: Placement,
     expansions: &Expansions,
     marks: &[bool],
     symbols: &'a [Symbol],
-) -> Result<Vec<Option<TableSymbol<'a>>>, NoMemory>
+    locals: &mut Vec<TableSymbol<'a>>,
+    others: &mut Vec<TableSymbol<'a>>,
+) -> Result<Vec<Standing>, NoMemory>
     requires expanded { AreExpansions at.symbols.now expansions.now }
     requires marks { length marks.now ≡ length symbols.now }
-    ensures { IfOk result (λ all. map (option_map symbol_view) all.items
-        ≡ spec.listed_by at.entry.symbols.now at.entry.sections.now marks.now symbols.now) }
+    ensures locals { let all = spec.listed_by at.entry.symbols.now at.entry.sections.now marks.now
+        symbols.now in OnOk result (spec.PutsPart true all
+        (map symbol_view locals.old.items) (map symbol_view locals.new.items)) }
+    ensures others { let all = spec.listed_by at.entry.symbols.now at.entry.sections.now marks.now
+        symbols.now in OnOk result (spec.PutsPart false all
+        (map symbol_view others.old.items) (map symbol_view others.new.items)) }
+    ensures standings { let all = spec.listed_by at.entry.symbols.now at.entry.sections.now marks.now
+        symbols.now in IfOk result (λ made. made.items ≡ map standing_of all) }
 {
-    let mut all = Vec::with_capacity(alloc, symbols.len())?;
+    let mut standings = Vec::with_capacity(alloc, symbols.len())?;
     for (index, symbol) in symbols.iter().enumerate() {
-        all.push(listed(alloc, at, expansions, marks[index], symbol)?)?;
+        let one = listed(alloc, at, expansions, marks[index], symbol)?;
+        standings.push(put_listed(one, locals, others)?)?;
     }
-    Ok(all)
+    Ok(standings)
 }
 
 /// Appends the entries of files' names.
@@ -56,50 +92,6 @@ fn put_sections(out: &mut Vec<TableSymbol>, marks: &[bool]) -> Result<(), AllocE
         if *mark {
             out.push(section_entry(number))?;
         }
-    }
-    Ok(())
-}
-
-/// Whether the entry is local, or whether it is not.
-fn is_bound(local: bool, entry: &TableSymbol) -> bool
-    ensures { result ≡ spec.is_bound local (symbol_view entry.now) }
-{
-    if local {
-        is_local_entry(entry)
-    } else {
-        !is_local_entry(entry)
-    }
-}
-
-/// Appends the entry, if there is one and it is local or not.
-#[tactic(auto, unfolding(crate::specs::SymbolTable::part))]
-fn put_one<'a>(
-    out: &mut Vec<TableSymbol<'a>>,
-    one: &Option<TableSymbol<'a>>,
-    local: bool,
-) -> Result<(), AllocError>
-    ensures { OnOk result (map symbol_view out.new.items
-        ≡ map symbol_view out.old.items ++ spec.part local (option_map symbol_view one.now ∷ [])) }
-{
-    if let Some(entry) = one {
-        if is_bound(local, entry) {
-            out.push(*entry)?;
-        }
-    }
-    Ok(())
-}
-
-/// Appends the local ones of the entries that there are, or the others.
-fn put_part<'a>(
-    out: &mut Vec<TableSymbol<'a>>,
-    all: &[Option<TableSymbol<'a>>],
-    local: bool,
-) -> Result<(), AllocError>
-    ensures { OnOk result (map symbol_view out.new.items
-        ≡ map symbol_view out.old.items ++ spec.part local (map (option_map symbol_view) all.now)) }
-{
-    for one in all {
-        put_one(out, one, local)?;
     }
     Ok(())
 }
@@ -129,19 +121,27 @@ pub(crate) fn list_symbols<'a>(
     ensures numbers { IfOk result (λ l. numbers_view l.numbers
         ≡ numbers_of at.entry.symbols.now at.entry.sections.now (named_view named.now)) }
 {
-    let all = listed_symbols(alloc, at, expansions, &named.symbols, at.symbols.as_slice())?;
-    let room = all.len().saturating_add(named.sections.len());
-    let mut symbols = Vec::with_capacity(alloc, room)?;
+    let own = at.symbols.as_slice();
+    let mut symbols = Vec::with_capacity(alloc, own.len().saturating_add(named.sections.len()))?;
+    let mut others = Vec::with_capacity(alloc, own.len())?;
     put_files(&mut symbols, at.symbols.files())?;
     let first_section = 1 + symbols.len();
     put_sections(&mut symbols, &named.sections)?;
     let first_local = 1 + symbols.len();
-    put_part(&mut symbols, &all, true)?;
+    let standings = put_symbols(
+        alloc,
+        at,
+        expansions,
+        &named.symbols,
+        own,
+        &mut symbols,
+        &mut others,
+    )?;
     let first_other = 1 + symbols.len();
-    put_part(&mut symbols, &all, false)?;
+    symbols.extend_from_slice(&others)?;
     let numbers = Numbers {
         sections: section_numbers(alloc, first_section, &named.sections)?,
-        symbols: symbol_numbers(alloc, first_local, first_other, &all)?,
+        symbols: symbol_numbers(alloc, first_local, first_other, &standings)?,
     };
     Ok(Listing {
         symbols,

@@ -1,12 +1,20 @@
 //! The numbers of symbols in the symbol table, by which relocations name them.
 
-ghost use Rattle.std.specs.Prelude.{◌≡◌, ◌+◌, ◌^◌, ◌<◌, length, map, option_map, IfOk};
+ghost use Rattle.std.specs.Prelude.{◌≡◌, ◌+◌, ◌^◌, ◌<◌, length, IfOk};
 ghost use Rattle.elf_object.specs.Numbers as spec;
-ghost use Rattle.elf_object.specs.Views.{symbol_view, numbers_view};
+ghost use Rattle.elf_object.specs.Views.{numbers_view};
 
-use crate::entries::{TableSymbol, is_local_entry};
 use crate::relocations::Target;
 use std::alloc::{AllocError, Global};
+
+/// Whether a symbol stands in the table, and in which part of it.
+#[derive(Clone, Copy)]
+pub(crate) enum Standing {
+    Absent,
+    /// Among those whose binding is `STB_LOCAL`.
+    Local,
+    Other,
+}
 
 /// The numbers of the sections and symbols of a source in the symbol table of its object.
 #[derive(Drop)]
@@ -52,27 +60,26 @@ pub(crate) fn symbol_numbers(
     alloc: Global,
     local: usize,
     other: usize,
-    all: &[Option<TableSymbol>],
+    standings: &[Standing],
 ) -> Result<Vec<usize>, AllocError>
-    requires locals { local + length all.now < 2 ^ 64 }
-    requires others { other + length all.now < 2 ^ 64 }
+    requires locals { local + length standings.now < 2 ^ 64 }
+    requires others { other + length standings.now < 2 ^ 64 }
     ensures { IfOk result (λ numbers. numbers.items
-        ≡ spec.symbol_numbers local other (map (option_map symbol_view) all.now)) }
+        ≡ spec.symbol_numbers local other standings.now) }
 {
-    let mut numbers = Vec::with_capacity(alloc, all.len())?;
+    let mut numbers = Vec::with_capacity(alloc, standings.len())?;
     let mut next_local = local;
     let mut next_other = other;
-    for one in all {
-        match one {
-            None => numbers.push(0)?,
-            Some(entry) => {
-                if is_local_entry(entry) {
-                    numbers.push(next_local)?;
-                    next_local += 1;
-                } else {
-                    numbers.push(next_other)?;
-                    next_other += 1;
-                }
+    for standing in standings {
+        match standing {
+            Standing::Absent => numbers.push(0)?,
+            Standing::Local => {
+                numbers.push(next_local)?;
+                next_local += 1;
+            }
+            Standing::Other => {
+                numbers.push(next_other)?;
+                next_other += 1;
             }
         }
     }
