@@ -2,13 +2,9 @@
 #![tactic(auto)]
 
 mod calls;
-mod escapes;
-mod hexadecimal;
-mod names;
 mod objects;
 mod relocations;
 mod reports;
-mod rows;
 mod runs;
 mod sections;
 mod symbols;

@@ -1,11 +1,11 @@
 //! The object that a run left.
 
-use crate::names::shown_name;
 use crate::relocations::write_relocations;
 use crate::sections::write_sections;
 use crate::symbols::SymbolTable;
 use asm_base::{MemoryOutput, Stage};
 use elf_object::header_table;
+use row_texts::shown_name;
 use std::alloc::Global;
 use std::io::{self, Write};
 

@@ -1,9 +1,9 @@
 //! The relocations of an object.
 
-use crate::names::{relocation_type, shown_name};
 use crate::sections::RELOCATIONS;
 use crate::symbols::SymbolTable;
 use elf_object::{SectionHeader, relocation_at, section_bytes, section_header, section_name};
+use row_texts::{relocation_type, shown_name};
 use std::alloc::Global;
 use std::io::{self, Write};
 

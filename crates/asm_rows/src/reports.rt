@@ -2,9 +2,9 @@
 
 use crate::calls::write_every_call;
 use crate::objects::write_object;
-use crate::rows::{Row, RowFault, Shown, read_row};
 use crate::runs::{memory_files, run_row};
 use asm_base::Channel;
+use row_texts::{Row, RowFault, Shown, read_row};
 use std::alloc::{AllocError, Global};
 use std::io::{self, Write};
 

@@ -1,8 +1,8 @@
 //! A run of the assembler over the outside in memory.
 
-use crate::rows::{FailingCalls, Row, SourceFile};
 use asm_base::{Calls, FaultyConsole, FaultyInputs, FaultyOutput, MemoryFile, Status, Unlisted};
 use asm_run::run;
+use row_texts::{FailingCalls, Row, SourceFile};
 use std::alloc::{AllocError, Global};
 
 /// The numbers of the calls that fail, from 0.

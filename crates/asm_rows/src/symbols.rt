@@ -1,10 +1,10 @@
 //! The symbols of an object.
 
-use crate::names::{shown_name, symbol_binding, symbol_type, symbol_visibility};
 use elf_object::{
     SectionHeader, SymbolRecord, section_bytes, section_header, section_name, section_named,
     symbol_at, text_at,
 };
+use row_texts::{shown_name, symbol_binding, symbol_type, symbol_visibility};
 use std::alloc::{AllocError, Global};
 use std::io::{self, Write};
 
