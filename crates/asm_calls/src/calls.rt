@@ -1,14 +1,14 @@
 //! A line of the stored input: a call by its word, and what it is called with.
 
 use crate::contents::{write_align, write_fill, write_run};
-use crate::expressions::{
-    write_folded, write_form, write_names, write_parsed, write_settled, write_shown, write_value,
-};
 use crate::faults::write_faults;
 use crate::layouts::write_layout;
 use crate::symbols::{write_assigned, write_instances};
-use crate::texts::{write_messages, write_tokens};
 use asm_frags::FieldSize;
+use expression_calls::{
+    write_folded, write_form, write_messages, write_names, write_parsed, write_settled,
+    write_shown, write_tokens, write_value,
+};
 use std::alloc::Global;
 use std::io::{self, Write};
 

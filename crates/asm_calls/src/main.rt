@@ -3,12 +3,10 @@
 
 mod calls;
 mod contents;
-mod expressions;
 mod faults;
 mod layouts;
 mod outside;
 mod symbols;
-mod texts;
 
 use asm_base::StreamConsole;
 use calls::write_line;

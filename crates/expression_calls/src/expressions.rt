@@ -1,7 +1,7 @@
 //! Expressions on their own: what they count, how they are shown, and what they name.
 
 ghost use Rattle.std.specs.Prelude.{◌≡◌, ◌<◌};
-ghost use Rattle.asm_calls.specs.Numbered.{numbered, instance_of, the_place, first_byte, meant_by};
+ghost use Rattle.expression_calls.specs.Numbered.{numbered, instance_of, the_place, first_byte, meant_by};
 
 use asm_base::Tokens;
 use asm_expr::{
