@@ -12,7 +12,7 @@ pub enum Amount<'a> {
 }
 
 /// What the linker is asked for in place of the symbol's address (psABI for AMD64, section 4.4).
-#[derive(Clone, Copy, PartialEq, Eq, Debug)]
+#[derive(Clone, Copy)]
 pub enum Suffix {
     /// `@PLT`
     Plt,
@@ -33,7 +33,7 @@ pub struct Value<'a> {
 
 /// The values of an instruction, none where symbols are left. That of the displacement is a branch
 /// target's too.
-#[derive(Clone, Copy, PartialEq, Eq, Debug)]
+#[derive(Clone, Copy)]
 pub struct Values {
     pub immediate: Option<u64>,
     pub displacement: Option<u64>,

@@ -4,11 +4,11 @@ use crate::amounts::Value;
 use crate::registers::Reg;
 
 /// The name that rows of the instruction table have, by its number there.
-#[derive(Clone, Copy, PartialEq, Eq, Debug)]
+#[derive(Clone, Copy)]
 pub struct Mnemonic(pub u16);
 
 /// A prefix that is written as a word of its own.
-#[derive(Clone, Copy, PartialEq, Eq, Debug)]
+#[derive(Clone, Copy)]
 pub enum Prefix {
     Absent,
     /// `lock`
@@ -24,14 +24,14 @@ pub enum Prefix {
 }
 
 /// A segment whose base counts in 64-bit mode.
-#[derive(Clone, Copy, PartialEq, Eq, Debug)]
+#[derive(Clone, Copy)]
 pub enum Segment {
     Fs,
     Gs,
 }
 
 /// The base of an address.
-#[derive(Clone, Copy, PartialEq, Eq, Debug)]
+#[derive(Clone, Copy)]
 pub enum Base {
     Absent,
     Rip,
@@ -40,7 +40,7 @@ pub enum Base {
 }
 
 /// The index of an address.
-#[derive(Clone, Copy, PartialEq, Eq, Debug)]
+#[derive(Clone, Copy)]
 pub enum Index {
     Absent,
     /// A 64-bit register, by its number, and the binary logarithm of the scale.
@@ -48,7 +48,7 @@ pub enum Index {
 }
 
 /// A memory operand without its displacement.
-#[derive(Clone, Copy, PartialEq, Eq, Debug)]
+#[derive(Clone, Copy)]
 pub struct Address {
     pub segment: Option<Segment>,
     pub base: Base,
@@ -56,7 +56,7 @@ pub struct Address {
 }
 
 /// Where an operand is: a register stands here, and all else stands in the instruction once.
-#[derive(Clone, Copy, PartialEq, Eq, Debug)]
+#[derive(Clone, Copy)]
 pub enum Slot {
     Absent,
     Register(Reg),

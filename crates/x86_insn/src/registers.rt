@@ -4,7 +4,7 @@ ghost use Rattle.std.specs.Prelude.{◌≡◌};
 ghost use Rattle.x86_insn.specs.Registers.{is_part_of};
 
 /// The registers that share a width and a way of being encoded.
-#[derive(Clone, Copy, PartialEq, Eq, Debug)]
+#[derive(Clone, Copy)]
 pub enum Class {
     /// 8 bits: al to dil, and r8b to r15b.
     Byte,
@@ -21,7 +21,7 @@ pub enum Class {
 }
 
 /// A register, by its number in the encoding: 0 to 15.
-#[derive(Clone, Copy, PartialEq, Eq, Debug)]
+#[derive(Clone, Copy)]
 pub struct Reg {
     pub class: Class,
     pub number: u8,

@@ -13,7 +13,7 @@ use asm_expr::{ExprFault, Spelling, Written, names_of};
 use std::alloc::Global;
 
 /// What kind an operand is of.
-#[derive(Clone, Copy, PartialEq, Eq, Debug)]
+#[derive(Clone, Copy)]
 pub enum Kind {
     Register(Class),
     Immediate,
@@ -118,7 +118,7 @@ impl OperandFold for UsesRegister {
 }
 
 /// The field of an instruction that holds a value.
-#[derive(Clone, Copy, PartialEq, Eq, Debug)]
+#[derive(Clone, Copy)]
 pub enum Field {
     Immediate,
     Displacement,
