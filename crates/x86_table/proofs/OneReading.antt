@@ -13,17 +13,10 @@ use Rattle.x86_table.specs.Bytes.{place_x, place_b, place_bytes, modrm_bytes, im
 use Rattle.x86_table.specs.Fits.{some_place_fits, is_nowhere, place_fits, reg_fits, low_fits, fits}
 use Rattle.x86_table.specs.Reads.{is_known, is_known_place, ReadsRow, Reads}
 use Rattle.x86_table.specs.Heads.{span, share_head, is_apart_from, all_apart, opcode_stands, row_stands, all_stand}
+use Rattle.x86_table.proofs.TableFacts.{apart, stand}
 use Rattle.x86_table.proofs.Peeling.{prefix_same, first_same, word_same, byte_same}
 use Rattle.x86_table.proofs.FieldBytes.{place_same, held_same}
 use Rattle.x86_table.proofs.RowHeads.{fit_of, absent, no_x, tail_of, head_of, some_is, place_head, bits_of, shared}
-
-apart : all_apart the_rows ≡ true
-unfolding the_rows
-apart = refl
-
-pub stand : all_stand the_rows ≡ true
-unfolding the_rows
-stand = refl
 
 from_row : (r s : Row) (rows : List Row) (j : ℕ) → is_apart_from r rows ≡ true → slice_get rows j ≡ Some s → share_head r s ≡ false
 from_row r s [] j h e = cc

@@ -1,6 +1,6 @@
 -- Rows that admit one instruction say the same of what it writes.
-use Rattle.std.proofs.Common.{◌≡◌, ℕ, ◌==◌, ◌&&◌, ◌||◌, List, [], ◌∷◌, Bool, true, false, not, if◌then◌else◌, Some, None, slice_get, refl, zero, suc, sym, ap, ◌∙◌, subst, eq-eqb}
-use Rattle.std.proofs.lemmas.Bool.{and_parts, and_from, both_ways, eqb-true}
+use Rattle.std.proofs.Common.{◌≡◌, ◌<◌, ◌≤◌, ℕ, ◌==◌, ◌&&◌, ◌||◌, List, [], ◌∷◌, Bool, true, false, not, if◌then◌else◌, Some, None, slice_get, refl, arith, zero, suc, inl, inr, sym, ap, ◌∙◌, subst, eq-eqb, nat_lt}
+use Rattle.std.proofs.lemmas.Bool.{and_parts, and_from, both_ways, eqb-true, ltb-true, cases_Bool, cases_order}
 use Rattle.x86_insn.specs.declared.insns.Slot.{Slot}
 use Rattle.x86_insn.specs.declared.insns.Slot.TheVariants as slot
 use Rattle.x86_insn.specs.declared.insns.Insn.{Insn}
@@ -13,11 +13,8 @@ use Rattle.x86_table.specs.declared.forms.StoreKind.TheVariants as kind
 use Rattle.x86_table.specs.declared.forms.Pattern.{Pattern}
 use Rattle.x86_table.specs.declared.forms.Row.{Row}
 use Rattle.x86_table.specs.Rows.{the_rows}
+use Rattle.x86_table.proofs.TableFacts.{agree}
 use Rattle.x86_table.specs.Writing.{is_absent, takes_register, takes_memory, is_immediate, is_target, kind_fits, admits, FindsRow, bytes_in_memory, stored, writes_by, no_writes, IsWritten, kinds_meet, may_meet, destinations_number, implied_number, store_number, write_same, agrees_with, all_agree}
-
-agree_all : all_agree the_rows the_rows ≡ true
-unfolding the_rows
-agree_all = refl
 
 abbrev destinations_at : ℕ → Destinations
 destinations_at n = if n == 0 then destinations.Nothing else (if n == 1 then destinations.First else (destinations.FirstAndSecond))
@@ -114,19 +111,64 @@ implies : (a b : Bool) → (not a || b) ≡ true → a ≡ true → b ≡ true
 implies true b h t = h
 implies false b h t = cc
 
-with_one : (r s : Row) (rows : List Row) (j : ℕ) → agrees_with r rows ≡ true → slice_get rows j ≡ Some s → (not (may_meet r s) || write_same r s) ≡ true
-with_one r s [] j h e = cc
-with_one r s (t ∷ rows) zero h e =
-    let p = and_parts (not (may_meet r t) || write_same r t) (agrees_with r rows) h in
-    subst (λ (x : Row). (not (may_meet r x) || write_same r x) ≡ true) (some_is e) p.0
-with_one r s (t ∷ rows) (suc j) h e = with_one r s rows j (and_parts (not (may_meet r t) || write_same r t) (agrees_with r rows) h).1 e
+if_so : (c a b : Bool) → c ≡ true → (if c then a else b) ≡ true → a ≡ true
+if_so true a b q h = h
+if_so false a b q h = cc
 
-of_one : (those : List Row) (r : Row) (rows : List Row) (i : ℕ) → all_agree those rows ≡ true → slice_get rows i ≡ Some r → agrees_with r those ≡ true
-of_one those r [] i h e = cc
-of_one those r (t ∷ rows) zero h e =
-    let p = and_parts (agrees_with t those) (all_agree those rows) h in
-    subst (λ (x : Row). agrees_with x those ≡ true) (some_is e) p.0
-of_one those r (t ∷ rows) (suc i) h e = of_one those r rows i (and_parts (agrees_with t those) (all_agree those rows) h).1 e
+if_not : (c a b : Bool) → c ≡ false → (if c then a else b) ≡ true → b ≡ true
+if_not true a b q h = cc
+if_not false a b q h = h
+
+-- where the next row has the name too, this is said of it; else its name has a higher number
+with_next : (r t : Row) (rows : List Row) → agrees_with r (t ∷ rows) ≡ true → (r.name.0 == t.name.0) ≡ true → ((not (may_meet r t) || write_same r t) && agrees_with r rows) ≡ true
+with_next r t rows h q = if_so (r.name.0 == t.name.0) ((not (may_meet r t) || write_same r t) && agrees_with r rows) (nat_lt r.name.0 t.name.0) q h
+
+next_above : (r t : Row) (rows : List Row) → agrees_with r (t ∷ rows) ≡ true → (r.name.0 == t.name.0) ≡ false → r.name.0 < t.name.0
+next_above r t rows h q =
+    ltb-true r.name.0 t.name.0 (if_not (r.name.0 == t.name.0) ((not (may_meet r t) || write_same r t) && agrees_with r rows) (nat_lt r.name.0 t.name.0) q h)
+
+next_from : (r t : Row) (rows : List Row) → agrees_with r (t ∷ rows) ≡ true → r.name.0 ≤ t.name.0
+next_from r t rows h = elim (cases_Bool (r.name.0 == t.name.0)) [
+  | inl q ↦ (let e = eqb-true r.name.0 t.name.0 q in omega arith)
+  | inr q ↦ (let l = next_above r t rows h q in omega arith)
+]
+
+-- rows behind have names of no lower numbers
+sorted : (r s : Row) (rows : List Row) (j : ℕ) → agrees_with r rows ≡ true → all_agree rows ≡ true → slice_get rows j ≡ Some s → r.name.0 ≤ s.name.0
+sorted r s [] j h a e = cc
+sorted r s (t ∷ rows) zero h a e = subst (λ (x : Row). r.name.0 ≤ x.name.0) (some_is e) (next_from r t rows h)
+sorted r s (t ∷ rows) (suc j) h a e =
+    let p = and_parts (agrees_with t rows) (all_agree rows) a in
+    let l = next_from r t rows h in
+    let m = sorted t s rows j p.0 p.1 e in
+    omega arith
+
+with_one : (r s : Row) (rows : List Row) (j : ℕ) → agrees_with r rows ≡ true → all_agree rows ≡ true → slice_get rows j ≡ Some s → r.name.0 ≡ s.name.0
+    → (not (may_meet r s) || write_same r s) ≡ true
+with_one r s [] j h a e n = cc
+with_one r s (t ∷ rows) zero h a e n =
+    let same : t ≡ s = some_is e in
+    elim (cases_Bool (r.name.0 == t.name.0)) [
+      | inl q ↦ subst (λ (x : Row). (not (may_meet r x) || write_same r x) ≡ true) same (and_parts (not (may_meet r t) || write_same r t) (agrees_with r rows) (with_next r t rows h q)).0
+      | inr q ↦ (let l = next_above r t rows h q in let z : t.name.0 ≡ s.name.0 = ap (λ (x : Row). x.name.0) same in absurd (omega arith))
+    ]
+with_one r s (t ∷ rows) (suc j) h a e n =
+    let p = and_parts (agrees_with t rows) (all_agree rows) a in
+    elim (cases_Bool (r.name.0 == t.name.0)) [
+      | inl q ↦ with_one r s rows j (and_parts (not (may_meet r t) || write_same r t) (agrees_with r rows) (with_next r t rows h q)).1 p.1 e n
+      | inr q ↦ (let l = next_above r t rows h q in let m = sorted t s rows j p.0 p.1 e in absurd (omega arith))
+    ]
+
+of_one : (rows : List Row) (i j : ℕ) (r s : Row) → all_agree rows ≡ true → i < j → slice_get rows i ≡ Some r → slice_get rows j ≡ Some s → r.name.0 ≡ s.name.0
+    → (not (may_meet r s) || write_same r s) ≡ true
+of_one [] i j r s a l e f n = cc
+of_one (t ∷ rows) i zero r s a l e f n = absurd (omega arith)
+of_one (t ∷ rows) zero (suc j) r s a l e f n =
+    let p = and_parts (agrees_with t rows) (all_agree rows) a in
+    let same : t ≡ r = some_is e in
+    let named : t.name.0 ≡ s.name.0 = ap (λ (x : Row). x.name.0) same ∙ n in
+    subst (λ (x : Row). (not (may_meet x s) || write_same x s) ≡ true) same (with_one t s rows j p.0 p.1 f named)
+of_one (t ∷ rows) (suc i) (suc j) r s a l e f n = of_one rows i j r s (and_parts (agrees_with t rows) (all_agree rows) a).1 (omega arith) e f n
 
 stored_same : (p q : Pattern) (s : Slot) → kind_fits p s ≡ true → kind_fits q s ≡ true → (not (takes_memory p && takes_memory q) || (bytes_in_memory p == bytes_in_memory q)) ≡ true
     → (k : StoreKind) → stored s k (bytes_in_memory p) ≡ stored s k (bytes_in_memory q)
@@ -138,13 +180,13 @@ stored_same p q (slot.Register r) f g h k = refl
 stored_same p q slot.Immediate f g h k = refl
 stored_same p q slot.Target f g h k = refl
 
--- rows that admit one instruction say the same
-same_writes : (insn : Insn) (i j : ℕ) (r s : Row) → slice_get the_rows i ≡ Some r → slice_get the_rows j ≡ Some s → admits r insn ≡ true → admits s insn ≡ true → writes_by r insn ≡ writes_by s insn
+-- rows that admit one instruction say the same, the first of them first
+in_order : (insn : Insn) (i j : ℕ) (r s : Row) → i < j → slice_get the_rows i ≡ Some r → slice_get the_rows j ≡ Some s → admits r insn ≡ true → admits s insn ≡ true → writes_by r insn ≡ writes_by s insn
 unfolding writes_by
-same_writes insn i j r s e f a b =
+in_order insn i j r s l e f a b =
     let x = admitted r insn a in
     let y = admitted s insn b in
-    let alike = implies (may_meet r s) (write_same r s) (with_one r s the_rows j (of_one the_rows r the_rows i agree_all e) f) (both_meet r s insn x y) in
+    let alike = implies (may_meet r s) (write_same r s) (of_one the_rows i j r s agree l e f (x.name ∙ sym y.name)) (both_meet r s insn x y) in
     let p = and_parts (destinations_number r.outputs.0 == destinations_number s.outputs.0) ((implied_number r.outputs.1 == implied_number s.outputs.1)
     && ((store_number r.outputs.2 == store_number s.outputs.2) && (not (takes_memory r.first && takes_memory s.first) || (bytes_in_memory r.first == bytes_in_memory s.first)))) alike in
     let q = and_parts (implied_number r.outputs.1 == implied_number s.outputs.1)
@@ -155,6 +197,16 @@ same_writes insn i j r s e f a b =
     let k = store_same r.outputs.2 s.outputs.2 t.0 in
     let w = stored_same r.first s.first insn.first x.first y.first t.1 s.outputs.2 in
     rw (d, m, k, w) refl
+
+-- in any order
+same_writes : (insn : Insn) (i j : ℕ) (r s : Row) → slice_get the_rows i ≡ Some r → slice_get the_rows j ≡ Some s → admits r insn ≡ true → admits s insn ≡ true → writes_by r insn ≡ writes_by s insn
+same_writes insn i j r s e f a b = elim (cases_order i j) [
+  | inl same ↦
+      let found : slice_get the_rows j ≡ Some r = ap (slice_get the_rows) (sym same) ∙ e in
+      ap (λ (x : Row). writes_by x insn) (some_is (sym found ∙ f))
+  | inr (inl lt) ↦ in_order insn i j r s lt e f a b
+  | inr (inr gt) ↦ sym (in_order insn j i s r gt f e b a)
+]
 
 pub by_found : (insn : Insn) (r : Row) → FindsRow insn (Some r) → IsWritten insn (writes_by r insn)
 by_found insn r (j, found, fits) = record {

@@ -1,19 +1,12 @@
 -- Each row lies in the span of its name alone.
-use Rattle.std.proofs.Common.{◌≡◌, ◌<◌, ◌≤◌, ℕ, ◌+◌, ◌==◌, ◌&&◌, nat_lt, nat_le, List, [], ◌∷◌, length, Bool, true, false, Some, None, slice_get, refl, arith, zero, suc, sym, ap, ◌∙◌, inl, inr, subst}
-use Rattle.std.proofs.lemmas.Bool.{eqb-true, both_ways, ltb-true, leb-true, lt-ltb, le-leb, and_parts, and_from, ltb-false, cases_Bool}
+use Rattle.std.proofs.Common.{◌≡◌, ◌<◌, ◌≤◌, ℕ, ◌+◌, ◌==◌, ◌&&◌, nat_lt, nat_le, List, [], ◌∷◌, length, Bool, true, false, Option, Some, None, slice_get, refl, arith, zero, suc, sym, ap, ◌∙◌, inl, inr, subst, eq-eqb}
+use Rattle.std.proofs.lemmas.Bool.{eqb-true, both_ways, ltb-true, leb-true, lt-ltb, le-leb, and_parts, and_from, cases_Bool, cases_order}
 use Rattle.x86_table.specs.declared.forms.Row.{Row}
 use Rattle.x86_table.specs.declared.spans.Span.{Span}
 use Rattle.x86_table.specs.declared.ranges.RowRange.{RowRange}
 use Rattle.x86_table.specs.Rows.{the_rows}
-use Rattle.x86_table.specs.Ranges.{agree, is_size, the_spans, span_or, span_of, range, by_name, by_size, is_in, IsWithin, is_named, is_sized, AreRowsOf, is_alone, is_by_size, all_spanned, is_ordered, all_ordered}
-
-spanned : all_spanned 0 the_rows ≡ true
-unfolding the_rows the_spans span_of
-spanned = refl
-
-ordered : all_ordered (length the_rows) the_spans ≡ true
-unfolding the_rows the_spans
-ordered = refl
+use Rattle.x86_table.specs.Ranges.{agree, is_size, the_spans, span_or, span_of, range, by_name, by_size, is_in, IsWithin, is_named, is_sized, AreRowsOf, is_by_size, all_spanned, is_ordered, all_ordered}
+use Rattle.x86_table.proofs.TableFacts.{spanned, ordered}
 
 agrees : (a b : Bool) → agree a b ≡ true → a ≡ b
 agrees true b h = sym h
@@ -26,56 +19,107 @@ none_in i = elim (cases_Bool (is_in (range 0 0) i)) [
   | inr h ↦ h
 ]
 
+in_parts : (a b i : ℕ) → is_in (range a b) i ≡ true → (a ≤ i) × (i < b)
+in_parts a b i h =
+    let p = and_parts (nat_le a i) (nat_lt i b) h in
+    (leb-true a i p.0, ltb-true i b p.1)
+
 in_wider : (a b c d i : ℕ) → c ≤ a → b ≤ d → is_in (range a b) i ≡ true → is_in (range c d) i ≡ true
 in_wider a b c d i l m h =
-    let p = and_parts (nat_le a i) (nat_lt i b) h in
-    let x = leb-true a i p.0 in
-    let y = ltb-true i b p.1 in
+    let p = in_parts a b i h in
+    let x = p.0 in
+    let y = p.1 in
     and_from _ _ (le-leb c i (omega arith)) (lt-ltb i d (omega arith))
 
 -- the parts of a span follow each other
-pub record Ordered (n : ℕ) (span : Span) : Type 0 where
+pub record Ordered (span : Span) : Type 0 where
   pub zero_first : span.0 ≤ span.1
   pub byte_next : span.1 ≤ span.2
   pub word_next : span.2 ≤ span.3
   pub long_next : span.3 ≤ span.4
   pub quad_last : span.4 ≤ span.5
-  pub within : span.5 ≤ n
 
-of_ordered : (n : ℕ) (span : Span) → is_ordered n span ≡ true → Ordered n span
-of_ordered n span h =
+of_ordered : (span : Span) → is_ordered span ≡ true → Ordered span
+of_ordered span h =
     let a = and_parts _ _ h in
     let b = and_parts _ _ a.1 in
     let c = and_parts _ _ b.1 in
     let d = and_parts _ _ c.1 in
-    let e = and_parts _ _ d.1 in
     record {
       zero_first = leb-true span.0 span.1 a.0;
       byte_next = leb-true span.1 span.2 b.0;
       word_next = leb-true span.2 span.3 c.0;
       long_next = leb-true span.3 span.4 d.0;
-      quad_last = leb-true span.4 span.5 e.0;
-      within = leb-true span.5 n e.1;
+      quad_last = leb-true span.4 span.5 d.1;
     }
 
-ordered_at : (n : ℕ) (spans : List Span) (k : ℕ) → all_ordered n spans ≡ true → Ordered n (span_or (slice_get spans k))
-ordered_at n [] k h = record { zero_first = omega arith; byte_next = omega arith; word_next = omega arith; long_next = omega arith; quad_last = omega arith; within = omega arith }
-ordered_at n (span ∷ spans) zero h = of_ordered n span (and_parts (is_ordered n span) (all_ordered n spans) h).0
-ordered_at n (span ∷ spans) (suc k) h = ordered_at n spans k (and_parts (is_ordered n span) (all_ordered n spans) h).1
+-- of spans that follow each other, what is said of the first and of the others
+record Follows (start stop : ℕ) (span : Span) (spans : List Span) : Type 0 where
+  behind : start ≤ span.0
+  parts : Ordered span
+  others : all_ordered span.5 stop spans ≡ true
 
-order_of : (name : ℕ) (span : Span) → span ≡ span_of name → Ordered (length the_rows) span
+follows : (start stop : ℕ) (span : Span) (spans : List Span) → all_ordered start stop (span ∷ spans) ≡ true → Follows start stop span spans
+follows start stop span spans h =
+    let a = and_parts (nat_le start span.0) (is_ordered span && all_ordered span.5 stop spans) h in
+    let b = and_parts (is_ordered span) (all_ordered span.5 stop spans) a.1 in
+    record { behind = leb-true start span.0 a.0; parts = of_ordered span b.0; others = b.1 }
+
+span_long : (span : Span) → Ordered span → span.0 ≤ span.5
+span_long span o = let a = o.zero_first in let b = o.byte_next in let c = o.word_next in let d = o.long_next in let e = o.quad_last in omega arith
+
+ordered_at : (spans : List Span) (start stop k : ℕ) → all_ordered start stop spans ≡ true → Ordered (span_or (slice_get spans k))
+ordered_at [] start stop k h = record { zero_first = omega arith; byte_next = omega arith; word_next = omega arith; long_next = omega arith; quad_last = omega arith }
+ordered_at (span ∷ spans) start stop zero h = (follows start stop span spans h).parts
+ordered_at (span ∷ spans) start stop (suc k) h = ordered_at spans span.5 stop k (follows start stop span spans h).others
+
+-- they end where they have to
+ends : (spans : List Span) (start stop : ℕ) → all_ordered start stop spans ≡ true → start ≤ stop
+ends [] start stop h = leb-true start stop h
+ends (span ∷ spans) start stop h =
+    let f = follows start stop span spans h in
+    let a = f.behind in let b = span_long span f.parts in let c = ends spans span.5 stop f.others in omega arith
+
+within_at : (spans : List Span) (start stop k : ℕ) → all_ordered start stop spans ≡ true → (span_or (slice_get spans k)).5 ≤ stop
+within_at [] start stop k h = omega arith
+within_at (span ∷ spans) start stop zero h = ends spans span.5 stop (follows start stop span spans h).others
+within_at (span ∷ spans) start stop (suc k) h = within_at spans span.5 stop k (follows start stop span spans h).others
+
+-- each begins where they do, or behind that
+behind_at : (spans : List Span) (start stop k : ℕ) (span : Span) → all_ordered start stop spans ≡ true → slice_get spans k ≡ Some span → start ≤ span.0
+behind_at [] start stop k span h e = cc
+behind_at (t ∷ spans) start stop zero span h e =
+    let same : t ≡ span = cc in
+    subst (λ (x : Span). start ≤ x.0) same (follows start stop t spans h).behind
+behind_at (t ∷ spans) start stop (suc k) span h e =
+    let f = follows start stop t spans h in
+    let a = f.behind in let b = span_long t f.parts in let c = behind_at spans t.5 stop k span f.others e in omega arith
+
+-- a later one begins where an earlier one ends, or behind that
+apart_at : (spans : List Span) (start stop j k : ℕ) (one other : Span) → all_ordered start stop spans ≡ true → j < k → slice_get spans j ≡ Some one → slice_get spans k ≡ Some other → one.5 ≤ other.0
+apart_at [] start stop j k one other h l e f = cc
+apart_at (t ∷ spans) start stop j zero one other h l e f = absurd (omega arith)
+apart_at (t ∷ spans) start stop zero (suc k) one other h l e f =
+    let same : t ≡ one = cc in
+    subst (λ (x : Span). x.5 ≤ other.0) same (behind_at spans t.5 stop k other (follows start stop t spans h).others f)
+apart_at (t ∷ spans) start stop (suc j) (suc k) one other h l e f =
+    let g = follows start stop t spans h in
+    apart_at spans t.5 stop j k one other g.others (omega arith) e f
+
+order_of : (name : ℕ) (span : Span) → span ≡ span_of name → Ordered span
 unfolding span_of
-order_of name span e = subst (λ (x : Span). Ordered (length the_rows) x) (sym e) (ordered_at (length the_rows) the_spans name ordered)
+order_of name span e = subst (λ (x : Span). Ordered x) (sym e) (ordered_at the_spans 0 (length the_rows) name ordered)
+
+within_of : (name : ℕ) (span : Span) → span ≡ span_of name → span.5 ≤ length the_rows
+unfolding span_of
+within_of name span e = subst (λ (x : Span). x.5 ≤ length the_rows) (sym e) (within_at the_spans 0 (length the_rows) name ordered)
 
 pub name_within : (name : ℕ) (span : Span) → span ≡ span_of name → IsWithin (range span.0 span.5)
-name_within name span e =
-    let o = order_of name span e in
-    let a = o.zero_first in let b = o.byte_next in let c = o.word_next in let d = o.long_next in let f = o.quad_last in
-    record { start = omega arith; stop = o.within }
+name_within name span e = record { start = span_long span (order_of name span e); stop = within_of name span e }
 
 -- a part of a span lies in it
-part_in : (n : ℕ) (span : Span) (size i : ℕ) → Ordered n span → is_in (by_size span size) i ≡ true → is_in (by_name span) i ≡ true
-part_in n span size i o h =
+part_in : (span : Span) (size i : ℕ) → Ordered span → is_in (by_size span size) i ≡ true → is_in (by_name span) i ≡ true
+part_in span size i o h =
     let l0 = o.zero_first in let l1 = o.byte_next in let l2 = o.word_next in let l3 = o.long_next in let l4 = o.quad_last in
     elim (cases_Bool (size == 0)) [
       | inl a ↦ in_wider span.0 span.1 span.0 span.5 i (omega arith) (omega arith) (rw a at h)
@@ -94,9 +138,9 @@ part_in n span size i o h =
       ]
     ]
 
-bounded : (n : ℕ) (span : Span) (size : ℕ) → Ordered n span → ((by_size span size).start ≤ (by_size span size).stop) × ((by_size span size).stop ≤ n)
-bounded n span size o =
-    let l0 = o.zero_first in let l1 = o.byte_next in let l2 = o.word_next in let l3 = o.long_next in let l4 = o.quad_last in let l5 = o.within in
+bounded : (n : ℕ) (span : Span) (size : ℕ) → Ordered span → span.5 ≤ n → ((by_size span size).start ≤ (by_size span size).stop) × ((by_size span size).stop ≤ n)
+bounded n span size o l5 =
+    let l0 = o.zero_first in let l1 = o.byte_next in let l2 = o.word_next in let l3 = o.long_next in let l4 = o.quad_last in
     elim (cases_Bool (size == 0)) [
       | inl a ↦ rw a (l0, omega arith)
       | inr a ↦ elim (cases_Bool (size == 8)) [
@@ -116,76 +160,25 @@ bounded n span size o =
 
 pub size_within : (name size : ℕ) (span : Span) (found : RowRange) → span ≡ span_of name → found ≡ by_size span size → IsWithin found
 size_within name size span found e f =
-    let b = bounded (length the_rows) span size (order_of name span e) in
+    let b = bounded (length the_rows) span size (order_of name span e) (within_of name span e) in
     rw f (record { start = b.0; stop = b.1 })
 
--- a row and its index
-pub record Spanned (i : ℕ) (r : Row) : Type 0 where
-  pub below : r.name.0 < length the_spans
-  pub alone : is_alone i r.name.0 0 the_spans ≡ true
-  pub sized : is_by_size i r.size (span_of r.name.0) ≡ true
-
-spanned_at : (rows : List Row) (k i : ℕ) (r : Row) → all_spanned k rows ≡ true → slice_get rows i ≡ Some r → Spanned (k + i) r
+spanned_at : (rows : List Row) (k i : ℕ) (r : Row) → all_spanned k rows ≡ true → slice_get rows i ≡ Some r → is_by_size (k + i) r.size (span_of r.name.0) ≡ true
 spanned_at [] k i r h e = cc
 spanned_at (t ∷ rows) k zero r h e =
-    let a = and_parts (nat_lt t.name.0 (length the_spans)) (is_alone k t.name.0 0 the_spans && (is_by_size k t.size (span_of t.name.0) && all_spanned (k + 1) rows)) h in
-    let b = and_parts (is_alone k t.name.0 0 the_spans) (is_by_size k t.size (span_of t.name.0) && all_spanned (k + 1) rows) a.1 in
-    let c = and_parts (is_by_size k t.size (span_of t.name.0)) (all_spanned (k + 1) rows) b.1 in
     let same : t ≡ r = cc in
     let here : k ≡ k + 0 = omega arith in
-    let one : Spanned k t = record { below = ltb-true t.name.0 (length the_spans) a.0; alone = b.0; sized = c.0 } in
-    subst (λ (j : ℕ). Spanned j r) here (subst (λ (x : Row). Spanned k x) same one)
+    let one : is_by_size k t.size (span_of t.name.0) ≡ true = (and_parts (is_by_size k t.size (span_of t.name.0)) (all_spanned (k + 1) rows) h).0 in
+    subst (λ (j : ℕ). is_by_size j r.size (span_of r.name.0) ≡ true) here (subst (λ (x : Row). is_by_size k x.size (span_of x.name.0) ≡ true) same one)
 spanned_at (t ∷ rows) k (suc i) r h e =
-    let a = and_parts (nat_lt t.name.0 (length the_spans)) (is_alone k t.name.0 0 the_spans && (is_by_size k t.size (span_of t.name.0) && all_spanned (k + 1) rows)) h in
-    let b = and_parts (is_alone k t.name.0 0 the_spans) (is_by_size k t.size (span_of t.name.0) && all_spanned (k + 1) rows) a.1 in
-    let c = and_parts (is_by_size k t.size (span_of t.name.0)) (all_spanned (k + 1) rows) b.1 in
     let there : k + 1 + i ≡ k + suc i = omega arith in
-    subst (λ (j : ℕ). Spanned j r) there (spanned_at rows (k + 1) i r c.1 e)
+    subst (λ (j : ℕ). is_by_size j r.size (span_of r.name.0) ≡ true) there
+    (spanned_at rows (k + 1) i r (and_parts (is_by_size k t.size (span_of t.name.0)) (all_spanned (k + 1) rows) h).1 e)
 
-spanned_row : (i : ℕ) (r : Row) → slice_get the_rows i ≡ Some r → Spanned i r
+spanned_row : (i : ℕ) (r : Row) → slice_get the_rows i ≡ Some r → is_by_size i r.size (span_of r.name.0) ≡ true
 spanned_row i r e =
     let z : 0 + i ≡ i = omega arith in
-    subst (λ (j : ℕ). Spanned j r) z (spanned_at the_rows 0 i r spanned e)
-
-alone_at : (spans : List Span) (i name k n : ℕ) → is_alone i name k spans ≡ true → n < length spans → is_in (by_name (span_or (slice_get spans n))) i ≡ (name == k + n)
-alone_at [] i name k n h l = absurd (omega arith)
-alone_at (span ∷ spans) i name k zero h l =
-    let p = and_parts (agree (is_in (by_name span) i) (name == k)) (is_alone i name (k + 1) spans) h in
-    let here : k ≡ k + 0 = omega arith in
-    subst (λ (j : ℕ). is_in (by_name span) i ≡ (name == j)) here (agrees _ _ p.0)
-alone_at (span ∷ spans) i name k (suc n) h l =
-    let p = and_parts (agree (is_in (by_name span) i) (name == k)) (is_alone i name (k + 1) spans) h in
-    let there : k + 1 + n ≡ k + suc n = omega arith in
-    subst (λ (j : ℕ). is_in (by_name (span_or (slice_get spans n))) i ≡ (name == j)) there (alone_at spans i name (k + 1) n p.1 (omega arith))
-
-past : (spans : List Span) (n : ℕ) → length spans ≤ n → slice_get spans n ≡ None
-past [] n l = refl
-past (span ∷ spans) zero l = absurd (omega arith)
-past (span ∷ spans) (suc n) l = past spans n (omega arith)
-
--- whether a row has the name, by its index
-by_index : (name i : ℕ) (r : Row) → Spanned i r → is_in (by_name (span_or (slice_get the_spans name))) i ≡ (r.name.0 == name)
-by_index name i r s = elim (cases_Bool (nat_lt name (length the_spans))) [
-  | inl h ↦
-      let z : 0 + name ≡ name = omega arith in
-      subst (λ (j : ℕ). is_in (by_name (span_or (slice_get the_spans name))) i ≡ (r.name.0 == j)) z (alone_at the_spans i r.name.0 0 name s.alone (ltb-true name (length the_spans) h))
-  | inr h ↦
-      let over = ltb-false name (length the_spans) h in
-      let below = s.below in
-      let other : (r.name.0 == name) ≡ false = differ r.name.0 name (omega arith) in
-      rw (past the_spans name (omega arith), other) (none_in i)
-]
-  where
-    differ : (a b : ℕ) → a < b → (a == b) ≡ false
-    differ a b l = elim (cases_Bool (a == b)) [
-      | inl h ↦ (let e = eqb-true a b h in absurd (omega arith))
-      | inr h ↦ h
-    ]
-
-pub name_rows : (name : ℕ) (span : Span) → span ≡ span_of name → AreRowsOf (is_named name) (range span.0 span.5)
-unfolding span_of
-name_rows name span e i r found =
-    subst (λ (x : Span). is_in (range x.0 x.5) i ≡ (r.name.0 == name)) (sym e) (by_index name i r (spanned_row i r found))
+    subst (λ (j : ℕ). is_by_size j r.size (span_of r.name.0) ≡ true) z (spanned_at the_rows 0 i r spanned e)
 
 sized_at : (i own size : ℕ) (span : Span) → is_by_size i own span ≡ true → is_in (by_size span size) i ≡ (own == size)
 sized_at i own size span h =
@@ -222,10 +215,54 @@ sized_at i own size span h =
       | inr h ↦ h
     ]
 
+-- an index in a span that may be there
+record Holds (i : ℕ) (found : Option Span) : Type 0 where
+  span : Span
+  is : found ≡ Some span
+  above : span.0 ≤ i
+  below : i < span.5
+
+held : (i : ℕ) (found : Option Span) → is_in (by_name (span_or found)) i ≡ true → Holds i found
+held i None h = absurd (both_ways (is_in (range 0 0) i) (none_in i) h)
+held i (Some span) h = let p = in_parts span.0 span.5 i h in record { span = span; is = refl; above = p.0; below = p.1 }
+
+-- no index lies in the spans of two names
+only_one : (i j k : ℕ) → is_in (by_name (span_of j)) i ≡ true → is_in (by_name (span_of k)) i ≡ true → j ≡ k
+unfolding span_of
+only_one i j k h g =
+    let x = held i (slice_get the_spans j) h in
+    let y = held i (slice_get the_spans k) g in
+    let a = x.above in let b = x.below in let c = y.above in let d = y.below in
+    elim (cases_order j k) [
+      | inl e ↦ e
+      | inr (inl lt) ↦ (let l = apart_at the_spans 0 (length the_rows) j k x.span y.span ordered lt x.is y.is in absurd (omega arith))
+      | inr (inr gt) ↦ (let l = apart_at the_spans 0 (length the_rows) k j y.span x.span ordered gt y.is x.is in absurd (omega arith))
+    ]
+
+-- a row lies in the span of its name
+own_span : (i : ℕ) (r : Row) → slice_get the_rows i ≡ Some r → is_in (by_name (span_of r.name.0)) i ≡ true
+own_span i r e = part_in (span_of r.name.0) r.size i (order_of r.name.0 (span_of r.name.0) refl)
+    (sized_at i r.size r.size (span_of r.name.0) (spanned_row i r e) ∙ eq-eqb r.size r.size refl)
+
+pub name_rows : (name : ℕ) (span : Span) → span ≡ span_of name → AreRowsOf (is_named name) (range span.0 span.5)
+name_rows name span e i r found =
+    let own = own_span i r found in
+    elim (cases_Bool (r.name.0 == name)) [
+      | inl h ↦
+          let same : span_of r.name.0 ≡ span = ap span_of (eqb-true r.name.0 name h) ∙ sym e in
+          subst (λ (x : Span). is_in (by_name x) i ≡ true) same own ∙ sym h
+      | inr h ↦ elim (cases_Bool (is_in (by_name span) i)) [
+        | inl t ↦
+            let other : is_in (by_name (span_of name)) i ≡ true = subst (λ (x : Span). is_in (by_name x) i ≡ true) e t in
+            absurd (both_ways (r.name.0 == name) h (eq-eqb r.name.0 name (only_one i r.name.0 name own other)))
+        | inr f ↦ f ∙ sym h
+      ]
+    ]
+
 -- an index outside of the span of a name is in none of its parts
-outside : (n : ℕ) (span : Span) (size i : ℕ) → Ordered n span → is_in (by_name span) i ≡ false → is_in (by_size span size) i ≡ false
-outside n span size i o h = elim (cases_Bool (is_in (by_size span size) i)) [
-  | inl t ↦ absurd (both_ways (is_in (by_name span) i) h (part_in n span size i o t))
+outside : (span : Span) (size i : ℕ) → Ordered span → is_in (by_name span) i ≡ false → is_in (by_size span size) i ≡ false
+outside span size i o h = elim (cases_Bool (is_in (by_size span size) i)) [
+  | inl t ↦ absurd (both_ways (is_in (by_name span) i) h (part_in span size i o t))
   | inr f ↦ f
 ]
 
@@ -237,7 +274,7 @@ size_rows name size span found e f i r g =
     elim (cases_Bool (r.name.0 == name)) [
       | inl h ↦
           let same : span_of r.name.0 ≡ span = ap span_of (eqb-true r.name.0 name h) ∙ sym e in
-          let sized : is_by_size i r.size span ≡ true = subst (λ (x : Span). is_by_size i r.size x ≡ true) same s.sized in
+          let sized : is_by_size i r.size span ≡ true = subst (λ (x : Span). is_by_size i r.size x ≡ true) same s in
           rw (f, h) (sized_at i r.size size span sized)
-      | inr h ↦ rw (f, h) (outside (length the_rows) span size i o (named ∙ h))
+      | inr h ↦ rw (f, h) (outside span size i o (named ∙ h))
     ]

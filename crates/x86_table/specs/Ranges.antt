@@ -63,11 +63,6 @@ abbrev pub agree : Bool → Bool → Bool
 agree true b = b
 agree false b = not b
 
--- of the spans, whose names are numbered from k on, the index lies in that of the name alone
-abbrev pub is_alone : ℕ → ℕ → ℕ → List Span → Bool
-is_alone i name k [] = true
-is_alone i name k (span ∷ spans) = agree (is_in (by_name span) i) (name == k) && is_alone i name (k + 1) spans
-
 -- a size of operands in bits, or 0
 abbrev pub is_size : ℕ → Bool
 is_size size = size == 0 || (size == 8 || (size == 16 || (size == 32 || size == 64)))
@@ -77,16 +72,16 @@ abbrev pub is_by_size : ℕ → ℕ → Span → Bool
 is_by_size i size span = agree (is_in (by_size span 0) i) (size == 0) && (agree (is_in (by_size span 8) i) (size == 8) && (agree (is_in (by_size span 16) i) (size == 16)
     && (agree (is_in (by_size span 32) i) (size == 32) && (agree (is_in (by_size span 64) i) (size == 64) && is_size size))))
 
--- each row lies in the span of its name alone, and there in the part of its size
+-- each row, the first one's index being i, lies in its size's part of its name's span
 abbrev pub all_spanned : ℕ → List Row → Bool
 all_spanned i [] = true
-all_spanned i (r ∷ rows) = nat_lt r.name.0 (length the_spans) && (is_alone i r.name.0 0 the_spans && (is_by_size i r.size (span_of r.name.0) && all_spanned (i + 1) rows))
+all_spanned i (r ∷ rows) = is_by_size i r.size (span_of r.name.0) && all_spanned (i + 1) rows
 
--- the parts of a span follow each other, in the table
-abbrev pub is_ordered : ℕ → Span → Bool
-is_ordered n span = nat_le span.0 span.1 && (nat_le span.1 span.2 && (nat_le span.2 span.3 && (nat_le span.3 span.4 && (nat_le span.4 span.5 && nat_le span.5 n))))
+-- the parts of a span follow each other
+abbrev pub is_ordered : Span → Bool
+is_ordered span = nat_le span.0 span.1 && (nat_le span.1 span.2 && (nat_le span.2 span.3 && (nat_le span.3 span.4 && nat_le span.4 span.5)))
 
--- those of all spans
-abbrev pub all_ordered : ℕ → List Span → Bool
-all_ordered n [] = true
-all_ordered n (span ∷ spans) = is_ordered n span && all_ordered n spans
+-- the spans follow each other, from one index on and up to another, and the parts of each do
+abbrev pub all_ordered : ℕ → ℕ → List Span → Bool
+all_ordered start stop [] = nat_le start stop
+all_ordered start stop (span ∷ spans) = nat_le start span.0 && (is_ordered span && all_ordered span.5 stop spans)

@@ -1,5 +1,5 @@
 -- What an instruction writes beside flags.
-use Rattle.std.specs.Prelude.{◌≡◌, ◌==◌, ◌&&◌, ◌||◌, ◌∷◌, [], ℕ, nat_lt, List, Bool, true, false, not, Option, Some, None, slice_get}
+use Rattle.std.specs.Prelude.{◌≡◌, ◌==◌, ◌&&◌, ◌||◌, ◌∷◌, [], ℕ, nat_lt, List, Bool, true, false, not, Option, Some, None, slice_get, if◌then◌else◌}
 use Rattle.x86_insn.specs.declared.insns.Slot.{Slot}
 use Rattle.x86_insn.specs.declared.insns.Slot.TheVariants as slot
 use Rattle.x86_insn.specs.declared.insns.Insn.{Insn}
@@ -294,12 +294,13 @@ abbrev pub write_same : Row → Row → Bool
 write_same r s = (destinations_number r.outputs.0 == destinations_number s.outputs.0) && ((implied_number r.outputs.1 == implied_number s.outputs.1)
     && ((store_number r.outputs.2 == store_number s.outputs.2) && (not (takes_memory r.first && takes_memory s.first) || (bytes_in_memory r.first == bytes_in_memory s.first))))
 
--- the row says the same of what is written as each that may admit what it does
+-- the row says the same of what is written as each of the rows behind it with its name that may admit what it does; behind those stand
+-- names of higher numbers
 abbrev pub agrees_with : Row → List Row → Bool
 agrees_with r [] = true
-agrees_with r (s ∷ rows) = (not (may_meet r s) || write_same r s) && agrees_with r rows
+agrees_with r (s ∷ rows) = if r.name.0 == s.name.0 then ((not (may_meet r s) || write_same r s) && agrees_with r rows) else (nat_lt r.name.0 s.name.0)
 
--- each of these rows does, among those
-abbrev pub all_agree : List Row → List Row → Bool
-all_agree those [] = true
-all_agree those (r ∷ rows) = agrees_with r those && all_agree those rows
+-- each of these rows does
+abbrev pub all_agree : List Row → Bool
+all_agree [] = true
+all_agree (r ∷ rows) = agrees_with r rows && all_agree rows

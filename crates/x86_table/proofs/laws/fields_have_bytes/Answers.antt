@@ -1,6 +1,7 @@
 use Rattle.x86_table.specs.Rows.{the_rows}
 use Rattle.x86_table.proofs.RowHeads.{are_bytes}
-use Rattle.x86_table.proofs.OneReading.{each, stand}
+use Rattle.x86_table.proofs.TableFacts.{stand}
+use Rattle.x86_table.proofs.OneReading.{each}
 use Rattle.x86_table.proofs.laws.fields_have_bytes.Goals as goal
 
 pub returns : goal.returns

@@ -1,7 +1,5 @@
-use Rattle.std.proofs.Common.{refl}
-use Rattle.x86_table.specs.Rows.{the_rows}
+use Rattle.x86_table.proofs.TableFacts.{stand}
 use Rattle.x86_table.proofs.laws.opcodes_stand.Goals as goal
 
 pub returns : goal.returns
-unfolding the_rows
-returns c = refl
+returns c = stand

@@ -1,7 +1,5 @@
-use Rattle.std.proofs.Common.{refl}
-use Rattle.x86_table.specs.Rows.{the_rows}
+use Rattle.x86_table.proofs.TableFacts.{apart}
 use Rattle.x86_table.proofs.laws.rows_are_apart.Goals as goal
 
 pub returns : goal.returns
-unfolding the_rows
-returns c = refl
+returns c = apart
