@@ -1,4 +1,5 @@
 -- Lemmas on what bytes read as, on the rows of names, on what rows write, and on mnemonics.
+mod RowGroups
 mod TableFacts
 mod Peeling
 mod FieldBytes

@@ -4,10 +4,18 @@ use Rattle.x86_table.specs.Rows.{the_rows}
 use Rattle.x86_table.specs.Heads.{all_apart, all_stand}
 use Rattle.x86_table.specs.Ranges.{the_spans, span_of, all_spanned, all_ordered}
 use Rattle.x86_table.specs.Writing.{all_agree}
+use Rattle.x86_table.proofs.RowGroups.{all_grouped, groups_apart, whole_apart}
+
+grouped : all_grouped the_rows ≡ true
+unfolding the_rows
+grouped = refl
+
+in_groups : groups_apart 160 the_rows ≡ true
+unfolding the_rows
+in_groups = refl
 
 pub apart : all_apart the_rows ≡ true
-unfolding the_rows
-apart = refl
+apart = whole_apart the_rows grouped in_groups
 
 pub stand : all_stand the_rows ≡ true
 unfolding the_rows

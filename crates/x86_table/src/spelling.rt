@@ -315,6 +315,22 @@ fn push_immediate(out: &mut Bytes, immediate: Immediate, held: Option<u64>)
     }
 }
 
+/// Appends the prefixes before REX.
+fn push_prefixes(out: &mut Bytes, row: &Row, parts: &Parts)
+    requires { array_vec_len out.old + 4 ≤ 24 }
+    ensures bytes { out.new.items ≡ out.old.items
+        ++ opt (first_byte parts.now.segment parts.now.prefix)
+        ++ opt (size_byte row.now.lead.operand_size)
+        ++ opt (repeat_byte row.now.lead.repeat parts.now.prefix)
+        ++ opt (lock_byte parts.now.prefix) }
+    ensures len { array_vec_len out.new ≤ array_vec_len out.old + 4 }
+{
+    push_opt(out, first_byte(parts.segment, parts.prefix));
+    push_opt(out, size_byte(row.lead.operand_size));
+    push_opt(out, repeat_byte(row.lead.repeat, parts.prefix));
+    push_opt(out, lock_byte(parts.prefix));
+}
+
 /// The bytes of an instruction by its row and its parts (Intel SDM, volume 2, section 2.1).
 #[tactic(auto, unfolding(crate::specs::Bytes::bytes_of))]
 pub fn bytes_of(row: &Row, parts: &Parts) -> Bytes
@@ -322,10 +338,7 @@ pub fn bytes_of(row: &Row, parts: &Parts) -> Bytes
     ensures { result.items ≡ bytes_of row.now (fields_of parts.now) }
 {
     let mut out = Bytes::new();
-    push_opt(&mut out, first_byte(parts.segment, parts.prefix));
-    push_opt(&mut out, size_byte(row.lead.operand_size));
-    push_opt(&mut out, repeat_byte(row.lead.repeat, parts.prefix));
-    push_opt(&mut out, lock_byte(parts.prefix));
+    push_prefixes(&mut out, row, parts);
     push_opt(&mut out, rex_byte(rex_bits(row, parts), parts.bare_rex));
     push_opt(&mut out, escape_byte(row.map));
     push_opt(&mut out, second_escape(row.map));
