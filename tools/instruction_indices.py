@@ -153,10 +153,10 @@ def keys_file(rows: list[Row]) -> str:
 
 def files(crates: pathlib.Path) -> dict[pathlib.Path, str]:
     """The text of each file."""
-    table = crates / "x86_table/src"
+    table, names = crates / "x86_table/src", crates / "x86_lookup/src"
     rows = read_table(table)
-    lists = [(syntax, f"{prefix}_SLOTS", read_names(table, f"{prefix}_NAMES")) for syntax, prefix in (("AT&T", "ATT"), ("Intel", "INTEL"))]
-    return {table / "spans.rt": spans_file(rows), table / "slots.rt": slots_file(lists), crates / "x86_encode/src/keys.rt": keys_file(rows)}
+    lists = [(syntax, f"{prefix}_SLOTS", read_names(names, f"{prefix}_NAMES")) for syntax, prefix in (("AT&T", "ATT"), ("Intel", "INTEL"))]
+    return {table / "spans.rt": spans_file(rows), names / "slots.rt": slots_file(lists), crates / "x86_encode/src/keys.rt": keys_file(rows)}
 
 
 def main() -> int:

@@ -1,7 +1,7 @@
 #!/usr/bin/env python3
 """Writes docs/INSTRUCTIONS.md from the instruction table.
 
-    tools/instructions.py [--check] [--table crates/x86_table/src] [--document docs/INSTRUCTIONS.md]
+    tools/instructions.py [--check] [--table crates/x86_table/src] [--names crates/x86_lookup/src] [--document docs/INSTRUCTIONS.md]
 
 With `--check` nothing is written: ends with 1 where the document is not what the table gives.
 """
@@ -136,10 +136,11 @@ def main() -> int:
     parser = argparse.ArgumentParser(description="Writes docs/INSTRUCTIONS.md from the instruction table.")
     parser.add_argument("--check", action="store_true", help="write nothing, and end with 1 where the document is not what the table gives")
     parser.add_argument("--table", metavar="DIR", type=pathlib.Path, default=TOP / "crates/x86_table/src", help="where the table stands")
+    parser.add_argument("--names", metavar="DIR", type=pathlib.Path, default=TOP / "crates/x86_lookup/src", help="where the mnemonics stand")
     parser.add_argument("--document", metavar="FILE", type=pathlib.Path, default=TOP / "docs/INSTRUCTIONS.md", help="the document")
     options = parser.parse_args()
     try:
-        text = document(read_table(options.table), read_names(options.table, "ATT_NAMES"))
+        text = document(read_table(options.table), read_names(options.names, "ATT_NAMES"))
         if not options.check:
             options.document.write_text(text)
         elif options.document.read_text() != text:

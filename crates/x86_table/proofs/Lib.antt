@@ -1,4 +1,4 @@
--- Lemmas on what bytes read as, on the rows of names, on what rows write, and on mnemonics.
+-- Lemmas on what bytes read as, and on the rows of names.
 mod RowGroups
 mod TableFacts
 mod Peeling
@@ -6,6 +6,3 @@ mod FieldBytes
 mod RowHeads
 mod OneReading
 mod SpanLaws
-mod RowLookups
-mod RowWrites
-mod NameLookups

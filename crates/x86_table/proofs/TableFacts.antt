@@ -3,7 +3,6 @@ use Rattle.std.proofs.Common.{◌≡◌, length, true, refl}
 use Rattle.x86_table.specs.Rows.{the_rows}
 use Rattle.x86_table.specs.Heads.{all_apart, all_stand}
 use Rattle.x86_table.specs.Ranges.{the_spans, span_of, all_spanned, all_ordered}
-use Rattle.x86_table.specs.Writing.{all_agree}
 use Rattle.x86_table.proofs.RowGroups.{all_grouped, groups_apart, whole_apart}
 
 grouped : all_grouped the_rows ≡ true
@@ -20,10 +19,6 @@ apart = whole_apart the_rows grouped in_groups
 pub stand : all_stand the_rows ≡ true
 unfolding the_rows
 stand = refl
-
-pub agree : all_agree the_rows ≡ true
-unfolding the_rows
-agree = refl
 
 pub spanned : all_spanned 0 the_rows ≡ true
 unfolding the_rows the_spans span_of

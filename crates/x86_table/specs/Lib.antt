@@ -7,6 +7,4 @@ pub mod Reads
 pub mod WorkedReadings
 pub mod Heads
 pub mod Ranges
-pub mod Writing
 pub mod WorkedWrites
-pub mod Names

@@ -1,14 +1,12 @@
 //! What holds of the whole table, and of all bytes that read.
 
 ghost use Rattle.std.specs.Prelude.{IsTrue};
-ghost use Rattle.std.specs.List.{list_all};
 ghost use Rattle.x86_table.specs.Rows.{the_rows};
 ghost use Rattle.x86_table.specs.Heads.{all_apart, all_stand};
 ghost use Rattle.x86_table.specs.Reads.{ReadsOneWay};
 ghost use Rattle.x86_table.specs.Fits.{FieldsHaveBytes};
 ghost use Rattle.x86_table.specs.WorkedReadings.{WorkedReadings};
 ghost use Rattle.x86_table.specs.WorkedWrites.{WorkedWrites};
-ghost use Rattle.x86_table.specs.Names.{the_att_names, the_intel_names, has_rows, is_whole};
 
 /// No two rows admit one head.
 pub fn rows_are_apart()
@@ -38,12 +36,4 @@ pub fn fields_have_bytes()
 /// What some instructions write, by the Intel manual.
 pub fn worked_writes()
     ensures { WorkedWrites }
-{}
-
-/// Rows have the name of each mnemonic and the size that it fixes, and its text is whole.
-pub fn mnemonics_have_rows()
-    ensures att { IsTrue (list_all has_rows the_att_names) }
-    ensures intel { IsTrue (list_all has_rows the_intel_names) }
-    ensures att_texts { IsTrue (list_all is_whole the_att_names) }
-    ensures intel_texts { IsTrue (list_all is_whole the_intel_names) }
 {}

@@ -7,7 +7,7 @@ use Rattle.x86_table.specs.declared.forms.Row.{Row}
 use Rattle.x86_table.specs.declared.ranges.RowRange.{RowRange}
 use Rattle.x86_table.specs.Rows.{the_rows}
 use Rattle.x86_table.specs.Ranges.{is_in, is_sized, AreRowsOf}
-use Rattle.x86_table.specs.Writing.{admits, kind_fits, FindsRow}
+use Rattle.x86_lookup.specs.Writing.{admits, kind_fits, FindsRow}
 
 some_is : {A : Type 0} {m n : A} → Some m ≡ Some n → m ≡ n
 some_is h = cc

@@ -1,7 +1,7 @@
 use Rattle.std.proofs.Common.{refl}
 use Rattle.x86_table.specs.Ranges.{the_spans, span_of}
-use Rattle.x86_table.specs.Names.{the_att_names, the_intel_names}
-use Rattle.x86_table.proofs.laws.mnemonics_have_rows.Goals as goal
+use Rattle.x86_lookup.specs.Names.{the_att_names, the_intel_names}
+use Rattle.x86_lookup.proofs.laws.mnemonics_have_rows.Goals as goal
 
 pub returns-clause-att : goal.returns-clause-att
 unfolding the_att_names the_spans span_of

@@ -3,7 +3,7 @@
 ghost use Rattle.std.specs.Prelude.{◌≡◌, option_map, Some};
 ghost use Rattle.std.specs.List.{find};
 ghost use Rattle.std.specs.Str.{str_to_ascii_lowercase};
-ghost use Rattle.x86_table.specs.Names.{text_of, has_text, is_of, the_att_names, the_intel_names, the_att_slots, the_intel_slots, mixed, slot_at, name_at, name_by};
+ghost use Rattle.x86_lookup.specs.Names.{text_of, has_text, is_of, the_att_names, the_intel_names, the_att_slots, the_intel_slots, mixed, slot_at, name_at, name_by};
 
 use crate::att_mnemonics::ATT_NAMES;
 use crate::intel_mnemonics::INTEL_NAMES;

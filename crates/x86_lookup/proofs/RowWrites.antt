@@ -13,8 +13,11 @@ use Rattle.x86_table.specs.declared.forms.StoreKind.TheVariants as kind
 use Rattle.x86_table.specs.declared.forms.Pattern.{Pattern}
 use Rattle.x86_table.specs.declared.forms.Row.{Row}
 use Rattle.x86_table.specs.Rows.{the_rows}
-use Rattle.x86_table.proofs.TableFacts.{agree}
-use Rattle.x86_table.specs.Writing.{is_absent, takes_register, takes_memory, is_immediate, is_target, kind_fits, admits, FindsRow, bytes_in_memory, stored, writes_by, no_writes, IsWritten, kinds_meet, may_meet, destinations_number, implied_number, store_number, write_same, agrees_with, all_agree}
+use Rattle.x86_lookup.specs.Writing.{is_absent, takes_register, takes_memory, is_immediate, is_target, kind_fits, admits, FindsRow, bytes_in_memory, stored, writes_by, no_writes, IsWritten, kinds_meet, may_meet, destinations_number, implied_number, store_number, write_same, agrees_with, all_agree}
+
+agree : all_agree the_rows ≡ true
+unfolding the_rows
+agree = refl
 
 abbrev destinations_at : ℕ → Destinations
 destinations_at n = if n == 0 then destinations.Nothing else (if n == 1 then destinations.First else (destinations.FirstAndSecond))

@@ -4,8 +4,8 @@ use Rattle.std.proofs.lemmas.Bool.{and_parts, eqb-true, cases_Bool}
 use Rattle.std.specs.List.{find}
 use Rattle.std.specs.Str.{str_eq_ignore_ascii_case, str_to_ascii_lowercase}
 use Rattle.std.specs.Cmp.Lexicographic.{bytes_decides}
-use Rattle.x86_table.specs.declared.names.Named.{Named}
-use Rattle.x86_table.specs.Names.{the_att_names, the_intel_names, the_att_slots, the_intel_slots, text_of, has_text, mixed, slot_at, slot_of, if_text, name_at, name_by, is_index, all_placed}
+use Rattle.x86_lookup.specs.declared.names.Named.{Named}
+use Rattle.x86_lookup.specs.Names.{the_att_names, the_intel_names, the_att_slots, the_intel_slots, text_of, has_text, mixed, slot_at, slot_of, if_text, name_at, name_by, is_index, all_placed}
 
 att_placed : all_placed the_att_slots 0 the_att_names ≡ true
 unfolding the_att_slots the_att_names slot_of

@@ -10,9 +10,9 @@ use Rattle.x86_table.specs.declared.forms.Implied.{Implied}
 use Rattle.x86_table.specs.declared.forms.Implied.TheVariants as implied
 use Rattle.x86_table.specs.declared.forms.StoreKind.{StoreKind}
 use Rattle.x86_table.specs.declared.forms.StoreKind.TheVariants as kind
-use Rattle.x86_table.specs.declared.writing.Store.{Store}
-use Rattle.x86_table.specs.declared.writing.Store.TheVariants as store
-use Rattle.x86_table.specs.declared.writing.Writes.{Writes}
+use Rattle.x86_lookup.specs.declared.writing.Store.{Store}
+use Rattle.x86_lookup.specs.declared.writing.Store.TheVariants as store
+use Rattle.x86_lookup.specs.declared.writing.Writes.{Writes}
 use Rattle.x86_insn.specs.declared.registers.Class.{Class}
 use Rattle.x86_insn.specs.declared.registers.Class.TheVariants as class
 use Rattle.x86_insn.specs.declared.registers.Reg.{Reg}

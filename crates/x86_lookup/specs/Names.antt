@@ -2,12 +2,11 @@
 use Rattle.std.specs.Prelude.{◌+◌, ◌*◌, ◌/◌, ◌%◌, ◌^◌, ◌==◌, ◌&&◌, ◌∷◌, [], ℕ, nat_lt, List, Bool, true, false, not, Option, Some, None, slice_get, take, drop, if◌then◌else◌}
 use Rattle.std.specs.List.{list_all}
 use Rattle.std.specs.Char.{to_ascii_lowercase}
-use Rattle.x86_table.specs.Ranges.{span_of, by_size}
 use Rattle.std.specs.Str.{str_eq_ignore_ascii_case, str_to_ascii_lowercase}
-use Rattle.x86_table.specs.declared.names.Named.{Named}
-use Rattle.x86_table.specs.declared.att_mnemonics.TheConstants.{ATT_NAMES}
-use Rattle.x86_table.specs.declared.intel_mnemonics.TheConstants.{INTEL_NAMES}
-use Rattle.x86_table.specs.declared.slots.TheConstants.{ATT_SLOTS, INTEL_SLOTS}
+use Rattle.x86_lookup.specs.declared.names.Named.{Named}
+use Rattle.x86_lookup.specs.declared.att_mnemonics.TheConstants.{ATT_NAMES}
+use Rattle.x86_lookup.specs.declared.intel_mnemonics.TheConstants.{INTEL_NAMES}
+use Rattle.x86_lookup.specs.declared.slots.TheConstants.{ATT_SLOTS, INTEL_SLOTS}
 use Rattle.x86_table.specs.Ranges.{span_of, by_size}
 
 -- the mnemonics of AT&T syntax

@@ -1,0 +1,4 @@
+-- Lemmas on mnemonics, and on what rows write.
+mod RowLookups
+mod RowWrites
+mod NameLookups

@@ -1,0 +1,13 @@
+//! What holds of all mnemonics.
+
+ghost use Rattle.std.specs.Prelude.{IsTrue};
+ghost use Rattle.std.specs.List.{list_all};
+ghost use Rattle.x86_lookup.specs.Names.{the_att_names, the_intel_names, has_rows, is_whole};
+
+/// Rows have the name of each mnemonic and the size that it fixes, and its text is whole.
+pub fn mnemonics_have_rows()
+    ensures att { IsTrue (list_all has_rows the_att_names) }
+    ensures intel { IsTrue (list_all has_rows the_intel_names) }
+    ensures att_texts { IsTrue (list_all is_whole the_att_names) }
+    ensures intel_texts { IsTrue (list_all is_whole the_intel_names) }
+{}

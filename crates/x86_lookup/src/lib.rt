@@ -1,0 +1,13 @@
+//! What is looked up in the instruction table: the rows' name of a mnemonic, and what an instruction writes.
+#![tactic(auto)]
+
+mod att_mnemonics;
+mod intel_mnemonics;
+mod laws;
+mod names;
+mod slots;
+mod writing;
+
+pub use laws::mnemonics_have_rows;
+pub use names::{Named, Rule, att_name, att_names, intel_name, intel_names, shown_as};
+pub use writing::{Store, Writes, written};
