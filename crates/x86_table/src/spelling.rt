@@ -331,6 +331,21 @@ fn push_prefixes(out: &mut Bytes, row: &Row, parts: &Parts)
     push_opt(out, lock_byte(parts.prefix));
 }
 
+/// Appends the escape bytes and the opcode, whose low bits may be a register.
+fn push_opcode(out: &mut Bytes, row: &Row, low: u8)
+    requires room { array_vec_len out.old + 3 ≤ 24 }
+    requires byte { row.now.code + low < 256 }
+    ensures bytes { out.new.items ≡ out.old.items
+        ++ opt (escape_byte row.now.map)
+        ++ opt (second_escape row.now.map)
+        ++ (row.now.code + low) ∷ [] }
+    ensures len { array_vec_len out.new ≤ array_vec_len out.old + 3 }
+{
+    push_opt(out, escape_byte(row.map));
+    push_opt(out, second_escape(row.map));
+    out.push(row.code + low);
+}
+
 /// The bytes of an instruction by its row and its parts (Intel SDM, volume 2, section 2.1).
 #[tactic(auto, unfolding(crate::specs::Bytes::bytes_of))]
 pub fn bytes_of(row: &Row, parts: &Parts) -> Bytes
@@ -340,9 +355,7 @@ pub fn bytes_of(row: &Row, parts: &Parts) -> Bytes
     let mut out = Bytes::new();
     push_prefixes(&mut out, row, parts);
     push_opt(&mut out, rex_byte(rex_bits(row, parts), parts.bare_rex));
-    push_opt(&mut out, escape_byte(row.map));
-    push_opt(&mut out, second_escape(row.map));
-    out.push(row.code + parts.low % 8);
+    push_opcode(&mut out, row, parts.low % 8);
     push_modrm(
         &mut out,
         row.shape,
