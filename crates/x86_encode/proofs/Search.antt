@@ -1,6 +1,6 @@
 -- The search by lengths is the search by bytes.
 use Rattle.std.proofs.Common.{◌≡◌, ◌<◌, ◌≤◌, ◌+◌, ◌&&◌, ◌∷◌, ◌∙◌, if◌then◌else◌, Bool, List, None, Option, Some, [], ap, arith, eq-eqb, false, get_or, inl, inr, length, nat_le, nat_lt, refl, slice_get, subst, sym, true, ℕ}
-use Rattle.std.proofs.lemmas.Bool.{cases_order, both_ways, ltb-true, leb-true, le-leb, and_parts, and_from, cases_Bool, ltb-false}
+use Rattle.std.proofs.lemmas.Bool.{cases_order, both_ways, ltb-true, leb-true, leb-false, le-leb, and_parts, and_from, cases_Bool}
 use Rattle.std.proofs.lemmas.Option.{slice_get-get_or, slice_get_within}
 use Rattle.x86_insn.specs.declared.insns.Mnemonic.{Mnemonic}
 use Rattle.x86_table.specs.declared.forms.Row.{Row}
@@ -14,9 +14,9 @@ use Rattle.x86_table.specs.Fits.{fields_fit, fits}
 use Rattle.x86_table.specs.Ranges.{IsWithin, is_sized, AreRowsOf}
 use Rattle.x86_table.specs.Rows.{the_rows}
 use Rattle.x86_encode.specs.Building.{pick, without_rex, built, shows, takes}
-use Rattle.x86_encode.specs.Codes.{OrderedCodes, Before, HasNoOrderedCode, HasOrderedCode, named, name_meant, meant}
+use Rattle.x86_encode.specs.Codes.{OrderedCodes, Before, HasNoOrderedCode, named, name_meant, meant}
 use Rattle.x86_encode.specs.Exchanges.{OrderedAt}
-use Rattle.x86_encode.specs.Keys.{the_keys, length_by, least_length, key_of, admits, is_reached, Offer, Offers, nearer, BestSofar, Sofar, Steps, Best, Finds}
+use Rattle.x86_encode.specs.Keys.{the_keys, length_by, least_length, key_of, admits, is_reached, BestSofar, Sofar, Steps, Best, Finds}
 use Rattle.x86_encode.proofs.Best.{some_is, misses, rest_longer, own_before, later_by, shorter_before, shaped_at}
 use Rattle.x86_encode.proofs.Complete.{taken}
 use Rattle.x86_encode.proofs.Keyed.{passed, key_at, as_many}
@@ -33,6 +33,13 @@ unfolding admits
 admits_named name k insn = refl
 
 -- WHAT A ROW OFFERS
+
+-- what a row offers, if it takes the instruction
+pub record Offer (insn : View) (r : Row) (i : ℕ) (x : Found) : Type 0 where
+  pub row_is : x.row ≡ i
+  pub taken : takes r insn ≡ true
+  pub parts_are : fields_of x.parts ≡ built r insn
+  pub length_is : x.length ≡ length (bytes_of r (built r insn))
 
 not_taken : (r : Row) (insn : View) → ((fits r (built r insn) ≡ true) × (shows r (built r insn) insn ≡ true) → ⊥) → takes r insn ≡ false
 unfolding takes
@@ -126,25 +133,26 @@ passes : (n : ℕ) (insn : View) (found : Option Found) → ((other : List ℕ) 
 passes n insn None k b = none_yet n insn b k
 passes n insn (Some x) k b = stays n insn x b (λ other c. absurd (k other c))
 
-by_test : (n : ℕ) (insn : View) (r : Row) (old new : Found) (t : Bool) → nat_lt new.length old.length ≡ t → Offer insn r n new → slice_get the_rows n ≡ Some r → BestSofar n insn old
-    → Sofar (n + 1) insn (if t then Some new else Some old)
-by_test n insn r old new true t o s b =
-    let l = ltb-true new.length old.length t in
-    let a = o.length_is in
-    let c = b.length_is in
-    takes_over n insn r new o s (λ other j lt k. shorter_before old.row j n (bytes_of r (built r insn)) (bytes_of b.r (built b.r insn)) other (omega arith) (b.least other j lt k))
-by_test n insn r old new false t o s b =
-    let l = ltb-false new.length old.length t in
-    let a = o.length_is in
-    stays n insn old b (λ other c. elim (rest_longer n r insn s (shaped_at n r s) other c) [
-      | inl e ↦ (let k : length (bytes_of r (built r insn)) ≡ length other = ap (λ (y : List ℕ). length y) e in omega arith)
+pub steps_not : (insn : View) (r : Row) (i : ℕ) (found : Option Found) → takes r insn ≡ false → Steps insn r i found found
+steps_not insn r i found o = λ s b. passes i insn found (misses i r insn s (shaped_at i r s) o) b
+
+pub steps_longer : (insn : View) (r : Row) (i : ℕ) (found : Option Found) (p : Fields) (n : ℕ) → p ≡ built r insn → n ≡ length_by r p → is_reached found n ≡ true → Steps insn r i found found
+steps_longer insn r i None p n e len t = cc
+steps_longer insn r i (Some x) p n e len t = λ s b.
+    let l : length (bytes_of r (built r insn)) ≡ n = length_built r insn p n e len in
+    let k = leb-true x.length n t in
+    stays i insn x b (λ other c. elim (rest_longer i r insn s (shaped_at i r s) other c) [
+      | inl e ↦ (let m : length (bytes_of r (built r insn)) ≡ length other = ap (λ (y : List ℕ). length y) e in omega arith)
       | inr g ↦ omega arith
     ])
 
-pub steps_given : (insn : View) (r : Row) (i : ℕ) (found new : Option Found) → Offers insn r i new → Steps insn r i found (nearer found new)
-steps_given insn r i found None o = λ s b. passes i insn found (misses i r insn s (shaped_at i r s) o) b
-steps_given insn r i None (Some x) o = λ s b. takes_over i insn r x o s (λ other j lt c. absurd (b other j lt c))
-steps_given insn r i (Some old) (Some x) o = λ s b. by_test i insn r old x (nat_lt x.length old.length) refl o s b
+pub steps_shorter : (insn : View) (r : Row) (i : ℕ) (found : Option Found) (x : Found) → Offer insn r i x → is_reached found x.length ≡ false → Steps insn r i found (Some x)
+steps_shorter insn r i None x o t = λ s b. takes_over i insn r x o s (λ other j lt c. absurd (b other j lt c))
+steps_shorter insn r i (Some old) x o t = λ s b.
+    let l = leb-false old.length x.length t in
+    let a = o.length_is in
+    let c = b.length_is in
+    takes_over i insn r x o s (λ other j lt k. shorter_before old.row j i (bytes_of r (built r insn)) (bytes_of b.r (built b.r insn)) other (omega arith) (b.least other j lt k))
 
 pub steps_reached : (insn : View) (r : Row) (i : ℕ) (found : Option Found) → is_reached found (least_length r) ≡ true → Steps insn r i found found
 steps_reached insn r i None e = cc
@@ -241,21 +249,18 @@ pub record Taking (insn : View) (x : Found) (r : Row) : Type 0 where
   pub length_is : x.length ≡ length (bytes_of r (built r insn))
   pub least : (other : List ℕ) (j : ℕ) → OrderedCodes other insn j → Before (bytes_of r (built r insn)) x.row other j
 
-best_of : (insn : View) (found : Option Found) (x : Found) → found ≡ Some x → Finds insn found → Best insn x
+pub best_of : (insn : View) (found : Option Found) (x : Found) → found ≡ Some x → Finds insn found → Best insn x
 best_of insn found x e k = let q : Finds insn (Some x) = subst (λ (y : Option Found). Finds insn y) e k in q
 
-pub found_within : (insn : View) (found : Option Found) (x : Found) (rows : List Row) → found ≡ Some x → rows ≡ the_rows → Finds insn found → x.row < length rows
-found_within insn found x rows e g k =
-    let t = best_of insn found x e k in
-    slice_get_within rows x.row t.r (subst (λ (y : List Row). slice_get y x.row ≡ Some t.r) (sym g) t.found)
+pub best_within : (insn : View) (x : Found) (rows : List Row) → rows ≡ the_rows → Best insn x → x.row < length rows
+best_within insn x rows g t = slice_get_within rows x.row t.r (subst (λ (y : List Row). slice_get y x.row ≡ Some t.r) (sym g) t.found)
 
 taking : (insn : View) (x : Found) (b : Best insn x) → Taking insn x b.r
 taking insn x b = record { found = b.found; taken = b.taken; parts_are = b.parts_are; length_is = b.length_is; least = b.least }
 
-pub found_row : (insn : View) (found : Option Found) (x : Found) (rows : List Row) (d : Row) → found ≡ Some x → rows ≡ the_rows → Finds insn found → Taking insn x (get_or rows x.row d)
-found_row insn found x rows d e g k =
-    let t = best_of insn found x e k in
-    let s = row_at rows x.row d g (found_within insn found x rows e g k) in
+pub best_row : (insn : View) (x : Found) (rows : List Row) (d : Row) → rows ≡ the_rows → Best insn x → Taking insn x (get_or rows x.row d)
+best_row insn x rows d g t =
+    let s = row_at rows x.row d g (best_within insn x rows g t) in
     let same : t.r ≡ get_or rows x.row d = some_is (sym t.found ∙ s) in
     subst (λ (y : Row). Taking insn x y) same (taking insn x t)
 
@@ -274,11 +279,3 @@ taking_code insn x r bytes t e =
 
 pub meant_is : (name : Mnemonic) (insn : View) → name.0 ≡ name_meant insn → named name insn ≡ meant insn
 meant_is name insn e = ap (λ (n : ℕ). named (record { 0 = n }) insn) e
-
-pub finds_meant : (name : Mnemonic) (insn : View) (found : Option Found) → name.0 ≡ name_meant insn → Finds (named name insn) found → Finds (meant insn) found
-finds_meant name insn found e k = subst (λ (v : View). Finds v found) (meant_is name insn e) k
-
-pub some_found : (insn : View) (found : Option Found) (x : Found) → found ≡ Some x → Finds insn found → HasOrderedCode insn
-some_found insn found x e k =
-    let t = best_of insn found x e k in
-    (bytes_of t.r (built t.r insn), x.row, taken_code insn x t.r (taking insn x t))

@@ -229,24 +229,6 @@ abbrev pub is_reached : Option Found → ℕ → Bool
 is_reached None n = false
 is_reached (Some x) n = nat_le x.length n
 
--- what a row offers, if it takes the instruction
-pub record Offer (insn : View) (r : Row) (i : ℕ) (x : Found) : Type 0 where
-  pub row_is : x.row ≡ i
-  pub taken : takes r insn ≡ true
-  pub parts_are : fields_of x.parts ≡ built r insn
-  pub length_is : x.length ≡ length (bytes_of r (built r insn))
-
--- the row takes the instruction with this offer, or does not take it
-abbrev pub Offers : View → Row → ℕ → Option Found → Type 0
-Offers insn r i None = takes r insn ≡ false
-Offers insn r i (Some x) = Offer insn r i x
-
--- the first of two, if the second is not shorter
-abbrev pub nearer : Option Found → Option Found → Option Found
-nearer found None = found
-nearer None (Some new) = Some new
-nearer (Some old) (Some new) = if nat_lt new.length old.length then Some new else Some old
-
 -- the row of what is found takes the instruction, and no row before n gives it bytes that come before
 pub record BestSofar (n : ℕ) (insn : View) (x : Found) : Type 0 where
   pub r : Row

@@ -1,16 +1,18 @@
 //! The shortest bytes of an instruction.
 
-ghost use Rattle.std.specs.Prelude.{◌≡◌, ◌&&◌};
+ghost use Rattle.std.specs.Prelude.{◌≡◌, ◌==◌, ◌&&◌, true};
 ghost use Rattle.x86_insn.specs.Views.{view_of};
 ghost use Rattle.x86_encode.specs.Answers.{Encodes, Fills, Notes, Placed};
 ghost use Rattle.x86_encode.specs.Codes.{is_quad, is_wide, name_meant, meant};
 ghost use Rattle.x86_encode.specs.Faults.{Coded, HasForm, Causes, HasCause};
 
+use crate::building::laid_out;
 use crate::encoded::{EncodeFault, Encoded};
 use crate::immediates::is_signed_32;
-use crate::making::made_of;
+use crate::making::{encoded_of, exchanged, made_of};
+use crate::searching::{Found, shortest};
 use x86_insn::{Class, Insn, Mnemonic, Slot, Values};
-use x86_table::mnemonics::{MOV, MOVABS};
+use x86_table::mnemonics::{MOV, MOVABS, XCHG};
 
 /// Whether the value goes into a 64-bit register and 32 bits, sign-extended, do not hold it.
 fn is_wide_move(insn: &Insn, values: &Values) -> bool
@@ -96,6 +98,23 @@ fn fault_of(insn: &Insn, values: &Values) -> EncodeFault
     }
 }
 
+/// The same of the instruction `xchg`, in either order of its operands.
+#[inline(never)]
+fn encode_exchanged(name: Mnemonic, insn: &Insn, values: &Values) -> Result<Encoded, EncodeFault>
+    requires name { name.0 ≡ name_meant (view_of insn.now values.now) }
+    requires xchg { (name.0 == XCHG) ≡ true }
+    ensures code { Encodes (meant (view_of insn.now values.now)) result }
+    ensures fields { Fills (meant (view_of insn.now values.now)) result }
+    ensures positions { Placed (meant (view_of insn.now values.now)) result }
+    ensures notes { Notes (meant (view_of insn.now values.now)) result }
+    ensures cause { HasCause insn.now values.now result }
+{
+    match exchanged(name, insn, values) {
+        None => Err(fault_of(insn, values)),
+        Some(made) => Ok(made.encoded),
+    }
+}
+
 /// The shortest bytes that mean the instruction.
 pub fn encode(insn: &Insn, values: &Values) -> Result<Encoded, EncodeFault>
     ensures code { Encodes (meant (view_of insn.now values.now)) result }
@@ -104,8 +123,15 @@ pub fn encode(insn: &Insn, values: &Values) -> Result<Encoded, EncodeFault>
     ensures notes { Notes (meant (view_of insn.now values.now)) result }
     ensures cause { HasCause insn.now values.now result }
 {
-    match made_of(name_meant(insn, values), insn, values) {
+    let name = name_meant(insn, values);
+    if name.0 == XCHG {
+        return encode_exchanged(name, insn, values);
+    }
+    let laid = laid_out(insn, values);
+    let mut found: Option<Found> = None;
+    shortest(&mut found, name, &laid, insn, values);
+    match &found {
         None => Err(fault_of(insn, values)),
-        Some(made) => Ok(made.encoded),
+        Some(own) => Ok(encoded_of(name, own, insn, values)),
     }
 }

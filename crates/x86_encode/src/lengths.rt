@@ -123,14 +123,15 @@ pub fn has_rex(row: &Row, parts: &Parts) -> bool
 
 /// REX, where the row alone has none.
 #[tactic(auto, using(crate::proofs::Length::rex_more, crate::proofs::Length::rex_none))]
-fn rex_more(row: &Row, parts: &Parts) -> u8
+fn rex_more(row: &Row, rex: bool, parts: &Parts) -> u8
+    requires { rex ≡ has_rex row.now (fields_of parts.now) }
     ensures value { let p = fields_of parts.now in
         result + bit row.now.lead.wide ≡ count (rex_byte (rex_bits row.now p) p.bare_rex) }
     ensures small { result < 2 }
 {
     if row.lead.wide {
         0
-    } else if has_rex(row, parts) {
+    } else if rex {
         1
     } else {
         0
@@ -139,8 +140,9 @@ fn rex_more(row: &Row, parts: &Parts) -> u8
 
 /// How many bytes the fields have in a row that has at least so many.
 #[tactic(auto, unfolding(crate::specs::Keys::length_by), using(crate::proofs::Length::least_small))]
-pub fn length_of(least: u8, row: &Row, parts: &Parts) -> u8
-    requires { least ≡ least_length row.now }
+pub fn length_of(least: u8, row: &Row, rex: bool, parts: &Parts) -> u8
+    requires least { least ≡ least_length row.now }
+    requires rex { rex ≡ has_rex row.now (fields_of parts.now) }
     ensures value { result ≡ length_by row.now (fields_of parts.now) }
     ensures small { result < 40 }
 {
@@ -148,6 +150,6 @@ pub fn length_of(least: u8, row: &Row, parts: &Parts) -> u8
         + first_length(parts.segment, parts.prefix)
         + repeat_length(row.lead.repeat, parts.prefix)
         + lock_length(parts.prefix)
-        + rex_more(row, parts)
+        + rex_more(row, rex, parts)
         + modrm_more(row.shape, parts.place, parts.displacement)
 }

@@ -3,14 +3,15 @@
 ghost use Rattle.std.specs.Prelude.{◌≡◌, ◌==◌, false, true};
 ghost use Rattle.x86_insn.specs.Views.{seen_at, view_of};
 ghost use Rattle.x86_table.specs.Reads.{is_register, is_accumulator};
-ghost use Rattle.x86_encode.specs.Answers.{Makes, MakesBack, Answers, turned_position, turned_field, is_before};
+ghost use Rattle.x86_encode.specs.Answers.{IsMade, Makes, MakesBack, Answers, turned_position, turned_field, is_before};
 ghost use Rattle.x86_encode.specs.Codes.{named};
+ghost use Rattle.x86_encode.specs.Keys.{Best};
 ghost use Rattle.x86_encode.specs.Exchanges.{turned, exchanges, at_most};
 
 use crate::building::laid_out;
 use crate::encoded::{Encoded, Field, Position};
 use crate::filling::{displacement_field, immediate_field};
-use crate::searching::shortest;
+use crate::searching::{Found, shortest};
 use x86_insn::{Insn, Mnemonic, Slot, Values};
 use x86_table::mnemonics::XCHG;
 use x86_table::{bytes_of, fields_have_bytes, rows};
@@ -22,38 +23,47 @@ pub struct Made {
     pub encoded: Encoded,
 }
 
+/// The bytes of what was found for an instruction of this name, with their fields.
+pub fn encoded_of(name: Mnemonic, found: &Found, insn: &Insn, values: &Values) -> Encoded
+    requires { Best (named name (view_of insn.now values.now)) found.now }
+    ensures { IsMade (named name (view_of insn.now values.now))
+        (record { row = found.now.row; encoded = result }) }
+{
+    fields_have_bytes();
+    let row = &rows()[found.row];
+    Encoded {
+        bytes: bytes_of(row, &found.parts),
+        displacement: displacement_field(
+            found.length,
+            row.immediate,
+            found.parts.place,
+            found.parts.displacement,
+            insn,
+            values,
+        ),
+        immediate: immediate_field(
+            found.length,
+            row.immediate,
+            found.parts.immediate,
+            insn,
+            values,
+        ),
+    }
+}
+
 /// What is made of the operands in the row's order.
 fn made_here(name: Mnemonic, insn: &Insn, values: &Values) -> Option<Made>
     ensures { Makes (named name (view_of insn.now values.now)) result }
 {
     let laid = laid_out(insn, values);
-    match shortest(name, &laid, insn, values) {
+    let mut found: Option<Found> = None;
+    shortest(&mut found, name, &laid, insn, values);
+    match &found {
         None => None,
-        Some(found) => {
-            fields_have_bytes();
-            let row = &rows()[found.row];
-            Some(Made {
-                row: found.row,
-                encoded: Encoded {
-                    bytes: bytes_of(row, &found.parts),
-                    displacement: displacement_field(
-                        found.length,
-                        row.immediate,
-                        found.parts.place,
-                        found.parts.displacement,
-                        insn,
-                        values,
-                    ),
-                    immediate: immediate_field(
-                        found.length,
-                        row.immediate,
-                        found.parts.immediate,
-                        insn,
-                        values,
-                    ),
-                },
-            })
-        }
+        Some(own) => Some(Made {
+            row: own.row,
+            encoded: encoded_of(name, own, insn, values),
+        }),
     }
 }
 
@@ -187,8 +197,7 @@ fn made_either(name: Mnemonic, insn: &Insn, values: &Values) -> Option<Made>
 }
 
 /// What is made of the operands of `xchg`, which shows the accumulator first.
-#[inline(never)]
-fn exchanged(name: Mnemonic, insn: &Insn, values: &Values) -> Option<Made>
+pub fn exchanged(name: Mnemonic, insn: &Insn, values: &Values) -> Option<Made>
     requires { (name.0 == XCHG) ≡ true }
     ensures { Answers (named name (view_of insn.now values.now)) result }
 {

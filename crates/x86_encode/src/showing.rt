@@ -10,7 +10,6 @@ ghost use Rattle.x86_encode.specs.Codes.{class_number, last_of, reduced_if, plai
 
 use crate::building::{is_byte, is_middle};
 use crate::immediates::last_of;
-use crate::lengths::has_rex;
 use x86_insn::{Base, Class, Index, Insn, Mnemonic, Segment, Slot, Values};
 use x86_table::{Immediate, Parts, Pattern, Place, Row};
 
@@ -280,6 +279,7 @@ fn shows_target(length: u64, held: Option<u64>, slot: Slot, insn: &Insn, values:
 }
 
 /// Whether an operand of a row shows the instruction's.
+#[inline(always)]
 fn shows_slot(
     has_rex: bool,
     length: u64,
@@ -320,15 +320,16 @@ fn shows_slot(
 pub fn shows(
     row: &Row,
     parts: &Parts,
+    rex: bool,
     total: u64,
     name: Mnemonic,
     insn: &Insn,
     values: &Values,
 ) -> bool
-    requires { total ≡ length (bytes_of row.now (fields_of parts.now)) }
+    requires rex { rex ≡ has_rex row.now (fields_of parts.now) }
+    requires total { total ≡ length (bytes_of row.now (fields_of parts.now)) }
     ensures { result ≡ shows row.now (fields_of parts.now) (named name (view_of insn.now values.now)) }
 {
-    let rex = has_rex(row, parts);
     name.0 == row.name.0
         && (insn.size == row.size
             && (shows_slot(

@@ -8,10 +8,10 @@ pub returns-then-row-clause-value : goal.returns-then-row-clause-value
 returns-then-row-clause-value c = rex_more c.args.row.now.lead.wide (rex_bits c.args.row.now (fields_of c.args.parts.now)) c.args.parts.now.bare_rex c.if-row.true
     (bits_least c.args.row.now (fields_of c.args.parts.now))
 
-pub returns-then-has_rex-clause-value : goal.returns-then-has_rex-clause-value
-returns-then-has_rex-clause-value c = rex_none c.args.row.now.lead.wide (rex_bits c.args.row.now (fields_of c.args.parts.now)) c.args.parts.now.bare_rex _ c.if-row.false
-    (sym c.has_rex.ensures ∙ c.if-has_rex.true)
+pub returns-then-rex-clause-value : goal.returns-then-rex-clause-value
+returns-then-rex-clause-value c = rex_none c.args.row.now.lead.wide (rex_bits c.args.row.now (fields_of c.args.parts.now)) c.args.parts.now.bare_rex _ c.if-row.false
+    (sym c.requires ∙ c.if-rex.true)
 
-pub returns-else-has_rex-clause-value : goal.returns-else-has_rex-clause-value
-returns-else-has_rex-clause-value c = rex_none c.args.row.now.lead.wide (rex_bits c.args.row.now (fields_of c.args.parts.now)) c.args.parts.now.bare_rex _ c.if-row.false
-    (sym c.has_rex.ensures ∙ c.if-has_rex.false)
+pub returns-else-rex-clause-value : goal.returns-else-rex-clause-value
+returns-else-rex-clause-value c = rex_none c.args.row.now.lead.wide (rex_bits c.args.row.now (fields_of c.args.parts.now)) c.args.parts.now.bare_rex _ c.if-row.false
+    (sym c.requires ∙ c.if-rex.false)
