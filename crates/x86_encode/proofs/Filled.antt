@@ -1,5 +1,6 @@
 -- With values in their fields, the bytes read as the instruction with these values.
 use Rattle.std.proofs.Common.{◌≡◌, ◌-◌, ◌∙◌, List, Option, Some, ap, length, refl, slice_get, subst, sym, true, ℕ}
+use Rattle.std.proofs.lemmas.Bool.{and_parts}
 use Rattle.x86_table.specs.declared.forms.Row.{Row}
 use Rattle.x86_table.specs.declared.forms.Pattern.{Pattern}
 use Rattle.x86_encode.specs.declared.searching.Found.{Found}
@@ -13,29 +14,34 @@ use Rattle.x86_table.specs.Fits.{fits}
 use Rattle.x86_table.specs.Reads.{shown}
 use Rattle.x86_table.specs.Rows.{the_rows}
 use Rattle.x86_encode.specs.Codes.{normal, Means}
+use Rattle.x86_encode.specs.Faults.{kind_fits, kinds_fit}
 use Rattle.x86_encode.specs.Filling.{field_holds, filled, valued, exact, Shows, ReadsAs, moved_field, held_field, Noted}
 use Rattle.x86_encode.specs.Keys.{immediate_length}
 use Rattle.x86_encode.proofs.Complete.{taken}
 use Rattle.x86_encode.proofs.FilledBytes.{filled_bytes}
-use Rattle.x86_encode.proofs.FilledFields.{fill, fill_rex, fill_same_length, fill_fits, known_held, known_place}
+use Rattle.x86_encode.proofs.FilledFields.{lowered, fill, fill_rex, fill_same_length, fill_fits, known_held, known_place}
 use Rattle.x86_encode.proofs.FilledOperands.{slot_valued}
 use Rattle.x86_encode.proofs.Fitted.{fit_of}
 use Rattle.x86_encode.proofs.Search.{Taking}
+use Rattle.x86_encode.proofs.Values.{kinds_at}
 
-shows_filled : (at : ℕ) (there : Position) (v w : ℕ) (r : Row) (p : Fields) (insn : View) → Means r p insn → fits r p ≡ true → field_holds (held_field at there r.immediate p.held) w ≡ true
-    → Shows r (fill v w p) insn.name.0 insn.size insn.«prefix» (valued (length (bytes_of r p)) v w insn.first) (valued (length (bytes_of r p)) v w insn.second) (valued (length (bytes_of r p)) v w insn.third)
-shows_filled at there v w r p insn m h k =
+shows_filled : (at : ℕ) (there : Position) (v w : ℕ) (r : Row) (p : Fields) (insn : View) → kinds_fit r ≡ true → Means r p insn → fits r p ≡ true → field_holds (held_field at there r.immediate p.held) w ≡ true
+    → Shows r (fill v (lowered r.immediate w) p) insn.name.0 insn.size insn.«prefix» (valued (length (bytes_of r p)) v w insn.first) (valued (length (bytes_of r p)) v w insn.second) (valued (length (bytes_of r p)) v w insn.third)
+shows_filled at there v w r p insn g m h k =
     let f = fit_of r p h in
     let n = length (bytes_of r p) in
-    let slot : (q : Pattern) (o : Seen) → normal r.immediate q o ≡ shown (has_rex r p) n p q → exact r.immediate q (valued n v w o) ≡ shown (has_rex r (fill v w p)) (length (bytes_of r (fill v w p))) (fill v w p) q =
-    λ q o e. slot_valued at there (has_rex r p) n v w r.immediate p q o f.held k e ∙ sym (rw (fill_rex v w r p, fill_same_length v w r p) refl) in
+    let x = lowered r.immediate w in
+    let kinds = and_parts _ _ (and_parts _ _ g).0 in
+    let others = and_parts _ _ kinds.1 in
+    let slot : (q : Pattern) (o : Seen) → kind_fits r.immediate q ≡ true → normal r.immediate q o ≡ shown (has_rex r p) n p q → exact r.immediate q (valued n v w o) ≡ shown (has_rex r (fill v x p)) (length (bytes_of r (fill v x p))) (fill v x p) q =
+    λ q o z e. slot_valued at there (has_rex r p) n v w r.immediate p q o f.held k z e ∙ sym (rw (fill_rex v x r p, fill_same_length v x r p) refl) in
     record {
       name_is = m.name;
       size_is = m.size;
       prefix_is = m.words;
-      first_is = slot r.first insn.first m.first;
-      second_is = slot r.second insn.second m.second;
-      third_is = slot r.third insn.third m.third;
+      first_is = slot r.first insn.first kinds.0 m.first;
+      second_is = slot r.second insn.second others.0 m.second;
+      third_is = slot r.third insn.third others.1 m.third;
     }
 
 pub reads_filled : (n i : ℕ) (here there : Position) (v w : ℕ) (r : Row) (p : Fields) (insn : View) (moved held : Option Field) (bytes : List ℕ) → slice_get the_rows i ≡ Some r → fits r p ≡ true → Means r p insn
@@ -43,26 +49,27 @@ pub reads_filled : (n i : ℕ) (here there : Position) (v w : ℕ) (r : Row) (p 
     → field_holds moved v ≡ true → field_holds held w ≡ true → ReadsAs (filled held w (filled moved v bytes)) insn
     (valued (length bytes) v w insn.first) (valued (length bytes) v w insn.second) (valued (length bytes) v w insn.third)
 reads_filled n i here there v w r p insn moved held bytes s h m b e mo he kv kw =
+    let x = lowered r.immediate w in
     let at = n - immediate_length r.immediate in
     let len : n ≡ length (bytes_of r p) = e ∙ ap (λ (y : List ℕ). length y) b in
     let kv2 : field_holds (moved_field (at - 4) here p.place) v ≡ true = subst (λ (f : Option Field). field_holds f v ≡ true) mo kv in
     let kw2 : field_holds (held_field at there r.immediate p.held) w ≡ true = subst (λ (f : Option Field). field_holds f w ≡ true) he kw in
-    let same : filled held w (filled moved v bytes) ≡ bytes_of r (fill v w p) =
-    rw (mo, he, b) (filled_bytes n here there v w r p len h kw2) in
+    let same : filled held w (filled moved v bytes) ≡ bytes_of r (fill v x p) =
+    rw (mo, he, b) (filled_bytes n here there v w r p len h) in
     record {
       row = i;
       r = r;
-      p = fill v w p;
+      p = fill v x p;
       reads = record {
         found = s;
         fit = fill_fits (at - 4) at here there v w r p h kv2 kw2;
-        held_known = known_held w p.held;
+        held_known = known_held x p.held;
         place_known = known_place v p.place;
         bytes_are = same;
         insn_is = refl;
       };
-      shows = subst (λ (l : List ℕ). Shows r (fill v w p) insn.name.0 insn.size insn.«prefix» (valued (length l) v w insn.first) (valued (length l) v w insn.second) (valued (length l) v w insn.third)) (sym b)
-          (shows_filled at there v w r p insn m h kw2);
+      shows = subst (λ (l : List ℕ). Shows r (fill v x p) insn.name.0 insn.size insn.«prefix» (valued (length l) v w insn.first) (valued (length l) v w insn.second) (valued (length l) v w insn.third)) (sym b)
+          (shows_filled at there v w r p insn (kinds_at i r s) m h kw2);
     }
 
 taken_at : (insn : View) (x : Found) (r : Row) → Taking insn x r → (fits r (fields_of x.parts) ≡ true) × Means r (fields_of x.parts) insn

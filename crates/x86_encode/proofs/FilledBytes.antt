@@ -1,8 +1,7 @@
 -- The bytes of fields with values in place of those that are not known.
 use Rattle.std.proofs.Common.{◌≡◌, ◌<◌, ◌≤◌, ◌+◌, ◌-◌, ◌*◌, ◌%◌, ◌^◌, ◌&&◌, ◌∷◌, ◌++◌, ◌∙◌, Bool, List, None, Option, Some, [], ap, append_assoc, arith, drop, length, nat_lt, refl, suc, sym, take, true, zero, ℕ}
-use Rattle.std.proofs.lemmas.Bool.{ltb-true, and_parts}
+use Rattle.std.proofs.lemmas.Bool.{and_parts}
 use Rattle.std.proofs.Math.ListN.{length-append}
-use Rattle.std.specs.Int.{to_le_bytes, w64}
 use Rattle.x86_insn.specs.declared.insns.Index.{Index}
 use Rattle.x86_table.specs.declared.forms.Row.{Row}
 use Rattle.x86_table.specs.declared.forms.Immediate.{Immediate}
@@ -15,9 +14,9 @@ use Rattle.x86_table.specs.declared.parts.Width.TheVariants as width
 use Rattle.x86_table.specs.Bytes.{opt, first_byte, size_byte, repeat_byte, lock_byte, rex_bits, rex_byte, escape_byte, second_escape, long, displacement_bytes, mod_of, rm_of, sib_bytes, place_displacement, modrm_bytes, immediate_bytes, bytes_of}
 use Rattle.x86_table.specs.Fields.{Location, nowhere, direct, from_rip, bare, based, Fields}
 use Rattle.x86_table.specs.Fits.{displacement_fits, index_fits, sib_fits, mode_fits, some_place_fits, rm_fits, is_nowhere, place_fits, immediate_fits, fits}
-use Rattle.x86_encode.specs.Filling.{field_holds, filled, known_as, moved_field, held_field}
+use Rattle.x86_encode.specs.Filling.{low_bytes, filled, known_as, moved_field, held_field}
 use Rattle.x86_encode.specs.Keys.{immediate_length}
-use Rattle.x86_encode.proofs.FilledFields.{fill_place, fill, fill_bits}
+use Rattle.x86_encode.proofs.FilledFields.{fill_place, lowered, fill, fill_bits}
 use Rattle.x86_encode.proofs.Fitted.{fit_of}
 use Rattle.x86_encode.proofs.Length.{immediate_is}
 
@@ -195,32 +194,41 @@ tail_fill v (shape.Slash m) p = offset_fill v p
 
 -- THE IMMEDIATE
 
-quad_same : (w : ℕ) → w < 2 ^ 64 → to_le_bytes w64 (w % 2 ^ 64) ≡ to_le_bytes w64 w
-quad_same w h = let e : w % 2 ^ 64 ≡ w = omega arith in rw e refl
+twice_byte : (w : ℕ) → w % 2 ^ 8 % 256 ≡ w % 256
+twice_byte w = omega arith
 
-held_put : (at : ℕ) (here : Position) (w : ℕ) (i : Immediate) (d : Option ℕ) (g : List ℕ) → immediate_fits i d ≡ true → field_holds (held_field at here i d) w ≡ true → at ≡ length g
-    → filled (held_field at here i d) w (g ++ immediate_bytes i d) ≡ g ++ immediate_bytes i (known_as w d)
-held_put at here w i (Some x) g f k e = refl
-held_put at here w immediate.Absent None g f k e = cc
-held_put at here w immediate.Byte None g f k e = put_last g (immediate_bytes immediate.Byte None) (immediate_bytes immediate.Byte (Some w)) at 1 e refl
-held_put at here w immediate.Count None g f k e = cc
-held_put at here w immediate.Sext16 None g f k e = cc
-held_put at here w immediate.Sext32 None g f k e = cc
-held_put at here w immediate.Sext64 None g f k e = cc
-held_put at here w immediate.Word None g f k e = put_last g (immediate_bytes immediate.Word None) (immediate_bytes immediate.Word (Some w)) at 2 e refl
-held_put at here w immediate.Long None g f k e = put_last g (immediate_bytes immediate.Long None) (immediate_bytes immediate.Long (Some w)) at 4 e refl
-held_put at here w immediate.LongSext None g f k e = put_last g (immediate_bytes immediate.LongSext None) (immediate_bytes immediate.LongSext (Some w)) at 4 e refl
-held_put at here w immediate.Quad None g f k e =
-    put_last g (immediate_bytes immediate.Quad None) (to_le_bytes w64 (w % 2 ^ 64)) at 8 e refl ∙ ap (λ (y : List ℕ). g ++ y) (quad_same w (ltb-true w (2 ^ 64) k))
-held_put at here w immediate.Rel8 None g f k e = put_last g (immediate_bytes immediate.Rel8 None) (immediate_bytes immediate.Rel8 (Some w)) at 1 e refl
-held_put at here w immediate.Short None g f k e = cc
-held_put at here w immediate.Rel32 None g f k e = put_last g (immediate_bytes immediate.Rel32 None) (immediate_bytes immediate.Rel32 (Some w)) at 4 e refl
+twice_word : (w : ℕ) → w % 2 ^ 16 % 2 ^ 16 ≡ w % 2 ^ 16
+twice_word w = omega arith
+
+twice_long : (w : ℕ) → w % 2 ^ 32 % 2 ^ 32 ≡ w % 2 ^ 32
+twice_long w = omega arith
+
+-- the bytes of what an immediate holds of a value are the value's low bytes
+low_held : (i : Immediate) (w : ℕ) → immediate_fits i None ≡ true → low_bytes (immediate_length i) w ≡ immediate_bytes i (Some (lowered i w))
+low_held immediate.Absent w h = cc
+low_held immediate.Byte w h = rw (twice_byte w) refl
+low_held immediate.Count w h = cc
+low_held immediate.Sext16 w h = cc
+low_held immediate.Sext32 w h = cc
+low_held immediate.Sext64 w h = cc
+low_held immediate.Word w h = rw (twice_word w) refl
+low_held immediate.Long w h = rw (twice_long w) refl
+low_held immediate.LongSext w h = refl
+low_held immediate.Quad w h = refl
+low_held immediate.Rel8 w h = refl
+low_held immediate.Short w h = cc
+low_held immediate.Rel32 w h = refl
+
+held_put : (at : ℕ) (here : Position) (w : ℕ) (i : Immediate) (d : Option ℕ) (g : List ℕ) → immediate_fits i d ≡ true → at ≡ length g
+    → filled (held_field at here i d) w (g ++ immediate_bytes i d) ≡ g ++ immediate_bytes i (known_as (lowered i w) d)
+held_put at here w i (Some x) g f e = refl
+held_put at here w i None g f e =
+    put_last g (immediate_bytes i None) (low_bytes (immediate_length i) w) at (immediate_length i) e (sym (immediate_is i None)) ∙ ap (λ (y : List ℕ). g ++ y) (low_held i w f)
 
 -- the bytes with values in their fields are those of the filled fields
 pub filled_bytes : (n : ℕ) (here there : Position) (v w : ℕ) (r : Row) (p : Fields) → n ≡ length (bytes_of r p) → fits r p ≡ true
-    → field_holds (held_field (n - immediate_length r.immediate) there r.immediate p.held) w ≡ true
-    → filled (held_field (n - immediate_length r.immediate) there r.immediate p.held) w (filled (moved_field (n - immediate_length r.immediate - 4) here p.place) v (bytes_of r p)) ≡ bytes_of r (fill v w p)
-filled_bytes n here there v w r p e h k =
+    → filled (held_field (n - immediate_length r.immediate) there r.immediate p.held) w (filled (moved_field (n - immediate_length r.immediate - 4) here p.place) v (bytes_of r p)) ≡ bytes_of r (fill v (lowered r.immediate w) p)
+filled_bytes n here there v w r p e h =
     let fit = fit_of r p h in
     let f = front r p in
     let t = modrm_tail r.shape p.place in
@@ -236,8 +244,8 @@ filled_bytes n here there v w r p e h k =
     ap (λ (y : List ℕ). filled (moved_field (n - immediate_length r.immediate - 4) here p.place) v y) (split r p)
     ∙ moved_put r.shape (n - immediate_length r.immediate - 4) here v p.place f i fit.place (λ z. omega arith)
     ∙ sym (append_assoc f t2 i) in
-    let second : filled (held_field (n - immediate_length r.immediate) there r.immediate p.held) w ((f ++ t2) ++ i) ≡ (f ++ t2) ++ immediate_bytes r.immediate (known_as w p.held) =
-    held_put (n - immediate_length r.immediate) there w r.immediate p.held (f ++ t2) fit.held k (omega arith) in
-    let third : bytes_of r (fill v w p) ≡ f ++ (t2 ++ immediate_bytes r.immediate (known_as w p.held)) =
-    split r (fill v w p) ∙ ap (λ (y : List ℕ). y ++ (t2 ++ immediate_bytes r.immediate (known_as w p.held))) (front_fill v w r p) in
-    ap (λ (y : List ℕ). filled (held_field (n - immediate_length r.immediate) there r.immediate p.held) w y) first ∙ second ∙ append_assoc f t2 (immediate_bytes r.immediate (known_as w p.held)) ∙ sym third
+    let second : filled (held_field (n - immediate_length r.immediate) there r.immediate p.held) w ((f ++ t2) ++ i) ≡ (f ++ t2) ++ immediate_bytes r.immediate (known_as (lowered r.immediate w) p.held) =
+    held_put (n - immediate_length r.immediate) there w r.immediate p.held (f ++ t2) fit.held (omega arith) in
+    let third : bytes_of r (fill v (lowered r.immediate w) p) ≡ f ++ (t2 ++ immediate_bytes r.immediate (known_as (lowered r.immediate w) p.held)) =
+    split r (fill v (lowered r.immediate w) p) ∙ ap (λ (y : List ℕ). y ++ (t2 ++ immediate_bytes r.immediate (known_as (lowered r.immediate w) p.held))) (front_fill v (lowered r.immediate w) r p) in
+    ap (λ (y : List ℕ). filled (held_field (n - immediate_length r.immediate) there r.immediate p.held) w y) first ∙ second ∙ append_assoc f t2 (immediate_bytes r.immediate (known_as (lowered r.immediate w) p.held)) ∙ sym third

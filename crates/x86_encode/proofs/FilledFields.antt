@@ -1,6 +1,6 @@
 -- Fields with values in place of those that are not known.
-use Rattle.std.proofs.Common.{◌≡◌, ◌&&◌, ◌∙◌, Bool, None, Option, Some, ap, arith, length, nat_lt, not, refl, sym, true, ℕ}
-use Rattle.std.proofs.lemmas.Bool.{leb-true, le-leb, and_parts, and_from}
+use Rattle.std.proofs.Common.{◌≡◌, ◌%◌, ◌^◌, ◌&&◌, ◌∙◌, Bool, None, Option, Some, ap, arith, length, nat_lt, not, refl, sym, true, ℕ}
+use Rattle.std.proofs.lemmas.Bool.{leb-true, le-leb, lt-ltb, and_parts, and_from}
 use Rattle.x86_insn.specs.declared.insns.Segment.{Segment}
 use Rattle.x86_insn.specs.declared.insns.Index.{Index}
 use Rattle.x86_insn.specs.declared.insns.Prefix.{Prefix}
@@ -168,18 +168,46 @@ segment_fill : (s : Option Segment) (v : ℕ) (p : Location) → segment_fits s 
 segment_fill None v p h = refl
 segment_fill (Some s) v p h = fill_memory v p ∙ h
 
-pub held_fill : (at : ℕ) (here : Position) (w : ℕ) (i : Immediate) (d : Option ℕ) → immediate_fits i d ≡ true → field_holds (held_field at here i d) w ≡ true → immediate_fits i (known_as w d) ≡ true
+-- what an immediate holds of a number
+abbrev pub lowered : Immediate → ℕ → ℕ
+lowered immediate.Absent w = w
+lowered immediate.Byte w = w % 2 ^ 8
+lowered immediate.Count w = w
+lowered immediate.Sext16 w = w
+lowered immediate.Sext32 w = w
+lowered immediate.Sext64 w = w
+lowered immediate.Word w = w % 2 ^ 16
+lowered immediate.Long w = w % 2 ^ 32
+lowered immediate.LongSext w = w
+lowered immediate.Quad w = w % 2 ^ 64
+lowered immediate.Rel8 w = w
+lowered immediate.Short w = w
+lowered immediate.Rel32 w = w
+
+lower_byte : (w : ℕ) → nat_lt (w % 2 ^ 8) (2 ^ 8) ≡ true
+lower_byte w = lt-ltb (w % 2 ^ 8) (2 ^ 8) (omega arith)
+
+lower_word : (w : ℕ) → nat_lt (w % 2 ^ 16) (2 ^ 16) ≡ true
+lower_word w = lt-ltb (w % 2 ^ 16) (2 ^ 16) (omega arith)
+
+lower_long : (w : ℕ) → nat_lt (w % 2 ^ 32) (2 ^ 32) ≡ true
+lower_long w = lt-ltb (w % 2 ^ 32) (2 ^ 32) (omega arith)
+
+lower_quad : (w : ℕ) → nat_lt (w % 2 ^ 64) (2 ^ 64) ≡ true
+lower_quad w = lt-ltb (w % 2 ^ 64) (2 ^ 64) (omega arith)
+
+pub held_fill : (at : ℕ) (here : Position) (w : ℕ) (i : Immediate) (d : Option ℕ) → immediate_fits i d ≡ true → field_holds (held_field at here i d) w ≡ true → immediate_fits i (known_as (lowered i w) d) ≡ true
 held_fill at here w i (Some y) h k = h
 held_fill at here w immediate.Absent None h k = cc
-held_fill at here w immediate.Byte None h k = k
+held_fill at here w immediate.Byte None h k = lower_byte w
 held_fill at here w immediate.Count None h k = cc
 held_fill at here w immediate.Sext16 None h k = cc
 held_fill at here w immediate.Sext32 None h k = cc
 held_fill at here w immediate.Sext64 None h k = cc
-held_fill at here w immediate.Word None h k = k
-held_fill at here w immediate.Long None h k = k
+held_fill at here w immediate.Word None h k = lower_word w
+held_fill at here w immediate.Long None h k = lower_long w
 held_fill at here w immediate.LongSext None h k = k
-held_fill at here w immediate.Quad None h k = k
+held_fill at here w immediate.Quad None h k = lower_quad w
 held_fill at here w immediate.Rel8 None h k = k
 held_fill at here w immediate.Short None h k = cc
 held_fill at here w immediate.Rel32 None h k = k
@@ -200,15 +228,15 @@ rex_fill v w r p h = rw (fill_bits v w r p, wants_fill v w p r.first, wants_fill
 
 -- filled fields fit
 pub fill_fits : (at be : ℕ) (here there : Position) (v w : ℕ) (r : Row) (p : Fields) → fits r p ≡ true → field_holds (moved_field at here p.place) v ≡ true → field_holds (held_field be there r.immediate p.held) w ≡ true
-    → fits r (fill v w p) ≡ true
+    → fits r (fill v (lowered r.immediate w) p) ≡ true
 unfolding fits fields_fit
 fill_fits at be here there v w r p h k l =
     let f = fit_of r p h in
     let z = leb-true (length (bytes_of r p)) 15 (fit_size r p h) in
-    let same = fill_same_length v w r p in
+    let same = fill_same_length v (lowered r.immediate w) r p in
     and_from _ _ (and_from _ _ (words_fill r.lead.repeat r.words p.«prefix» p.segment v p.place f.words) (and_from _ _ (segment_fill p.segment v p.place f.segment)
-    (and_from _ _ f.reg (and_from _ _ f.low (and_from _ _ (place_fill at here v r.shape p.place f.place k) (and_from _ _ (held_fill be there w r.immediate p.held f.held l) (rex_fill v w r p f.rex)))))))
-    (le-leb (length (bytes_of r (fill v w p))) 15 (omega arith))
+    (and_from _ _ f.reg (and_from _ _ f.low (and_from _ _ (place_fill at here v r.shape p.place f.place k) (and_from _ _ (held_fill be there w r.immediate p.held f.held l) (rex_fill v (lowered r.immediate w) r p f.rex)))))))
+    (le-leb (length (bytes_of r (fill v (lowered r.immediate w) p))) 15 (omega arith))
 
 pub known_held : (w : ℕ) (d : Option ℕ) → is_known (known_as w d) ≡ true
 known_held w None = refl

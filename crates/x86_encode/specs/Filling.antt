@@ -1,5 +1,5 @@
 -- Fields of values that are not known now, and the bytes with values in them.
-use Rattle.std.specs.Prelude.{◌≡◌, ◌+◌, ◌-◌, ◌*◌, ◌%◌, ◌^◌, ◌==◌, ◌∷◌, ◌++◌, if◌then◌else◌, Bool, List, None, Option, Some, [], drop, false, length, nat_lt, take, true, ℕ}
+use Rattle.std.specs.Prelude.{◌≡◌, ◌+◌, ◌-◌, ◌*◌, ◌%◌, ◌^◌, ◌==◌, ◌∷◌, ◌++◌, ◌||◌, if◌then◌else◌, Bool, List, None, Option, Some, [], drop, false, length, nat_lt, take, true, ℕ}
 use Rattle.std.specs.Int.{to_le_bytes, w16, w32, w64}
 use Rattle.x86_insn.specs.declared.insns.Base.{Base}
 use Rattle.x86_insn.specs.declared.insns.Prefix.{Prefix}
@@ -23,9 +23,9 @@ use Rattle.x86_table.specs.Reads.{shown, meaning, ReadsRow}
 use Rattle.x86_encode.specs.Codes.{plain_immediate, OrderedRow}
 use Rattle.x86_encode.specs.Keys.{immediate_length}
 
--- what a field may hold
+-- what a field may hold: where it is not sign-extended, a number of its bits, signed or not, modulo 2^64
 abbrev pub kind_holds : FieldKind → ℕ → ℕ → Bool
-kind_holds kind.Plain size v = nat_lt v (2 ^ (8 * size))
+kind_holds kind.Plain size v = nat_lt v (2 ^ (8 * size)) || is_signed (8 * size) 64 v
 kind_holds kind.Signed size v = is_signed (8 * size) 64 v
 kind_holds kind.Address size v = is_signed (8 * size) 64 v
 kind_holds kind.Branch size v = is_signed (8 * size) 64 v
