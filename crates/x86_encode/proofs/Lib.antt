@@ -20,3 +20,4 @@ pub mod Forms
 pub mod Turning
 pub mod Comparing
 pub mod Orders
+pub mod ReadBack

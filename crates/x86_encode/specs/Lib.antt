@@ -6,3 +6,4 @@ pub mod Keys
 pub mod Filling
 pub mod Answers
 pub mod Faults
+pub mod Readings

@@ -8,6 +8,7 @@ mod filling;
 mod immediates;
 mod keying;
 mod keys;
+mod laws;
 mod lengths;
 mod making;
 mod searching;
@@ -15,3 +16,4 @@ mod showing;
 
 pub use encoded::{EncodeFault, Encoded, Field, FieldKind, Position};
 pub use encoding::encode;
+pub use laws::{codes_are_readings, exchanges_as_read};

@@ -1,0 +1,8 @@
+use Rattle.x86_encode.proofs.ReadBack.{codes_read, readings_code}
+use Rattle.x86_encode.proofs.laws.codes_are_readings.Goals as goal
+
+pub returns-clause-read : goal.returns-clause-read
+returns-clause-read c = codes_read
+
+pub returns-clause-mean : goal.returns-clause-mean
+returns-clause-mean c = readings_code
