@@ -10,7 +10,7 @@ use Rattle.x86_encode.specs.Building.{built, takes, is_shaped, all_shaped}
 use Rattle.x86_encode.specs.Codes.{Means, OrderedCodes, AtMost, Before}
 use Rattle.x86_encode.proofs.Complete.{takes_all}
 
-at_most_same : (xs : List ℕ) → AtMost xs xs
+pub at_most_same : (xs : List ℕ) → AtMost xs xs
 at_most_same [] = tt
 at_most_same (x ∷ xs) = inr (refl, at_most_same xs)
 

@@ -1,5 +1,5 @@
 -- The bytes of fields with values in place of those that are not known.
-use Rattle.std.proofs.Common.{◌≡◌, ◌<◌, ◌≤◌, ◌+◌, ◌-◌, ◌*◌, ◌%◌, ◌^◌, ◌&&◌, ◌∷◌, ◌++◌, ◌∙◌, Bool, List, None, Option, Some, [], ap, append_assoc, arith, drop, length, nat_lt, refl, suc, sym, take, true, zero, ℕ}
+use Rattle.std.proofs.Common.{◌≡◌, ◌≤◌, ◌+◌, ◌-◌, ◌*◌, ◌%◌, ◌^◌, ◌&&◌, ◌∷◌, ◌++◌, ◌∙◌, Bool, List, None, Option, Some, [], ap, append_assoc, arith, drop, length, nat_lt, refl, suc, sym, take, true, zero, ℕ}
 use Rattle.std.proofs.lemmas.Bool.{and_parts}
 use Rattle.std.proofs.Math.ListN.{length-append}
 use Rattle.x86_insn.specs.declared.insns.Index.{Index}

@@ -21,3 +21,4 @@ pub mod Turning
 pub mod Comparing
 pub mod Orders
 pub mod ReadBack
+pub mod Worked

@@ -1,6 +1,6 @@
 -- Bytes that mean an instruction are those that read as it.
 use Rattle.std.proofs.Common.{◌≡◌, ◌<◌, ◌≤◌, ◌-◌, ◌/◌, ◌^◌, ◌==◌, ◌&&◌, ◌∙◌, if◌then◌else◌, Bool, List, None, Option, Some, ap, arith, false, inl, inr, length, nat_le, nat_lt, refl, subst, sym, true, ℕ}
-use Rattle.std.proofs.lemmas.Bool.{eqb-true, ltb-true, le-leb, and_parts, or_cases, both_ways}
+use Rattle.std.proofs.lemmas.Bool.{eqb-true, ltb-true, le-leb, and_parts, or_cases}
 use Rattle.x86_insn.specs.declared.insns.Base.{Base}
 use Rattle.x86_insn.specs.declared.insns.Index.{Index}
 use Rattle.x86_insn.specs.declared.insns.Prefix.{Prefix}
@@ -8,7 +8,6 @@ use Rattle.x86_table.specs.declared.forms.Row.{Row}
 use Rattle.x86_table.specs.declared.forms.Immediate.{Immediate}
 use Rattle.x86_table.specs.declared.forms.Shape.{Shape}
 use Rattle.x86_table.specs.declared.forms.Pattern.{Pattern}
-use Rattle.x86_table.specs.declared.parts.Width.{Width}
 use Rattle.x86_insn.specs.declared.insns.Base.TheVariants as base
 use Rattle.x86_table.specs.declared.forms.Immediate.TheVariants as immediate
 use Rattle.x86_table.specs.declared.forms.Pattern.TheVariants as pattern

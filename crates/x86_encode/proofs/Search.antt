@@ -1,5 +1,5 @@
 -- The search by lengths is the search by bytes.
-use Rattle.std.proofs.Common.{◌≡◌, ◌<◌, ◌≤◌, ◌+◌, ◌&&◌, ◌∷◌, ◌∙◌, if◌then◌else◌, Bool, List, None, Option, Some, [], ap, arith, eq-eqb, false, get_or, inl, inr, length, nat_le, nat_lt, refl, slice_get, subst, sym, true, ℕ}
+use Rattle.std.proofs.Common.{◌≡◌, ◌<◌, ◌≤◌, ◌+◌, ◌&&◌, ◌∷◌, ◌∙◌, List, None, Option, Some, [], ap, arith, eq-eqb, false, get_or, inl, inr, length, nat_le, nat_lt, refl, slice_get, subst, sym, true, ℕ}
 use Rattle.std.proofs.lemmas.Bool.{cases_order, both_ways, ltb-true, leb-true, leb-false, le-leb, and_parts, and_from, cases_Bool}
 use Rattle.std.proofs.lemmas.Option.{slice_get-get_or, slice_get_within}
 use Rattle.x86_insn.specs.declared.insns.Mnemonic.{Mnemonic}

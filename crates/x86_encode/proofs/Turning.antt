@@ -101,7 +101,7 @@ before_not a b i j h =
 
 -- ONE ORDER OR THE OTHER
 
-own_codes : (insn : View) (bytes : List ℕ) (i : ℕ) → exchanges (turned insn) ≡ false → Codes bytes insn i → OrderedCodes bytes insn i
+pub own_codes : (insn : View) (bytes : List ℕ) (i : ℕ) → exchanges (turned insn) ≡ false → Codes bytes insn i → OrderedCodes bytes insn i
 own_codes insn bytes i h (true, e, c) = absurd (both_ways (exchanges (turned insn)) h e)
 own_codes insn bytes i h (false, e, c) = c
 

@@ -1,5 +1,5 @@
 -- What a row admits, by a key, how many bytes it has at least, and what is found.
-use Rattle.std.specs.Prelude.{◌≡◌, ◌<◌, ◌+◌, ◌/◌, ◌%◌, ◌^◌, ◌==◌, ◌&&◌, if◌then◌else◌, Bool, List, None, Option, Some, false, length, nat_le, nat_lt, slice_get, true, ℕ}
+use Rattle.std.specs.Prelude.{◌≡◌, ◌<◌, ◌+◌, ◌/◌, ◌%◌, ◌^◌, ◌==◌, ◌&&◌, Bool, List, None, Option, Some, false, length, nat_le, slice_get, true, ℕ}
 use Rattle.x86_insn.specs.declared.registers.Class.{Class}
 use Rattle.x86_insn.specs.declared.insns.Prefix.{Prefix}
 use Rattle.x86_table.specs.declared.forms.Row.{Row}

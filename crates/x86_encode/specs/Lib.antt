@@ -7,3 +7,4 @@ pub mod Filling
 pub mod Answers
 pub mod Faults
 pub mod Readings
+pub mod WorkedCodes

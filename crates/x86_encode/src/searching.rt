@@ -32,7 +32,8 @@ fn is_reached(found: &Option<Found>, length: u8) -> bool
     }
 }
 
-/// Finds the row at an index, if it takes the instruction in fewer bytes than what was found.
+/// Finds the row at an index, if it takes the instruction in fewer bytes than what was found. It is
+/// not tried where the fewest bytes that it has are no fewer.
 #[tactic(auto, using(crate::proofs::Length::length_is))]
 fn find_by(
     found: &mut Option<Found>,
@@ -49,6 +50,9 @@ fn find_by(
         ≡ place_at a.base a.index (displaced a.base values.now.displacement) }
     ensures { Steps (named name (view_of insn.now values.now)) row.now index found.old found.new }
 {
+    if is_reached(found, least) {
+        return;
+    }
     let parts = built(row, laid, insn, values);
     if !parts_fit(row, &parts) {
         return;
@@ -67,27 +71,6 @@ fn find_by(
             length,
             parts,
         });
-    }
-}
-
-/// The same, but a row is not tried where it cannot be shorter.
-fn nearer_by(
-    found: &mut Option<Found>,
-    row: &Row,
-    least: u8,
-    index: usize,
-    name: Mnemonic,
-    laid: &Laid,
-    insn: &Insn,
-    values: &Values,
-)
-    requires keyed { least ≡ least_length row.now }
-    requires laid { let a = insn.now.address in located laid.now.displacement laid.now.place
-        ≡ place_at a.base a.index (displaced a.base values.now.displacement) }
-    ensures { Steps (named name (view_of insn.now values.now)) row.now index found.old found.new }
-{
-    if !is_reached(found, least) {
-        find_by(found, row, least, index, name, laid, insn, values);
     }
 }
 
@@ -110,7 +93,7 @@ pub fn shortest(
     let sorts = sorts_of(insn, values);
     for i in range.start as usize..range.stop as usize {
         if admits(&keys[i], sorts, insn, values) {
-            nearer_by(found, &table[i], keys[i].2, i, name, laid, insn, values);
+            find_by(found, &table[i], keys[i].2, i, name, laid, insn, values);
         }
     }
 }

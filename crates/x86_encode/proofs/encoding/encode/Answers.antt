@@ -1,7 +1,7 @@
 use Rattle.std.proofs.Common.{rules, ◌≡◌, ◌==◌, None, Some, false}
 use Rattle.x86_insn.specs.Views.{view_of}
 use Rattle.x86_table.specs.declared.mnemonics.TheConstants.{XCHG}
-use Rattle.x86_encode.specs.Codes.{named, meant}
+use Rattle.x86_encode.specs.Codes.{named}
 use Rattle.x86_encode.proofs.Search.{none_found, best_of}
 use Rattle.x86_encode.proofs.Turning.{plain, not_named, meant_answers}
 use Rattle.x86_encode.proofs.encoding.encode.Goals as goal

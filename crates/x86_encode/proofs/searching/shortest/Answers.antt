@@ -25,8 +25,8 @@ bounds-keys-i-then-admits c = key_inside c.rows_of_size-range.result c.loop-i.i 
 pub bounds-table-i : goal.bounds-table-i
 bounds-table-i c = row_inside c.rows_of_size-range.result c.loop-i.i c.rows-table.result.now c.rows_of_size-range.ensures.within c.rows-table.ensures c.loop-i-test.true
 
-pub nearer_by-requires-clause-keyed : goal.nearer_by-requires-clause-keyed
-nearer_by-requires-clause-keyed c = ap (λ (k : Key). k.2) (key_is c.keys-keys.result.now c.rows-table.result.now c.loop-i.i _ _ c.keys-keys.ensures c.rows-table.ensures
+pub find_by-requires-clause-keyed : goal.find_by-requires-clause-keyed
+find_by-requires-clause-keyed c = ap (λ (k : Key). k.2) (key_is c.keys-keys.result.now c.rows-table.result.now c.loop-i.i _ _ c.keys-keys.ensures c.rows-table.ensures
     (key_inside c.rows_of_size-range.result c.loop-i.i c.keys-keys.result.now c.rows_of_size-range.ensures.within c.keys-keys.ensures c.loop-i-test.true)
     (row_inside c.rows_of_size-range.result c.loop-i.i c.rows-table.result.now c.rows_of_size-range.ensures.within c.rows-table.ensures c.loop-i-test.true))
 
@@ -38,7 +38,7 @@ loop-i-preserved c = record {
   sofar = elim c.if-admits.branch [
     | then-admits w ↦ sofar_next c.loop-i.i (named c.args.name (view_of c.args.insn.now c.args.values.now)) c.loop-i.found c.if-admits.found c.rows-table.result.now _ c.rows-table.ensures
         (row_inside c.rows_of_size-range.result c.loop-i.i c.rows-table.result.now c.rows_of_size-range.ensures.within c.rows-table.ensures c.loop-i-test.true)
-        (subst (λ x. Steps (named c.args.name (view_of c.args.insn.now c.args.values.now)) _ c.loop-i.i c.loop-i.found x) (sym w.found-is) w.nearer_by.ensures) c.loop-i.invariant.sofar
+        (subst (λ x. Steps (named c.args.name (view_of c.args.insn.now c.args.values.now)) _ c.loop-i.i c.loop-i.found x) (sym w.found-is) w.find_by.ensures) c.loop-i.invariant.sofar
     | else-admits w ↦ subst (λ x. Sofar (c.loop-i.i + 1) (named c.args.name (view_of c.args.insn.now c.args.values.now)) x) (sym w.found-is)
         (sofar_kept c.loop-i.i (named c.args.name (view_of c.args.insn.now c.args.values.now)) c.loop-i.found c.rows-table.result.now c.keys-keys.result.now _ c.rows-table.ensures c.keys-keys.ensures
         (row_inside c.rows_of_size-range.result c.loop-i.i c.rows-table.result.now c.rows_of_size-range.ensures.within c.rows-table.ensures c.loop-i-test.true)

@@ -1,0 +1,27 @@
+use Rattle.std.proofs.Common.{refl}
+use Rattle.x86_table.specs.Bytes.{bytes_of, rex_bits, rex_byte}
+use Rattle.x86_table.specs.Fits.{fits, fields_fit}
+use Rattle.x86_table.specs.Rows.{the_rows}
+use Rattle.x86_encode.specs.Building.{pick, without_rex, built, shows, takes}
+use Rattle.x86_encode.proofs.Worked.{worked_code, worked_none}
+use Rattle.x86_encode.proofs.laws.worked_codes.Goals as goal
+
+pub returns : goal.returns
+unfolding the_rows bytes_of rex_bits rex_byte fits fields_fit pick without_rex built shows takes
+returns c = record {
+  mov = worked_code 186 _ _ refl refl refl refl;
+  mov_quad = worked_code 190 _ _ refl refl refl refl;
+  movabs = worked_code 191 _ _ refl refl refl refl;
+  add = worked_code 11 _ _ refl refl refl refl;
+  push = worked_code 197 _ _ refl refl refl refl;
+  at_rbp = worked_code 185 _ _ refl refl refl refl;
+  at_rsp = worked_code 185 _ _ refl refl refl refl;
+  at_r13 = worked_code 185 _ _ refl refl refl refl;
+  cmpxchg = worked_code 385 _ _ refl refl refl refl;
+  at_fs = worked_code 189 _ _ refl refl refl refl;
+  movzx = worked_code 458 _ _ refl refl refl refl;
+  addsd = worked_code 608 _ _ refl refl refl refl;
+  lea = worked_code 194 _ _ refl refl refl refl;
+  mixed = worked_none _ refl refl;
+  lock_register = worked_none _ refl refl;
+}

@@ -1,0 +1,58 @@
+-- The shortest bytes of instructions, worked out by hand (Intel SDM, volume 2, chapters 2 to 4).
+use Rattle.std.specs.Prelude.{◌∷◌, [], None, Some}
+use Rattle.x86_insn.specs.declared.registers.Class.TheVariants as class
+use Rattle.x86_insn.specs.declared.insns.Prefix.TheVariants as prefix
+use Rattle.x86_insn.specs.declared.insns.Segment.TheVariants as segment
+use Rattle.x86_insn.specs.declared.insns.Base.TheVariants as base
+use Rattle.x86_insn.specs.declared.insns.Index.TheVariants as index
+use Rattle.x86_insn.specs.Views.{absent, register, immediate as shown_immediate, memory}
+use Rattle.x86_table.specs.WorkedReadings.{worked}
+use Rattle.x86_encode.specs.Codes.{meant}
+use Rattle.x86_encode.specs.Exchanges.{IsCode, HasNoCode}
+use Rattle.x86_table.specs.declared.mnemonics.TheConstants.{ADD, ADDSD, CMPXCHG, LEA, MOV, MOVZX_BYTE, PUSH}
+
+-- the bytes are the shortest of these instructions
+pub record WorkedCodes : Type 0 where
+  -- mov $1,%eax: B8 01 00 00 00
+  pub mov : IsCode (184 ∷ 1 ∷ 0 ∷ 0 ∷ 0 ∷ [])
+      (meant (worked MOV 32 prefix.Absent (register (record { class = class.Long; number = 0 })) (shown_immediate (Some 1)) absent))
+  -- mov $1,%rax: 48 C7 C0 01 00 00 00
+  pub mov_quad : IsCode (72 ∷ 199 ∷ 192 ∷ 1 ∷ 0 ∷ 0 ∷ 0 ∷ [])
+      (meant (worked MOV 64 prefix.Absent (register (record { class = class.Quad; number = 0 })) (shown_immediate (Some 1)) absent))
+  -- mov $0x80000000,%rax: 48 B8 00 00 00 80 00 00 00 00
+  pub movabs : IsCode (72 ∷ 184 ∷ 0 ∷ 0 ∷ 0 ∷ 128 ∷ 0 ∷ 0 ∷ 0 ∷ 0 ∷ [])
+      (meant (worked MOV 64 prefix.Absent (register (record { class = class.Quad; number = 0 })) (shown_immediate (Some 2147483648)) absent))
+  -- add $0xffffffff,%eax: 83 C0 FF
+  pub add : IsCode (131 ∷ 192 ∷ 255 ∷ [])
+      (meant (worked ADD 32 prefix.Absent (register (record { class = class.Long; number = 0 })) (shown_immediate (Some 4294967295)) absent))
+  -- push $-1: 6A FF
+  pub push : IsCode (106 ∷ 255 ∷ [])
+      (meant (worked PUSH 64 prefix.Absent (shown_immediate (Some 18446744073709551615)) absent absent))
+  -- mov (%rbp),%eax: 8B 45 00
+  pub at_rbp : IsCode (139 ∷ 69 ∷ 0 ∷ [])
+      (meant (worked MOV 32 prefix.Absent (register (record { class = class.Long; number = 0 })) (memory (record { segment = None; base = base.Of 5; index = index.Absent }) (Some 0)) absent))
+  -- mov (%rsp),%eax: 8B 04 24
+  pub at_rsp : IsCode (139 ∷ 4 ∷ 36 ∷ [])
+      (meant (worked MOV 32 prefix.Absent (register (record { class = class.Long; number = 0 })) (memory (record { segment = None; base = base.Of 4; index = index.Absent }) (Some 0)) absent))
+  -- mov (%r13),%eax: 41 8B 45 00
+  pub at_r13 : IsCode (65 ∷ 139 ∷ 69 ∷ 0 ∷ [])
+      (meant (worked MOV 32 prefix.Absent (register (record { class = class.Long; number = 0 })) (memory (record { segment = None; base = base.Of 13; index = index.Absent }) (Some 0)) absent))
+  -- lock cmpxchg %ecx,(%rdi): F0 0F B1 0F
+  pub cmpxchg : IsCode (240 ∷ 15 ∷ 177 ∷ 15 ∷ [])
+      (meant (worked CMPXCHG 32 prefix.Lock (memory (record { segment = None; base = base.Of 7; index = index.Absent }) (Some 0)) (register (record { class = class.Long; number = 1 })) absent))
+  -- mov %fs:0,%rax: 64 48 8B 04 25 00 00 00 00
+  pub at_fs : IsCode (100 ∷ 72 ∷ 139 ∷ 4 ∷ 37 ∷ 0 ∷ 0 ∷ 0 ∷ 0 ∷ [])
+      (meant (worked MOV 64 prefix.Absent (register (record { class = class.Quad; number = 0 })) (memory (record { segment = Some segment.Fs; base = base.Absent; index = index.Absent }) (Some 0)) absent))
+  -- movzbl %spl,%eax: 40 0F B6 C4
+  pub movzx : IsCode (64 ∷ 15 ∷ 182 ∷ 196 ∷ [])
+      (meant (worked MOVZX_BYTE 32 prefix.Absent (register (record { class = class.Long; number = 0 })) (register (record { class = class.Byte; number = 4 })) absent))
+  -- addsd %xmm1,%xmm9: F2 44 0F 58 C9
+  pub addsd : IsCode (242 ∷ 68 ∷ 15 ∷ 88 ∷ 201 ∷ [])
+      (meant (worked ADDSD 0 prefix.Absent (register (record { class = class.Xmm; number = 9 })) (register (record { class = class.Xmm; number = 1 })) absent))
+  -- lea x(%rip),%rax, whose displacement is not known: 48 8D 05 00 00 00 00
+  pub lea : IsCode (72 ∷ 141 ∷ 5 ∷ 0 ∷ 0 ∷ 0 ∷ 0 ∷ [])
+      (meant (worked LEA 64 prefix.Absent (register (record { class = class.Quad; number = 0 })) (memory (record { segment = None; base = base.Rip; index = index.Absent }) None) absent))
+  -- mov %eax,%rbx: none
+  pub mixed : HasNoCode (meant (worked MOV 64 prefix.Absent (register (record { class = class.Quad; number = 3 })) (register (record { class = class.Long; number = 0 })) absent))
+  -- lock add %eax,%ebx: none
+  pub lock_register : HasNoCode (meant (worked ADD 32 prefix.Lock (register (record { class = class.Long; number = 3 })) (register (record { class = class.Long; number = 0 })) absent))
