@@ -9,7 +9,7 @@ use Rattle.x86_insn.specs.Views.{absent, register, immediate as shown_immediate,
 use Rattle.x86_table.specs.WorkedReadings.{worked}
 use Rattle.x86_encode.specs.Codes.{meant}
 use Rattle.x86_encode.specs.Exchanges.{IsCode, HasNoCode}
-use Rattle.x86_table.specs.declared.mnemonics.TheConstants.{ADD, ADDSD, CMPXCHG, LEA, MOV, MOVZX_BYTE, PUSH}
+use Rattle.x86_table.specs.declared.mnemonics.TheConstants.{ADD, ADDSD, CMPXCHG, CRC32, LEA, MOV, MOVBE, MOVZX_BYTE, PEXTRW, PSHUFB, PUSH, ROUNDSD}
 
 -- the bytes are the shortest of these instructions
 pub record WorkedCodes : Type 0 where
@@ -52,6 +52,29 @@ pub record WorkedCodes : Type 0 where
   -- lea x(%rip),%rax, whose displacement is not known: 48 8D 05 00 00 00 00
   pub lea : IsCode (72 ∷ 141 ∷ 5 ∷ 0 ∷ 0 ∷ 0 ∷ 0 ∷ [])
       (meant (worked LEA 64 prefix.Absent (register (record { class = class.Quad; number = 0 })) (memory (record { segment = None; base = base.Rip; index = index.Absent }) None) absent))
+  -- movl $5,x(%rip), whose displacement is not known: C7 05 00 00 00 00 05 00 00 00
+  pub movl : IsCode (199 ∷ 5 ∷ 0 ∷ 0 ∷ 0 ∷ 0 ∷ 5 ∷ 0 ∷ 0 ∷ 0 ∷ [])
+      (meant (worked MOV 32 prefix.Absent (memory (record { segment = None; base = base.Rip; index = index.Absent }) None) (shown_immediate (Some 5)) absent))
+  -- pshufb %xmm1,%xmm0: 66 0F 38 00 C1
+  pub pshufb : IsCode (102 ∷ 15 ∷ 56 ∷ 0 ∷ 193 ∷ [])
+      (meant (worked PSHUFB 0 prefix.Absent (register (record { class = class.Xmm; number = 0 })) (register (record { class = class.Xmm; number = 1 })) absent))
+  -- roundsd $3,%xmm2,%xmm1: 66 0F 3A 0B CA 03
+  pub roundsd : IsCode (102 ∷ 15 ∷ 58 ∷ 11 ∷ 202 ∷ 3 ∷ [])
+      (meant (worked ROUNDSD 0 prefix.Absent (register (record { class = class.Xmm; number = 1 })) (register (record { class = class.Xmm; number = 2 })) (shown_immediate (Some 3))))
+  -- pextrw $1,%xmm0,%eax: 66 0F C5 C0 01
+  pub pextrw : IsCode (102 ∷ 15 ∷ 197 ∷ 192 ∷ 1 ∷ [])
+      (meant (worked PEXTRW 0 prefix.Absent (register (record { class = class.Long; number = 0 })) (register (record { class = class.Xmm; number = 0 })) (shown_immediate (Some 1))))
+  -- pextrw $1,%xmm0,(%rax): 66 0F 3A 15 00 01
+  pub pextrw_store : IsCode (102 ∷ 15 ∷ 58 ∷ 21 ∷ 0 ∷ 1 ∷ [])
+      (meant (worked PEXTRW 0 prefix.Absent (memory (record { segment = None; base = base.Of 0; index = index.Absent }) (Some 0)) (register (record { class = class.Xmm; number = 0 })) (shown_immediate (Some 1))))
+  -- crc32q %rax,%rbx: F2 48 0F 38 F1 D8
+  pub crc32 : IsCode (242 ∷ 72 ∷ 15 ∷ 56 ∷ 241 ∷ 216 ∷ [])
+      (meant (worked CRC32 64 prefix.Absent (register (record { class = class.Quad; number = 3 })) (register (record { class = class.Quad; number = 0 })) absent))
+  -- movbe %cx,(%rdi): 66 0F 38 F1 0F
+  pub movbe : IsCode (102 ∷ 15 ∷ 56 ∷ 241 ∷ 15 ∷ [])
+      (meant (worked MOVBE 16 prefix.Absent (memory (record { segment = None; base = base.Of 7; index = index.Absent }) (Some 0)) (register (record { class = class.Word; number = 1 })) absent))
+  -- add $300,%al: none
+  pub wide : HasNoCode (meant (worked ADD 8 prefix.Absent (register (record { class = class.Byte; number = 0 })) (shown_immediate (Some 300)) absent))
   -- mov %eax,%rbx: none
   pub mixed : HasNoCode (meant (worked MOV 64 prefix.Absent (register (record { class = class.Quad; number = 3 })) (register (record { class = class.Long; number = 0 })) absent))
   -- lock add %eax,%ebx: none

@@ -22,6 +22,14 @@ returns c = record {
   movzx = worked_code 458 _ _ refl refl refl refl;
   addsd = worked_code 608 _ _ refl refl refl refl;
   lea = worked_code 194 _ _ refl refl refl refl;
+  movl = worked_code 187 _ _ refl refl refl refl;
+  pshufb = worked_code 751 _ _ refl refl refl refl;
+  roundsd = worked_code 800 _ _ refl refl refl refl;
+  pextrw = worked_code 748 _ _ refl refl refl refl;
+  pextrw_store = worked_code 749 _ _ refl refl refl refl;
+  crc32 = worked_code 830 _ _ refl refl refl refl;
+  movbe = worked_code 821 _ _ refl refl refl refl;
+  wide = worked_none _ refl refl;
   mixed = worked_none _ refl refl;
   lock_register = worked_none _ refl refl;
 }
