@@ -1,1 +1,4 @@
 pub mod RegisterLookups
+pub mod FrontReadings
+pub mod AmountLemmas
+pub mod SuffixLemmas

@@ -157,4 +157,5 @@ named_is text (name ∷ names) bytes all =
 
 -- what is held by the number of a text is what the text names
 pub register_found : (text : List ℕ) → ((i : ℕ) → get_or text i 0 < 256) → held_by (key_of text) ≡ register_of text
+unfolding register_of
 register_found text fits = held_is (key_of text) ∙ named_is text register_names (lower_bytes text fits) all_short

@@ -1,3 +1,8 @@
 -- The definitions that contracts cite, in reading order.
 pub mod Registers
 pub mod Slots
+pub mod Marks
+pub mod Addresses
+pub mod Values
+pub mod Amounts
+pub mod OperandTexts

@@ -64,5 +64,5 @@ abbrev pub has_text : List ℕ → RegisterName → Bool
 has_text text name = str_eq_ignore_ascii_case text name.text
 
 -- what a text names, in either case
-abbrev pub register_of : List ℕ → Option NamedRegister
+unfoldable pub register_of : List ℕ → Option NamedRegister
 register_of text = option_map (λ name. name.named) (find (has_text text) register_names)

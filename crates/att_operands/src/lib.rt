@@ -2,7 +2,14 @@
 //! versus Intel Syntax").
 #![tactic(auto)]
 
+mod addresses;
+mod faults;
+mod marks;
+mod operands;
 mod register_slots;
 mod registers;
+mod values;
 
+pub use faults::{OperandCause, OperandFault};
+pub use operands::{FoundOperand, ReadOperand, read_operand};
 pub use registers::{NamedRegister, register_named};

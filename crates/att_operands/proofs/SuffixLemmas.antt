@@ -1,0 +1,101 @@
+-- Tokens without the two of a suffix.
+use Rattle.std.proofs.Common.{◌≡◌, ℕ, ◌+◌, ◌-◌, ◌<◌, false, List, [], ◌∷◌, ◌++◌, Result, Ok, Err, length, map, drop, take, get_or, refl, sym, ap, subst, ◌∙◌, arith, length-drop, length-append, drop-cons}
+use Rattle.std.proofs.lemmas.List.{drop-map, length-map, drop-append-le, drop-take, length-take-le}
+use Rattle.std.specs.List.{take-map}
+use Rattle.asm_base.specs.declared.refusals.Refusal.{Refusal}
+use Rattle.asm_base.specs.declared.refusals.Refusal.TheVariants.{Fault, NoMemory}
+use Rattle.asm_base.specs.Refusals.{◌>>=◌, Fails}
+use Rattle.asm_base.specs.declared.tokens.Token.{Token}
+use Rattle.asm_base.specs.Tokens.{SpelledToken, spelled}
+use Rattle.asm_expr.specs.declared.faults.ExprCause.{ExprCause}
+use Rattle.asm_expr.specs.Trees.{Tree}
+use Rattle.asm_expr.specs.Reading.{Reading, Read, read, reading, reading_of}
+use Rattle.asm_expr.specs.Grammar.{operator_follows}
+use Rattle.asm_expr.specs.Found.{spelled_from}
+use Rattle.asm_expr.proofs.Fuel.{reading_takes}
+use Rattle.x86_insn.specs.declared.amounts.Amount.{Amount}
+use Rattle.att_operands.specs.declared.faults.OperandCause.{OperandCause}
+use Rattle.att_operands.specs.declared.values.ReadAmount.{ReadAmount}
+use Rattle.att_operands.specs.Values.{GivesSo, IsAmountOf, without_suffix}
+use Rattle.att_operands.specs.Amounts.{IsAmountRead, in_operand, GivesAmount}
+use Rattle.att_operands.proofs.FrontReadings.{text_reads, whole_is_text, placed_reads, left_at}
+use Rattle.att_operands.proofs.AmountLemmas.{amount_is}
+
+-- what is left at the name's place: the name, and all behind the suffix
+joined : (tokens : List SpelledToken) (at : ℕ) → at + 2 < length tokens → drop at (without_suffix tokens at) ≡ take 1 (drop at tokens) ++ drop (at + 3) tokens
+unfolding without_suffix
+joined tokens at within =
+    let few = length-take-le (at + 1) tokens (omega arith) in
+    drop-append-le at (take (at + 1) tokens) (drop (at + 3) tokens) (omega arith)
+    ∙ ap (λ (ts : List SpelledToken). ts ++ drop (at + 3) tokens) (drop-take at 1 tokens)
+
+joined_length : (tokens : List SpelledToken) (at : ℕ) → at + 2 < length tokens → length (without_suffix tokens at) + 2 ≡ length tokens
+unfolding without_suffix
+joined_length tokens at within =
+    let few = length-take-le (at + 1) tokens (omega arith) in
+    omega (arith, length-append (take (at + 1) tokens) (drop (at + 3) tokens), length-drop (at + 3) tokens)
+
+-- the name alone, where no operator stands behind the suffix
+pub bare_is : (tokens : List Token) (at : ℕ) (tree : Tree) (held : Amount) → at + 2 < length tokens
+    → reading 1 0 (map spelled (take ((at + 1) - at) (drop at tokens))) ≡ Ok (read tree []) → operator_follows (spelled_from tokens (at + 3)) ≡ false → IsAmountOf held tree
+    → (let found : Result ReadAmount (Refusal ExprCause) = Ok (record { amount = held; next = at + 1 }) in GivesSo IsAmountRead found (reading_of (without_suffix (map spelled tokens) at) at))
+bare_is tokens at tree held within is none of =
+    let all = map spelled tokens in
+    let more : at + 2 < length all = rw (length-map tokens spelled) within in
+    let one : (at + 1) - at ≡ 1 = omega arith in
+    let text = map spelled (take 1 (drop at tokens)) in
+    let reads : reading 1 0 text ≡ Ok (read tree []) = subst (λ (n : ℕ). reading 1 0 (map spelled (take n (drop at tokens))) ≡ Ok (read tree [])) one is in
+    let begins = text_reads tree text (spelled_from tokens (at + 3)) (whole_is_text tree text reads) none in
+    let front : take 1 (drop at all) ≡ text = ap (λ (ts : List SpelledToken). take 1 ts) (drop-map spelled at tokens) ∙ take-map spelled 1 (drop at tokens) in
+    let behind : drop (at + 3) all ≡ spelled_from tokens (at + 3) = drop-map spelled (at + 3) tokens in
+    let stands : drop at (without_suffix all at) ≡ text ++ spelled_from tokens (at + 3) = joined all at more ∙ ap (λ (ts : List SpelledToken). ts ++ drop (at + 3) all) front ∙ ap (λ (ts : List SpelledToken). text ++ ts) behind in
+    let lengths : at + 1 ≡ length (without_suffix all at) - length (spelled_from tokens (at + 3)) =
+    omega (arith, joined_length all at more, length-map tokens spelled, length-map (drop (at + 3) tokens) spelled, length-drop (at + 3) tokens) in
+    amount_is (without_suffix all at) at (at + 1) tree held (placed_reads (without_suffix all at) at (at + 1) tree (spelled_from tokens (at + 3)) (ap (reading 1 0) stands ∙ begins) lengths) of
+
+-- a list of these tokens
+pub joined_list : (tokens : List Token) (at : ℕ) (d : Token) → at + 2 < length tokens
+    → map spelled (get_or tokens at d ∷ take (length tokens - (at + 3)) (drop (at + 3) tokens)) ≡ drop at (without_suffix (map spelled tokens) at)
+joined_list tokens at d within =
+    let all = map spelled tokens in
+    let token = get_or tokens at d in
+    let more : at + 2 < length all = rw (length-map tokens spelled) within in
+    let front : take 1 (drop at tokens) ≡ token ∷ [] = ap (λ (ts : List Token). take 1 ts) (drop-cons tokens at d (omega arith)) in
+    ap (λ (ts : List Token). map spelled (token ∷ ts)) (left_at tokens (at + 3))
+    ∙ sym (joined all at more
+    ∙ ap (λ (ts : List SpelledToken). ts ++ drop (at + 3) all) (ap (λ (ts : List SpelledToken). take 1 ts) (drop-map spelled at tokens) ∙ take-map spelled 1 (drop at tokens) ∙ ap (λ (ts : List Token). map spelled ts) front)
+    ∙ ap (λ (ts : List SpelledToken). spelled token ∷ ts) (drop-map spelled (at + 3) tokens))
+
+-- what is read of a list is read where the list is left
+moved_by : (list tokens : List SpelledToken) (at : ℕ) (found : ReadAmount) (due : Read) → list ≡ drop at tokens → length tokens ≡ at + length list → reading 1 0 list ≡ due
+    → (let held : Result ReadAmount (Refusal OperandCause) = Ok found in GivesSo IsAmountRead held (in_operand (due >>= (λ r. Ok (record { tree = r.tree; next = length list - length r.rest })))))
+    → (let held : Result ReadAmount (Refusal OperandCause) = Ok (record { amount = found.amount; next = at + found.next }) in GivesSo IsAmountRead held (in_operand (due >>= (λ r. Ok (record { tree = r.tree; next = length tokens - length r.rest })))))
+moved_by list tokens at found (Ok r) left lengths is given =
+    let few = reading_takes 1 0 list r is in
+    let next = given.next in
+    record { amount = given.amount; next = omega arith }
+moved_by list tokens at found (Err cause) left lengths is given = given
+
+pub moved_gives : (list tokens : List SpelledToken) (at : ℕ) (found : ReadAmount) → list ≡ drop at tokens → length tokens ≡ at + length list
+    → (let held : Result ReadAmount (Refusal OperandCause) = Ok found in GivesAmount list 0 held)
+    → (let held : Result ReadAmount (Refusal OperandCause) = Ok (record { amount = found.amount; next = at + found.next }) in GivesAmount tokens at held)
+unfolding reading_of
+moved_gives list tokens at found left lengths given =
+    subst (λ (ts : List SpelledToken). (let held : Result ReadAmount (Refusal OperandCause) = Ok (record { amount = found.amount; next = at + found.next }) in
+    GivesSo IsAmountRead held (in_operand (reading 1 0 ts >>= (λ r. Ok (record { tree = r.tree; next = length tokens - length r.rest })))))) left
+    (moved_by list tokens at found (reading 1 0 list) left lengths refl given)
+
+fault_moved : (due : Read) (one other : Reading → ℕ) (cause : OperandCause) → in_operand (due >>= (λ r. Ok (record { tree = r.tree; next = one r }))) ≡ Err cause
+    → in_operand (due >>= (λ r. Ok (record { tree = r.tree; next = other r }))) ≡ Err cause
+fault_moved (Ok r) one other cause is = cc
+fault_moved (Err fault) one other cause is = is
+
+pub moved_fails : (list tokens : List SpelledToken) (at : ℕ) (refusal : Refusal OperandCause) → list ≡ drop at tokens → Fails refusal (in_operand (reading_of list 0)) → Fails refusal (in_operand (reading_of tokens at))
+unfolding reading_of
+moved_fails list tokens at (Fault cause) left is =
+    subst (λ (ts : List SpelledToken). in_operand (reading 1 0 ts >>= (λ r. Ok (record { tree = r.tree; next = length tokens - length r.rest }))) ≡ Err cause) left
+    (fault_moved (reading 1 0 list) (λ r. length list - length r.rest) (λ r. length tokens - length r.rest) cause is)
+moved_fails list tokens at NoMemory left is = tt
+
+pub left_length : (tokens : List SpelledToken) (at : ℕ) → at + 2 < length tokens → length (without_suffix tokens at) ≡ at + length (drop at (without_suffix tokens at))
+left_length tokens at within = let all = joined_length tokens at within in omega (arith, length-drop at (without_suffix tokens at))

@@ -1,0 +1,6 @@
+use Rattle.att_operands.proofs.SuffixLemmas.{joined_list}
+use Rattle.att_operands.proofs.values.joined_tokens.Goals as goal
+
+pub returns-clause-value : goal.returns-clause-value
+returns-clause-value c =
+    rw (c.in_ok-extend_from_slice.ensures.items, c.in_ok-push.ensures.items, c.new-list.ensures.items) (joined_list c.args.tokens.now c.args.at _ c.requires)

@@ -1,0 +1,113 @@
+-- The values of operands as they are written: an expression, and a suffix as `@PLT` behind a name that begins it.
+use Rattle.std.specs.Prelude.{◌≡◌, ℕ, ◌+◌, ◌==◌, ◌⊎◌, Bool, true, false, not, List, ◌++◌, take, drop, Option, Some, None, Result, Ok, Err, slice_get, if◌then◌else◌, codes}
+use Rattle.std.specs.Str.{bytes_eq, str_eq_ignore_ascii_case}
+use Rattle.asm_base.specs.declared.refusals.Refusal.{Refusal}
+use Rattle.asm_base.specs.Refusals.{Fails}
+use Rattle.asm_base.specs.declared.tokens.TokenKind.{TokenKind}
+use Rattle.asm_base.specs.declared.tokens.TokenKind.TheVariants.{Name, String}
+use Rattle.asm_base.specs.Tokens.{SpelledToken}
+use Rattle.asm_expr.specs.declared.faults.ExprCause.{ExprCause}
+use Rattle.asm_expr.specs.declared.faults.ExprCause.TheVariants as cause
+use Rattle.asm_expr.specs.declared.trees.Written.TheVariants.{Plain}
+use Rattle.asm_expr.specs.Trees.{Tree, name, tree_of}
+use Rattle.asm_expr.specs.Forms.{constant_form}
+use Rattle.asm_expr.specs.Knowledge.{Knowledge}
+use Rattle.asm_expr.specs.Linear.{linear}
+use Rattle.asm_expr.specs.Reading.{ReadTree, reading_of}
+use Rattle.x86_insn.specs.declared.amounts.Amount.{Amount}
+use Rattle.x86_insn.specs.declared.amounts.Amount.TheVariants as amount
+use Rattle.x86_insn.specs.declared.amounts.Suffix.{Suffix}
+use Rattle.x86_insn.specs.declared.amounts.Suffix.TheVariants.{Plt, GotPcRel, GotTpOff, TpOff}
+use Rattle.x86_insn.specs.declared.amounts.Value.{Value}
+use Rattle.x86_insn.specs.Amounts.{named_tree}
+use Rattle.att_operands.specs.declared.faults.OperandCause.{OperandCause}
+use Rattle.att_operands.specs.declared.faults.OperandCause.TheVariants.{BadExpression, NumberTooWide, ExpressionTooDeep, BadOperand}
+use Rattle.att_operands.specs.Marks.{mark_at, begins_by}
+
+-- the fault of an expression as one of the instruction
+abbrev pub stated : ExprCause → OperandCause
+stated cause.NumberTooWide = NumberTooWide
+stated cause.ExpressionTooDeep = ExpressionTooDeep
+stated _ = BadExpression
+
+-- the call answers what stands so to the due value, or the due fault
+abbrev pub GivesSo : {T A F : Type 0} → (T → A → Type 0) → Result T (Refusal F) → Result A F → Type 0
+GivesSo Is (Ok value) (Ok due) = Is value due
+GivesSo Is (Ok value) (Err fault) = ⊥
+GivesSo Is (Err refusal) due = Fails refusal due
+
+-- the trees count the same, whatever is known
+abbrev pub CountAlike : Tree → Tree → Type 0
+CountAlike one other = (known : Knowledge) → linear known one ≡ linear known other
+
+-- the name alone, and nothing more
+abbrev pub IsBare : List ℕ → ℕ → Tree → Type 0
+IsBare bytes more tree = (more ≡ 0) × (tree ≡ name (Plain bytes))
+
+-- the amount is that of the tree: the number or the sum that it counts whatever is known, or the tree itself
+abbrev pub IsAmountOf : Amount → Tree → Type 0
+IsAmountOf (amount.Number number) tree = (known : Knowledge) → linear known tree ≡ Ok (constant_form number)
+IsAmountOf (amount.Name bytes more) tree = IsBare bytes.now more tree ⊎ CountAlike (named_tree bytes.now more) tree
+IsAmountOf (amount.Tree boxed) tree = tree_of boxed.value ≡ tree
+
+-- the suffix that a word is, in either case
+abbrev pub suffix_of : List ℕ → Option Suffix
+suffix_of word =
+    if str_eq_ignore_ascii_case word (codes "plt") then Some Plt
+    else (if str_eq_ignore_ascii_case word (codes "gotpcrel") then Some GotPcRel
+    else (if str_eq_ignore_ascii_case word (codes "gottpoff") then Some GotTpOff
+    else (if str_eq_ignore_ascii_case word (codes "tpoff") then Some TpOff else None)))
+
+-- the suffix that a token is
+unfoldable pub suffix_by : Option SpelledToken → Option Suffix
+suffix_by None = None
+suffix_by (Some token) = suffix_of token.bytes
+
+-- the word or the string is a name; the place is none
+abbrev pub is_name : TokenKind → List ℕ → Bool
+is_name Name bytes = not (bytes_eq bytes (codes "."))
+is_name String bytes = true
+is_name _ bytes = false
+
+-- the token is a name
+unfoldable pub names_by : Option SpelledToken → Bool
+names_by None = false
+names_by (Some token) = is_name token.kind token.bytes
+
+-- the suffix behind the name at this place, if `@` and a suffix stand there
+abbrev pub suffix_at : List SpelledToken → ℕ → Option Suffix
+suffix_at tokens at =
+    if mark_at tokens (at + 1) == 64 then (if names_by (slice_get tokens at) then suffix_by (slice_get tokens (at + 2)) else None) else None
+
+-- the tokens without the `@` and the word behind the name at this place
+unfoldable pub without_suffix : List SpelledToken → ℕ → List SpelledToken
+without_suffix tokens at = take (at + 1) tokens ++ drop (at + 3) tokens
+
+-- a value as its text: the tree of its expression, and its suffix
+pub record ValueText : Type 0 where
+  pub tree : Tree
+  pub suffix : Option Suffix
+
+-- a value that was read, and the place behind it
+pub record ReadText : Type 0 where
+  pub text : ValueText
+  pub next : ℕ
+
+-- what was read with this suffix, where so many tokens were left out
+abbrev pub as_value : Option Suffix → ℕ → Result ReadTree ExprCause → Result ReadText OperandCause
+as_value suffix more (Ok found) = Ok (record { text = record { tree = found.tree; suffix = suffix }; next = found.next + more })
+as_value suffix more (Err fault) = Err (stated fault)
+
+-- the value at this place, with this suffix
+abbrev pub value_with : List SpelledToken → ℕ → Option Suffix → Result ReadText OperandCause
+value_with tokens at None = as_value None 0 (reading_of tokens at)
+value_with tokens at (Some suffix) = as_value (Some suffix) 2 (reading_of (without_suffix tokens at) at)
+
+-- the value at this place
+unfoldable pub value_at : List SpelledToken → ℕ → Result ReadText OperandCause
+value_at tokens at = if begins_by (slice_get tokens at) then value_with tokens at (suffix_at tokens at) else Err BadOperand
+
+-- the value has this text
+pub record IsValueOf (held : Value) (text : ValueText) : Type 0 where
+  pub amount : IsAmountOf held.amount text.tree
+  pub suffix : held.suffix ≡ text.suffix

@@ -1,0 +1,42 @@
+//! What the operands of an instruction are refused for.
+
+use asm_base::Refusal;
+use asm_expr::ExprCause;
+use thiserror::Error;
+
+/// A fault of an instruction as it is written.
+#[derive(Clone, Copy, Debug, PartialEq, Eq, Error)]
+pub enum OperandCause {
+    /// An operand of an expression or a closing parenthesis is missing, or a token spells no number
+    /// and no name.
+    #[error("bad expression")]
+    BadExpression,
+    /// A number is above 2^64 - 1.
+    #[error("number is too wide")]
+    NumberTooWide,
+    /// An expression has too many constructs open at one place, or its tree is too high.
+    #[error("expression is nested too deeply")]
+    ExpressionTooDeep,
+    /// An operand has no spelling.
+    #[error("bad operand")]
+    BadOperand,
+}
+
+/// Why the reading of operands is refused: they have a fault, or memory ran out.
+pub type OperandFault = Refusal<OperandCause>;
+
+impl From<ExprCause> for OperandCause {
+    ghost use Rattle.std.specs.Prelude.{◌≡◌};
+    ghost use Rattle.att_operands.specs.Values.{stated};
+
+    ghost from_gives = { λ cause e. e ≡ stated cause };
+
+    fn from(cause: ExprCause) -> OperandCause {
+        match cause {
+            ExprCause::NumberTooWide => OperandCause::NumberTooWide,
+            ExprCause::ExpressionTooDeep => OperandCause::ExpressionTooDeep,
+            // No reading of an expression has another.
+            _ => OperandCause::BadExpression,
+        }
+    }
+}
