@@ -2,3 +2,10 @@ pub mod RegisterLookups
 pub mod FrontReadings
 pub mod AmountLemmas
 pub mod SuffixLemmas
+pub mod SpelledIsRead
+pub mod SpelledOperands
+pub mod SpelledValues
+pub mod SpelledWhole
+pub mod ReadAddresses
+pub mod ReadValues
+pub mod ReadOperands

@@ -22,14 +22,14 @@ use Rattle.att_operands.proofs.FrontReadings.{text_reads, whole_is_text, placed_
 use Rattle.att_operands.proofs.AmountLemmas.{amount_is}
 
 -- what is left at the name's place: the name, and all behind the suffix
-joined : (tokens : List SpelledToken) (at : ℕ) → at + 2 < length tokens → drop at (without_suffix tokens at) ≡ take 1 (drop at tokens) ++ drop (at + 3) tokens
+pub joined : (tokens : List SpelledToken) (at : ℕ) → at + 2 < length tokens → drop at (without_suffix tokens at) ≡ take 1 (drop at tokens) ++ drop (at + 3) tokens
 unfolding without_suffix
 joined tokens at within =
     let few = length-take-le (at + 1) tokens (omega arith) in
     drop-append-le at (take (at + 1) tokens) (drop (at + 3) tokens) (omega arith)
     ∙ ap (λ (ts : List SpelledToken). ts ++ drop (at + 3) tokens) (drop-take at 1 tokens)
 
-joined_length : (tokens : List SpelledToken) (at : ℕ) → at + 2 < length tokens → length (without_suffix tokens at) + 2 ≡ length tokens
+pub joined_length : (tokens : List SpelledToken) (at : ℕ) → at + 2 < length tokens → length (without_suffix tokens at) + 2 ≡ length tokens
 unfolding without_suffix
 joined_length tokens at within =
     let few = length-take-le (at + 1) tokens (omega arith) in

@@ -6,3 +6,4 @@ pub mod Addresses
 pub mod Values
 pub mod Amounts
 pub mod OperandTexts
+pub mod Spells

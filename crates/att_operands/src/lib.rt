@@ -4,6 +4,7 @@
 
 mod addresses;
 mod faults;
+mod laws;
 mod marks;
 mod operands;
 mod register_slots;
@@ -11,5 +12,6 @@ mod registers;
 mod values;
 
 pub use faults::{OperandCause, OperandFault};
+pub use laws::{one_operand, read_is_spelled, spelled_is_read};
 pub use operands::{FoundOperand, ReadOperand, read_operand};
 pub use registers::{NamedRegister, register_named};

@@ -1,0 +1,30 @@
+//! What holds of the texts of all operands.
+
+ghost use Rattle.std.specs.Prelude.{◌≡◌, ℕ, ◌++◌, Bool, true, List, drop, Ok};
+ghost use Rattle.asm_base.specs.Tokens.{SpelledToken};
+ghost use Rattle.att_operands.specs.OperandTexts.{OperandText, ReadPart, operand_at};
+ghost use Rattle.att_operands.specs.Spells.{SpellsOperand, ends, IsReadWhole, IsSpelledIn};
+
+/// A text of an operand is read as that operand, whatever stands before it, where a comma or nothing
+/// stands behind it.
+#[tactic(auto, using(crate::proofs::SpelledWhole::operand_reads))]
+pub fn spelled_is_read()
+    ensures { (branch : Bool) (operand : OperandText) (tokens : List SpelledToken) (at : ℕ)
+        (text behind : List SpelledToken) → SpellsOperand branch operand text
+        → drop at tokens ≡ text ++ behind → ends behind ≡ true
+        → IsReadWhole branch operand tokens at text }
+{}
+
+/// What is read as an operand begins with a text of it, behind which a comma or nothing stands.
+#[tactic(auto, using(crate::proofs::ReadOperands::read_is_spelled))]
+pub fn read_is_spelled()
+    ensures { (branch : Bool) (tokens : List SpelledToken) (at : ℕ) (found : ReadPart)
+        → operand_at branch tokens at ≡ Ok found → IsSpelledIn branch tokens at found }
+{}
+
+/// A text spells one operand.
+#[tactic(auto, using(crate::proofs::SpelledWhole::one_operand))]
+pub fn one_operand()
+    ensures { (branch : Bool) (one other : OperandText) (text : List SpelledToken)
+        → SpellsOperand branch one text → SpellsOperand branch other text → one ≡ other }
+{}
