@@ -7,20 +7,19 @@ use Rattle.asm_base.specs.declared.notes.Noted.{Noted}
 use Rattle.asm_base.specs.declared.positions.Pos.{Pos}
 use Rattle.asm_lines.specs.Statements.{StatementAt, statements_of}
 use Rattle.asm_lines.specs.NextStatements.{TokenStatement}
-use Rattle.asm_base.specs.Refusals.{◌>>=◌}
+use Rattle.asm_base.specs.Refusals.{◌>>=◌, Returns}
 use Rattle.asm_lines.specs.declared.faults.LineCause.{LineCause}
 use Rattle.asm_lines.specs.declared.faults.LineCause.TheVariants as line
 use Rattle.asm_relax.specs.Settling.{layout_of}
 use Rattle.asm_place.specs.Faults.{is_file_too_large}
-use Rattle.asm_place.specs.Tables.{Table}
+use Rattle.asm_uses.specs.Tables.{Table}
 use Rattle.asm_frags.specs.Writing.{LooseSection}
-use Rattle.asm_place.specs.State.{Placed, nothing_placed}
+use Rattle.asm_values.specs.State.{Placed, nothing_placed}
 use Rattle.asm_place.specs.Sources.{fault_at, place_all}
 use Rattle.asm_place.specs.declared.place_faults.FaultAt.{FaultAt}
 use Rattle.asm_place.proofs.PlacingLaws.{no_fault_of_reading}
 use Rattle.asm_front.specs.Ending.{Flags, noted, laid_end, finished}
 use Rattle.asm_front.specs.declared.ending.Ended.{Ended}
-use Rattle.asm_base.specs.Refusals.{Returns}
 use Rattle.asm_base.specs.declared.refusals.Refusal.{Refusal}
 use Rattle.asm_base.specs.declared.refusals.Refusal.TheVariants as refusal
 use Rattle.asm_front.specs.Assembly.{lines_answer, assembly_of_lines}

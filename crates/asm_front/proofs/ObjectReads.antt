@@ -19,19 +19,18 @@ use Rattle.asm_relax.specs.Expanding.{expanded}
 use Rattle.asm_relax.specs.Settling.{LaidItem, LaidSections, unless, layout_of}
 use Rattle.asm_relax.specs.declared.faults.LayoutFault.{LayoutFault}
 use Rattle.asm_relax.specs.Placing.{placed_from, placed_section}
-use Rattle.asm_place.specs.declared.instructions.Row.{Row}
-use Rattle.asm_place.specs.Rows.{the_rows, has_name, bytes_of}
-use Rattle.asm_place.specs.Reads.{Reads}
-use Rattle.asm_place.specs.Operands.{is_name}
-use Rattle.asm_place.specs.Placing.{begins_with_dot}
+use Rattle.asm_words.specs.declared.instructions.Row.{Row}
+use Rattle.asm_words.specs.Rows.{the_rows, has_name, bytes_of}
+use Rattle.asm_words.specs.Reads.{Reads}
+use Rattle.asm_operands.specs.Operands.{is_name, begins_with_dot}
 use Rattle.asm_frags.specs.Writing.{LooseSection}
-use Rattle.asm_place.specs.State.{Placed, nothing_placed}
-use Rattle.asm_place.specs.Tables.{Table}
+use Rattle.asm_values.specs.State.{Placed, nothing_placed}
+use Rattle.asm_uses.specs.Tables.{Table}
 use Rattle.asm_place.specs.Sources.{place_all}
 use Rattle.asm_place.specs.Instructions.{behind_labels, row_written, next_item, next_offset, StandsAt}
 use Rattle.asm_place.proofs.GrowthLemmas.{nothing_within}
 use Rattle.asm_place.proofs.InstructionLaws.{instruction_there}
-use Rattle.asm_place.proofs.Readings.{found_reads, one_instruction}
+use Rattle.asm_words.proofs.Readings.{found_reads, one_instruction}
 use Rattle.elf_object.specs.declared.faults.ObjectCause.{ObjectCause}
 use Rattle.elf_object.specs.Faults.{object_fault}
 use Rattle.elf_object.specs.Image.{image_of}

@@ -9,7 +9,7 @@ use Rattle.asm_lines.specs.Statements.{StatementAt}
 use Rattle.asm_lines.specs.declared.faults.LineCause.{LineCause}
 use Rattle.asm_lines.specs.declared.source_causes.SourceCause.{SourceCause}
 use Rattle.asm_place.specs.Sources.{place, place_all}
-use Rattle.asm_place.specs.State.{Placed, nothing_placed}
+use Rattle.asm_values.specs.State.{Placed, nothing_placed}
 use Rattle.asm_place.specs.declared.place_faults.FaultAt.{FaultAt}
 use Rattle.asm_front.specs.Assembly.{source_fault, source_placement}
 

@@ -10,7 +10,7 @@ use Rattle.asm_lines.specs.declared.faults.LineCause.{LineCause}
 use Rattle.asm_lines.specs.declared.faults.LineCause.TheVariants as line
 use Rattle.asm_lines.specs.declared.source_causes.SourceCause.{SourceCause}
 use Rattle.asm_lines.specs.declared.source_causes.SourceCause.TheVariants.{Lines, Placing}
-use Rattle.asm_place.specs.State.{Placed, nothing_placed}
+use Rattle.asm_values.specs.State.{Placed, nothing_placed}
 use Rattle.asm_place.specs.Sources.{pos_at, fault_at, place_all}
 use Rattle.asm_place.specs.declared.place_faults.FaultAt.{FaultAt}
 use Rattle.asm_front.specs.Ending.{Flags, finished}

@@ -12,7 +12,7 @@ use Rattle.asm_relax.specs.declared.faults.LayoutFault.TheVariants as layout
 use Rattle.elf_object.specs.declared.faults.ObjectCause.{ObjectCause}
 use Rattle.elf_object.specs.declared.faults.ObjectCause.TheVariants as object
 use Rattle.elf_object.specs.Objects.{object_of}
-use Rattle.asm_place.specs.Tables.{Table}
+use Rattle.asm_uses.specs.Tables.{Table}
 use Rattle.asm_frags.specs.Writing.{LooseSection}
 use Rattle.asm_place.specs.Sources.{fault_at}
 use Rattle.asm_place.specs.declared.place_faults.FaultAt.{FaultAt}

@@ -6,10 +6,10 @@ use Rattle.asm_lines.specs.Statements.{StatementAt, statements_of}
 use Rattle.asm_lines.specs.NextStatements.{in_tokens}
 use Rattle.asm_symbols.specs.SymbolMap.{SymbolMap}
 use Rattle.asm_relax.specs.Settling.{LaidSections, layout_of}
-use Rattle.asm_place.specs.declared.instructions.Mnemonic.{Mnemonic}
-use Rattle.asm_place.specs.declared.instructions.Row.{Row}
-use Rattle.asm_place.specs.Reads.{Reads}
-use Rattle.asm_place.specs.State.{Placed, nothing_placed}
+use Rattle.asm_words.specs.declared.instructions.Mnemonic.{Mnemonic}
+use Rattle.asm_words.specs.declared.instructions.Row.{Row}
+use Rattle.asm_words.specs.Reads.{Reads}
+use Rattle.asm_values.specs.State.{Placed, nothing_placed}
 use Rattle.asm_place.specs.Sources.{place_all}
 use Rattle.asm_place.specs.Instructions.{instruction_of, next_item, next_offset}
 use Rattle.elf_object.specs.Places.{section_offset, moved}

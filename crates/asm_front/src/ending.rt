@@ -7,8 +7,10 @@ ghost use Rattle.asm_relax.specs.Settling.{layout_of};
 
 use asm_base::{EndFault, Fault, Noted, Notes, Pos, Refusal};
 use asm_frags::{Laid, Sections};
-use asm_place::{FaultAt, Placed, SymbolUses};
+use asm_place::FaultAt;
 use asm_relax::{LayoutFault, Plan};
+use asm_uses::SymbolUses;
+use asm_values::Placed;
 use elf_object::{Object, ObjectCause, ObjectFault};
 use std::alloc::Global;
 

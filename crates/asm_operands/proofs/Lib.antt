@@ -8,3 +8,7 @@ pub mod CommaLemmas
 pub mod CountingLemmas
 pub mod CutLemmas
 pub mod SumLemmas
+pub mod OperandSplits
+pub mod PlainStrings
+pub mod NamedLemmas
+pub mod FewSumLemmas

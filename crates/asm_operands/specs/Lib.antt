@@ -5,3 +5,12 @@ pub mod Numbers
 pub mod Commas
 pub mod Levels
 pub mod Counting
+pub mod Results
+pub mod ExprFaults
+pub mod LayerFaults
+pub mod Operands
+pub mod OperandParts
+pub mod Expressions
+pub mod UpToThreeTrees
+pub mod NamedTrees
+pub mod FewSums

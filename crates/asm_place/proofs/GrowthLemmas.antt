@@ -14,7 +14,7 @@ use Rattle.asm_frags.specs.declared.flags.SectionFlags.{SectionFlags}
 use Rattle.asm_frags.specs.SectionOf.{new_section}
 use Rattle.asm_frags.specs.Sections.{section_flags, first_sections}
 use Rattle.asm_frags.specs.Writing.{LooseItem, LooseSection, ends_in_run, new_item, item_behind, with_item, with_run, with_bytes, with_field}
-use Rattle.asm_place.specs.State.{nothing_placed}
+use Rattle.asm_values.specs.State.{nothing_placed}
 use Rattle.asm_place.specs.Instructions.{with_more, IsContinued, Grows, IsWithin, AreWithin}
 
 -- two numbers are one or not

@@ -7,8 +7,8 @@ use Rattle.std.proofs.Math.Seq.{take-append_seam, drop-append_seam}
 use Rattle.std.proofs.lemmas.List.Elements.{All-append, All-weaker}
 use Rattle.std.proofs.lemmas.Bool.{false≢true}
 use Rattle.std.proofs.lemmas.Option.{none-some}
-use Rattle.asm_place.specs.declared.place_faults.PlaceCause.{PlaceCause}
-use Rattle.asm_place.specs.declared.place_faults.PlaceCause.TheVariants.{NumberTooWide, UnknownMnemonic}
+use Rattle.asm_operands.specs.declared.place_faults.PlaceCause.{PlaceCause}
+use Rattle.asm_operands.specs.declared.place_faults.PlaceCause.TheVariants.{NumberTooWide, UnknownMnemonic}
 use Rattle.asm_base.specs.declared.notes.Noted.{Noted}
 use Rattle.asm_base.specs.declared.positions.Pos.{Pos}
 use Rattle.asm_base.specs.Tokens.{SpelledToken}
@@ -19,13 +19,13 @@ use Rattle.asm_frags.specs.declared.faults.FragCause.TheVariants as frag
 use Rattle.asm_frags.specs.PlainBytes.{is_zero, field_end, IsBeside}
 use Rattle.asm_frags.specs.Writing.{LooseItem, LooseSection, new_item, ends_in_run, takes_zeros_alone, with_item, with_run, with_bytes, bytes_put}
 use Rattle.asm_frags.specs.Sections.{with_section_or_fault, put_into_there}
-use Rattle.asm_place.specs.declared.instructions.Row.{Row}
+use Rattle.asm_words.specs.declared.instructions.Row.{Row}
 use Rattle.asm_base.specs.Refusals.{◌>>=◌}
-use Rattle.asm_place.specs.Rows.{the_rows, has_name, bytes_of}
-use Rattle.asm_place.specs.LayerFaults.{of_sections}
-use Rattle.asm_place.specs.Operands.{is_name, is_dot, names_symbol}
-use Rattle.asm_place.specs.State.{Placed, with_table, unless_dot, put_bytes_into}
-use Rattle.asm_place.specs.Placing.{place_row, place_instruction, begins_with_dot, place_body, is_label, place_label, place_labelled, has_wide_label, place_tokens}
+use Rattle.asm_words.specs.Rows.{the_rows, has_name, bytes_of}
+use Rattle.asm_operands.specs.LayerFaults.{of_sections}
+use Rattle.asm_operands.specs.Operands.{is_name, is_dot, names_symbol, begins_with_dot, is_label}
+use Rattle.asm_values.specs.State.{Placed, with_table, unless_dot, put_bytes_into}
+use Rattle.asm_place.specs.Placing.{place_row, place_instruction, place_body, place_label, place_labelled, has_wide_label, place_tokens}
 use Rattle.asm_place.specs.Sources.{pos_at, located, place, place_all}
 use Rattle.asm_place.specs.Instructions.{behind_labels, row_written, instruction_of, run_end, next_item, next_offset, with_more, IsContinued, Grows, IsWithin, AreWithin, IsPut, StandsAt}
 use Rattle.asm_place.proofs.GrowthLemmas.{get_set, All-there, run_keeps, run_added}

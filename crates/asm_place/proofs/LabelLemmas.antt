@@ -1,17 +1,17 @@
 -- Labels in front of a statement, and what stands behind them.
-use Rattle.std.proofs.Common.{◌≡◌, ℕ, ◌+◌, ◌≤◌, ◌&&◌, ◌||◌, Bool, true, false, cond, List, [], ◌∷◌, Result, Ok, Err, length, get_or, drop, map, refl, sym, ap, ◌∙◌, arith}
+use Rattle.std.proofs.Common.{◌≡◌, ℕ, ◌+◌, ◌≤◌, ◌&&◌, ◌||◌, Bool, true, false, cond, List, [], ◌∷◌, Result, Ok, Err, length, get_or, drop, map, refl, sym, ap, ◌∙◌, arith, length-drop}
 use Rattle.std.proofs.lemmas.Bool.{false≢true}
-use Rattle.std.proofs.Common.{length-drop}
 use Rattle.std.proofs.lemmas.List.{length-map}
 use Rattle.asm_base.specs.declared.positions.Pos.{Pos}
 use Rattle.asm_base.specs.declared.tokens.Token.{Token}
-use Rattle.asm_place.specs.declared.place_faults.PlaceCause.{PlaceCause}
+use Rattle.asm_operands.specs.declared.place_faults.PlaceCause.{PlaceCause}
 use Rattle.asm_base.specs.Tokens.{spelled, SpelledToken}
 use Rattle.asm_base.specs.Refusals.{Fails, ◌>>=◌}
 use Rattle.asm_base.specs.declared.refusals.Refusal.{Refusal}
 use Rattle.asm_base.specs.declared.refusals.Refusal.TheVariants.{Fault, NoMemory}
-use Rattle.asm_place.specs.State.{Placed}
-use Rattle.asm_place.specs.Placing.{place_label, place_body, place_unlabelled, begins_with_label, is_label, is_too_wide, has_wide_label, place_labelled}
+use Rattle.asm_values.specs.State.{Placed}
+use Rattle.asm_place.specs.Placing.{place_label, place_body, place_unlabelled, is_too_wide, has_wide_label, place_labelled}
+use Rattle.asm_operands.specs.Operands.{begins_with_label, is_label}
 use Rattle.asm_place.proofs.TokenLists.{two_left}
 
 -- no label is in front

@@ -1,27 +1,7 @@
 -- The proofs of this crate.
-pub mod Names
-pub mod SlotLemmas
-pub mod Readings
 pub mod TokenLists
-pub mod OperandSplits
-pub mod OperandEnds
-pub mod NameParts
-pub mod StepLists
 pub mod GrowthLemmas
-pub mod PlainStrings
-pub mod FewSumLemmas
 pub mod BareLemmas
-pub mod PutTwice
-pub mod NameLemmas
-pub mod InternLemmas
-pub mod TextLemmas
-pub mod SumNames
-pub mod SumLemmas
-pub mod PlainLemmas
-pub mod LongSumLemmas
-pub mod ConstantDataLemmas
-pub mod ConstantOperandsLemmas
-pub mod NamedNumberLemmas
 pub mod LabelLemmas
 pub mod Walks
 pub mod PlacingLaws

@@ -3,8 +3,8 @@ use Rattle.std.proofs.Common.{◌≡◌, ℕ, Bool, true, false, cond, List, [],
 use Rattle.std.specs.Prelude.{◌&&◌, ◌^◌, nat_lt, not, drop, codes, unwrap_or}
 use Rattle.std.specs.List.{list_any, list_all, count_by}
 use Rattle.std.proofs.lemmas.Result.{IfOk-at_ok, IfErr-at_err}
-use Rattle.asm_place.specs.declared.place_faults.PlaceCause.{PlaceCause}
-use Rattle.asm_place.specs.declared.place_faults.PlaceCause.TheVariants.{BadExpression, NumberTooWide, ExpressionTooDeep, DivisionByZero, ValueNotKnown, NotASumOfSymbols, UnknownMnemonic, UnknownDirective, BadOperand, OutOfRange, BadSection, SymbolAlreadyDefined, BadSymbolUse}
+use Rattle.asm_operands.specs.declared.place_faults.PlaceCause.{PlaceCause}
+use Rattle.asm_operands.specs.declared.place_faults.PlaceCause.TheVariants.{BadExpression, NumberTooWide, ExpressionTooDeep, DivisionByZero, ValueNotKnown, NotASumOfSymbols, UnknownMnemonic, UnknownDirective, BadOperand, OutOfRange, BadSection, SymbolAlreadyDefined, BadSymbolUse}
 use Rattle.asm_base.specs.declared.notes.Noted.{Noted}
 use Rattle.asm_base.specs.declared.positions.Pos.{Pos}
 use Rattle.asm_base.specs.Tokens.{SpelledToken}
@@ -25,36 +25,43 @@ use Rattle.asm_frags.specs.Sections.{section_flags, entered_there, entered_by, w
 use Rattle.asm_symbols.specs.declared.entries.Definition.TheVariants.{Label, Space, Common}
 use Rattle.asm_symbols.specs.Defining.{defined}
 use Rattle.asm_symbols.specs.LeadsBack.{assigned}
-use Rattle.asm_place.specs.declared.directives.Directive.{Directive}
-use Rattle.asm_place.specs.declared.directives.Directive.TheVariants as directive
-use Rattle.asm_place.specs.declared.directives.SymbolAttribute.{SymbolAttribute}
-use Rattle.asm_place.specs.declared.instructions.Row.{Row}
+use Rattle.asm_words.specs.declared.directives.Directive.{Directive}
+use Rattle.asm_words.specs.declared.directives.Directive.TheVariants as directive
+use Rattle.asm_words.specs.declared.directives.SymbolAttribute.{SymbolAttribute}
+use Rattle.asm_words.specs.declared.instructions.Row.{Row}
 use Rattle.asm_place.specs.declared.section_changes.Header.{Header}
-use Rattle.asm_place.specs.declared.tables.Naming.{Naming}
-use Rattle.asm_place.specs.declared.stacks.Entered.{Entered}
+use Rattle.asm_uses.specs.declared.tables.Naming.{Naming}
+use Rattle.asm_values.specs.declared.stacks.Entered.{Entered}
 use Rattle.asm_base.specs.Refusals.{◌>>=◌}
-use Rattle.asm_place.specs.LayerFaults.{of_sections}
-use Rattle.asm_place.specs.Operands.{is_name, names_symbol, name_of, operands_of, is_dot, begins_with_place, symbol_name, each, joined_strings}
-use Rattle.asm_place.specs.Expressions.{expression_of, form_in, up_to_three_listed, up_to_three_trees, up_to_three_forms, up_to_three_constants, KnownOperands, known_operands}
-use Rattle.asm_place.specs.Places.{uses_place, spot_at, end_naming}
-use Rattle.asm_place.specs.State.{Placed, with_table, with_notes, with_names, here, known_here, put_section, put_bytes_into, put_field_into, push_into, unless_dot}
-use Rattle.asm_place.specs.DataItems.{put_by, put_forms, is_cut, cut_notes}
-use Rattle.asm_place.specs.Results.{all_steps}
-use Rattle.asm_place.specs.SectionWords.{SectionWords, section_words, needed}
+use Rattle.asm_operands.specs.LayerFaults.{of_sections}
+use Rattle.asm_operands.specs.Operands.{is_name, names_symbol, name_of, operands_of, is_dot, begins_with_place, symbol_name, each, joined_strings, needed, is_assignment, begins_with_dot, is_label}
+use Rattle.asm_operands.specs.Expressions.{expression_of, form_in, up_to_three_listed, up_to_three_trees, up_to_three_forms, up_to_three_constants}
+use Rattle.asm_values.specs.KnownOperands.{KnownOperands, known_operands}
+use Rattle.asm_uses.specs.Places.{uses_place, spot_at, end_naming}
+use Rattle.asm_values.specs.State.{Placed, with_table, with_notes, with_names, here, known_here, put_section, put_bytes_into, put_field_into, push_into, unless_dot}
+use Rattle.asm_values.specs.DataItems.{put_by, put_forms, is_cut, cut_notes}
+use Rattle.asm_operands.specs.Results.{all_steps}
+use Rattle.asm_words.specs.SectionWords.{SectionWords, section_words}
 use Rattle.asm_place.specs.SectionChanges.{with_current, option_trees, numbered, entered_as, enter_words, place_section, entered_now, place_pushed, back_to, popped, entry_size_in, header_by}
-use Rattle.asm_place.specs.SymbolWords.{plain_of, kind_said, place_said, named_kind, place_type, sized, size_words, place_size, NamedTree, say_all, named_tree, words_naming, with_words, words_symbol, end_words}
-use Rattle.asm_place.specs.Assignments.{assign_words, place_set, place_assignment}
-use Rattle.asm_place.specs.Commons.{bss, with_space, with_common, is_said_local, place_space, place_comm, place_lcomm, space_size, SpaceWords, with_own, space_words, define_space}
+use Rattle.asm_operands.specs.NamedTrees.{plain_of, NamedTree, named_tree}
+use Rattle.asm_uses.specs.Attributes.{kind_said, sized, say_all, define_space}
+use Rattle.asm_place.specs.SymbolWords.{place_said, place_type}
+use Rattle.asm_values.specs.Sizes.{size_words, place_size, words_naming, with_words, words_symbol, end_words}
+use Rattle.asm_words.specs.SymbolKinds.{named_kind}
+use Rattle.asm_values.specs.Assignments.{assign_words, place_set, place_assignment}
+use Rattle.asm_place.specs.Commons.{bss, with_space, with_common, is_said_local, place_space, place_comm, place_lcomm, SpaceWords, with_own, space_words}
+use Rattle.asm_words.specs.Spaces.{space_size, space_of, units_of, unit_size, log_of}
 use Rattle.asm_place.specs.Idents.{items_in, comment_bytes, comment_header, place_ident, place_file, one_string, file_name}
-use Rattle.asm_place.specs.Placing.{put_data, place_data, place_strings, with_named, place_zero, place_skip, place_fill, bare, initial_number, place_by, place_found, place_directive, place_row, place_instruction, is_assignment, begins_with_dot, place_body, is_label, place_label, place_tokens, label_symbol, place_labelled, has_wide_label}
+use Rattle.asm_values.specs.Data.{put_data, place_data, place_strings, with_named, place_zero, place_skip, place_fill}
+use Rattle.asm_place.specs.Placing.{bare, initial_number, place_by, place_found, place_directive, place_row, place_instruction, place_body, place_label, place_tokens, place_labelled, has_wide_label}
+use Rattle.asm_uses.specs.Labels.{label_symbol}
 use Rattle.asm_place.specs.Sources.{pos_at, located, place, place_all}
 use Rattle.asm_place.specs.declared.place_faults.FaultAt.{FaultAt}
 use Rattle.asm_place.specs.Faults.{is_file_too_large, is_too_large, statement_fault}
 use Rattle.asm_place.specs.Instructions.{Grows, AreWithin}
 use Rattle.asm_place.proofs.GrowthLemmas.{Adds, IsAdded, adds_nothing, adds_to, adds_section, item_added, bytes_added, field_added}
 use Rattle.asm_place.proofs.Walks.{Fine, Steps, made, refused, step, after, grown, still, either, on}
-use Rattle.asm_place.specs.Tables.{changed_by, change_named, file_named, naming_of, allowed}
-use Rattle.asm_place.specs.Spaces.{space_of, units_of, unit_size, log_of}
+use Rattle.asm_uses.specs.Tables.{changed_by, change_named, file_named, naming_of, allowed}
 
 -- something is put into a section
 module _ (put : LooseSection → Result LooseSection FragCause) (puts : (section : LooseSection) → Fine (IsAdded section) (put section)) where

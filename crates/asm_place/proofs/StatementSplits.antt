@@ -3,7 +3,7 @@ use Rattle.std.proofs.Common.{◌≡◌, List, [], ◌∷◌, ◌++◌, fold, Re
 use Rattle.asm_lines.specs.NextStatements.{TokenStatement}
 use Rattle.asm_lines.specs.Placing.{placed_next, placed_in_order}
 use Rattle.asm_base.specs.Refusals.{◌>>=◌}
-use Rattle.asm_place.specs.State.{Placed}
+use Rattle.asm_values.specs.State.{Placed}
 use Rattle.asm_place.specs.Sources.{place, place_all}
 use Rattle.asm_place.specs.declared.place_faults.FaultAt.{FaultAt}
 

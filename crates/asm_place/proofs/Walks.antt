@@ -2,7 +2,7 @@
 use Rattle.std.proofs.Common.{Bool, true, false, cond, Result, Ok, Err}
 use Rattle.std.specs.Result.{IfOk}
 use Rattle.asm_base.specs.Refusals.{◌>>=◌}
-use Rattle.asm_place.specs.State.{Placed}
+use Rattle.asm_values.specs.State.{Placed}
 use Rattle.asm_place.proofs.GrowthLemmas.{Adds, adds_nothing, adds_on}
 
 -- what is known of what a step makes

@@ -1,34 +1,26 @@
 -- Common symbols, and space in `.bss` (GNU as manual, ".comm", ".lcomm").
-use Rattle.std.specs.Prelude.{ℕ, ◌^◌, Bool, true, false, List, length, Option, None, Some, Result, Ok, Err, slice_get, if◌then◌else◌}
+use Rattle.std.specs.Prelude.{ℕ, ◌^◌, Bool, true, false, List, length, Option, None, Some, Result, Ok, slice_get}
 use Rattle.std.specs.Option.{option_map_or}
-use Rattle.asm_place.specs.declared.place_faults.PlaceCause.{PlaceCause}
-use Rattle.asm_place.specs.declared.place_faults.PlaceCause.TheVariants.{OutOfRange}
-use Rattle.asm_place.specs.declared.tables.Naming.{Naming}
+use Rattle.asm_operands.specs.declared.place_faults.PlaceCause.{PlaceCause}
+use Rattle.asm_uses.specs.declared.tables.Naming.{Naming}
 use Rattle.asm_base.specs.declared.positions.Pos.{Pos}
 use Rattle.asm_base.specs.Tokens.{SpelledToken}
 use Rattle.asm_expr.specs.declared.naming.Name.{Name}
 use Rattle.asm_expr.specs.declared.naming.Name.TheVariants as naming
-use Rattle.asm_expr.specs.Forms.{constant_form}
 use Rattle.asm_frags.specs.declared.contents.Content.TheVariants as content
 use Rattle.asm_symbols.specs.declared.entries.Binding.{Binding}
 use Rattle.asm_symbols.specs.declared.entries.Binding.TheVariants.{Local, Global, Weak}
-use Rattle.asm_symbols.specs.declared.entries.Kind.{Kind}
-use Rattle.asm_symbols.specs.declared.entries.Kind.TheVariants.{Object}
-use Rattle.asm_symbols.specs.declared.entries.Definition.{Definition}
 use Rattle.asm_symbols.specs.declared.entries.Definition.TheVariants.{Common, Space}
-use Rattle.asm_symbols.specs.SymbolMap.{SymbolMap, with_symbol}
+use Rattle.asm_symbols.specs.SymbolMap.{SymbolMap}
 use Rattle.asm_symbols.specs.Interning.{number_of}
-use Rattle.asm_symbols.specs.Defining.{defined}
-use Rattle.asm_symbols.specs.Attributes.{with_kind, with_next_size}
 use Rattle.asm_base.specs.Refusals.{◌>>=◌}
-use Rattle.asm_place.specs.Tables.{Table, changed_by, with_map, with_name, allowed}
-use Rattle.asm_place.specs.Places.{spot_at}
-use Rattle.asm_place.specs.State.{Placed, with_table, unless_dot, push_into}
-use Rattle.asm_place.specs.Operands.{begins_with_place, name_of, operands_of}
-use Rattle.asm_place.specs.Expressions.{KnownOperands, known_operands}
-use Rattle.asm_expr.specs.Arithmetic.{is_negative}
-use Rattle.asm_place.specs.Spaces.{space_of, log_of}
-use Rattle.asm_place.specs.SectionWords.{needed}
+use Rattle.asm_uses.specs.Tables.{with_name}
+use Rattle.asm_uses.specs.Places.{spot_at}
+use Rattle.asm_values.specs.State.{Placed, with_table, unless_dot, push_into}
+use Rattle.asm_operands.specs.Operands.{begins_with_place, name_of, operands_of, needed}
+use Rattle.asm_values.specs.KnownOperands.{KnownOperands, known_operands}
+use Rattle.asm_words.specs.Spaces.{space_of, log_of, space_size}
+use Rattle.asm_uses.specs.Attributes.{define_space}
 
 -- the number of `.bss`
 abbrev pub bss : ℕ
@@ -45,27 +37,6 @@ is_local_binding None = false
 unfoldable pub is_said_local : SymbolMap → ℕ → Bool
 is_said_local map index = option_map_or (λ symbol. is_local_binding symbol.binding) (slice_get map.symbols index) false
 
--- what a symbol names that is space: an object, unless something else was said
-abbrev pub kind_or_object : Option Kind → Kind
-kind_or_object None = Object
-kind_or_object (Some kind) = kind
-
--- the kind of the symbol at this index, which is an object unless something else was said
-abbrev pub space_kind : SymbolMap → ℕ → Kind
-space_kind map index = option_map_or (λ symbol. kind_or_object symbol.kind) (slice_get map.symbols index) Object
-
--- the symbol has this size, and is an object unless something else was said
-abbrev pub as_space : ℕ → SymbolMap → ℕ → SymbolMap
-as_space size map index = with_symbol (with_kind (space_kind map index)) (with_next_size (constant_form size) map index) index
-
--- the symbol is defined so, and has this size
-abbrev pub spaced : ℕ → Definition → Table × ℕ → Result Table PlaceCause
-spaced size what found = changed_by (λ map index. defined map index what) found >>= λ made. Ok (with_map made (as_space size made.symbols found.1))
-
--- the same, and then the names of the statement are allowed or refused
-unfoldable pub define_space : Naming → ℕ → ℕ → Definition → Table → Result Table PlaceCause
-define_space naming symbol size what table = spaced size what (table, symbol) >>= allowed naming
-
 -- zeros up to a multiple of 2 ^ log in `.bss`, and then so many more, which are the symbol's
 unfoldable pub with_space : Pos → Naming → ℕ → ℕ → ℕ → Placed → Result Placed PlaceCause
 with_space pos naming symbol size log placed =
@@ -77,10 +48,6 @@ with_space pos naming symbol size log placed =
 unfoldable pub with_common : Naming → ℕ → ℕ → ℕ → Placed → Result Placed PlaceCause
 with_common naming symbol size log placed =
     define_space naming symbol size (Common size (2 ^ log)) placed.table >>= λ table. Ok (with_table placed table)
-
--- a size of space for a symbol
-abbrev pub space_size : ℕ → Result ℕ PlaceCause
-space_size size = if is_negative size then Err OutOfRange else Ok size
 
 -- the number of a name's symbol, and the values of the expressions behind it: the size and the alignment that are said
 pub record SpaceWords : Type 0 where

@@ -4,8 +4,8 @@ use Rattle.asm_base.specs.declared.faults.StatementFault.{StatementFault}
 use Rattle.asm_base.specs.declared.faults.StatementFault.TheVariants as statement
 use Rattle.asm_base.specs.declared.faults.Fault.{Fault}
 use Rattle.asm_base.specs.declared.faults.Fault.TheVariants.{Statement, End, Scfi}
-use Rattle.asm_place.specs.declared.place_faults.PlaceCause.{PlaceCause}
-use Rattle.asm_place.specs.declared.place_faults.PlaceCause.TheVariants.{BadExpression, NumberTooWide, ExpressionTooDeep, DivisionByZero, ValueNotKnown, NotASumOfSymbols, UnknownMnemonic, UnknownDirective, BadOperand, OutOfRange, BadSection, SymbolAlreadyDefined, BadSymbolUse}
+use Rattle.asm_operands.specs.declared.place_faults.PlaceCause.{PlaceCause}
+use Rattle.asm_operands.specs.declared.place_faults.PlaceCause.TheVariants.{BadExpression, NumberTooWide, ExpressionTooDeep, DivisionByZero, ValueNotKnown, NotASumOfSymbols, UnknownMnemonic, UnknownDirective, BadOperand, OutOfRange, BadSection, SymbolAlreadyDefined, BadSymbolUse}
 
 -- the fault of the statement that placing answers
 abbrev pub statement_fault : PlaceCause → StatementFault

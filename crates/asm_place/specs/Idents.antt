@@ -2,19 +2,18 @@
 use Rattle.std.specs.Prelude.{ℕ, ◌==◌, List, [], ◌∷◌, ◌++◌, length, codes, Result, Ok, Err, slice_get, if◌then◌else◌}
 use Rattle.std.specs.List.{list_any}
 use Rattle.std.specs.Option.{option_map_or}
-use Rattle.asm_place.specs.declared.place_faults.PlaceCause.{PlaceCause}
-use Rattle.asm_place.specs.declared.place_faults.PlaceCause.TheVariants.{BadOperand}
+use Rattle.asm_operands.specs.declared.place_faults.PlaceCause.{PlaceCause}
+use Rattle.asm_operands.specs.declared.place_faults.PlaceCause.TheVariants.{BadOperand}
 use Rattle.asm_base.specs.declared.positions.Pos.{Pos}
 use Rattle.asm_base.specs.Tokens.{SpelledToken}
 use Rattle.asm_expr.specs.declared.naming.Name.TheVariants as naming
 use Rattle.asm_frags.specs.Writing.{LooseSection}
 use Rattle.asm_place.specs.declared.section_changes.Header.{Header}
 use Rattle.asm_base.specs.Refusals.{◌>>=◌}
-use Rattle.asm_place.specs.Tables.{file_named}
-use Rattle.asm_place.specs.State.{Placed, with_table, put_bytes_into}
-use Rattle.asm_place.specs.Operands.{operands_of, string_of}
-use Rattle.asm_place.specs.Expressions.{no_more}
-use Rattle.asm_place.specs.SectionWords.{needed}
+use Rattle.asm_uses.specs.Tables.{file_named}
+use Rattle.asm_values.specs.State.{Placed, with_table, put_bytes_into}
+use Rattle.asm_operands.specs.Operands.{operands_of, string_of, needed}
+use Rattle.asm_operands.specs.Expressions.{no_more}
 use Rattle.asm_place.specs.SectionChanges.{entered_as}
 
 -- one string

@@ -7,11 +7,10 @@ use Rattle.asm_lines.specs.NextStatements.{TokenStatement}
 use Rattle.asm_frags.specs.declared.fields.Field.{Field}
 use Rattle.asm_frags.specs.PlainBytes.{field_end, IsBeside}
 use Rattle.asm_frags.specs.Writing.{LooseItem, LooseSection, ends_in_run, with_bytes}
-use Rattle.asm_place.specs.declared.instructions.Row.{Row}
-use Rattle.asm_place.specs.Rows.{the_rows, has_name}
-use Rattle.asm_place.specs.Operands.{is_name}
-use Rattle.asm_place.specs.State.{Placed}
-use Rattle.asm_place.specs.Placing.{is_label, begins_with_dot}
+use Rattle.asm_words.specs.declared.instructions.Row.{Row}
+use Rattle.asm_words.specs.Rows.{the_rows, has_name}
+use Rattle.asm_operands.specs.Operands.{is_name, is_label, begins_with_dot}
+use Rattle.asm_values.specs.State.{Placed}
 
 -- what stands behind the labels in front
 unfoldable pub behind_labels : List SpelledToken → List SpelledToken

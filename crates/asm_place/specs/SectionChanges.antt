@@ -1,7 +1,7 @@
 -- Which section statements put into (GNU as manual, ".text", ".data", ".bss", ".section", ".pushsection", ".popsection", ".previous").
 use Rattle.std.specs.Prelude.{ℕ, ◌-◌, ◌^◌, ◌==◌, nat_lt, Bool, true, false, List, [], ◌∷◌, ◌++◌, length, take, Option, None, Some, Result, Ok, Err, slice_get, option_and_then, if◌then◌else◌}
-use Rattle.asm_place.specs.declared.place_faults.PlaceCause.{PlaceCause}
-use Rattle.asm_place.specs.declared.place_faults.PlaceCause.TheVariants.{BadSection, OutOfRange}
+use Rattle.asm_operands.specs.declared.place_faults.PlaceCause.{PlaceCause}
+use Rattle.asm_operands.specs.declared.place_faults.PlaceCause.TheVariants.{BadSection, OutOfRange}
 use Rattle.asm_base.specs.declared.positions.Pos.{Pos}
 use Rattle.asm_base.specs.Tokens.{SpelledToken}
 use Rattle.asm_expr.specs.Knowledge.{Knowledge}
@@ -9,20 +9,20 @@ use Rattle.asm_expr.specs.Trees.{Tree}
 use Rattle.asm_frags.specs.declared.faults.FragCause.{FragCause}
 use Rattle.asm_frags.specs.SectionOf.{section_number}
 use Rattle.asm_frags.specs.Sections.{section_flags, entered}
-use Rattle.asm_place.specs.declared.tables.Naming.{Naming}
-use Rattle.asm_place.specs.declared.stacks.Entered.{Entered}
+use Rattle.asm_uses.specs.declared.tables.Naming.{Naming}
+use Rattle.asm_values.specs.declared.stacks.Entered.{Entered}
 use Rattle.asm_place.specs.declared.section_changes.Header.{Header}
 use Rattle.asm_base.specs.Refusals.{◌>>=◌}
-use Rattle.asm_place.specs.Results.{if_some}
-use Rattle.asm_place.specs.LayerFaults.{section_fault}
-use Rattle.asm_place.specs.Tables.{naming_of, allowed}
+use Rattle.asm_operands.specs.Results.{if_some}
+use Rattle.asm_operands.specs.LayerFaults.{section_fault}
+use Rattle.asm_uses.specs.Tables.{naming_of, allowed}
 use Rattle.asm_frags.specs.Writing.{LooseSection}
-use Rattle.asm_place.specs.State.{Placed, with_table, with_names, known_here}
-use Rattle.asm_place.specs.Operands.{operands_of}
-use Rattle.asm_place.specs.Expressions.{form_in, constant_in}
+use Rattle.asm_values.specs.State.{Placed, with_table, with_names, known_here}
+use Rattle.asm_operands.specs.Operands.{operands_of}
+use Rattle.asm_operands.specs.Expressions.{form_in, constant_in}
 use Rattle.asm_expr.specs.Arithmetic.{is_negative}
-use Rattle.asm_place.specs.SectionWords.{SectionWords, says_merge, section_words, said_flags, said_kind}
-use Rattle.asm_place.specs.SectionDefaults.{default_header}
+use Rattle.asm_words.specs.SectionWords.{SectionWords, says_merge, section_words, said_flags, said_kind}
+use Rattle.asm_words.specs.SectionDefaults.{default_header}
 
 -- statements put into the section of this number from now on
 abbrev pub with_current : ℕ → Placed → Placed

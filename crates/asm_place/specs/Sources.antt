@@ -9,9 +9,9 @@ use Rattle.asm_base.specs.declared.refusals.Refusal.{Refusal}
 use Rattle.asm_base.specs.declared.refusals.Refusal.TheVariants as refusal
 use Rattle.asm_lines.specs.NextStatements.{TokenStatement}
 use Rattle.asm_place.specs.declared.place_faults.FaultAt.{FaultAt}
-use Rattle.asm_place.specs.declared.place_faults.PlaceCause.{PlaceCause}
+use Rattle.asm_operands.specs.declared.place_faults.PlaceCause.{PlaceCause}
 use Rattle.asm_place.specs.Faults.{statement_fault}
-use Rattle.asm_place.specs.State.{Placed}
+use Rattle.asm_values.specs.State.{Placed}
 use Rattle.asm_place.specs.Placing.{place_tokens}
 
 -- a line of a file

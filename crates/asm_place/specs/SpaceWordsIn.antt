@@ -1,8 +1,8 @@
 -- The operands of `.comm` and `.lcomm` that the program has read.
 use Rattle.asm_place.specs.declared.commons.SpaceWords.{SpaceWords as ReadWords}
 use Rattle.asm_place.specs.Commons.{SpaceWords}
-use Rattle.asm_place.specs.State.{Placed}
-use Rattle.asm_place.specs.UpToThreeTrees.{known_operands_in}
+use Rattle.asm_values.specs.State.{Placed}
+use Rattle.asm_values.specs.KnownOperandsIn.{known_operands_in}
 
 -- the symbol and the values that were read, and what is placed then
 abbrev pub space_words_in : Placed → ReadWords → SpaceWords

@@ -2,18 +2,17 @@
 
 ghost use Rattle.std.specs.Prelude.{◌≡◌, map, OnOk};
 ghost use Rattle.asm_base.specs.Tokens.{spelled};
-ghost use Rattle.asm_base.specs.Refusals.{GivesBy};
+ghost use Rattle.asm_base.specs.Refusals.{GivesBy, Gives};
 ghost use Rattle.asm_place.specs.Idents as spec;
+ghost use Rattle.asm_place.specs.Idents.{place_ident, place_file};
+ghost use Rattle.asm_values.specs.PlacedBy.{placed_by, PlacesBy};
 
-use crate::assemblers::Assembler;
-use crate::operands::Operands;
-use crate::place_faults::{PlaceCause, PlaceFault};
 use crate::section_changes::{Header, enter};
-use crate::section_words::needed_string;
-use crate::up_to_three::no_more;
 use asm_base::{Pos, Token};
 use asm_expr::{Name, Spelling};
 use asm_frags::{SHT_PROGBITS, Sections};
+use asm_operands::{Operands, PlaceCause, PlaceFault, needed_string, no_more};
+use asm_values::Assembler;
 use std::alloc::{AllocError, Global};
 
 /// `SHF_MERGE` and `SHF_STRINGS`.
@@ -64,40 +63,41 @@ fn file_name(name: Vec<u8>) -> Result<Vec<u8>, PlaceFault>
     }
 }
 
-impl Assembler {
-    ghost use Rattle.std.specs.Prelude.{◌≡◌, map};
-    ghost use Rattle.asm_base.specs.Tokens.{spelled};
-    ghost use Rattle.asm_base.specs.Refusals.{Gives};
-    ghost use Rattle.asm_place.specs.Idents.{place_ident, place_file};
-    ghost use Rattle.asm_place.specs.PlacedBy.{placed_by, PlacesBy};
+/// `.ident`: the text goes into `.comment`.
+#[tactic(auto, unfolding(crate::specs::Idents::place_ident))]
+pub(crate) fn place_ident(
+    assembler: &mut Assembler,
+    pos: Pos,
+    tokens: &[Token],
+) -> Result<(), PlaceFault>
+    ensures placed { PlacesBy (place_ident pos (map spelled tokens.now))
+        assembler.old assembler.new result }
+    ensures kept { assembler.new.notes ≡ assembler.old.notes }
+{
+    let text = one_string(assembler.alloc, tokens)?;
+    let header = Header {
+        flags: MERGED_STRINGS,
+        kind: SHT_PROGBITS,
+        entry_size: 1,
+    };
+    let number = enter(
+        assembler.alloc,
+        &mut assembler.sections,
+        b".comment",
+        header,
+    )?;
+    let items = items_in(&assembler.sections, number);
+    comment_bytes(&mut assembler.scratch, items, &text)?;
+    assembler.put_scratch_into(pos, number)
+}
 
-    /// `.ident`: the text goes into `.comment`.
-    #[tactic(auto, unfolding(crate::specs::Idents::place_ident))]
-    pub(crate) fn place_ident(&mut self, pos: Pos, tokens: &[Token]) -> Result<(), PlaceFault>
-        ensures placed { PlacesBy (place_ident pos (map spelled tokens.now))
-            self.old self.new result }
-        ensures kept { self.new.notes ≡ self.old.notes }
-    {
-        let text = one_string(self.alloc, tokens)?;
-        let header = Header {
-            flags: MERGED_STRINGS,
-            kind: SHT_PROGBITS,
-            entry_size: 1,
-        };
-        let number = enter(self.alloc, &mut self.sections, b".comment", header)?;
-        let items = items_in(&self.sections, number);
-        comment_bytes(&mut self.scratch, items, &text)?;
-        self.put_scratch_into(pos, number)
-    }
-
-    /// `.file`: the source file that the linker is told of.
-    #[tactic(auto, unfolding(crate::specs::Idents::place_file))]
-    pub(crate) fn place_file(&mut self, tokens: &[Token]) -> Result<(), PlaceFault>
-        ensures placed { PlacesBy (place_file (map spelled tokens.now)) self.old self.new result }
-        ensures kept { self.new.notes ≡ self.old.notes }
-    {
-        let name = file_name(one_string(self.alloc, tokens)?)?;
-        let spelling = Spelling::new(self.alloc, &name)?;
-        self.table.file(&Name::Plain(spelling))
-    }
+/// `.file`: the source file that the linker is told of.
+#[tactic(auto, unfolding(crate::specs::Idents::place_file))]
+pub(crate) fn place_file(assembler: &mut Assembler, tokens: &[Token]) -> Result<(), PlaceFault>
+    ensures placed { PlacesBy (place_file (map spelled tokens.now)) assembler.old assembler.new result }
+    ensures kept { assembler.new.notes ≡ assembler.old.notes }
+{
+    let name = file_name(one_string(assembler.alloc, tokens)?)?;
+    let spelling = Spelling::new(assembler.alloc, &name)?;
+    assembler.table.file(&Name::Plain(spelling))
 }

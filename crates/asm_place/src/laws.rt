@@ -4,9 +4,9 @@ ghost use Rattle.std.specs.Prelude.{◌≡◌, ◌∷◌, ◌++◌, Bool, List, 
 ghost use Rattle.asm_base.specs.declared.positions.Pos.{Pos};
 ghost use Rattle.asm_base.specs.Tokens.{SpelledToken};
 ghost use Rattle.asm_lines.specs.NextStatements.{TokenStatement};
-ghost use Rattle.asm_place.specs.declared.instructions.Row.{Row};
-ghost use Rattle.asm_place.specs.Rows.{bytes_of};
-ghost use Rattle.asm_place.specs.State.{Placed, nothing_placed};
+ghost use Rattle.asm_words.specs.declared.instructions.Row.{Row};
+ghost use Rattle.asm_words.specs.Rows.{bytes_of};
+ghost use Rattle.asm_values.specs.State.{Placed, nothing_placed};
 ghost use Rattle.asm_place.specs.Placing.{place_tokens};
 ghost use Rattle.asm_place.specs.Sources.{place, place_all};
 ghost use Rattle.asm_lines.specs.Placing.{placed_in_order};

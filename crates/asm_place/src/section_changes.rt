@@ -1,26 +1,27 @@
 //! Which section statements put into (GNU as manual, ".section", ".pushsection", ".popsection", ".previous").
 
-ghost use Rattle.std.specs.Prelude.{◌≡◌, ◌≤◌, ◌^◌, length, map, option_map, option_copied, IfOk, IfSome, Ok};
+ghost use Rattle.std.specs.Prelude.{◌≡◌, map, option_map, Ok};
 ghost use Rattle.asm_expr.specs.Trees.{tree_of};
-ghost use Rattle.asm_base.specs.Refusals.{GivesBy};
-ghost use Rattle.asm_place.specs.KnownIn.{known_in};
-ghost use Rattle.asm_place.specs.Results.{if_some};
-ghost use Rattle.asm_place.specs.SectionWords as words;
+ghost use Rattle.asm_base.specs.Refusals.{GivesBy, Gives};
+ghost use Rattle.asm_uses.specs.KnownIn.{known_in};
+ghost use Rattle.asm_operands.specs.Results.{if_some};
+ghost use Rattle.asm_words.specs.SectionWords as words;
 ghost use Rattle.asm_place.specs.SectionChanges as spec;
-ghost use Rattle.asm_place.specs.SaidWords.{words_in};
+ghost use Rattle.asm_words.specs.SaidWords.{words_in};
+ghost use Rattle.asm_base.specs.Tokens.{spelled};
+ghost use Rattle.asm_place.specs.Placing.{bare};
+ghost use Rattle.asm_place.specs.SectionChanges.{with_current, enter_words, place_section, place_pushed, popped};
+ghost use Rattle.asm_values.specs.PlacedBy.{placed_by, PlacesBy};
 
-use crate::assemblers::Assembler;
-use crate::operands::Operands;
-use crate::place_faults::{PlaceCause, PlaceFault};
-use crate::places::View;
-use crate::section_defaults::default_header;
-use crate::section_words::{SectionWords, said_flags, said_kind, says_merge, section_words};
-use crate::spaces::is_negative;
-use crate::stacks::Entered;
-use crate::up_to_three::{constant_if, form_if};
 use asm_base::{Pos, Text, Token};
 use asm_expr::Expr;
 use asm_frags::{FragFault, Loose, Section, SectionFlags, Sections};
+use asm_operands::{Operands, PlaceCause, PlaceFault, constant_if};
+use asm_uses::{View, form_if};
+use asm_values::{Assembler, Entered};
+use asm_words::{
+    SectionWords, default_header, is_negative, said_flags, said_kind, says_merge, section_words,
+};
 use bitflags::Flags;
 use std::alloc::Global;
 
@@ -182,84 +183,87 @@ fn option_exprs(expr: &Option<Expr>) -> &[Expr]
     expr.as_slice()
 }
 
-impl Assembler {
-    ghost use Rattle.std.specs.Prelude.{◌≡◌, map};
-    ghost use Rattle.asm_base.specs.Tokens.{spelled};
-    ghost use Rattle.asm_base.specs.Refusals.{Gives};
-    ghost use Rattle.asm_place.specs.SaidWords.{words_in};
-    ghost use Rattle.asm_place.specs.Placing.{bare};
-    ghost use Rattle.asm_place.specs.SectionChanges.{with_current, enter_words, place_section, place_pushed, popped};
-    ghost use Rattle.asm_place.specs.PlacedBy.{placed_by, PlacesBy};
+/// Statements put into the section of this number from now on.
+pub(crate) fn set_current(assembler: &mut Assembler, number: u32)
+    ensures placed { placed_by assembler.new ≡ with_current number (placed_by assembler.old) }
+    ensures kept { assembler.new.notes ≡ assembler.old.notes }
+{
+    assembler.previous = assembler.current;
+    assembler.current = number;
+}
 
-    /// Statements put into the section of this number from now on.
-    pub(crate) fn set_current(&mut self, number: u32)
-        ensures placed { placed_by self.new ≡ with_current number (placed_by self.old) }
-        ensures kept { self.new.notes ≡ self.old.notes }
-    {
-        self.previous = self.current;
-        self.current = number;
+/// Statements put into the section of these words.
+#[tactic(auto, unfolding(crate::specs::SectionChanges::enter_words))]
+fn enter_words(assembler: &mut Assembler, pos: Pos, words: SectionWords) -> Result<(), PlaceFault>
+    ensures placed { PlacesBy (enter_words pos (words_in words)) assembler.old assembler.new result }
+    ensures kept { assembler.new.notes ≡ assembler.old.notes }
+{
+    let exprs = option_exprs(&words.entry_size);
+    let naming = assembler.table.intern_trees(pos, exprs)?;
+    let size = entry_size_in(assembler.alloc, assembler.view(), &words.entry_size)?;
+    let header = header_of(&assembler.sections, &words, size)?;
+    let number = enter(
+        assembler.alloc,
+        &mut assembler.sections,
+        &words.name,
+        header,
+    )?;
+    assembler.table.allow(naming)?;
+    set_current(assembler, number);
+    Ok(())
+}
+
+/// `.section`
+#[tactic(auto, unfolding(crate::specs::SectionChanges::place_section))]
+pub(crate) fn place_section(
+    assembler: &mut Assembler,
+    pos: Pos,
+    tokens: &[Token],
+) -> Result<(), PlaceFault>
+    ensures placed { PlacesBy (place_section pos (map spelled tokens.now))
+        assembler.old assembler.new result }
+    ensures kept { assembler.new.notes ≡ assembler.old.notes }
+{
+    let words = section_words(assembler.alloc, &mut Operands::new(tokens))?;
+    enter_words(assembler, pos, words)
+}
+
+/// `.pushsection`: `.popsection` comes back to where this stands.
+#[tactic(auto, unfolding(crate::specs::SectionChanges::place_pushed))]
+pub(crate) fn place_pushed(
+    assembler: &mut Assembler,
+    pos: Pos,
+    tokens: &[Token],
+) -> Result<(), PlaceFault>
+    ensures placed { PlacesBy (place_pushed pos (map spelled tokens.now))
+        assembler.old assembler.new result }
+    ensures kept { assembler.new.notes ≡ assembler.old.notes }
+{
+    let entered = Entered {
+        current: assembler.current,
+        previous: assembler.previous,
+    };
+    place_section(assembler, pos, tokens)?;
+    assembler.stack.push(entered)?;
+    Ok(())
+}
+
+/// `.popsection`
+#[tactic(auto, unfolding(crate::specs::SectionChanges::popped))]
+pub(crate) fn place_popped(assembler: &mut Assembler, tokens: &[Token]) -> Result<(), PlaceFault>
+    ensures placed { PlacesBy (λ placed. bare (map spelled tokens.now) (popped placed))
+        assembler.old assembler.new result }
+    ensures kept { assembler.new.notes ≡ assembler.old.notes }
+{
+    if !tokens.is_empty() {
+        return Err(PlaceFault::Fault(PlaceCause::BadOperand));
     }
-
-    /// Statements put into the section of these words.
-    #[tactic(auto, unfolding(crate::specs::SectionChanges::enter_words))]
-    fn enter_words(&mut self, pos: Pos, words: SectionWords) -> Result<(), PlaceFault>
-        ensures placed { PlacesBy (enter_words pos (words_in words)) self.old self.new result }
-        ensures kept { self.new.notes ≡ self.old.notes }
-    {
-        let exprs = option_exprs(&words.entry_size);
-        let naming = self.table.intern_trees(pos, exprs)?;
-        let size = entry_size_in(self.alloc, self.view(), &words.entry_size)?;
-        let header = header_of(&self.sections, &words, size)?;
-        let number = enter(self.alloc, &mut self.sections, &words.name, header)?;
-        self.table.allow(naming)?;
-        self.set_current(number);
-        Ok(())
-    }
-
-    /// `.section`
-    #[tactic(auto, unfolding(crate::specs::SectionChanges::place_section))]
-    pub(crate) fn place_section(&mut self, pos: Pos, tokens: &[Token]) -> Result<(), PlaceFault>
-        ensures placed { PlacesBy (place_section pos (map spelled tokens.now))
-            self.old self.new result }
-        ensures kept { self.new.notes ≡ self.old.notes }
-    {
-        let words = section_words(self.alloc, &mut Operands::new(tokens))?;
-        self.enter_words(pos, words)
-    }
-
-    /// `.pushsection`: `.popsection` comes back to where this stands.
-    #[tactic(auto, unfolding(crate::specs::SectionChanges::place_pushed))]
-    pub(crate) fn place_pushed(&mut self, pos: Pos, tokens: &[Token]) -> Result<(), PlaceFault>
-        ensures placed { PlacesBy (place_pushed pos (map spelled tokens.now))
-            self.old self.new result }
-        ensures kept { self.new.notes ≡ self.old.notes }
-    {
-        let entered = Entered {
-            current: self.current,
-            previous: self.previous,
-        };
-        self.place_section(pos, tokens)?;
-        self.stack.push(entered)?;
-        Ok(())
-    }
-
-    /// `.popsection`
-    #[tactic(auto, unfolding(crate::specs::SectionChanges::popped))]
-    pub(crate) fn place_popped(&mut self, tokens: &[Token]) -> Result<(), PlaceFault>
-        ensures placed { PlacesBy (λ placed. bare (map spelled tokens.now) (popped placed))
-            self.old self.new result }
-        ensures kept { self.new.notes ≡ self.old.notes }
-    {
-        if !tokens.is_empty() {
-            return Err(PlaceFault::Fault(PlaceCause::BadOperand));
+    match assembler.stack.pop() {
+        Some(entered) => {
+            assembler.current = entered.current;
+            assembler.previous = entered.previous;
+            Ok(())
         }
-        match self.stack.pop() {
-            Some(entered) => {
-                self.current = entered.current;
-                self.previous = entered.previous;
-                Ok(())
-            }
-            None => Err(PlaceFault::Fault(PlaceCause::BadSection)),
-        }
+        None => Err(PlaceFault::Fault(PlaceCause::BadSection)),
     }
 }

@@ -2,12 +2,15 @@
 
 ghost use Rattle.std.specs.Prelude.{◌≡◌};
 ghost use Rattle.asm_place.specs.Faults.{statement_fault};
+ghost use Rattle.asm_place.specs.Sources.{refusal_at};
 
-use crate::assemblers::{Assembler, Placed};
-use crate::place_faults::{FaultAt, PlaceCause, PlaceFault};
+use crate::place_faults::FaultAt;
+use crate::placing::place_tokens;
 use asm_base::{Fault, Notes, Pos, Refusal, StatementFault, Token};
 use asm_frags::FragFault;
 use asm_lines::Placer;
+use asm_operands::{PlaceCause, PlaceFault};
+use asm_values::{Assembler, Placed};
 use std::alloc::Global;
 use std::marker::Model;
 use std::mem;
@@ -36,34 +39,29 @@ fn statement_fault(fault: PlaceCause) -> StatementFault
 /// What the statements so far have placed, for more statements from anywhere.
 #[derive(Drop)]
 pub struct StatementPlacer {
-    assembler: Assembler,
+    pub assembler: Assembler,
 }
 
 impl Model for StatementPlacer {
-    ghost use Rattle.asm_place.specs.State.{Placed};
-    ghost use Rattle.asm_place.specs.PlacedBy.{placed_by};
+    ghost use Rattle.asm_values.specs.State.{Placed};
+    ghost use Rattle.asm_values.specs.PlacedBy.{placed_by};
 
     ghost Value = { Placed };
 
     ghost view = { λ placer. placed_by placer.assembler };
 }
 
-impl Assembler {
-    ghost use Rattle.std.specs.Prelude.{◌≡◌};
-    ghost use Rattle.asm_place.specs.Sources.{refusal_at};
-
-    /// The refusal of the statement at this place, which takes the notes along.
-    #[inline(never)]
-    fn refused(&mut self, pos: Pos, refusal: PlaceFault) -> Refusal<FaultAt>
-        ensures { result ≡ refusal_at pos self.old.notes refusal }
-    {
-        match refusal {
-            PlaceFault::NoMemory => Refusal::NoMemory,
-            PlaceFault::Fault(cause) => {
-                let notes = mem::replace(&mut self.notes, Notes::new(self.alloc));
-                let fault = Fault::Statement(statement_fault(cause));
-                Refusal::Fault(FaultAt { fault, pos, notes })
-            }
+/// The refusal of the statement at this place, which takes the notes along.
+#[inline(never)]
+fn refused(assembler: &mut Assembler, pos: Pos, refusal: PlaceFault) -> Refusal<FaultAt>
+    ensures { result ≡ refusal_at pos assembler.old.notes refusal }
+{
+    match refusal {
+        PlaceFault::NoMemory => Refusal::NoMemory,
+        PlaceFault::Fault(cause) => {
+            let notes = mem::replace(&mut assembler.notes, Notes::new(assembler.alloc));
+            let fault = Fault::Statement(statement_fault(cause));
+            Refusal::Fault(FaultAt { fault, pos, notes })
         }
     }
 }
@@ -71,7 +69,7 @@ impl Assembler {
 impl StatementPlacer {
     ghost use Rattle.std.specs.Prelude.{◌≡◌, IfOk, IfErr};
     ghost use Rattle.asm_base.specs.declared.refusals.Refusal.TheVariants.{NoMemory};
-    ghost use Rattle.asm_place.specs.State.{nothing_placed};
+    ghost use Rattle.asm_values.specs.State.{nothing_placed};
 
     /// Nothing is placed yet.
     pub fn new(alloc: Global, no_warn: bool) -> Result<StatementPlacer, FragFault>
@@ -102,9 +100,9 @@ impl Placer for StatementPlacer {
 
     #[tactic(auto, unfolding(crate::specs::Sources::place))]
     fn place(&mut self, pos: Pos, tokens: &[Token]) -> Result<(), Refusal<FaultAt>> {
-        match self.assembler.place_tokens(pos, tokens) {
+        match place_tokens(&mut self.assembler, pos, tokens) {
             Ok(()) => Ok(()),
-            Err(refusal) => Err(self.assembler.refused(pos, refusal)),
+            Err(refusal) => Err(refused(&mut self.assembler, pos, refusal)),
         }
     }
 }

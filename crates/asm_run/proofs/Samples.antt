@@ -28,18 +28,22 @@ use Rattle.asm_symbols.specs.Defining.{defined}
 use Rattle.asm_symbols.specs.Attributes.{bound}
 use Rattle.asm_frags.specs.Sections.{first_sections}
 use Rattle.asm_frags.specs.KnownExtents.{extent_of}
-use Rattle.asm_place.specs.Results.{all_steps}
-use Rattle.asm_place.specs.Rows.{the_rows}
-use Rattle.asm_place.specs.Operands.{checked_name, symbol_name, name_of, each}
-use Rattle.asm_place.specs.Tables.{symbol_of, next_symbol, with_tree, with_trees, is_meant, are_meant, allowed}
-use Rattle.asm_place.specs.Places.{spot_at, name_here}
-use Rattle.asm_place.specs.State.{put_bytes_into, put_field_into, push_into}
-use Rattle.asm_place.specs.Expressions.{expression_of, form_in}
+use Rattle.asm_operands.specs.Results.{all_steps}
+use Rattle.asm_words.specs.Rows.{the_rows}
+use Rattle.asm_operands.specs.Operands.{checked_name, symbol_name, name_of, each}
+use Rattle.asm_uses.specs.Tables.{symbol_of, next_symbol, with_tree, with_trees, is_meant, are_meant, allowed}
+use Rattle.asm_uses.specs.Places.{spot_at, name_here}
+use Rattle.asm_values.specs.State.{put_bytes_into, put_field_into, push_into}
+use Rattle.asm_operands.specs.Expressions.{expression_of, form_in}
 use Rattle.asm_frags.specs.Fields.{fits, low_bytes}
-use Rattle.asm_place.specs.DataItems.{put_forms}
-use Rattle.asm_place.specs.SymbolWords.{say_all, plain_of, place_said}
-use Rattle.asm_place.specs.Directives.{the_directives, directive_of}
-use Rattle.asm_place.specs.Placing.{put_data, place_data, place_by, place_directive, place_instruction, place_body, label_symbol, place_label, place_labelled, has_wide_label, place_tokens}
+use Rattle.asm_values.specs.DataItems.{put_forms}
+use Rattle.asm_uses.specs.Attributes.{say_all}
+use Rattle.asm_operands.specs.NamedTrees.{plain_of}
+use Rattle.asm_place.specs.SymbolWords.{place_said}
+use Rattle.asm_words.specs.Directives.{the_directives, directive_of}
+use Rattle.asm_values.specs.Data.{put_data, place_data}
+use Rattle.asm_place.specs.Placing.{place_by, place_directive, place_instruction, place_body, place_label, place_labelled, has_wide_label, place_tokens}
+use Rattle.asm_uses.specs.Labels.{label_symbol}
 use Rattle.asm_place.specs.Sources.{place, place_all}
 use Rattle.asm_relax.specs.Expanding.{plus_terms, expanded_within, expanded}
 use Rattle.asm_relax.specs.Final.{shift_in, section_size, address_of, final_told, laid_value, final_form}

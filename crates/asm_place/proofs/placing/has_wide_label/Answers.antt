@@ -2,7 +2,7 @@
 use Rattle.std.proofs.Common.{◌≡◌, ◌+◌, ◌≤◌, true, false, map, length, drop, sym, ap, ◌∙◌}
 use Rattle.std.proofs.lemmas.List.{take_rest}
 use Rattle.asm_base.specs.Tokens.{spelled}
-use Rattle.asm_place.specs.Placing.{begins_with_label}
+use Rattle.asm_operands.specs.Operands.{begins_with_label}
 use Rattle.asm_place.proofs.LabelLemmas.{wide_on, wide_here, wide_none, room}
 use Rattle.asm_place.proofs.placing.has_wide_label.Goals as goal
 

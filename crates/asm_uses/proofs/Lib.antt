@@ -1,0 +1,7 @@
+-- The proofs of this crate.
+pub mod InternLemmas
+pub mod TextLemmas
+pub mod SumNames
+pub mod SumLemmas
+pub mod PlainLemmas
+pub mod LongSumLemmas

@@ -1,0 +1,13 @@
+-- The proofs of this crate.
+pub mod TokenLists
+pub mod OperandEnds
+pub mod SetLemmas
+pub mod NamedTreeLemmas
+pub mod PutTwice
+pub mod NameLemmas
+pub mod SumLemmas
+pub mod PlainLemmas
+pub mod LongSumLemmas
+pub mod ConstantDataLemmas
+pub mod ConstantOperandsLemmas
+pub mod NamedNumberLemmas

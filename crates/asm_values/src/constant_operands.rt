@@ -1,0 +1,46 @@
+//! One to three operands that are numbers alone: their values, without trees and forms.
+
+ghost use Rattle.asm_operands.specs.OperandParts.{operands_left};
+ghost use Rattle.asm_values.specs.ConstantOperands.{FindsFirst, FindsNext, FindsConstants};
+
+use asm_operands::{Operands, UpToThree, constant_operand};
+
+/// The value of the next operand, which has to be there.
+#[inline(always)]
+fn first_constant(operands: &mut Operands) -> Option<u64>
+    ensures { FindsFirst (operands_left operands.old) (operands_left operands.new) result }
+{
+    constant_operand(operands.next()?)
+}
+
+/// The value of the next operand, which may be missing, where one may be there.
+#[inline(always)]
+fn next_constant_if(may: bool, operands: &mut Operands) -> Option<Option<u64>>
+    ensures { FindsNext may (operands_left operands.old) (operands_left operands.new) result }
+{
+    if !may {
+        return Some(None);
+    }
+    match operands.next() {
+        None => Some(None),
+        Some(operand) => Some(Some(constant_operand(operand)?)),
+    }
+}
+
+/// The values of operands that are all numbers, or none where one of them is anything else.
+pub(crate) fn constant_operands(most: usize, operands: Operands) -> Option<UpToThree<u64>>
+    ensures { FindsConstants most (operands_left operands.entry) result }
+{
+    let mut rest = operands;
+    let first = first_constant(&mut rest)?;
+    let second = next_constant_if(most >= 2, &mut rest)?;
+    let third = next_constant_if(most >= 3, &mut rest)?;
+    match rest.next() {
+        None => Some(UpToThree {
+            first,
+            second,
+            third,
+        }),
+        Some(_) => None,
+    }
+}

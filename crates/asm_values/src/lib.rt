@@ -1,0 +1,19 @@
+//! What is placed so far, and what statements place by values: data, space, sizes and assignments.
+#![tactic(auto)]
+
+mod assemblers;
+mod assignments;
+mod constant_data;
+mod constant_operands;
+mod data_items;
+mod few_sums;
+mod known_operands;
+mod long_sums;
+mod sizes;
+mod spaces;
+mod stacks;
+mod texts;
+
+pub use assemblers::{Assembler, Placed};
+pub use known_operands::KnownOperands;
+pub use stacks::Entered;

@@ -1,0 +1,194 @@
+//! The directives, as one table with its look-up by name.
+
+ghost use Rattle.std.specs.Prelude.{◌≡◌, find, option_map, IsTrue};
+ghost use Rattle.std.specs.List.{list_all};
+ghost use Rattle.asm_words.specs.Directives as spec;
+ghost use Rattle.asm_words.specs.Slots.{row_in};
+
+use crate::slots::slot;
+use asm_frags::FieldSize;
+use asm_symbols::{Binding, Visibility};
+
+/// A section that is there from the beginning.
+#[derive(Clone, Copy)]
+pub enum InitialSection {
+    Text,
+    Data,
+    Bss,
+}
+
+/// What is said of symbols.
+#[derive(Clone, Copy)]
+pub enum SymbolAttribute {
+    Bind(Binding),
+    See(Visibility),
+}
+
+/// What a directive does; several names may have one.
+#[derive(Clone, Copy)]
+pub enum Directive {
+    /// Data of this size.
+    Data(FieldSize),
+    /// Strings, with a zero byte behind each or without.
+    Strings { ended: bool },
+    Zero,
+    Skip,
+    Fill,
+    /// Items go into this section.
+    Enter(InitialSection),
+    Section,
+    PushSection,
+    PopSection,
+    Previous,
+    Say(SymbolAttribute),
+    Type,
+    Size,
+    /// An assignment, to a symbol that was nothing before or to any.
+    Assign { once: bool },
+    Comm,
+    Lcomm,
+    Ident,
+    File,
+}
+
+/// A name of a directive.
+#[derive(Clone, Copy)]
+pub struct DirectiveRow {
+    /// The name as the GNU as manual spells it, filled up with spaces.
+    pub name: [u8; 12],
+    /// How many bytes of `name` are the name.
+    pub length: usize,
+    pub directive: Directive,
+}
+
+/// Rows, a line each.
+macro_rules! directives {
+    ($($name:literal $length:literal $directive:expr;)*) => {
+        [$(DirectiveRow {
+            name: *$name,
+            length: $length,
+            directive: $directive,
+        }),*]
+    };
+}
+
+/// The names of the GNU as manual, chapter 7, "Assembler Directives".
+#[rattlefmt::skip]
+pub static DIRECTIVES: [DirectiveRow; 40] = directives! {
+    b".byte       " 5  Directive::Data(FieldSize::One);
+    b".long       " 5  Directive::Data(FieldSize::Four);
+    b".quad       " 5  Directive::Data(FieldSize::Eight);
+    b".short      " 6  Directive::Data(FieldSize::Two);
+    b".value      " 6  Directive::Data(FieldSize::Two);
+    b".word       " 5  Directive::Data(FieldSize::Two);
+    b".int        " 4  Directive::Data(FieldSize::Four);
+    b".2byte      " 6  Directive::Data(FieldSize::Two);
+    b".4byte      " 6  Directive::Data(FieldSize::Four);
+    b".8byte      " 6  Directive::Data(FieldSize::Eight);
+    b".ascii      " 6  Directive::Strings { ended: false };
+    b".asciz      " 6  Directive::Strings { ended: true };
+    b".string     " 7  Directive::Strings { ended: true };
+    b".zero       " 5  Directive::Zero;
+    b".skip       " 5  Directive::Skip;
+    b".space      " 6  Directive::Skip;
+    b".fill       " 5  Directive::Fill;
+    b".text       " 5  Directive::Enter(InitialSection::Text);
+    b".data       " 5  Directive::Enter(InitialSection::Data);
+    b".bss        " 4  Directive::Enter(InitialSection::Bss);
+    b".section    " 8  Directive::Section;
+    b".pushsection" 12 Directive::PushSection;
+    b".popsection " 11 Directive::PopSection;
+    b".previous   " 9  Directive::Previous;
+    b".globl      " 6  Directive::Say(SymbolAttribute::Bind(Binding::Global));
+    b".global     " 7  Directive::Say(SymbolAttribute::Bind(Binding::Global));
+    b".weak       " 5  Directive::Say(SymbolAttribute::Bind(Binding::Weak));
+    b".local      " 6  Directive::Say(SymbolAttribute::Bind(Binding::Local));
+    b".hidden     " 7  Directive::Say(SymbolAttribute::See(Visibility::Hidden));
+    b".protected  " 10 Directive::Say(SymbolAttribute::See(Visibility::Protected));
+    b".internal   " 9  Directive::Say(SymbolAttribute::See(Visibility::Internal));
+    b".type       " 5  Directive::Type;
+    b".size       " 5  Directive::Size;
+    b".set        " 4  Directive::Assign { once: false };
+    b".equ        " 4  Directive::Assign { once: false };
+    b".equiv      " 6  Directive::Assign { once: true };
+    b".comm       " 5  Directive::Comm;
+    b".lcomm      " 6  Directive::Lcomm;
+    b".ident      " 6  Directive::Ident;
+    b".file       " 5  Directive::File;
+};
+
+/// The number of the row of each slot, or 255 where no name has the slot.
+#[rattlefmt::skip]
+pub static DIRECTIVE_SLOTS: [u8; 128] = [
+     23, 255, 255, 255, 255, 255,   0, 255, 255,  11,  39, 255, 255, 255, 255,   2,
+    255, 255, 255, 255, 255,   5, 255,  32,  31, 255, 255, 255,   1,  15, 255, 255,
+      4, 255, 255,  10, 255, 255, 255, 255, 255, 255, 255, 255,  29, 255, 255,  12,
+    255, 255, 255, 255,  16, 255, 255,  36, 255, 255, 255,  24, 255, 255, 255,  26,
+     27,  25, 255, 255, 255, 255,  37, 255, 255, 255, 255, 255, 255, 255,  28,  30,
+    255, 255, 255, 255,  19, 255, 255, 255, 255,  14,  13, 255,   7, 255,   8,  20,
+    255,   6,   9,  34, 255, 255, 255, 255, 255, 255, 255,  33, 255,  38,  22, 255,
+     18, 255,  17, 255,  21,  35, 255,   3, 255, 255, 255, 255, 255, 255, 255, 255,
+];
+
+/// The table.
+#[tactic(auto, unfolding(crate::specs::Directives::the_directives))]
+fn directives() -> &'static [DirectiveRow]
+    ensures { result.now ≡ spec.the_directives }
+{
+    &DIRECTIVES
+}
+
+/// Whether the row has the name: what stands before the spaces.
+#[tactic(auto, using(std::proofs::lemmas::List::take_min))]
+fn is_directive(name: &[u8], row: &DirectiveRow) -> bool
+    ensures { result ≡ spec.is_directive name.now row.now }
+{
+    let padded = row.name.as_slice();
+    &padded[..row.length.min(padded.len())] == name
+}
+
+/// The number of the row that the slot of the name leads to, or 255.
+#[tactic(auto, unfolding(crate::specs::Directives::the_directive_slots))]
+fn directive_number(name: &[u8]) -> usize
+    ensures { result ≡ row_in spec.the_directive_slots name.now }
+{
+    DIRECTIVE_SLOTS[slot(name)] as usize
+}
+
+/// The row that the slot of the name leads to, if it has the name.
+fn directive_row(name: &[u8]) -> Option<&'static DirectiveRow>
+    ensures { option_map (λ row. row.now) result
+        ≡ find (spec.is_directive name.now) spec.the_directives }
+{
+    match directives().get(directive_number(name)) {
+        Some(row) => {
+            if is_directive(name, row) {
+                Some(row)
+            } else {
+                None
+            }
+        }
+        None => None,
+    }
+}
+
+/// The directive of the name.
+#[tactic(auto, unfolding(crate::specs::Directives::directive_of))]
+pub fn directive_of(name: &[u8]) -> Option<Directive>
+    ensures { result ≡ spec.directive_of name.now }
+{
+    match directive_row(name) {
+        Some(row) => Some(row.directive),
+        None => None,
+    }
+}
+
+/// Each row's name ends where the spaces after it begin.
+pub fn directives_are_whole()
+    ensures { IsTrue (list_all spec.has_whole_name DIRECTIVES) }
+{}
+
+/// No two rows have one name.
+pub fn directives_apart()
+    ensures { IsTrue (spec.all_named_apart DIRECTIVES) }
+{}

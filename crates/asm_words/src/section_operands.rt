@@ -1,0 +1,273 @@
+//! The operands of `.section` (GNU as manual, ".section", ELF version).
+
+ghost use Rattle.std.specs.Prelude.{◌≡◌, ◌≤◌, map, option_map, Ok};
+ghost use Rattle.std.specs.List.{list_all};
+ghost use Rattle.asm_base.specs.Tokens.{spelled};
+ghost use Rattle.asm_expr.specs.Trees.{tree_of};
+ghost use Rattle.asm_base.specs.Refusals.{GivesBy};
+ghost use Rattle.asm_operands.specs.OperandParts.{operands_left, Takes};
+ghost use Rattle.asm_operands.specs.Operands.{string_of, needed};
+ghost use Rattle.asm_words.specs.SectionWords as spec;
+ghost use Rattle.asm_words.specs.SaidWords.{words_in};
+
+use asm_base::{Token, TokenKind};
+use asm_expr::Expr;
+use asm_frags::{
+    SHT_FINI_ARRAY, SHT_INIT_ARRAY, SHT_NOBITS, SHT_NOTE, SHT_PREINIT_ARRAY, SHT_PROGBITS,
+};
+use asm_operands::{
+    Operands, PlaceCause, PlaceFault, checked_name, expression_of, is_mark, is_name, no_more,
+    string_of,
+};
+use std::alloc::Global;
+
+/// What `.section` says.
+#[derive(Drop)]
+pub struct SectionWords {
+    pub name: Vec<u8>,
+    /// The letters of the flags.
+    pub flags: Option<Vec<u8>>,
+    /// The name of the type.
+    pub kind: Option<Vec<u8>>,
+    pub entry_size: Option<Expr>,
+}
+
+/// Whether the second token stands right behind the first.
+fn follows(first: &Token, second: &Token) -> bool
+    ensures { result ≡ spec.follows (spelled first.now) (spelled second.now) }
+{
+    second.start >= first.start && second.start - first.start == first.bytes.len()
+}
+
+/// Whether the tokens stand side by side, without blanks between.
+fn are_adjacent(tokens: &[Token]) -> bool
+    ensures { result ≡ spec.are_adjacent (map spelled tokens.now) }
+{
+    for at in 1..tokens.len() {
+        if !follows(&tokens[at - 1], &tokens[at]) {
+            return false;
+        }
+    }
+    true
+}
+
+/// Whether the token is name bytes, digits and `$` among them, or `-`.
+fn is_name_part(token: &Token) -> bool
+    ensures { result ≡ spec.is_name_part (spelled token.now) }
+{
+    matches!(token.kind, TokenKind::Name | TokenKind::Digits)
+        || is_mark(token, b'-')
+        || is_mark(token, b'$')
+}
+
+/// Whether all tokens are parts of a section's name without quotes.
+fn are_name_parts(tokens: &[Token]) -> bool
+    ensures { result ≡ list_all spec.is_name_part (map spelled tokens.now) }
+{
+    for token in tokens {
+        if !is_name_part(token) {
+            return false;
+        }
+    }
+    true
+}
+
+/// Whether these are a section's name without quotes: one part at least, and no blanks between.
+fn is_joined(tokens: &[Token]) -> bool
+    ensures { result ≡ spec.is_joined (map spelled tokens.now) }
+{
+    !tokens.is_empty() && are_name_parts(tokens) && are_adjacent(tokens)
+}
+
+/// The bytes of these tokens, one after the other.
+fn joined_bytes(alloc: Global, tokens: &[Token]) -> Result<Vec<u8>, PlaceFault>
+    ensures { GivesBy (λ bytes. bytes.items) result
+        (Ok (spec.joined_bytes (map spelled tokens.now))) }
+{
+    let mut bytes = Vec::new(alloc);
+    for token in tokens {
+        bytes.extend_from_slice(token.bytes)?;
+    }
+    Ok(bytes)
+}
+
+/// The name of a section, quoted or not.
+#[tactic(auto, unfolding(crate::specs::SectionWords::section_name))]
+fn section_name(alloc: Global, operand: &[Token]) -> Result<Vec<u8>, PlaceFault>
+    ensures { GivesBy (λ name. name.items) result (spec.section_name (map spelled operand.now)) }
+{
+    if is_joined(operand) {
+        joined_bytes(alloc, operand)
+    } else {
+        checked_name(string_of(alloc, operand)?)
+    }
+}
+
+/// Whether the token stands before the name of a type.
+pub(crate) fn begins_type(token: &Token) -> bool
+    ensures { result ≡ spec.begins_type (spelled token.now) }
+{
+    is_mark(token, b'@') || is_mark(token, b'%')
+}
+
+/// A name behind `@` or `%`.
+#[tactic(auto, unfolding(crate::specs::SectionWords::type_name))]
+fn type_name(alloc: Global, operand: &[Token]) -> Result<Vec<u8>, PlaceFault>
+    ensures { GivesBy (λ name. name.items) result (spec.type_name (map spelled operand.now)) }
+{
+    match operand {
+        [mark, name] if begins_type(mark) && is_name(name) => {
+            Ok(Vec::from_slice(alloc, name.bytes)?)
+        }
+        _ => Err(PlaceFault::Fault(PlaceCause::BadOperand)),
+    }
+}
+
+/// The next operand, which has to be the name of a section.
+fn needed_section(alloc: Global, operands: &mut Operands) -> Result<Vec<u8>, PlaceFault>
+    ensures { Takes (λ name. name.items) (needed spec.section_name)
+        operands.old operands.new result }
+{
+    match operands.next() {
+        Some(operand) => section_name(alloc, operand),
+        None => Err(PlaceFault::Fault(PlaceCause::BadOperand)),
+    }
+}
+
+/// The next operand, which is a string unless it is missing.
+fn string_if(alloc: Global, operands: &mut Operands) -> Result<Option<Vec<u8>>, PlaceFault>
+    ensures { Takes (option_map (λ string. string.items)) (spec.missing_or string_of)
+        operands.old operands.new result }
+{
+    match operands.next() {
+        None => Ok(None),
+        Some(operand) => Ok(Some(string_of(alloc, operand)?)),
+    }
+}
+
+/// The next operand, which is a type unless it is missing.
+fn type_if(alloc: Global, operands: &mut Operands) -> Result<Option<Vec<u8>>, PlaceFault>
+    ensures { Takes (option_map (λ name. name.items)) (spec.missing_or spec.type_name)
+        operands.old operands.new result }
+{
+    match operands.next() {
+        None => Ok(None),
+        Some(operand) => Ok(Some(type_name(alloc, operand)?)),
+    }
+}
+
+/// The next operand, which is an expression unless it is missing, where one may stand.
+fn expression_if(
+    alloc: Global,
+    may: bool,
+    operands: &mut Operands,
+) -> Result<Option<Expr>, PlaceFault>
+    ensures { Takes (option_map tree_of) (spec.expression_if may) operands.old operands.new result }
+{
+    if !may {
+        return Ok(None);
+    }
+    match operands.next() {
+        None => Ok(None),
+        Some(operand) => Ok(Some(expression_of(alloc, operand)?)),
+    }
+}
+
+/// Whether the letters say that the section may be merged.
+pub fn says_merge(letters: &Option<Vec<u8>>) -> bool
+    ensures { result ≡ spec.says_merge (option_map (λ letters. letters.items) letters.now) }
+{
+    match letters {
+        Some(letters) => letters.contains(&b'M'),
+        None => false,
+    }
+}
+
+/// What `.section` says by these operands.
+#[tactic(auto, unfolding(crate::specs::SectionWords::section_words))]
+pub fn section_words(alloc: Global, operands: &mut Operands) -> Result<SectionWords, PlaceFault>
+    ensures { GivesBy words_in result (spec.section_words (operands_left operands.old)) }
+{
+    let name = needed_section(alloc, operands)?;
+    let flags = string_if(alloc, operands)?;
+    let kind = type_if(alloc, operands)?;
+    let entry_size = expression_if(alloc, says_merge(&flags), operands)?;
+    no_more(
+        operands,
+        SectionWords {
+            name,
+            flags,
+            kind,
+            entry_size,
+        },
+    )
+}
+
+/// Whether the byte is the letter of a flag.
+fn is_flag_letter(byte: u8) -> bool
+    ensures { result ≡ spec.is_flag_letter byte }
+{
+    matches!(byte, b'a' | b'w' | b'x' | b'M' | b'S' | b'T')
+}
+
+/// The flag that a letter asks for, if the letters have it.
+fn flag_if(letter: u8, flag: u64, letters: &[u8]) -> u64
+    ensures value { result ≡ spec.flag_if letter flag letters.now }
+    ensures within { result ≤ flag }
+{
+    if letters.contains(&letter) { flag } else { 0 }
+}
+
+/// The flags that the letters ask for (gABI, chapter 4, `sh_flags`).
+#[tactic(auto, unfolding(crate::specs::SectionWords::letter_flags))]
+fn letter_flags(letters: &[u8]) -> u64
+    ensures { result ≡ spec.letter_flags letters.now }
+{
+    flag_if(b'w', 1, letters)
+        + flag_if(b'a', 2, letters)
+        + flag_if(b'x', 4, letters)
+        + flag_if(b'M', 0x10, letters)
+        + flag_if(b'S', 0x20, letters)
+        + flag_if(b'T', 0x400, letters)
+}
+
+/// Whether all are letters of flags.
+fn are_flag_letters(letters: &[u8]) -> bool
+    ensures { result ≡ list_all spec.is_flag_letter letters.now }
+{
+    letters.iter().all(|byte| is_flag_letter(*byte))
+}
+
+/// The flags that the letters ask for; another letter is no flag.
+#[tactic(auto, unfolding(crate::specs::SectionWords::said_flags))]
+pub fn said_flags(letters: &[u8]) -> Result<u64, PlaceFault>
+    ensures { GivesBy (λ flags. flags) result (spec.said_flags letters.now) }
+{
+    if are_flag_letters(letters) {
+        Ok(letter_flags(letters))
+    } else {
+        Err(PlaceFault::Fault(PlaceCause::BadSection))
+    }
+}
+
+/// The type of a section by its name (gABI, chapter 4, `sh_type`).
+#[tactic(auto, unfolding(crate::specs::SectionWords::said_kind))]
+pub fn said_kind(name: &[u8]) -> Result<u32, PlaceFault>
+    ensures { GivesBy (λ kind. kind) result (spec.said_kind name.now) }
+{
+    if name == b"progbits".as_slice() {
+        Ok(SHT_PROGBITS)
+    } else if name == b"note".as_slice() {
+        Ok(SHT_NOTE)
+    } else if name == b"nobits".as_slice() {
+        Ok(SHT_NOBITS)
+    } else if name == b"init_array".as_slice() {
+        Ok(SHT_INIT_ARRAY)
+    } else if name == b"fini_array".as_slice() {
+        Ok(SHT_FINI_ARRAY)
+    } else if name == b"preinit_array".as_slice() {
+        Ok(SHT_PREINIT_ARRAY)
+    } else {
+        Err(PlaceFault::Fault(PlaceCause::BadSection))
+    }
+}
