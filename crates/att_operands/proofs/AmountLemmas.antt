@@ -9,7 +9,10 @@ use Rattle.asm_base.specs.declared.tokens.Token.{Token}
 use Rattle.asm_base.specs.Tokens.{SpelledToken, spelled}
 use Rattle.asm_expr.specs.declared.faults.ExprCause.{ExprCause}
 use Rattle.asm_expr.specs.declared.trees.Expr.{Expr}
-use Rattle.asm_expr.specs.Trees.{Tree, tree_of}
+use Rattle.asm_expr.specs.Trees.{Tree, number, tree_of}
+use Rattle.asm_expr.specs.Forms.{constant_form}
+use Rattle.asm_expr.specs.Knowledge.{Knowledge}
+use Rattle.asm_expr.specs.Linear.{linear}
 use Rattle.asm_expr.specs.Reading.{ReadTree, read, reading, reading_of}
 use Rattle.asm_expr.specs.Grammar.{operator_follows}
 use Rattle.asm_expr.specs.Found.{spelled_from, front_of}
@@ -19,7 +22,7 @@ use Rattle.x86_insn.specs.declared.amounts.Amount.{Amount}
 use Rattle.x86_insn.specs.declared.amounts.Amount.TheVariants as amount
 use Rattle.att_operands.specs.declared.faults.OperandCause.{OperandCause}
 use Rattle.att_operands.specs.declared.values.ReadAmount.{ReadAmount}
-use Rattle.att_operands.specs.Values.{GivesSo, IsAmountOf, stated}
+use Rattle.att_operands.specs.Values.{GivesSo, CountAlike, IsAmountOf, stated}
 use Rattle.att_operands.specs.Amounts.{IsAmountRead, in_operand, GivesAmount}
 use Rattle.att_operands.proofs.FrontReadings.{placed_reads, placed_fails, slice_reads, left_at}
 
@@ -34,6 +37,11 @@ pub sum_is : (tokens : List Token) (at next : ℕ) (tree : Tree) (held : Amount)
     → (let found : Result ReadAmount (Refusal ExprCause) = Ok (record { amount = held; next = next }) in GivesSo IsAmountRead found (reading_of (map spelled tokens) at))
 sum_is tokens at next tree held order within is none of = amount_is (map spelled tokens) at next tree held (slice_reads tokens at next tree order within is none) of
 
+-- a number counts as the number
+constant_alike : (value : ℕ) (tree : Tree) → ((known : Knowledge) → linear known tree ≡ Ok (constant_form value)) → CountAlike (number value) tree
+unfolding linear
+constant_alike value tree counts known fits = sym (counts known)
+
 -- the amount of numbers alone
 constant_at : (tokens : List Token) (at : ℕ) (found : FrontConstant) → at ≤ length tokens → IsFront (map spelled (drop at tokens)) found
     → operator_follows (spelled_from tokens (at + found.length)) ≡ false
@@ -44,7 +52,7 @@ constant_at tokens at found order is none =
     let within : at + found.length ≤ length tokens = omega (arith, length-map (drop at tokens) spelled, length-drop at tokens) in
     let reads : reading 1 0 (map spelled (take ((at + found.length) - at) (drop at tokens))) ≡ Ok (read is.one.tree []) =
     ap (λ (n : ℕ). reading 1 0 (map spelled (take n (drop at tokens)))) count ∙ ap (reading 1 0) (sym (take-map spelled found.length (drop at tokens))) ∙ is.one.reads in
-    sum_is tokens at (at + found.length) is.one.tree (amount.Number found.value) (omega arith) within reads none is.one.counts
+    sum_is tokens at (at + found.length) is.one.tree (amount.Number found.value) (omega arith) within reads none (constant_alike found.value is.one.tree is.one.counts)
 
 pub constant_is : (tokens : List Token) (at : ℕ) (found : FrontConstant) → at < length tokens → IsFront (map spelled (take (length tokens - at) (drop at tokens))) found
     → operator_follows (spelled_from tokens (at + found.length)) ≡ false

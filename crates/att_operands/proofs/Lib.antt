@@ -1,4 +1,5 @@
 pub mod RegisterLookups
+pub mod BareNames
 pub mod FrontReadings
 pub mod AmountLemmas
 pub mod SuffixLemmas

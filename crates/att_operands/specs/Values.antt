@@ -1,5 +1,5 @@
 -- The values of operands as they are written: an expression, and a suffix as `@PLT` behind a name that begins it.
-use Rattle.std.specs.Prelude.{◌≡◌, ℕ, ◌+◌, ◌==◌, ◌⊎◌, Bool, true, false, not, List, ◌++◌, take, drop, Option, Some, None, Result, Ok, Err, slice_get, if◌then◌else◌, codes}
+use Rattle.std.specs.Prelude.{◌≡◌, ℕ, ◌+◌, ◌^◌, ◌<◌, ◌==◌, Bool, true, false, not, List, ◌++◌, take, drop, Option, Some, None, Result, Ok, Err, slice_get, if◌then◌else◌, codes}
 use Rattle.std.specs.Str.{bytes_eq, str_eq_ignore_ascii_case}
 use Rattle.asm_base.specs.declared.refusals.Refusal.{Refusal}
 use Rattle.asm_base.specs.Refusals.{Fails}
@@ -8,10 +8,9 @@ use Rattle.asm_base.specs.declared.tokens.TokenKind.TheVariants.{Name, String}
 use Rattle.asm_base.specs.Tokens.{SpelledToken}
 use Rattle.asm_expr.specs.declared.faults.ExprCause.{ExprCause}
 use Rattle.asm_expr.specs.declared.faults.ExprCause.TheVariants as cause
-use Rattle.asm_expr.specs.declared.trees.Written.TheVariants.{Plain}
-use Rattle.asm_expr.specs.Trees.{Tree, name, tree_of}
-use Rattle.asm_expr.specs.Forms.{constant_form}
-use Rattle.asm_expr.specs.Knowledge.{Knowledge}
+use Rattle.asm_expr.specs.Trees.{Tree, number, tree_of}
+use Rattle.asm_expr.specs.Forms.{Form}
+use Rattle.asm_expr.specs.Knowledge.{constant, form, Knowledge}
 use Rattle.asm_expr.specs.Linear.{linear}
 use Rattle.asm_expr.specs.Reading.{ReadTree, reading_of}
 use Rattle.x86_insn.specs.declared.amounts.Amount.{Amount}
@@ -36,18 +35,19 @@ GivesSo Is (Ok value) (Ok due) = Is value due
 GivesSo Is (Ok value) (Err fault) = ⊥
 GivesSo Is (Err refusal) due = Fails refusal due
 
+-- the numbers that are known of symbols, and the constants of their forms, are below 2^64
+pub record KnowsFitting (known : Knowledge) : Type 0 where
+  pub numbers : (own n : ℕ) → known.told own ≡ constant n → n < 2 ^ 64
+  pub forms : (own : ℕ) (made : Form) → known.told own ≡ form made → made.constant < 2 ^ 64
+
 -- the trees count the same, whatever is known
 abbrev pub CountAlike : Tree → Tree → Type 0
-CountAlike one other = (known : Knowledge) → linear known one ≡ linear known other
-
--- the name alone, and nothing more
-abbrev pub IsBare : List ℕ → ℕ → Tree → Type 0
-IsBare bytes more tree = (more ≡ 0) × (tree ≡ name (Plain bytes))
+CountAlike one other = (known : Knowledge) → KnowsFitting known → linear known one ≡ linear known other
 
 -- the amount is that of the tree: the number or the sum that it counts whatever is known, or the tree itself
 abbrev pub IsAmountOf : Amount → Tree → Type 0
-IsAmountOf (amount.Number number) tree = (known : Knowledge) → linear known tree ≡ Ok (constant_form number)
-IsAmountOf (amount.Name bytes more) tree = IsBare bytes.now more tree ⊎ CountAlike (named_tree bytes.now more) tree
+IsAmountOf (amount.Number value) tree = CountAlike (number value) tree
+IsAmountOf (amount.Name bytes more) tree = CountAlike (named_tree bytes.now more) tree
 IsAmountOf (amount.Tree boxed) tree = tree_of boxed.value ≡ tree
 
 -- the suffix that a word is, in either case

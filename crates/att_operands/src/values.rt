@@ -32,7 +32,7 @@ pub(crate) struct ReadValue<'a> {
 
 /// The amount of a sum, if it needs no tree.
 #[inline(always)]
-#[tactic(auto, unfolding(asm_expr::specs::Linear::linear, asm_expr::specs::Linear::binary_form))]
+#[tactic(auto, using(crate::proofs::BareNames::bare_counts), unfolding(asm_expr::specs::Linear::linear, asm_expr::specs::Linear::binary_form))]
 fn amount_of<'a>(sum: Sum<'_, 'a>) -> Option<Amount<'a>>
     ensures { FindsAmount sum.entry result }
 {
