@@ -10,3 +10,4 @@ pub mod SpelledWhole
 pub mod ReadAddresses
 pub mod ReadValues
 pub mod ReadOperands
+pub mod WorkedTexts

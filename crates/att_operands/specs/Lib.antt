@@ -7,3 +7,4 @@ pub mod Values
 pub mod Amounts
 pub mod OperandTexts
 pub mod Spells
+pub mod WorkedOperands

@@ -4,6 +4,7 @@ ghost use Rattle.std.specs.Prelude.{◌≡◌, ℕ, ◌++◌, Bool, true, List, 
 ghost use Rattle.asm_base.specs.Tokens.{SpelledToken};
 ghost use Rattle.att_operands.specs.OperandTexts.{OperandText, ReadPart, operand_at};
 ghost use Rattle.att_operands.specs.Spells.{SpellsOperand, ends, IsReadWhole, IsSpelledIn};
+ghost use Rattle.att_operands.specs.WorkedOperands.{WorkedOperands};
 
 /// A text of an operand is read as that operand, whatever stands before it, where a comma or nothing
 /// stands behind it.
@@ -27,4 +28,10 @@ pub fn read_is_spelled()
 pub fn one_operand()
     ensures { (branch : Bool) (one other : OperandText) (text : List SpelledToken)
         → SpellsOperand branch one text → SpellsOperand branch other text → one ≡ other }
+{}
+
+/// Operands in the bytes of statements, and what they are read as, worked out by hand.
+#[tactic(auto, using(crate::proofs::WorkedTexts::worked))]
+pub fn worked_operands()
+    ensures { WorkedOperands }
 {}

@@ -12,6 +12,6 @@ mod registers;
 mod values;
 
 pub use faults::{OperandCause, OperandFault};
-pub use laws::{one_operand, read_is_spelled, spelled_is_read};
+pub use laws::{one_operand, read_is_spelled, spelled_is_read, worked_operands};
 pub use operands::{FoundOperand, ReadOperand, read_operand};
 pub use registers::{NamedRegister, register_named};

@@ -1,0 +1,50 @@
+-- Operands as they are read from the bytes of statements, worked out by hand (GNU as manual, "Memory References").
+use Rattle.std.specs.Prelude.{◌≡◌, ℕ, Bool, true, false, List, Option, Some, None, Ok, Err, codes}
+use Rattle.asm_base.specs.Tokens.{tokens_of}
+use Rattle.asm_expr.specs.declared.trees.Written.TheVariants.{Plain}
+use Rattle.asm_expr.specs.declared.trees.UnaryOp.TheVariants.{Minus}
+use Rattle.asm_expr.specs.declared.trees.BinaryOp.TheVariants.{Add}
+use Rattle.asm_expr.specs.Trees.{Tree, number, name, unary, binary}
+use Rattle.x86_insn.specs.declared.registers.Class.TheVariants as class
+use Rattle.x86_insn.specs.declared.amounts.Suffix.{Suffix}
+use Rattle.x86_insn.specs.declared.amounts.Suffix.TheVariants.{Plt, GotPcRel}
+use Rattle.x86_insn.specs.declared.insns.Segment.TheVariants as segment
+use Rattle.x86_insn.specs.declared.insns.Base.TheVariants as base
+use Rattle.x86_insn.specs.declared.insns.Index.TheVariants as index
+use Rattle.att_operands.specs.declared.faults.OperandCause.{OperandCause}
+use Rattle.att_operands.specs.declared.faults.OperandCause.TheVariants.{BadExpression, BadOperand}
+use Rattle.att_operands.specs.Values.{ValueText}
+use Rattle.att_operands.specs.OperandTexts.{OperandText, register, immediate, memory, target, part, no_displacement, operand_at}
+use Rattle.att_operands.specs.Spells.{in_segment}
+
+-- the statement begins with this operand, up to this token
+abbrev pub Begins : Bool → List ℕ → OperandText → ℕ → Type 0
+Begins branch statement operand next = operand_at branch (tokens_of statement) 0 ≡ Ok (part operand next)
+
+-- the statement begins with no operand, for this cause
+abbrev pub Refuses : Bool → List ℕ → OperandCause → Type 0
+Refuses branch statement cause = operand_at branch (tokens_of statement) 0 ≡ Err cause
+
+-- a value with a suffix, or without one
+abbrev pub valued : Tree → Option Suffix → ValueText
+valued tree suffix = record { tree = tree; suffix = suffix }
+
+-- the operands of these statements
+pub record WorkedOperands : Type 0 where
+  pub long : Begins false (codes "%r10d, %eax") (register (record { class = class.Long; number = 10 })) 2
+  pub high : Begins false (codes "%AH") (register (record { class = class.High; number = 4 })) 2
+  pub negative : Begins false (codes "$-1, %eax") (immediate (valued (unary Minus (number 1)) None)) 3
+  pub frame : Begins false (codes "-8(%rbp)") (memory (in_segment None (base.Of 5) index.Absent) (valued (unary Minus (number 8)) None)) 6
+  pub scaled : Begins false (codes "8(%rdi,%rcx,4)") (memory (in_segment None (base.Of 7) (index.By 1 2)) (valued (number 8) None)) 10
+  pub unbased : Begins false (codes "(,%rax,8)") (memory (in_segment None base.Absent (index.By 0 3)) no_displacement) 7
+  pub segmented : Begins false (codes "%fs:40, %rax") (memory (in_segment (Some segment.Fs) base.Absent index.Absent) (valued (number 40) None)) 4
+  pub got : Begins false (codes "x@gotpcrel+4(%rip)") (memory (in_segment None base.Rip index.Absent) (valued (binary Add (name (Plain (codes "x"))) (number 4)) (Some GotPcRel))) 9
+  pub called : Begins true (codes "f@PLT") (target (valued (name (Plain (codes "f"))) (Some Plt))) 3
+  pub indirect : Begins true (codes "*%rax") (register (record { class = class.Quad; number = 0 })) 3
+  pub stack_index : Refuses false (codes "(%rax,%rsp)") BadOperand
+  pub rip_index : Refuses false (codes "(%rip,%rax)") BadOperand
+  pub short_base : Refuses false (codes "(%eax)") BadOperand
+  pub third : Refuses false (codes "(%rax,%rbx,3)") BadOperand
+  pub unknown_suffix : Refuses false (codes "x@BAR") BadOperand
+  pub unstarred : Refuses true (codes "%rax") BadOperand
+  pub unclosed : Refuses false (codes "$(1") BadExpression
