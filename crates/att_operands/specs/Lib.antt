@@ -8,3 +8,4 @@ pub mod Amounts
 pub mod OperandTexts
 pub mod Spells
 pub mod WorkedOperands
+pub mod Prefixes
