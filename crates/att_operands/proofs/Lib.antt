@@ -11,3 +11,4 @@ pub mod ReadAddresses
 pub mod ReadValues
 pub mod ReadOperands
 pub mod WorkedTexts
+pub mod NegativeNumbers

@@ -1,5 +1,5 @@
 -- The words that may stand before a mnemonic (GNU as manual, "Instruction Prefixes").
-use Rattle.std.specs.Prelude.{ℕ, Bool, List, [], ◌∷◌, Option, option_map, codes}
+use Rattle.std.specs.Prelude.{ℕ, List, [], ◌∷◌, Option, option_map, codes}
 use Rattle.std.specs.List.{find}
 use Rattle.std.specs.Str.{str_eq_ignore_ascii_case}
 use Rattle.x86_insn.specs.declared.insns.Prefix.{Prefix}

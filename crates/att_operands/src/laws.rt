@@ -6,8 +6,8 @@ ghost use Rattle.att_operands.specs.OperandTexts.{OperandText, ReadPart, operand
 ghost use Rattle.att_operands.specs.Spells.{SpellsOperand, ends, IsReadWhole, IsSpelledIn};
 ghost use Rattle.att_operands.specs.WorkedOperands.{WorkedOperands};
 
-/// A text of an operand is read as that operand, whatever stands before it, where a comma or nothing
-/// stands behind it.
+/// A text of an operand is read as that operand, whatever stands before it, where a comma or
+/// nothing stands behind it.
 #[tactic(auto, using(crate::proofs::SpelledWhole::operand_reads))]
 pub fn spelled_is_read()
     ensures { (branch : Bool) (operand : OperandText) (tokens : List SpelledToken) (at : ℕ)

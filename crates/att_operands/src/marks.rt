@@ -9,7 +9,8 @@ use asm_base::{Token, TokenKind};
 /// The token at this place, if one stands there.
 #[inline(always)]
 pub(crate) fn token_at<'t, 'a>(tokens: &'t [Token<'a>], at: usize) -> Option<&'t Token<'a>>
-    ensures value { option_map (λ token. spelled token.now) result ≡ slice_get (map spelled tokens.now) at }
+    ensures value { let due = slice_get (map spelled tokens.now) at in
+        option_map (λ token. spelled token.now) result ≡ due }
     ensures within { IsSome result → at < length tokens.now }
 {
     tokens.get(at)

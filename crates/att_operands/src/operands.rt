@@ -64,7 +64,8 @@ fn addressed<'a>(
     at: usize,
 ) -> Result<FoundOperand<'a>, OperandFault>
     ensures value { (text : ValueText) → IsValueOf displacement.entry text
-        → GivesSo IsPartRead result (addressed segment text (address_at (map spelled tokens.now) at)) }
+        → let due = addressed segment text (address_at (map spelled tokens.now) at) in
+        GivesSo IsPartRead result due }
     ensures within { IfOk result (λ found. found.next ≤ length tokens.now) }
 {
     match address_at(tokens, at) {
@@ -198,7 +199,8 @@ fn immediate_at<'a>(
     tokens: &[Token<'a>],
     at: usize,
 ) -> Result<FoundOperand<'a>, OperandFault>
-    ensures value { GivesSo IsPartRead result (immediate_by (value_at (map spelled tokens.now) at)) }
+    ensures value { let due = immediate_by (value_at (map spelled tokens.now) at) in
+        GivesSo IsPartRead result due }
     ensures within { IfOk result (λ found. found.next ≤ length tokens.now) }
 {
     match value_at(alloc, tokens, at) {

@@ -1,8 +1,9 @@
 //! The values of operands: an expression, and a suffix as `@PLT` behind the name that begins it.
 
-ghost use Rattle.std.specs.Prelude.{◌≡◌, ◌+◌, ◌^◌, ◌<◌, ◌≤◌, List, false, length, map, drop, slice_get, IsTrue, IfOk, IfErr, IsSome, IfSome};
+ghost use Rattle.std.specs.Prelude.{◌≡◌, ◌+◌, ◌^◌, ◌<◌, ◌≤◌, List, true, false, length, map, drop, slice_get, IsTrue, IfOk, IfErr, IsSome, IfSome};
 ghost use Rattle.asm_base.specs.declared.refusals.Refusal.TheVariants.{NoMemory};
 ghost use Rattle.asm_base.specs.Tokens.{SpelledToken, spelled};
+ghost use Rattle.asm_expr.specs.Forms.{signed};
 ghost use Rattle.asm_expr.specs.Found.{spelled_from};
 ghost use Rattle.asm_expr.specs.Grammar.{operator_follows};
 ghost use Rattle.att_operands.specs.Values.{GivesSo, suffix_of, suffix_by, suffix_at, names_by, without_suffix, value_with, value_at};
@@ -12,7 +13,7 @@ use crate::faults::{OperandCause, OperandFault};
 use crate::marks::{begins_value, mark_at, token_at};
 use asm_base::{Token, TokenKind};
 use asm_expr::parse_front;
-use asm_operands::{Addend, Sum, Summand, front_constant, sum_operand};
+use asm_operands::{Addend, Sum, Summand, front_constant, single_constant, sum_operand};
 use std::alloc::Global;
 use x86_insn::{Amount, Suffix, Value};
 
@@ -88,6 +89,34 @@ fn sum_amount<'a>(tokens: &[Token<'a>], at: usize, next: usize) -> Option<ReadAm
     Some(ReadAmount { amount, next })
 }
 
+/// Minus the number.
+#[inline(always)]
+fn negated(number: u64) -> u64
+    ensures { result ≡ signed true number }
+{
+    0u64.wrapping_sub(number)
+}
+
+/// The amount of a `-` and a number at this place, if no operator stands behind them.
+#[inline(always)]
+fn negative_amount<'a>(tokens: &[Token<'a>], at: usize) -> Option<ReadAmount<'a>>
+    requires { at + 2 ≤ length tokens.now }
+    ensures value { FindsRead (map spelled tokens.now) at result }
+    ensures within { IfSome result (λ found. found.next ≤ length tokens.now) }
+{
+    if mark_at(tokens, at) != b'-' {
+        return None;
+    }
+    if !stops_at(tokens, at + 2) {
+        return None;
+    }
+    let number = single_constant(&tokens[at + 1])?;
+    Some(ReadAmount {
+        amount: Amount::Number(negated(number)),
+        next: at + 2,
+    })
+}
+
 /// The amount of an expression of numbers alone at this place.
 #[inline(never)]
 fn constant_amount<'a>(tokens: &[Token<'a>], at: usize) -> Option<ReadAmount<'a>>
@@ -137,6 +166,11 @@ fn long_amount<'a>(
     ensures value { GivesAmount (map spelled tokens.now) at result }
     ensures within { IfOk result (λ found. found.next ≤ length tokens.now) }
 {
+    if tokens.len() - at >= 2 {
+        if let Some(found) = negative_amount(tokens, at) {
+            return Ok(found);
+        }
+    }
     if tokens.len() - at >= 3 {
         if let Some(found) = sum_amount(tokens, at, at + 3) {
             return Ok(found);
