@@ -20,7 +20,7 @@ use Rattle.x86_table.specs.Fits.{is_signed, immediate_fits}
 use Rattle.x86_table.specs.Reads.{shown, is_register, is_accumulator, change_places, meaning, is_known, is_known_place, ReadsRow}
 use Rattle.x86_encode.specs.Building.{is_rm, is_held, chosen, pick, held_of, rm_operand, held_in, place_at, place_of}
 use Rattle.x86_encode.specs.Codes.{last_of, reduced, reduced_if, plain_immediate, plain_target, plain_memory, normal, Means, OrderedRow}
-use Rattle.x86_encode.specs.Exchanges.{turned_if, exchanges, Codes}
+use Rattle.x86_encode.specs.Exchanges.{turned, turned_if, exchanges, Codes}
 use Rattle.x86_encode.specs.Filling.{exact}
 use Rattle.x86_encode.specs.Readings.{is_valued, all_valued, in_row, ReadsBack}
 use Rattle.x86_encode.proofs.Best.{shaped_at}
@@ -320,7 +320,94 @@ codes_read bytes insn i h (t, e, (r, p, c)) =
       };
     }
 
--- THE INSTRUCTION THAT IS MEANT
+-- THE INSTRUCTION THAT IS MEANT, ITS IMMEDIATE MODULO THE OPERAND SIZE
+
+immediate_register : (i : Immediate) (o : Seen) → is_register o ≡ true → plain_immediate i o ≡ o
+immediate_register i absent h = cc
+immediate_register i (register r) h = refl
+immediate_register i (shown_immediate v) h = cc
+immediate_register i (memory a d) h = cc
+immediate_register i (target v) h = cc
+
+exact_register : (i : Immediate) (q : Pattern) (o : Seen) → is_register o ≡ true → exact i q o ≡ o
+exact_register i pattern.Absent o h = refl
+exact_register i (pattern.RegMem c m) o h = refl
+exact_register i (pattern.Reg c) o h = refl
+exact_register i (pattern.Low c) o h = refl
+exact_register i (pattern.Accumulator c) o h = refl
+exact_register i pattern.Cl o h = refl
+exact_register i pattern.One o h = refl
+exact_register i pattern.Immediate o h = immediate_register i o h
+exact_register i pattern.Target o h = refl
+
+register_exact : (i : Immediate) (q : Pattern) (o : Seen) → is_register (exact i q o) ≡ is_register o
+register_exact i pattern.Absent o = refl
+register_exact i (pattern.RegMem c m) o = refl
+register_exact i (pattern.Reg c) o = refl
+register_exact i (pattern.Low c) o = refl
+register_exact i (pattern.Accumulator c) o = refl
+register_exact i pattern.Cl o = refl
+register_exact i pattern.One o = refl
+register_exact i pattern.Immediate o = register_immediate i o
+register_exact i pattern.Target o = refl
+
+accumulator_register : (o : Seen) → is_accumulator o ≡ true → is_register o ≡ true
+accumulator_register absent h = cc
+accumulator_register (register r) h = refl
+accumulator_register (shown_immediate v) h = cc
+accumulator_register (memory a d) h = cc
+accumulator_register (target v) h = cc
+
+-- operands that are exchanged are registers
+both_registers : (insn : View) → exchanges insn ≡ true → (is_register insn.first ≡ true) × (is_register insn.second ≡ true)
+both_registers insn h =
+    let p = and_parts (insn.name.0 == XCHG) (is_register insn.first && is_accumulator insn.second) h in
+    let q = and_parts (is_register insn.first) (is_accumulator insn.second) p.1 in
+    (q.0, accumulator_register insn.second q.1)
+
+-- a row shows two registers alike in both orders
+turned_row : (r : Row) (insn : View) → is_register insn.first ≡ true → is_register insn.second ≡ true → in_row r (turned insn) ≡ turned (in_row r insn)
+turned_row r insn f s =
+    same_view insn.name.0 insn.name.0 insn.size insn.size insn.«prefix» insn.«prefix» _ _ _ _ _ _ refl refl refl
+    (exact_register r.immediate r.first insn.second s ∙ sym (exact_register r.immediate r.second insn.second s))
+    (exact_register r.immediate r.second insn.first f ∙ sym (exact_register r.immediate r.first insn.first f)) refl
+
+-- what reads as the instruction in one order is the instruction in the row's order
+own_order : (r : Row) (p : Fields) (insn : View) (t c : Bool) → exchanges (turned_if t insn) ≡ t → exchanges (in_order r p) ≡ c
+    → turned_if t (in_row r (turned_if t insn)) ≡ turned_if c (in_order r p) → in_row r (turned_if c insn) ≡ in_order r p
+own_order r p insn true true e f h = ap turned h
+own_order r p insn false false e f h = h
+own_order r p insn true false e f h =
+    let k = both_registers (turned insn) e in
+    sym (ap turned (turned_row r insn k.1 k.0)) ∙ h
+own_order r p insn false true e f h =
+    let k = both_registers (in_order r p) f in
+    let one : is_register insn.first ≡ true = sym (register_exact r.immediate r.first insn.first) ∙ ap (λ (x : View). is_register x.first) h ∙ k.1 in
+    let other : is_register insn.second ≡ true = sym (register_exact r.immediate r.second insn.second) ∙ ap (λ (x : View). is_register x.second) h ∙ k.0 in
+    turned_row r insn one other ∙ ap turned h
+
+means_shown : (r : Row) (p : Fields) (insn : View) → all_valued insn ≡ true → in_row r insn ≡ in_order r p → Means r p insn
+means_shown r p insn h e =
+    let v = all_parts insn h in
+    record {
+      name = ap (λ (x : View). x.name.0) e;
+      size = ap (λ (x : View). x.size) e;
+      words = ap (λ (x : View). x.«prefix») e;
+      first = sym (exact_normal r.immediate r.first insn.first v.0) ∙ ap (λ (x : View). x.first) e;
+      second = sym (exact_normal r.immediate r.second insn.second v.1.0) ∙ ap (λ (x : View). x.second) e;
+      third = sym (exact_normal r.immediate r.third insn.third v.1.1) ∙ ap (λ (x : View). x.third) e;
+    }
+
+pub readings_code : (bytes : List ℕ) (insn : View) (i : ℕ) → all_valued insn ≡ true → ReadsBack bytes insn i → Codes bytes insn i
+readings_code bytes insn i h b =
+    let r = b.r in
+    let p = b.p in
+    let t = change_places r (in_order r p).first (in_order r p).second in
+    let e = own_order r p insn b.exchanged t b.order refl (b.reads.insn_is ∙ meaning_is r p t refl) in
+    let m = means_shown r p (turned_if t insn) (turned_valued t insn h) e in
+    (t, order_read r p (turned_if t insn) m, (r, p, record { found = b.reads.found; fit = b.reads.fit; means = m; bytes_are = b.reads.bytes_are }))
+
+-- THE INSTRUCTION THAT IS SHOWN
 
 signed_under : (k n v : ℕ) → 2 ^ (k - 1) ≤ 2 ^ n → is_signed k n v ≡ true → v < 2 ^ n
 signed_under k n v l h = elim (or_cases (nat_lt v (2 ^ (k - 1))) (nat_le (2 ^ n - 2 ^ (k - 1)) v && nat_lt v (2 ^ n)) h) [
@@ -379,8 +466,8 @@ turned_twice : (t : Bool) (insn : View) → turned_if t (turned_if t insn) ≡ i
 turned_twice true insn = refl
 turned_twice false insn = refl
 
-pub readings_code : (bytes : List ℕ) (insn : View) (i : ℕ) (r : Row) (p : Fields) → all_valued insn ≡ true → ReadsRow bytes insn i r p → Codes bytes insn i
-readings_code bytes insn i r p h c =
+pub exact_readings_code : (bytes : List ℕ) (insn : View) (i : ℕ) (r : Row) (p : Fields) → all_valued insn ≡ true → ReadsRow bytes insn i r p → Codes bytes insn i
+exact_readings_code bytes insn i r p h c =
     let u = in_order r p in
     let t = change_places r u.first u.second in
     let e : insn ≡ turned_if t u = c.insn_is ∙ meaning_is r p t refl in

@@ -21,7 +21,7 @@ is_valued (target v) = false
 abbrev pub all_valued : View → Bool
 all_valued insn = is_valued insn.first && (is_valued insn.second && is_valued insn.third)
 
--- the instruction in the row's order as the row shows it: an immediate modulo the operand size
+-- the instruction in the row's order as the row shows it: an immediate modulo the operand size, or no operand where it is no number of that size
 abbrev pub in_row : Row → View → View
 in_row r insn = record {
   name = insn.name;
@@ -44,9 +44,13 @@ pub record ReadsBack (bytes : List ℕ) (insn : View) (i : ℕ) : Type 0 where
 abbrev pub CodesRead : Type 0
 CodesRead = (bytes : List ℕ) (insn : View) (i : ℕ) → all_valued insn ≡ true → Codes bytes insn i → ReadsBack bytes insn i
 
--- bytes that read as an instruction of which all values are known mean it
+-- bytes that read as an instruction of which all values are known, an immediate modulo the operand size, mean it
 abbrev pub ReadingsCode : Type 0
-ReadingsCode = (bytes : List ℕ) (insn : View) (i : ℕ) (r : Row) (p : Fields) → all_valued insn ≡ true → ReadsRow bytes insn i r p → Codes bytes insn i
+ReadingsCode = (bytes : List ℕ) (insn : View) (i : ℕ) → all_valued insn ≡ true → ReadsBack bytes insn i → Codes bytes insn i
+
+-- bytes that read as just this instruction, of which all values are known, mean it
+abbrev pub ExactReadingsCode : Type 0
+ExactReadingsCode = (bytes : List ℕ) (insn : View) (i : ℕ) (r : Row) (p : Fields) → all_valued insn ≡ true → ReadsRow bytes insn i r p → Codes bytes insn i
 
 -- of the operands in the row's order `xchg` shows the second one first just where it does when the bytes are read
 abbrev pub ExchangesAsRead : Type 0
