@@ -105,7 +105,7 @@ pub own_codes : (insn : View) (bytes : List ℕ) (i : ℕ) → exchanges (turned
 own_codes insn bytes i h (true, e, c) = absurd (both_ways (exchanges (turned insn)) h e)
 own_codes insn bytes i h (false, e, c) = c
 
-other_codes : (insn : View) (bytes : List ℕ) (i : ℕ) → exchanges insn ≡ true → Codes bytes insn i → OrderedCodes bytes (turned insn) i
+pub other_codes : (insn : View) (bytes : List ℕ) (i : ℕ) → exchanges insn ≡ true → Codes bytes insn i → OrderedCodes bytes (turned insn) i
 other_codes insn bytes i h (true, e, c) = c
 other_codes insn bytes i h (false, e, c) = absurd (both_ways (exchanges insn) e h)
 

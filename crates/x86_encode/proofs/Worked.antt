@@ -1,5 +1,5 @@
 -- The shortest bytes of an instruction, by going over the rows of its name.
-use Rattle.std.proofs.Common.{◌≡◌, ◌≤◌, ◌+◌, ◌==◌, ◌&&◌, ◌||◌, ◌∷◌, ◌∙◌, if◌then◌else◌, Bool, List, None, Option, Some, [], ap, arith, eq-eqb, false, inl, inr, length, nat_le, nat_lt, not, refl, slice_get, subst, suc, sym, true, zero, ℕ}
+use Rattle.std.proofs.Common.{◌≡◌, ◌<◌, ◌≤◌, ◌+◌, ◌==◌, ◌&&◌, ◌||◌, ◌⊎◌, ◌∷◌, ◌∙◌, if◌then◌else◌, Bool, List, None, Option, Some, [], ap, arith, eq-eqb, false, inl, inr, length, nat_le, nat_lt, not, refl, slice_get, subst, suc, sym, true, zero, ℕ}
 use Rattle.std.proofs.lemmas.Bool.{and_parts, both_ways, cases_order, eqb-true, leb-true, ltb-true, not-true, or_cases}
 use Rattle.x86_table.specs.declared.forms.Row.{Row}
 use Rattle.x86_insn.specs.Views.{View}
@@ -7,10 +7,10 @@ use Rattle.x86_table.specs.Bytes.{bytes_of}
 use Rattle.x86_table.specs.Rows.{the_rows}
 use Rattle.x86_encode.specs.Building.{built, takes}
 use Rattle.x86_encode.specs.Codes.{OrderedCodes, AtMost, Before}
-use Rattle.x86_encode.specs.Exchanges.{turned, exchanges, IsCode, HasNoCode}
+use Rattle.x86_encode.specs.Exchanges.{turned, turned_if, exchanges, Codes, IsCode, HasNoCode}
 use Rattle.x86_encode.proofs.Best.{at_most_same, misses, rest_longer, shaped_at, some_is}
 use Rattle.x86_encode.proofs.Complete.{taken}
-use Rattle.x86_encode.proofs.Turning.{own_codes}
+use Rattle.x86_encode.proofs.Turning.{own_codes, other_codes}
 
 -- ROWS THAT OFFER NOTHING
 
@@ -103,19 +103,56 @@ offered_by : (r : Row) (insn : View) (bytes : List ℕ) (t : Bool) → takes r i
 offered_by r insn bytes true h e = (h, sym (some_is e))
 offered_by r insn bytes false h e = cc
 
-coded_by : (row : ℕ) (insn : View) (bytes : List ℕ) (found : Option Row) → slice_get the_rows row ≡ found → exchanges insn ≡ false → exchanges (turned insn) ≡ false → offer found insn ≡ Some bytes
-    → all_later (length bytes) row insn 0 the_rows ≡ true → IsCode bytes insn
-coded_by row insn bytes None s e h o a = cc
-coded_by row insn bytes (Some r) s e h o a =
-    let k = offered_by r insn bytes (takes r insn) refl o in
-    let m = taken r insn k.0 in (
+-- of codes of the instruction only those in this order can be as short
+abbrev pub OtherLonger : Bool → List ℕ → View → Type 0
+OtherLonger exchanged bytes insn = (other : List ℕ) (j : ℕ) → Codes other insn j → OrderedCodes other (turned_if exchanged insn) j ⊎ (length bytes < length other)
+
+coded_by : (row : ℕ) (insn : View) (exchanged : Bool) (bytes : List ℕ) (found : Option Row) → slice_get the_rows row ≡ found → exchanges (turned_if exchanged insn) ≡ exchanged
+    → offer found (turned_if exchanged insn) ≡ Some bytes → all_later (length bytes) row (turned_if exchanged insn) 0 the_rows ≡ true → OtherLonger exchanged bytes insn → IsCode bytes insn
+coded_by row insn exchanged bytes None s e o a l = cc
+coded_by row insn exchanged bytes (Some r) s e o a l =
+    let x = turned_if exchanged insn in
+    let k = offered_by r x bytes (takes r x) refl o in
+    let m = taken r x k.0 in (
       row,
       record {
-        codes = (false, e, (r, built r insn, record { found = s; fit = m.0; means = m.1; bytes_are = k.1 }));
-        least = λ other j c. comes_before row r insn bytes s k.1 a other j (own_codes insn other j h c);
+        codes = (exchanged, e, (r, built r x, record { found = s; fit = m.0; means = m.1; bytes_are = k.1 }));
+        least = λ other j c. elim (l other j c) [ inl d ↦ comes_before row r x bytes s k.1 a other j d | inr g ↦ inl g ];
       },
     )
 
 pub worked_code : (row : ℕ) (insn : View) (bytes : List ℕ) → exchanges insn ≡ false → exchanges (turned insn) ≡ false → offer (slice_get the_rows row) insn ≡ Some bytes
     → all_later (length bytes) row insn 0 the_rows ≡ true → IsCode bytes insn
-worked_code row insn bytes e h o a = coded_by row insn bytes (slice_get the_rows row) refl e h o a
+worked_code row insn bytes e h o a = coded_by row insn false bytes (slice_get the_rows row) refl e o a (λ other j c. inl (own_codes insn other j h c))
+
+-- THE OTHER ORDER
+
+pub worked_exchanged : (row : ℕ) (insn : View) (bytes : List ℕ) → exchanges insn ≡ true → exchanges (turned insn) ≡ true → offer (slice_get the_rows row) (turned insn) ≡ Some bytes
+    → all_later (length bytes) row (turned insn) 0 the_rows ≡ true → IsCode bytes insn
+worked_exchanged row insn bytes e h o a = coded_by row insn true bytes (slice_get the_rows row) refl h o a (λ other j c. inl (other_codes insn other j e c))
+
+-- what each row offers is longer than n bytes
+all_longer : (n : ℕ) (insn : View) → all_later (suc n) 0 insn 0 the_rows ≡ true → (other : List ℕ) (j : ℕ) → OrderedCodes other insn j → n < length other
+all_longer n insn a other j (s, p, c) =
+    let z : 0 + j ≡ j = omega arith in
+    let h : later (suc n) 0 insn j s ≡ true = subst (λ (i : ℕ). later (suc n) 0 insn i s ≡ true) z (later_at (suc n) 0 insn 0 the_rows j s a c.found) in
+    let B = bytes_of s (built s insn) in
+    let m : length B ≤ length other = elim (rest_longer j s insn c.found (shaped_at j s c.found) other (s, p, c)) [
+      | inl o ↦ (let q : length B ≡ length other = ap (λ (y : List ℕ). length y) o in omega arith)
+      | inr g ↦ omega arith
+    ] in
+    elim (or_cases (passed_by insn s) (nat_lt (suc n) (length B) || ((suc n == length B) && nat_le 0 j)) h) [
+      | inl e ↦ absurd (offers_nothing insn j s other e c.found (s, p, c))
+      | inr e ↦ elim (or_cases (nat_lt (suc n) (length B)) ((suc n == length B) && nat_le 0 j) e) [
+        | inl t ↦ (let l = ltb-true (suc n) (length B) t in omega arith)
+        | inr t ↦ (let l = eqb-true (suc n) (length B) (and_parts (suc n == length B) (nat_le 0 j) t).0 in omega arith)
+      ]
+    ]
+
+either_order : (bytes : List ℕ) (insn : View) → all_later (suc (length bytes)) 0 (turned insn) 0 the_rows ≡ true → OtherLonger false bytes insn
+either_order bytes insn a other j (true, e, c) = inr (all_longer (length bytes) (turned insn) a other j c)
+either_order bytes insn a other j (false, e, c) = inl c
+
+pub worked_either : (row : ℕ) (insn : View) (bytes : List ℕ) → exchanges insn ≡ false → offer (slice_get the_rows row) insn ≡ Some bytes → all_later (length bytes) row insn 0 the_rows ≡ true
+    → all_later (suc (length bytes)) 0 (turned insn) 0 the_rows ≡ true → IsCode bytes insn
+worked_either row insn bytes e o a b = coded_by row insn false bytes (slice_get the_rows row) refl e o a (either_order bytes insn b)

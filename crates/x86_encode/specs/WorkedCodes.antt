@@ -5,11 +5,11 @@ use Rattle.x86_insn.specs.declared.insns.Prefix.TheVariants as prefix
 use Rattle.x86_insn.specs.declared.insns.Segment.TheVariants as segment
 use Rattle.x86_insn.specs.declared.insns.Base.TheVariants as base
 use Rattle.x86_insn.specs.declared.insns.Index.TheVariants as index
-use Rattle.x86_insn.specs.Views.{absent, register, immediate as shown_immediate, memory}
+use Rattle.x86_insn.specs.Views.{absent, register, immediate as shown_immediate, memory, target}
 use Rattle.x86_table.specs.WorkedReadings.{worked}
 use Rattle.x86_encode.specs.Codes.{meant}
 use Rattle.x86_encode.specs.Exchanges.{IsCode, HasNoCode}
-use Rattle.x86_table.specs.declared.mnemonics.TheConstants.{ADD, ADDSD, CMPXCHG, CRC32, LEA, MOV, MOVBE, MOVZX_BYTE, PEXTRW, PSHUFB, PUSH, ROUNDSD}
+use Rattle.x86_table.specs.declared.mnemonics.TheConstants.{ADD, ADDSD, CALL, CMPXCHG, CRC32, LEA, MOV, MOVBE, MOVZX_BYTE, PEXTRW, PSHUFB, PUSH, ROUNDSD, SHL, XCHG}
 
 -- the bytes are the shortest of these instructions
 pub record WorkedCodes : Type 0 where
@@ -25,6 +25,12 @@ pub record WorkedCodes : Type 0 where
   -- add $0xffffffff,%eax: 83 C0 FF
   pub add : IsCode (131 ∷ 192 ∷ 255 ∷ [])
       (meant (worked ADD 32 prefix.Absent (register (record { class = class.Long; number = 0 })) (shown_immediate (Some 4294967295)) absent))
+  -- add $-1,%eax: 83 C0 FF
+  pub add_negative : IsCode (131 ∷ 192 ∷ 255 ∷ [])
+      (meant (worked ADD 32 prefix.Absent (register (record { class = class.Long; number = 0 })) (shown_immediate (Some 18446744073709551615)) absent))
+  -- add $x,%eax, whose immediate is not known: 05 00 00 00 00
+  pub add_unknown : IsCode (5 ∷ 0 ∷ 0 ∷ 0 ∷ 0 ∷ [])
+      (meant (worked ADD 32 prefix.Absent (register (record { class = class.Long; number = 0 })) (shown_immediate None) absent))
   -- push $-1: 6A FF
   pub push : IsCode (106 ∷ 255 ∷ [])
       (meant (worked PUSH 64 prefix.Absent (shown_immediate (Some 18446744073709551615)) absent absent))
@@ -37,6 +43,9 @@ pub record WorkedCodes : Type 0 where
   -- mov (%r13),%eax: 41 8B 45 00
   pub at_r13 : IsCode (65 ∷ 139 ∷ 69 ∷ 0 ∷ [])
       (meant (worked MOV 32 prefix.Absent (register (record { class = class.Long; number = 0 })) (memory (record { segment = None; base = base.Of 13; index = index.Absent }) (Some 0)) absent))
+  -- mov 8(%rbx,%rcx,4),%rax: 48 8B 44 8B 08
+  pub at_index : IsCode (72 ∷ 139 ∷ 68 ∷ 139 ∷ 8 ∷ [])
+      (meant (worked MOV 64 prefix.Absent (register (record { class = class.Quad; number = 0 })) (memory (record { segment = None; base = base.Of 3; index = index.By 1 2 }) (Some 8)) absent))
   -- lock cmpxchg %ecx,(%rdi): F0 0F B1 0F
   pub cmpxchg : IsCode (240 ∷ 15 ∷ 177 ∷ 15 ∷ [])
       (meant (worked CMPXCHG 32 prefix.Lock (memory (record { segment = None; base = base.Of 7; index = index.Absent }) (Some 0)) (register (record { class = class.Long; number = 1 })) absent))
@@ -55,6 +64,17 @@ pub record WorkedCodes : Type 0 where
   -- movl $5,x(%rip), whose displacement is not known: C7 05 00 00 00 00 05 00 00 00
   pub movl : IsCode (199 ∷ 5 ∷ 0 ∷ 0 ∷ 0 ∷ 0 ∷ 5 ∷ 0 ∷ 0 ∷ 0 ∷ [])
       (meant (worked MOV 32 prefix.Absent (memory (record { segment = None; base = base.Rip; index = index.Absent }) None) (shown_immediate (Some 5)) absent))
+  -- call x, whose target is not known: E8 00 00 00 00
+  pub call : IsCode (232 ∷ 0 ∷ 0 ∷ 0 ∷ 0 ∷ []) (meant (worked CALL 64 prefix.Absent (target None) absent absent))
+  -- shl $1,%eax: D1 E0
+  pub shl : IsCode (209 ∷ 224 ∷ [])
+      (meant (worked SHL 32 prefix.Absent (register (record { class = class.Long; number = 0 })) (shown_immediate (Some 1)) absent))
+  -- xchg %eax,%ebx: 93
+  pub xchg : IsCode (147 ∷ [])
+      (meant (worked XCHG 32 prefix.Absent (register (record { class = class.Long; number = 0 })) (register (record { class = class.Long; number = 3 })) absent))
+  -- xchg %eax,%eax: 87 C0
+  pub xchg_same : IsCode (135 ∷ 192 ∷ [])
+      (meant (worked XCHG 32 prefix.Absent (register (record { class = class.Long; number = 0 })) (register (record { class = class.Long; number = 0 })) absent))
   -- pshufb %xmm1,%xmm0: 66 0F 38 00 C1
   pub pshufb : IsCode (102 ∷ 15 ∷ 56 ∷ 0 ∷ 193 ∷ [])
       (meant (worked PSHUFB 0 prefix.Absent (register (record { class = class.Xmm; number = 0 })) (register (record { class = class.Xmm; number = 1 })) absent))
