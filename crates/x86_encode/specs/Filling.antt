@@ -116,9 +116,9 @@ abbrev pub kind_of : Immediate → FieldKind
 kind_of immediate.Absent = kind.Plain
 kind_of immediate.Byte = kind.Plain
 kind_of immediate.Count = kind.Plain
-kind_of immediate.Sext16 = kind.Plain
-kind_of immediate.Sext32 = kind.Plain
-kind_of immediate.Sext64 = kind.Plain
+kind_of immediate.Sext16 = kind.Signed
+kind_of immediate.Sext32 = kind.Signed
+kind_of immediate.Sext64 = kind.Signed
 kind_of immediate.Word = kind.Plain
 kind_of immediate.Long = kind.Plain
 kind_of immediate.LongSext = kind.Signed

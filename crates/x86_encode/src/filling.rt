@@ -94,7 +94,9 @@ fn kind_of(immediate: Immediate) -> FieldKind
     ensures { result ≡ kind_of immediate }
 {
     match immediate {
-        Immediate::LongSext => FieldKind::Signed,
+        Immediate::Sext16 | Immediate::Sext32 | Immediate::Sext64 | Immediate::LongSext => {
+            FieldKind::Signed
+        }
         Immediate::Rel8 | Immediate::Short | Immediate::Rel32 => FieldKind::Branch,
         _ => FieldKind::Plain,
     }
