@@ -2,7 +2,7 @@
 
 use crate::calls::write_every_call;
 use crate::objects::write_object;
-use crate::runs::{memory_files, run_row};
+use crate::runs::{failing_calls, memory_files, run_row};
 use asm_base::Channel;
 use row_texts::{Row, RowFault, Shown, read_row};
 use std::alloc::{AllocError, Global};
@@ -32,7 +32,7 @@ fn write_said(said: &[u8], mark: &str, out: &mut Vec<u8>) -> io::Result<()> {
 /// Runs a row, and writes what it said and made.
 fn write_row(alloc: Global, row: &Row, out: &mut Vec<u8>) -> io::Result<()> {
     let files = memory_files(alloc, &row.files)?;
-    let ran = run_row(alloc, row, &files, row.failing.numbers());
+    let ran = run_row(alloc, row, &files, failing_calls(&row.failing));
     let console = ran.console.inner();
     write_said(console.said(Channel::Err), "|", out)?;
     write_said(console.said(Channel::Out), ">", out)?;

@@ -37,14 +37,12 @@ pub fn memory_files<'a>(
     Ok(all)
 }
 
-impl FailingCalls {
-    /// The numbers.
-    pub fn numbers(&self) -> Failing<'_> {
-        Failing {
-            input: self.input.as_slice(),
-            output: self.output.as_slice(),
-            console: self.console.as_slice(),
-        }
+/// The numbers of the row's calls that fail.
+pub fn failing_calls(failing: &FailingCalls) -> Failing<'_> {
+    Failing {
+        input: failing.input.as_slice(),
+        output: failing.output.as_slice(),
+        console: failing.console.as_slice(),
     }
 }
 
