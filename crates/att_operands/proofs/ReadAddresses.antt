@@ -10,8 +10,8 @@ use Rattle.att_operands.specs.declared.registers.NamedRegister.{NamedRegister}
 use Rattle.att_operands.specs.declared.addresses.ReadAddress.{ReadAddress}
 use Rattle.att_operands.specs.Registers.{register_of}
 use Rattle.att_operands.specs.Marks.{mark_by, mark_at}
-use Rattle.att_operands.specs.Addresses.{register_by, register_at, base_by, index_by, takes_index, scale_by, read_address, closed_at, scaled_by, indexed_by, index_at, based_by, address_at}
-use Rattle.att_operands.specs.Spells.{IsMark, WritesIndex, unscaled, scaled, WritesAddress, based, indexed, unbased}
+use Rattle.att_operands.specs.Addresses.{register_by, register_at, base_by, index_by, takes_index, scale_by, read_address, closed_at, scaled_by, indexed_by, index_at, based_by, lone_by, unbased_at, address_at}
+use Rattle.att_operands.specs.Spells.{IsMark, WritesIndex, unscaled, scaled, WritesAddress, based, indexed, unbased, lone}
 
 -- the token at a place stands in front of what is left there
 pub front_is : (tokens : List SpelledToken) (at : ℕ) (token : SpelledToken) → slice_get tokens at ≡ Some token → drop at tokens ≡ token ∷ drop (at + 1) tokens
@@ -196,10 +196,32 @@ based_named tokens at found None (Some base) there counts is = cc
 based_named tokens at found (Some reg) (Some base) there counts is =
     based_written tokens at reg base found (mark_at tokens (at + 2) == 44) (registered tokens at reg there) counts refl is
 
-address_by : (tokens : List SpelledToken) (at : ℕ) (found : ReadAddress) (b : Bool) → (mark_at tokens at == 44) ≡ b
-    → cond b (index_at tokens base.Absent (at + 1)) (based_by tokens (base_by (register_at tokens at)) (at + 2)) ≡ Some found → AddressRead tokens at found
-address_by tokens at found true test is =
-    let comma = marked tokens at 44 test refl in
+-- the scale 1 alone
+lone_scale : (tokens : List SpelledToken) (at scale : ℕ) (found : ReadAddress) (digits : SpelledToken) (b : Bool) → Marked tokens at 44 → slice_get tokens (at + 1) ≡ Some digits
+    → scale_by (Some digits) ≡ Some scale → (scale == 0) ≡ b → cond b (closed_at tokens base.Absent index.Absent ((at + 1) + 1)) None ≡ Some found → AddressRead tokens at found
+lone_scale tokens at scale found digits false comma there scales test is = cc
+lone_scale tokens at scale found digits true comma there scales test is =
+    let end = closed tokens base.Absent index.Absent ((at + 1) + 1) found is in
+    let two : (at + 1) + 1 ≡ at + 2 = omega arith in
+    let closing_there : slice_get tokens (at + 2) ≡ Some end.closing.token = subst (λ (n : ℕ). slice_get tokens n ≡ Some end.closing.token) two end.closing.there in
+    record {
+      base = base.Absent;
+      index = index.Absent;
+      text = comma.token ∷ digits ∷ end.closing.token ∷ [];
+      writes = lone comma.token digits end.closing.token comma.is (scales ∙ ap (λ (n : ℕ). Some n) (eqb-true scale 0 test)) end.closing.is;
+      stands = three_stand tokens at comma.token digits end.closing.token comma.there there closing_there;
+      is = end.is ∙ ap (read_address base.Absent index.Absent) (omega arith);
+    }
+
+lone_read : (tokens : List SpelledToken) (at : ℕ) (found : ReadAddress) (digits : Option SpelledToken) (scale : Option ℕ) → Marked tokens at 44 → slice_get tokens (at + 1) ≡ digits
+    → scale_by digits ≡ scale → lone_by tokens scale ((at + 1) + 1) ≡ Some found → AddressRead tokens at found
+unfolding scale_by
+lone_read tokens at found digits None comma there scales is = cc
+lone_read tokens at found None (Some scale) comma there scales is = cc
+lone_read tokens at found (Some token) (Some scale) comma there scales is = lone_scale tokens at scale found token (scale == 0) comma there scales refl is
+
+unbased_read : (tokens : List SpelledToken) (at : ℕ) (found : ReadAddress) → Marked tokens at 44 → index_at tokens base.Absent (at + 1) ≡ Some found → AddressRead tokens at found
+unbased_read tokens at found comma is =
     let inner = index_written tokens base.Absent (at + 1) found is in
     record {
       base = base.Absent;
@@ -210,6 +232,15 @@ address_by tokens at found true test is =
           ∙ ap (λ (ts : List SpelledToken). comma.token ∷ ts) (inner.stands ∙ moved_left tokens inner.text ((at + 1) + length inner.text) (at + length (comma.token ∷ inner.text)) (omega arith));
       is = inner.is ∙ ap (read_address base.Absent inner.index) (omega arith);
     }
+
+unbased_by : (tokens : List SpelledToken) (at : ℕ) (found : ReadAddress) (b : Bool) → Marked tokens at 44
+    → cond b (index_at tokens base.Absent (at + 1)) (lone_by tokens (scale_by (slice_get tokens (at + 1))) ((at + 1) + 1)) ≡ Some found → AddressRead tokens at found
+unbased_by tokens at found true comma is = unbased_read tokens at found comma is
+unbased_by tokens at found false comma is = lone_read tokens at found (slice_get tokens (at + 1)) (scale_by (slice_get tokens (at + 1))) comma refl refl is
+
+address_by : (tokens : List SpelledToken) (at : ℕ) (found : ReadAddress) (b : Bool) → (mark_at tokens at == 44) ≡ b
+    → cond b (unbased_at tokens (at + 1)) (based_by tokens (base_by (register_at tokens at)) (at + 2)) ≡ Some found → AddressRead tokens at found
+address_by tokens at found true test is = unbased_by tokens at found (mark_at tokens (at + 1) == 37) (marked tokens at 44 test refl) is
 address_by tokens at found false test is = based_named tokens at found (register_at tokens at) (base_by (register_at tokens at)) refl refl is
 
 -- an address that is read is written

@@ -9,7 +9,7 @@ use Rattle.att_operands.specs.Marks.{mark_by, mark_at, ends_by, ends_at}
 use Rattle.att_operands.specs.Addresses.{address_at}
 use Rattle.att_operands.specs.Values.{value_at}
 use Rattle.att_operands.specs.OperandTexts.{OperandText, immediate, memory, ReadPart, part, no_displacement, addressed, displaced, displaced_by, opens_address, memory_at, place_at, operand_by, ended, operand_at}
-use Rattle.att_operands.specs.Spells.{WritesAddress, based, indexed, unbased, in_segment, WritesMemory, displacement, address, both, SpellsPlace, plain, unnamed, segmented, SpellsOperand, immediate_of, place, target_of, indirect, ends}
+use Rattle.att_operands.specs.Spells.{WritesAddress, based, indexed, unbased, lone, in_segment, WritesMemory, displacement, address, both, SpellsPlace, plain, unnamed, segmented, SpellsOperand, immediate_of, place, target_of, indirect, ends}
 use Rattle.att_operands.proofs.SpelledIsRead.{stands_at, leads, apart_from}
 use Rattle.att_operands.proofs.SpelledOperands.{token_is, mark_is, left_behind, address_reads}
 use Rattle.att_operands.proofs.SpelledValues.{value_leads, value_unopened, value_reads, ended_quiet, opened_quiet, ended_unopened}
@@ -24,6 +24,10 @@ address_opens tokens at base _ _ behind (based _ sign word closing sign_is names
 address_opens tokens at base index _ behind (indexed _ _ sign word comma rest sign_is names takes comma_is writes) stands =
     let here = token_is 0 tokens (sign ∷ word ∷ comma ∷ (rest ++ behind)) at at sign stands (omega arith) refl in
     let mark = mark_is tokens at 37 sign here sign_is in
+    rw mark refl
+address_opens tokens at _ _ _ behind (lone comma digits closing comma_is scales closes) stands =
+    let here = token_is 0 tokens (comma ∷ digits ∷ closing ∷ behind) at at comma stands (omega arith) refl in
+    let mark = mark_is tokens at 44 comma here comma_is in
     rw mark refl
 address_opens tokens at _ index _ behind (unbased _ comma rest comma_is writes) stands =
     let here = token_is 0 tokens (comma ∷ (rest ++ behind)) at at comma stands (omega arith) refl in

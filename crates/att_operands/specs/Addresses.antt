@@ -1,4 +1,4 @@
--- The address of a memory operand, as it is written: `(base)`, `(base,index)`, `(base,index,scale)`, `(,index)` or `(,index,scale)`.
+-- The address of a memory operand, as it is written: `(base)`, `(base,index)`, `(base,index,scale)`, `(,index)`, `(,index,scale)` or `(,1)`.
 use Rattle.std.specs.Prelude.{ℕ, ◌+◌, ◌==◌, Bool, true, false, List, Option, Some, None, Result, Ok, Err, slice_get, if◌then◌else◌}
 use Rattle.asm_base.specs.Tokens.{SpelledToken}
 use Rattle.asm_base.specs.declared.tokens.TokenKind.{TokenKind}
@@ -106,8 +106,18 @@ based_by tokens (Some base) at =
     if mark_at tokens at == 44 then (if takes_index base then index_at tokens base (at + 1) else None)
     else closed_at tokens base index.Absent at
 
+-- the address of no base and no index, behind a scale, which has to be 1
+abbrev pub lone_by : List SpelledToken → Option ℕ → ℕ → Option ReadAddress
+lone_by tokens None at = None
+lone_by tokens (Some scale) at = if scale == 0 then closed_at tokens base.Absent index.Absent at else None
+
+-- the address without a base, behind its comma: an index, or the scale 1 alone
+abbrev pub unbased_at : List SpelledToken → ℕ → Option ReadAddress
+unbased_at tokens at =
+    if mark_at tokens at == 37 then index_at tokens base.Absent at else lone_by tokens (scale_by (slice_get tokens at)) (at + 1)
+
 -- the address behind the `(` before this place
 unfoldable pub address_at : List SpelledToken → ℕ → Option ReadAddress
 address_at tokens at =
-    if mark_at tokens at == 44 then index_at tokens base.Absent (at + 1)
+    if mark_at tokens at == 44 then unbased_at tokens (at + 1)
     else based_by tokens (base_by (register_at tokens at)) (at + 2)

@@ -41,6 +41,9 @@ pub data WritesAddress : (base : Base) (index : Index) (text : List SpelledToken
       → takes_index base ≡ true → IsMark 44 comma → WritesIndex index text → WritesAddress base index (sign ∷ word ∷ comma ∷ text)
   -- a comma and an index
   unbased : (index : Index) (comma : SpelledToken) (text : List SpelledToken) → IsMark 44 comma → WritesIndex index text → WritesAddress base.Absent index (comma ∷ text)
+  -- `,1)`
+  lone : (comma digits closing : SpelledToken) → IsMark 44 comma → scale_by (Some digits) ≡ Some 0 → IsMark 41 closing
+      → WritesAddress base.Absent index.Absent (comma ∷ digits ∷ closing ∷ [])
 
 -- The text writes a value: a text of its tree, which has the suffix behind its first token where there is one.
 pub data WritesValue : (value : ValueText) (text : List SpelledToken) → Type 0 where

@@ -37,6 +37,7 @@ pub record WorkedOperands : Type 0 where
   pub frame : Begins false (codes "-8(%rbp)") (memory (in_segment None (base.Of 5) index.Absent) (valued (unary Minus (number 8)) None)) 6
   pub scaled : Begins false (codes "8(%rdi,%rcx,4)") (memory (in_segment None (base.Of 7) (index.By 1 2)) (valued (number 8) None)) 10
   pub unbased : Begins false (codes "(,%rax,8)") (memory (in_segment None base.Absent (index.By 0 3)) no_displacement) 7
+  pub lone_scale : Begins false (codes "8(,1)") (memory (in_segment None base.Absent index.Absent) (valued (number 8) None)) 5
   pub segmented : Begins false (codes "%fs:40, %rax") (memory (in_segment (Some segment.Fs) base.Absent index.Absent) (valued (number 40) None)) 4
   pub got : Begins false (codes "x@gotpcrel+4(%rip)") (memory (in_segment None base.Rip index.Absent) (valued (binary Add (name (Plain (codes "x"))) (number 4)) (Some GotPcRel))) 9
   pub called : Begins true (codes "f@PLT") (target (valued (name (Plain (codes "f"))) (Some Plt))) 3
@@ -45,6 +46,7 @@ pub record WorkedOperands : Type 0 where
   pub rip_index : Refuses false (codes "(%rip,%rax)") BadOperand
   pub short_base : Refuses false (codes "(%eax)") BadOperand
   pub third : Refuses false (codes "(%rax,%rbx,3)") BadOperand
+  pub lone_two : Refuses false (codes "(,2)") BadOperand
   pub unknown_suffix : Refuses false (codes "x@BAR") BadOperand
   pub unstarred : Refuses true (codes "%rax") BadOperand
   pub unclosed : Refuses false (codes "$(1") BadExpression

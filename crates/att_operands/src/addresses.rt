@@ -2,7 +2,7 @@
 
 ghost use Rattle.std.specs.Prelude.{◌≡◌, ◌+◌, ◌<◌, ◌≤◌, map, length, slice_get, Some, IsSome, IfSome};
 ghost use Rattle.asm_base.specs.Tokens.{spelled};
-ghost use Rattle.att_operands.specs.Addresses.{register_by, register_at, base_by, index_by, takes_index, scale_of, scale_by, closed_at, scaled_by, indexed_by, index_at, based_by, address_at};
+ghost use Rattle.att_operands.specs.Addresses.{register_by, register_at, base_by, index_by, takes_index, scale_of, scale_by, closed_at, scaled_by, indexed_by, index_at, based_by, lone_by, unbased_at, address_at};
 
 use crate::marks::{mark_at, token_at};
 use crate::registers::{NamedRegister, register_named};
@@ -191,6 +191,32 @@ fn based_at(tokens: &[Token], base: Base, at: usize) -> Option<ReadAddress>
     }
 }
 
+/// The address of no base and no index, with the scale 1 at this place.
+#[inline(never)]
+fn lone_at(tokens: &[Token], at: usize) -> Option<ReadAddress>
+    ensures value { let scale = scale_by (slice_get (map spelled tokens.now) at) in
+        result ≡ lone_by (map spelled tokens.now) scale (at + 1) }
+    ensures within { IfSome result (λ found. (at < found.next) × (found.next ≤ length tokens.now)) }
+{
+    match scale_by(tokens, at) {
+        Some(0) => closed_at(tokens, Base::Absent, Index::Absent, at + 1),
+        _ => None,
+    }
+}
+
+/// The address without a base, behind its comma.
+#[inline(always)]
+fn unbased_at(tokens: &[Token], at: usize) -> Option<ReadAddress>
+    ensures value { result ≡ unbased_at (map spelled tokens.now) at }
+    ensures within { IfSome result (λ found. (at < found.next) × (found.next ≤ length tokens.now)) }
+{
+    if mark_at(tokens, at) == b'%' {
+        index_at(tokens, Base::Absent, at)
+    } else {
+        lone_at(tokens, at)
+    }
+}
+
 /// The address behind the `(` before this place.
 #[tactic(auto, unfolding(crate::specs::Addresses::address_at))]
 pub(crate) fn address_at(tokens: &[Token], at: usize) -> Option<ReadAddress>
@@ -198,7 +224,7 @@ pub(crate) fn address_at(tokens: &[Token], at: usize) -> Option<ReadAddress>
     ensures within { IfSome result (λ found. (at < found.next) × (found.next ≤ length tokens.now)) }
 {
     if mark_at(tokens, at) == b',' {
-        return index_at(tokens, Base::Absent, at + 1);
+        return unbased_at(tokens, at + 1);
     }
     match base_by(register_at(tokens, at)) {
         Some(base) => based_at(tokens, base, at + 2),

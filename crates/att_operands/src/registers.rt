@@ -9,7 +9,7 @@ use crate::register_slots::REGISTER_SLOTS;
 use x86_insn::{Reg, Segment};
 
 /// What the name of a register names.
-#[derive(Clone, Copy, PartialEq, Eq, Debug)]
+#[derive(Clone, Copy)]
 pub enum NamedRegister {
     /// A register that may be an operand.
     Plain(Reg),
