@@ -1,14 +1,18 @@
 -- The reading of an expression at a place, by the text that stands there.
-use Rattle.std.proofs.Common.{◌≡◌, ℕ, zero, suc, ◌+◌, ◌-◌, ◌≤◌, false, List, [], ◌∷◌, ◌++◌, Ok, Err, length, map, drop, take, refl, sym, ap, subst, ◌∙◌, arith, length-drop}
+use Rattle.std.proofs.Common.{◌≡◌, ℕ, zero, suc, ◌+◌, ◌-◌, ◌≤◌, false, List, [], ◌∷◌, ◌++◌, None, Ok, Err, length, map, drop, take, slice_get, refl, sym, ap, subst, ◌∙◌, arith, length-drop}
 use Rattle.std.proofs.lemmas.List.{drop-map, take-append-drop, map-append, length-map, take_all}
 use Rattle.asm_base.specs.declared.tokens.Token.{Token}
 use Rattle.asm_base.specs.Tokens.{SpelledToken, spelled}
 use Rattle.asm_base.specs.Refusals.{◌>>=◌}
 use Rattle.asm_expr.specs.declared.faults.ExprCause.{ExprCause}
+use Rattle.asm_expr.specs.declared.faults.ExprCause.TheVariants as cause
 use Rattle.asm_expr.specs.Trees.{Tree}
-use Rattle.asm_expr.specs.Reading.{Read, read, reading, reading_of}
+use Rattle.asm_expr.specs.Reading.{Read, read, reading, reading_of, read_at}
 use Rattle.asm_expr.specs.Grammar.{IsTextOf, operator_follows}
 use Rattle.asm_expr.specs.Found.{spelled_from}
+use Rattle.att_operands.specs.declared.faults.OperandCause.TheVariants.{BadExpression}
+use Rattle.att_operands.specs.Marks.{mark_by}
+use Rattle.att_operands.specs.Values.{suffix_at, as_value, value_with, value_at}
 use Rattle.asm_expr.proofs.Marks.{in_one, in_higher}
 use Rattle.asm_expr.proofs.ParsingLemmas.{stops}
 use Rattle.asm_expr.proofs.WrittenIsRead.{written_reads}
@@ -42,6 +46,34 @@ placed_reads tokens at next tree rest is behind =
 pub placed_fails : (tokens : List SpelledToken) (at : ℕ) (cause : ExprCause) → reading 1 0 (drop at tokens) ≡ Err cause → reading_of tokens at ≡ Err cause
 unfolding reading_of
 placed_fails tokens at cause is = ap (λ (r : Read). r >>= (λ found. Ok (record { tree = found.tree; next = length tokens - length found.rest }))) is
+
+none_there : (tokens : List SpelledToken) (at : ℕ) → length tokens ≤ at → slice_get tokens at ≡ None
+none_there [] at within = refl
+none_there (token ∷ tokens) zero within = absurd (omega arith)
+none_there (token ∷ tokens) (suc at) within = none_there tokens at (omega arith)
+
+all_dropped : (tokens : List SpelledToken) (at : ℕ) → length tokens ≤ at → drop at tokens ≡ []
+all_dropped [] zero within = refl
+all_dropped [] (suc at) within = refl
+all_dropped (token ∷ tokens) zero within = absurd (omega arith)
+all_dropped (token ∷ tokens) (suc at) within = all_dropped tokens at (omega arith)
+
+nothing_reads : reading 1 0 [] ≡ Err cause.BadExpression
+unfolding reading read_at
+nothing_reads = refl
+
+unsuffixed : (tokens : List SpelledToken) (at : ℕ) → length tokens ≤ at → suffix_at tokens at ≡ None
+unfolding mark_by
+unsuffixed tokens at within = let none = none_there tokens (at + 1) (omega arith) in rw none refl
+
+-- where nothing stands, an expression is missing
+pub nothing_due : (tokens : List Token) (at : ℕ) → length tokens ≤ at → value_at (map spelled tokens) at ≡ Err BadExpression
+unfolding value_at
+nothing_due tokens at within =
+    let all = map spelled tokens in
+    let behind : length all ≤ at = omega (arith, length-map tokens spelled) in
+    ap (value_with all at) (unsuffixed all at behind)
+    ∙ ap (as_value None 0) (placed_fails all at cause.BadExpression (ap (reading 1 0) (all_dropped all at behind) ∙ nothing_reads))
 
 -- what is left of what is left
 none_left : {A : Type 0} (n : ℕ) → (let none : List A = [] in drop n none ≡ none)

@@ -13,12 +13,12 @@ use Rattle.att_operands.specs.declared.addresses.ReadAddress.{ReadAddress}
 use Rattle.att_operands.specs.Registers.{register_of}
 use Rattle.att_operands.specs.Marks.{mark_at, ends_by, ends_at}
 use Rattle.att_operands.specs.Addresses.{register_by, read_address, address_at}
-use Rattle.att_operands.specs.Values.{ValueText, ReadText, value_at}
-use Rattle.att_operands.specs.OperandTexts.{OperandText, register, immediate, memory, target, ReadPart, part, no_displacement, addressed, displaced, displaced_by, displaced_alone, opens_address, memory_at, named_place, place_at, immediate_by, target_by, operand_by, ended, operand_at}
+use Rattle.att_operands.specs.Values.{ValueText, ReadText, value_at, begun_at}
+use Rattle.att_operands.specs.OperandTexts.{OperandText, register, immediate, memory, target, ReadPart, part, no_displacement, addressed, displaced, displaced_by, displaced_alone, opens_address, memory_at, named_place, place_at, immediate_by, target_by, target_at, other_by, operand_by, ended, operand_at}
 use Rattle.att_operands.specs.Spells.{in_segment, WritesMemory, displacement, address, both, SpellsPlace, plain, unnamed, segmented, SpellsOperand, immediate_of, place, target_of, indirect, ends, IsSpelledIn}
 use Rattle.att_operands.proofs.SpelledIsRead.{stands_at}
 use Rattle.att_operands.proofs.ReadAddresses.{front_is, Marked, marked, two_stand, three_stand, moved_left, address_written}
-use Rattle.att_operands.proofs.ReadValues.{ok_is, ValueRead, value_written}
+use Rattle.att_operands.proofs.ReadValues.{ok_is, ValueRead, value_written, begun_written}
 
 -- an operand that was read, with its text
 pub record PartRead (Is : OperandText → List SpelledToken → Type 0) (tokens : List SpelledToken) (at : ℕ) (found : ReadPart) : Type 0 where
@@ -79,21 +79,21 @@ displaced_read : (tokens : List SpelledToken) (at : ℕ) (segment : Option Segme
 displaced_read tokens at segment found value true read test is = both_read tokens at segment found value (address_at tokens (value.next + 1)) read (marked tokens value.next 40 test refl) refl is
 displaced_read tokens at segment found value false read test is = subst (PartRead (WritesMemory segment) tokens at) (ok_is is) (alone_read tokens at segment value read)
 
-unopened_read : (tokens : List SpelledToken) (at : ℕ) (segment : Option Segment) (found : ReadPart) (value : Result ReadText OperandCause) → value_at tokens at ≡ value
+unopened_read : (tokens : List SpelledToken) (at : ℕ) (segment : Option Segment) (found : ReadPart) (value : Result ReadText OperandCause) → begun_at tokens at ≡ value
     → displaced_by tokens segment value ≡ Ok found → PartRead (WritesMemory segment) tokens at found
 unfolding displaced
 unopened_read tokens at segment found (Err fault) reads is = cc
-unopened_read tokens at segment found (Ok value) reads is = displaced_read tokens at segment found value (mark_at tokens value.next == 40) (value_written tokens at value reads) refl is
+unopened_read tokens at segment found (Ok value) reads is = displaced_read tokens at segment found value (mark_at tokens value.next == 40) (begun_written tokens at value reads) refl is
 
 opening_mark : (tokens : List SpelledToken) (at : ℕ) (b rest : Bool) → (mark_at tokens at == 40) ≡ b → cond b rest false ≡ true → Marked tokens at 40
 opening_mark tokens at true rest test is = marked tokens at 40 test refl
 opening_mark tokens at false rest test is = cc
 
 memory_by : (tokens : List SpelledToken) (at : ℕ) (segment : Option Segment) (found : ReadPart) (b : Bool) → opens_address tokens at ≡ b
-    → cond b (addressed segment no_displacement (address_at tokens (at + 1))) (displaced_by tokens segment (value_at tokens at)) ≡ Ok found → PartRead (WritesMemory segment) tokens at found
+    → cond b (addressed segment no_displacement (address_at tokens (at + 1))) (displaced_by tokens segment (begun_at tokens at)) ≡ Ok found → PartRead (WritesMemory segment) tokens at found
 memory_by tokens at segment found true opens is =
     address_read tokens at segment found (address_at tokens (at + 1)) (opening_mark tokens at (mark_at tokens at == 40) (mark_at tokens (at + 1) == 37 || mark_at tokens (at + 1) == 44) refl opens) refl is
-memory_by tokens at segment found false opens is = unopened_read tokens at segment found (value_at tokens at) refl is
+memory_by tokens at segment found false opens is = unopened_read tokens at segment found (begun_at tokens at) refl is
 
 -- memory that is read is written
 memory_written : (tokens : List SpelledToken) (at : ℕ) (segment : Option Segment) (found : ReadPart) → memory_at tokens segment at ≡ Ok found → PartRead (WritesMemory segment) tokens at found
@@ -149,26 +149,26 @@ place_written : (tokens : List SpelledToken) (at : ℕ) (found : ReadPart) → p
 unfolding place_at
 place_written tokens at found is = place_by tokens at found (mark_at tokens at == 37) refl is
 
-immediate_read : (tokens : List SpelledToken) (at : ℕ) (found : ReadPart) (value : Result ReadText OperandCause) → Marked tokens at 36 → value_at tokens (at + 1) ≡ value → immediate_by value ≡ Ok found
-    → PartRead (SpellsOperand false) tokens at found
-immediate_read tokens at found (Err fault) sign reads is = cc
-immediate_read tokens at found (Ok value) sign reads is =
+immediate_read : (branch : Bool) (tokens : List SpelledToken) (at : ℕ) (found : ReadPart) (value : Result ReadText OperandCause) → Marked tokens at 36 → value_at tokens (at + 1) ≡ value → immediate_by value ≡ Ok found
+    → PartRead (SpellsOperand branch) tokens at found
+immediate_read branch tokens at found (Err fault) sign reads is = cc
+immediate_read branch tokens at found (Ok value) sign reads is =
     let inner = value_written tokens (at + 1) value reads in
     let end : (at + 1) + length inner.text ≡ at + length (sign.token ∷ inner.text) = omega arith in
-    let made : PartRead (SpellsOperand false) tokens at (part (immediate value.text) value.next) = record {
+    let made : PartRead (SpellsOperand branch) tokens at (part (immediate value.text) value.next) = record {
       text = sign.token ∷ inner.text;
-      spells = immediate_of value.text sign.token inner.text sign.is inner.writes;
+      spells = immediate_of branch value.text sign.token inner.text sign.is inner.writes;
       stands = front_is tokens at sign.token sign.there
           ∙ ap (λ (ts : List SpelledToken). sign.token ∷ ts) (inner.stands ∙ moved_left tokens inner.text ((at + 1) + length inner.text) (at + length (sign.token ∷ inner.text)) end);
       next = inner.next ∙ end;
     } in
-    subst (PartRead (SpellsOperand false) tokens at) (ok_is is) made
+    subst (PartRead (SpellsOperand branch) tokens at) (ok_is is) made
 
-target_read : (tokens : List SpelledToken) (at : ℕ) (found : ReadPart) (value : Result ReadText OperandCause) → value_at tokens at ≡ value → target_by value ≡ Ok found
+target_read : (tokens : List SpelledToken) (at : ℕ) (found : ReadPart) (value : Result ReadText OperandCause) → begun_at tokens at ≡ value → target_by value ≡ Ok found
     → PartRead (SpellsOperand true) tokens at found
 target_read tokens at found (Err fault) reads is = cc
 target_read tokens at found (Ok value) reads is =
-    let inner = value_written tokens at value reads in
+    let inner = begun_written tokens at value reads in
     let made : PartRead (SpellsOperand true) tokens at (part (target value.text) value.next) = record {
       text = inner.text;
       spells = target_of value.text inner.text inner.writes;
@@ -191,19 +191,26 @@ indirect_read tokens at found star inner =
 direct_read : (tokens : List SpelledToken) (at : ℕ) (found : ReadPart) → PartRead SpellsPlace tokens at found → PartRead (SpellsOperand false) tokens at found
 direct_read tokens at found read = record { text = read.text; spells = place found.operand read.text read.spells; stands = read.stands; next = read.next }
 
-of_branch : (tokens : List SpelledToken) (at : ℕ) (found : ReadPart) (b : Bool) → (mark_at tokens at == 42) ≡ b → cond b (place_at tokens (at + 1)) (target_by (value_at tokens at)) ≡ Ok found
+unopened_target : (tokens : List SpelledToken) (at : ℕ) (found : ReadPart) (b : Bool) → cond b (Err BadOperand) (target_by (begun_at tokens at)) ≡ Ok found → PartRead (SpellsOperand true) tokens at found
+unopened_target tokens at found true is = cc
+unopened_target tokens at found false is = target_read tokens at found (begun_at tokens at) refl is
+
+of_branch : (tokens : List SpelledToken) (at : ℕ) (found : ReadPart) (b : Bool) → (mark_at tokens at == 42) ≡ b → cond b (place_at tokens (at + 1)) (target_at tokens at) ≡ Ok found
     → PartRead (SpellsOperand true) tokens at found
 of_branch tokens at found true test is = indirect_read tokens at found (marked tokens at 42 test refl) (place_written tokens (at + 1) found is)
-of_branch tokens at found false test is = target_read tokens at found (value_at tokens at) refl is
+of_branch tokens at found false test is = unopened_target tokens at found (opens_address tokens at) is
 
-of_other : (tokens : List SpelledToken) (at : ℕ) (found : ReadPart) (b : Bool) → (mark_at tokens at == 36) ≡ b → cond b (immediate_by (value_at tokens (at + 1))) (place_at tokens at) ≡ Ok found
-    → PartRead (SpellsOperand false) tokens at found
-of_other tokens at found true test is = immediate_read tokens at found (value_at tokens (at + 1)) (marked tokens at 36 test refl) refl is
-of_other tokens at found false test is = direct_read tokens at found (place_written tokens at found is)
+other_written : (tokens : List SpelledToken) (at : ℕ) (branch : Bool) (found : ReadPart) → other_by branch tokens at ≡ Ok found → PartRead (SpellsOperand branch) tokens at found
+other_written tokens at true found is = of_branch tokens at found (mark_at tokens at == 42) refl is
+other_written tokens at false found is = direct_read tokens at found (place_written tokens at found is)
+
+signed_by : (tokens : List SpelledToken) (at : ℕ) (branch : Bool) (found : ReadPart) (b : Bool) → (mark_at tokens at == 36) ≡ b
+    → cond b (immediate_by (value_at tokens (at + 1))) (other_by branch tokens at) ≡ Ok found → PartRead (SpellsOperand branch) tokens at found
+signed_by tokens at branch found true test is = immediate_read branch tokens at found (value_at tokens (at + 1)) (marked tokens at 36 test refl) refl is
+signed_by tokens at branch found false test is = other_written tokens at branch found is
 
 operand_written : (tokens : List SpelledToken) (at : ℕ) (branch : Bool) (found : ReadPart) → operand_by branch tokens at ≡ Ok found → PartRead (SpellsOperand branch) tokens at found
-operand_written tokens at true found is = of_branch tokens at found (mark_at tokens at == 42) refl is
-operand_written tokens at false found is = of_other tokens at found (mark_at tokens at == 36) refl is
+operand_written tokens at branch found is = signed_by tokens at branch found (mark_at tokens at == 36) refl is
 
 ended_by : (branch : Bool) (tokens : List SpelledToken) (at : ℕ) (found made : ReadPart) (b : Bool) → PartRead (SpellsOperand branch) tokens at made → ends_at tokens made.next ≡ b
     → cond b (Ok made) (Err BadOperand) ≡ Ok found → IsSpelledIn branch tokens at found

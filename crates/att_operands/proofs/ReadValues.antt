@@ -10,7 +10,7 @@ use Rattle.x86_insn.specs.declared.amounts.Suffix.{Suffix}
 use Rattle.att_operands.specs.declared.faults.OperandCause.{OperandCause}
 use Rattle.att_operands.specs.declared.faults.OperandCause.TheVariants.{BadOperand}
 use Rattle.att_operands.specs.Marks.{mark_at, begins_by}
-use Rattle.att_operands.specs.Values.{ReadText, names_by, suffix_by, suffix_at, without_suffix, as_value, value_with, value_at}
+use Rattle.att_operands.specs.Values.{ReadText, names_by, suffix_by, suffix_at, without_suffix, as_value, value_with, value_at, begun_at}
 use Rattle.att_operands.specs.Spells.{WritesValue, plain, suffixed}
 use Rattle.att_operands.proofs.SuffixLemmas.{joined}
 use Rattle.att_operands.proofs.SpelledIsRead.{text_some}
@@ -113,11 +113,16 @@ value_by : (tokens : List SpelledToken) (at : ℕ) (found : ReadText) (suffix : 
 value_by tokens at found None there is = plain_read tokens at found (reading_of tokens at) refl is
 value_by tokens at found (Some suffix) there is = suffix_mark tokens at found suffix (mark_at tokens (at + 1) == 64) refl there is
 
-value_begun : (tokens : List SpelledToken) (at : ℕ) (found : ReadText) (b : Bool) → cond b (value_with tokens at (suffix_at tokens at)) (Err BadOperand) ≡ Ok found → ValueRead tokens at found
-value_begun tokens at found false is = cc
-value_begun tokens at found true is = value_by tokens at found (suffix_at tokens at) refl is
-
 -- a value that is read is written
 pub value_written : (tokens : List SpelledToken) (at : ℕ) (found : ReadText) → value_at tokens at ≡ Ok found → ValueRead tokens at found
 unfolding value_at
-value_written tokens at found is = value_begun tokens at found (begins_by (slice_get tokens at)) is
+value_written tokens at found is = value_by tokens at found (suffix_at tokens at) refl is
+
+begun_by : (tokens : List SpelledToken) (at : ℕ) (found : ReadText) (b : Bool) → cond b (value_at tokens at) (Err BadOperand) ≡ Ok found → ValueRead tokens at found
+begun_by tokens at found false is = cc
+begun_by tokens at found true is = value_written tokens at found is
+
+-- and so is one that is read where a mark of another operand may stand
+pub begun_written : (tokens : List SpelledToken) (at : ℕ) (found : ReadText) → begun_at tokens at ≡ Ok found → ValueRead tokens at found
+unfolding begun_at
+begun_written tokens at found is = begun_by tokens at found (begins_by (slice_get tokens at)) is

@@ -125,11 +125,13 @@ opened_leads _ _ _ _ after (between most level op left right token before behind
 opened_leads _ _ _ _ after (enclosed most level tree opening closing inside text starts stops inner stands) opened =
     rw (stands, append_assoc inside (closing ∷ []) after) (first_leads most tree 1 inside ((closing ∷ []) ++ after) inner)
 
-all_apart : (a b c d e : Bool) → not (a || (b || (c || (d || e)))) ≡ true → not (a || b || c) ≡ true
+all_apart : (a b c d e : Bool) → not (a || (b || (c || (d || e)))) ≡ true → not (a || b || c || e) ≡ true
 all_apart true b c d e is = cc
 all_apart false true c d e is = cc
 all_apart false false true d e is = cc
-all_apart false false false d e is = refl
+all_apart false false false true e is = cc
+all_apart false false false false true is = cc
+all_apart false false false false false is = refl
 
 pub leads_begin : (token : SpelledToken) → leads (mark_by (Some token)) ≡ true → begins_by (Some token) ≡ true
 unfolding begins_by

@@ -10,7 +10,7 @@ use Rattle.asm_expr.specs.Grammar.{operator_follows}
 use Rattle.att_operands.specs.declared.faults.OperandCause.{OperandCause}
 use Rattle.att_operands.specs.declared.faults.OperandCause.TheVariants.{BadOperand}
 use Rattle.att_operands.specs.Marks.{mark_byte, mark_by, mark_at, ends_by, begins_by}
-use Rattle.att_operands.specs.Values.{ValueText, ReadText, names_by, suffix_at, without_suffix, as_value, value_with, value_at}
+use Rattle.att_operands.specs.Values.{ValueText, ReadText, names_by, suffix_at, without_suffix, as_value, value_with, value_at, begun_at}
 use Rattle.att_operands.specs.OperandTexts.{opens_address}
 use Rattle.att_operands.specs.Spells.{IsMark, WritesValue, plain, suffixed, ends}
 use Rattle.att_operands.proofs.FrontReadings.{text_reads, placed_reads}
@@ -99,15 +99,13 @@ pub value_reads : (tokens : List SpelledToken) (at : ℕ) (value : ValueText) (t
     → value_at tokens at ≡ Ok (record { text = value; next = at + length text })
 unfolding value_at read_value
 value_reads tokens at _ text behind (plain tree _ is) stands quiet =
-    let begins : begins_by (slice_get tokens at) ≡ true = ap begins_by (stands_at 0 tokens (text ++ behind) at at stands (omega arith)) ∙ first_begins 64 tree 1 text behind is.writes in
     let next : mark_at tokens (at + 1) ≡ mark_at (text ++ behind) 1 = ap mark_by (stands_at 1 tokens (text ++ behind) at (at + 1) stands refl) in
     let none : (mark_at tokens (at + 1) == 64) ≡ false = rw next (second_apart 64 tree 1 text behind is.writes quiet.apart) in
     let suffix : suffix_at tokens at ≡ None = rw none refl in
     let some = text_some 64 tree 1 text is.writes in
     let lengths : at + length text ≡ length tokens - length behind = omega (arith, length-drop at tokens, ap length stands, length-append text behind) in
     let reads = placed_reads tokens at (at + length text) tree behind (ap (reading 1 0) stands ∙ text_reads tree text behind is quiet.stops) lengths in
-    ap (λ (b : Bool). cond b (value_with tokens at (suffix_at tokens at)) (Err BadOperand)) begins
-    ∙ ap (value_with tokens at) suffix
+    ap (value_with tokens at) suffix
     ∙ ap (as_value None 0) reads
     ∙ ap (read_value (record { tree = tree; suffix = None })) (omega arith)
 value_reads tokens at _ _ behind (suffixed tree suffix name mark word rest named marked words is) stands quiet =
@@ -116,7 +114,6 @@ value_reads tokens at _ _ behind (suffixed tree suffix name mark word rest named
     let g1 = token_is 1 tokens text at (at + 1) mark stands refl refl in
     let g2 = token_is 2 tokens text at (at + 2) word stands refl refl in
     let m = mark_is tokens (at + 1) 64 mark g1 marked in
-    let begins : begins_by (slice_get tokens at) ≡ true = rw g0 (name_begins name named) in
     let found : suffix_at tokens at ≡ Some suffix = rw (m, g0, named, g2, words) refl in
     let many : at + 2 < length tokens = omega (arith, length-drop at tokens, ap length stands, length-append rest behind) in
     let left : drop (at + 3) tokens ≡ rest ++ behind = left_behind 3 tokens text at (at + 3) stands refl in
@@ -124,7 +121,21 @@ value_reads tokens at _ _ behind (suffixed tree suffix name mark word rest named
     let lengths : at + length (name ∷ rest) ≡ length (without_suffix tokens at) - length behind =
     omega (arith, joined_length tokens at many, length-drop at tokens, ap length stands, length-append rest behind) in
     let reads = placed_reads (without_suffix tokens at) at (at + length (name ∷ rest)) tree behind (ap (reading 1 0) front ∙ text_reads tree (name ∷ rest) behind is quiet.stops) lengths in
-    ap (λ (b : Bool). cond b (value_with tokens at (suffix_at tokens at)) (Err BadOperand)) begins
-    ∙ ap (value_with tokens at) found
+    ap (value_with tokens at) found
     ∙ ap (as_value (Some suffix) 2) reads
     ∙ ap (read_value (record { tree = tree; suffix = Some suffix })) (omega arith)
+
+value_begins : (tokens : List SpelledToken) (at : ℕ) (value : ValueText) (text behind : List SpelledToken) → WritesValue value text → drop at tokens ≡ text ++ behind
+    → begins_by (slice_get tokens at) ≡ true
+value_begins tokens at _ text behind (plain tree _ is) stands = ap begins_by (stands_at 0 tokens (text ++ behind) at at stands (omega arith)) ∙ first_begins 64 tree 1 text behind is.writes
+value_begins tokens at _ _ behind (suffixed tree suffix name mark word rest named marked words is) stands =
+    let here = token_is 0 tokens (name ∷ mark ∷ word ∷ (rest ++ behind)) at at name stands (omega arith) refl in
+    rw here (name_begins name named)
+
+-- and so is it where a mark of another operand may stand
+pub begun_reads : (tokens : List SpelledToken) (at : ℕ) (value : ValueText) (text behind : List SpelledToken) → WritesValue value text → drop at tokens ≡ text ++ behind → IsQuiet behind
+    → begun_at tokens at ≡ Ok (record { text = value; next = at + length text })
+unfolding begun_at
+begun_reads tokens at value text behind writes stands quiet =
+    ap (λ (b : Bool). cond b (value_at tokens at) (Err BadOperand)) (value_begins tokens at value text behind writes stands)
+    ∙ value_reads tokens at value text behind writes stands quiet

@@ -1,18 +1,19 @@
 -- Memory, registers and whole operands that are spelled are read.
-use Rattle.std.proofs.Common.{◌≡◌, ℕ, ◌+◌, ◌==◌, ◌||◌, Bool, true, false, cond, List, [], ◌∷◌, ◌++◌, Option, Some, None, Result, Ok, length, drop, refl, sym, ap, ◌∙◌, arith, length-append, append_assoc}
+use Rattle.std.proofs.Common.{◌≡◌, ℕ, ◌+◌, ◌==◌, ◌||◌, Bool, true, false, cond, List, [], ◌∷◌, ◌++◌, Option, Some, None, Result, Ok, Err, length, drop, refl, sym, ap, ◌∙◌, arith, length-append, append_assoc}
 use Rattle.asm_base.specs.Tokens.{SpelledToken}
 use Rattle.x86_insn.specs.declared.insns.Segment.{Segment}
 use Rattle.x86_insn.specs.declared.insns.Base.{Base}
 use Rattle.x86_insn.specs.declared.insns.Index.{Index}
 use Rattle.att_operands.specs.declared.faults.OperandCause.{OperandCause}
+use Rattle.att_operands.specs.declared.faults.OperandCause.TheVariants.{BadOperand}
 use Rattle.att_operands.specs.Marks.{mark_by, mark_at, ends_by, ends_at}
 use Rattle.att_operands.specs.Addresses.{address_at}
-use Rattle.att_operands.specs.Values.{value_at}
-use Rattle.att_operands.specs.OperandTexts.{OperandText, immediate, memory, ReadPart, part, no_displacement, addressed, displaced, displaced_by, opens_address, memory_at, place_at, operand_by, ended, operand_at}
+use Rattle.att_operands.specs.Values.{value_at, begun_at}
+use Rattle.att_operands.specs.OperandTexts.{OperandText, immediate, memory, ReadPart, part, no_displacement, addressed, displaced, displaced_by, opens_address, memory_at, place_at, immediate_by, target_by, target_at, other_by, operand_by, ended, operand_at}
 use Rattle.att_operands.specs.Spells.{WritesAddress, based, indexed, unbased, lone, in_segment, WritesMemory, displacement, address, both, SpellsPlace, plain, unnamed, segmented, SpellsOperand, immediate_of, place, target_of, indirect, ends}
 use Rattle.att_operands.proofs.SpelledIsRead.{stands_at, leads, apart_from}
 use Rattle.att_operands.proofs.SpelledOperands.{token_is, mark_is, left_behind, address_reads}
-use Rattle.att_operands.proofs.SpelledValues.{value_leads, value_unopened, value_reads, ended_quiet, opened_quiet, ended_unopened}
+use Rattle.att_operands.proofs.SpelledValues.{value_leads, value_unopened, value_reads, begun_reads, ended_quiet, opened_quiet, ended_unopened}
 
 -- a parenthesis before what begins an address opens it
 address_opens : (tokens : List SpelledToken) (at : ℕ) (base : Base) (index : Index) (text behind : List SpelledToken) → WritesAddress base index text → drop at tokens ≡ text ++ behind
@@ -39,12 +40,12 @@ pub memory_reads : (tokens : List SpelledToken) (at : ℕ) (segment : Option Seg
     → drop at tokens ≡ text ++ behind → ends behind ≡ true → memory_at tokens segment at ≡ Ok (part operand (at + length text))
 unfolding memory_at displaced
 memory_reads tokens at segment _ text behind (displacement _ value _ writes) stands ended_here =
-    let reads = value_reads tokens at value text behind writes stands (ended_quiet behind ended_here) in
+    let reads = begun_reads tokens at value text behind writes stands (ended_quiet behind ended_here) in
     let unopened = value_unopened tokens at value text behind writes stands in
     let left : drop (at + length text) tokens ≡ drop (length text) (text ++ behind) = left_behind (length text) tokens (text ++ behind) at (at + length text) stands refl in
     let mark : mark_at tokens (at + length text) ≡ mark_at behind 0 = ap mark_by (stands_at 0 tokens behind (at + length text) (at + length text) (left ∙ behind_text text behind) (omega arith)) in
     let none : (mark_at tokens (at + length text) == 40) ≡ false = rw mark (ended_unopened behind ended_here) in
-    ap (λ (b : Bool). cond b (addressed segment no_displacement (address_at tokens (at + 1))) (displaced_by tokens segment (value_at tokens at))) unopened
+    ap (λ (b : Bool). cond b (addressed segment no_displacement (address_at tokens (at + 1))) (displaced_by tokens segment (begun_at tokens at))) unopened
     ∙ ap (displaced_by tokens segment) reads
     ∙ (rw none refl)
   where
@@ -58,13 +59,13 @@ memory_reads tokens at segment _ _ behind (address _ base index opening text ope
     let opens = address_opens tokens (at + 1) base index text behind writes left in
     let reads = address_reads tokens (at + 1) base index text behind writes left in
     let opened : opens_address tokens at ≡ true = rw (mark, opens) refl in
-    ap (λ (b : Bool). cond b (addressed segment no_displacement (address_at tokens (at + 1))) (displaced_by tokens segment (value_at tokens at))) opened
+    ap (λ (b : Bool). cond b (addressed segment no_displacement (address_at tokens (at + 1))) (displaced_by tokens segment (begun_at tokens at))) opened
     ∙ ap (addressed segment no_displacement) reads
     ∙ ap (λ (n : ℕ). Ok (part (memory (in_segment segment base index) no_displacement) n)) (omega arith)
 memory_reads tokens at segment _ all behind (both _ base index value opening before text _ writes opening_is addresses is) stands ended_here =
     let after = opening ∷ (text ++ behind) in
     let split : drop at tokens ≡ before ++ after = stands ∙ rw is (append_assoc before (opening ∷ text) behind) in
-    let reads = value_reads tokens at value before after writes split (opened_quiet opening (text ++ behind) opening_is) in
+    let reads = begun_reads tokens at value before after writes split (opened_quiet opening (text ++ behind) opening_is) in
     let unopened = value_unopened tokens at value before after writes split in
     let next : drop (at + length before) tokens ≡ after = left_behind (length before) tokens (before ++ after) at (at + length before) split refl ∙ behind_text before after in
     let here = token_is 0 tokens after (at + length before) (at + length before) opening next (omega arith) refl in
@@ -72,7 +73,7 @@ memory_reads tokens at segment _ all behind (both _ base index value opening bef
     let left : drop ((at + length before) + 1) tokens ≡ text ++ behind = left_behind 1 tokens after (at + length before) ((at + length before) + 1) next refl in
     let found = address_reads tokens ((at + length before) + 1) base index text behind addresses left in
     let lengths : ((at + length before) + 1) + length text ≡ at + length all = rw is (omega (arith, length-append before (opening ∷ text))) in
-    ap (λ (b : Bool). cond b (addressed segment no_displacement (address_at tokens (at + 1))) (displaced_by tokens segment (value_at tokens at))) unopened
+    ap (λ (b : Bool). cond b (addressed segment no_displacement (address_at tokens (at + 1))) (displaced_by tokens segment (begun_at tokens at))) unopened
     ∙ ap (displaced_by tokens segment) reads
     ∙ (rw mark (ap (addressed segment value) found ∙ ap (λ (n : ℕ). Ok (part (memory (in_segment segment base index) value) n)) lengths))
   where
@@ -132,7 +133,7 @@ place_front tokens at other operand _ behind (segmented segment _ sign word colo
 -- an operand that is spelled is found
 operand_found : (tokens : List SpelledToken) (at : ℕ) (branch : Bool) (operand : OperandText) (text behind : List SpelledToken) → SpellsOperand branch operand text → drop at tokens ≡ text ++ behind
     → ends behind ≡ true → operand_by branch tokens at ≡ Ok (part operand (at + length text))
-operand_found tokens at _ _ _ behind (immediate_of value sign rest sign_is writes) stands ended_here =
+operand_found tokens at _ _ _ behind (immediate_of branch value sign rest sign_is writes) stands ended_here =
     let g0 = token_is 0 tokens (sign ∷ (rest ++ behind)) at at sign stands (omega arith) refl in
     let m = mark_is tokens at 36 sign g0 sign_is in
     let left : drop (at + 1) tokens ≡ rest ++ behind = left_behind 1 tokens (sign ∷ (rest ++ behind)) at (at + 1) stands refl in
@@ -144,8 +145,13 @@ operand_found tokens at _ operand text behind (place _ _ spells) stands ended_he
 operand_found tokens at _ _ text behind (target_of value _ writes) stands ended_here =
     let here : mark_at tokens at ≡ mark_at (text ++ behind) 0 = ap mark_by (stands_at 0 tokens (text ++ behind) at at stands (omega arith)) in
     let none : (mark_at tokens at == 42) ≡ false = rw here (apart_from 42 (mark_at (text ++ behind) 0) refl (value_leads value text behind writes)) in
-    let reads = value_reads tokens at value text behind writes stands (ended_quiet behind ended_here) in
-    rw (none, reads) refl
+    let unsigned : (mark_at tokens at == 36) ≡ false = rw here (apart_from 36 (mark_at (text ++ behind) 0) refl (value_leads value text behind writes)) in
+    let unopened : opens_address tokens at ≡ false = value_unopened tokens at value text behind writes stands in
+    let reads = begun_reads tokens at value text behind writes stands (ended_quiet behind ended_here) in
+    ap (λ (b : Bool). cond b (immediate_by (value_at tokens (at + 1))) (other_by true tokens at)) unsigned
+    ∙ ap (λ (b : Bool). cond b (place_at tokens (at + 1)) (target_at tokens at)) none
+    ∙ ap (λ (b : Bool). cond b (Err BadOperand) (target_by (begun_at tokens at))) unopened
+    ∙ ap target_by reads
 operand_found tokens at _ operand _ behind (indirect _ star rest star_is spells) stands ended_here =
     let g0 = token_is 0 tokens (star ∷ (rest ++ behind)) at at star stands (omega arith) refl in
     let m = mark_is tokens at 42 star g0 star_is in

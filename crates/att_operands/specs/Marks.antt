@@ -27,7 +27,7 @@ ends_by (Some token) = mark_by (Some token) == 44
 abbrev pub ends_at : List SpelledToken → ℕ → Bool
 ends_at tokens at = ends_by (slice_get tokens at)
 
--- something stands there that is no `%`, no `$` and no comma
+-- something stands there that is no `%`, no `$`, no comma and no `*`
 unfoldable pub begins_by : Option SpelledToken → Bool
 begins_by None = false
-begins_by (Some token) = not (mark_by (Some token) == 37 || mark_by (Some token) == 36 || mark_by (Some token) == 44)
+begins_by (Some token) = not (mark_by (Some token) == 37 || mark_by (Some token) == 36 || mark_by (Some token) == 44 || mark_by (Some token) == 42)

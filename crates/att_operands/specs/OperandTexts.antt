@@ -17,7 +17,7 @@ use Rattle.att_operands.specs.declared.operands.ReadOperand.TheVariants.{Registe
 use Rattle.att_operands.specs.declared.operands.FoundOperand.{FoundOperand}
 use Rattle.att_operands.specs.Marks.{mark_at, ends_at}
 use Rattle.att_operands.specs.Addresses.{register_by, address_at}
-use Rattle.att_operands.specs.Values.{ValueText, ReadText, value_at, IsValueOf}
+use Rattle.att_operands.specs.Values.{ValueText, ReadText, value_at, begun_at, IsValueOf}
 
 -- an operand as its text
 pub data OperandText : Type 0 where
@@ -65,7 +65,7 @@ opens_address tokens at = if mark_at tokens at == 40 then mark_at tokens (at + 1
 -- the memory operand at this place
 unfoldable pub memory_at : List SpelledToken → Option Segment → ℕ → Result ReadPart OperandCause
 memory_at tokens segment at =
-    if opens_address tokens at then addressed segment no_displacement (address_at tokens (at + 1)) else displaced_by tokens segment (value_at tokens at)
+    if opens_address tokens at then addressed segment no_displacement (address_at tokens (at + 1)) else displaced_by tokens segment (begun_at tokens at)
 
 -- the operand that begins with a name behind a `%`: a register, or memory in a segment
 abbrev pub named_place : List SpelledToken → Option NamedRegister → ℕ → Result ReadPart OperandCause
@@ -89,10 +89,18 @@ abbrev pub target_by : Result ReadText OperandCause → Result ReadPart OperandC
 target_by (Ok found) = Ok (part (target found.text) found.next)
 target_by (Err fault) = Err fault
 
+-- the branch target at this place, where an address alone is none
+abbrev pub target_at : List SpelledToken → ℕ → Result ReadPart OperandCause
+target_at tokens at = if opens_address tokens at then Err BadOperand else target_by (begun_at tokens at)
+
+-- the operand at this place that is no immediate, of a branch or of another instruction
+abbrev pub other_by : Bool → List SpelledToken → ℕ → Result ReadPart OperandCause
+other_by true tokens at = if mark_at tokens at == 42 then place_at tokens (at + 1) else target_at tokens at
+other_by false tokens at = place_at tokens at
+
 -- the operand at this place, of a branch or of another instruction
 abbrev pub operand_by : Bool → List SpelledToken → ℕ → Result ReadPart OperandCause
-operand_by true tokens at = if mark_at tokens at == 42 then place_at tokens (at + 1) else target_by (value_at tokens at)
-operand_by false tokens at = if mark_at tokens at == 36 then immediate_by (value_at tokens (at + 1)) else place_at tokens at
+operand_by branch tokens at = if mark_at tokens at == 36 then immediate_by (value_at tokens (at + 1)) else other_by branch tokens at
 
 -- an operand behind which nothing but a comma stands
 abbrev pub ended : List SpelledToken → Result ReadPart OperandCause → Result ReadPart OperandCause

@@ -80,7 +80,8 @@ pub data SpellsPlace : (operand : OperandText) (text : List SpelledToken) → Ty
 -- The text spells an operand, of a branch or of another instruction.
 pub data SpellsOperand : (branch : Bool) (operand : OperandText) (text : List SpelledToken) → Type 0 where
   -- `$` and a value
-  immediate_of : (value : ValueText) (sign : SpelledToken) (text : List SpelledToken) → IsMark 36 sign → WritesValue value text → SpellsOperand false (immediate value) (sign ∷ text)
+  immediate_of : (branch : Bool) (value : ValueText) (sign : SpelledToken) (text : List SpelledToken) → IsMark 36 sign → WritesValue value text
+      → SpellsOperand branch (immediate value) (sign ∷ text)
   -- a register or memory
   place : (operand : OperandText) (text : List SpelledToken) → SpellsPlace operand text → SpellsOperand false operand text
   -- a value as the target of a branch

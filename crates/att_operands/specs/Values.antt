@@ -103,9 +103,13 @@ abbrev pub value_with : List SpelledToken → ℕ → Option Suffix → Result R
 value_with tokens at None = as_value None 0 (reading_of tokens at)
 value_with tokens at (Some suffix) = as_value (Some suffix) 2 (reading_of (without_suffix tokens at) at)
 
--- the value at this place
+-- the value at this place, where an expression is due
 unfoldable pub value_at : List SpelledToken → ℕ → Result ReadText OperandCause
-value_at tokens at = if begins_by (slice_get tokens at) then value_with tokens at (suffix_at tokens at) else Err BadOperand
+value_at tokens at = value_with tokens at (suffix_at tokens at)
+
+-- the value at this place, where a mark of another operand may stand, which begins no value
+unfoldable pub begun_at : List SpelledToken → ℕ → Result ReadText OperandCause
+begun_at tokens at = if begins_by (slice_get tokens at) then value_at tokens at else Err BadOperand
 
 -- the value has this text
 pub record IsValueOf (held : Value) (text : ValueText) : Type 0 where

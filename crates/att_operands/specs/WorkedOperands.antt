@@ -42,6 +42,7 @@ pub record WorkedOperands : Type 0 where
   pub got : Begins false (codes "x@gotpcrel+4(%rip)") (memory (in_segment None base.Rip index.Absent) (valued (binary Add (name (Plain (codes "x"))) (number 4)) (Some GotPcRel))) 9
   pub called : Begins true (codes "f@PLT") (target (valued (name (Plain (codes "f"))) (Some Plt))) 3
   pub indirect : Begins true (codes "*%rax") (register (record { class = class.Quad; number = 0 })) 3
+  pub immediate_of_branch : Begins true (codes "$5") (immediate (valued (number 5) None)) 2
   pub stack_index : Refuses false (codes "(%rax,%rsp)") BadOperand
   pub rip_index : Refuses false (codes "(%rip,%rax)") BadOperand
   pub short_base : Refuses false (codes "(%eax)") BadOperand
@@ -49,4 +50,9 @@ pub record WorkedOperands : Type 0 where
   pub lone_two : Refuses false (codes "(,2)") BadOperand
   pub unknown_suffix : Refuses false (codes "x@BAR") BadOperand
   pub unstarred : Refuses true (codes "%rax") BadOperand
+  pub unstarred_memory : Refuses true (codes "(%rax)") BadOperand
+  pub starred : Refuses false (codes "*%rax, %rbx") BadOperand
+  pub empty : Refuses false (codes ", %eax") BadOperand
+  pub due : Refuses false (codes "$, %eax") BadExpression
+  pub due_at_end : Refuses false (codes "$") BadExpression
   pub unclosed : Refuses false (codes "$(1") BadExpression

@@ -56,7 +56,7 @@ pub(crate) fn ends_at(tokens: &[Token], at: usize) -> bool
     }
 }
 
-/// Whether something stands at this place that is no `%`, no `$` and no comma.
+/// Whether something stands at this place that is no `%`, no `$`, no comma and no `*`.
 #[inline(always)]
 #[tactic(auto, unfolding(crate::specs::Marks::begins_by))]
 pub(crate) fn begins_value(tokens: &[Token], at: usize) -> bool
@@ -66,7 +66,7 @@ pub(crate) fn begins_value(tokens: &[Token], at: usize) -> bool
     match token_at(tokens, at) {
         Some(token) => {
             let mark = mark_of(token);
-            !(mark == b'%' || mark == b'$' || mark == b',')
+            !(mark == b'%' || mark == b'$' || mark == b',' || mark == b'*')
         }
         None => false,
     }

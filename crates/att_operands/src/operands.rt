@@ -5,16 +5,16 @@ ghost use Rattle.asm_base.specs.declared.refusals.Refusal.TheVariants.{Fault};
 ghost use Rattle.att_operands.specs.declared.faults.OperandCause.TheVariants.{BadOperand};
 ghost use Rattle.att_operands.specs.declared.registers.NamedRegister.TheVariants as named;
 ghost use Rattle.asm_base.specs.Tokens.{spelled};
-ghost use Rattle.att_operands.specs.Values.{GivesSo, ValueText, ReadText, IsValueOf, value_at};
+ghost use Rattle.att_operands.specs.Values.{GivesSo, ValueText, ReadText, IsValueOf, value_at, begun_at};
 ghost use Rattle.att_operands.specs.Amounts.{IsValueRead};
 ghost use Rattle.att_operands.specs.Addresses.{address_at};
-ghost use Rattle.att_operands.specs.OperandTexts.{no_displacement, addressed, displaced, opens_address, memory_at, named_place, place_at, immediate_by, target_by, operand_by, operand_at, IsPartRead};
+ghost use Rattle.att_operands.specs.OperandTexts.{no_displacement, addressed, displaced, opens_address, memory_at, named_place, place_at, immediate_by, target_at, operand_by, operand_at, IsPartRead};
 
 use crate::addresses::{address_at, register_by};
 use crate::faults::{OperandCause, OperandFault};
 use crate::marks::{ends_at, mark_at};
 use crate::registers::NamedRegister;
-use crate::values::{ReadValue, value_at};
+use crate::values::{ReadValue, begun_at, value_at};
 use asm_base::Token;
 use std::alloc::Global;
 use x86_insn::{Address, Amount, Base, Index, Reg, Segment, Value};
@@ -140,7 +140,7 @@ fn memory_at<'a>(
     if opens_address(tokens, at) {
         return addressed(tokens, segment, no_displacement(), at + 1);
     }
-    match value_at(alloc, tokens, at) {
+    match begun_at(alloc, tokens, at) {
         Ok(ReadValue { value, next }) => displaced(tokens, segment, value, next),
         Err(refusal) => Err(refusal),
     }
@@ -219,10 +219,13 @@ fn target_at<'a>(
     tokens: &[Token<'a>],
     at: usize,
 ) -> Result<FoundOperand<'a>, OperandFault>
-    ensures value { GivesSo IsPartRead result (target_by (value_at (map spelled tokens.now) at)) }
+    ensures value { GivesSo IsPartRead result (target_at (map spelled tokens.now) at) }
     ensures within { IfOk result (λ found. found.next ≤ length tokens.now) }
 {
-    match value_at(alloc, tokens, at) {
+    if opens_address(tokens, at) {
+        return refused();
+    }
+    match begun_at(alloc, tokens, at) {
         Ok(ReadValue { value, next }) => Ok(FoundOperand {
             operand: ReadOperand::Target(value),
             next,
@@ -243,16 +246,16 @@ fn operand_by<'a>(
     ensures within { IfOk result (λ found. found.next ≤ length tokens.now) }
 {
     let mark = mark_at(tokens, at);
-    if is_branch {
-        if mark == b'*' {
-            place_at(alloc, tokens, at + 1)
-        } else {
-            target_at(alloc, tokens, at)
-        }
-    } else if mark == b'$' {
-        immediate_at(alloc, tokens, at + 1)
+    if mark == b'$' {
+        return immediate_at(alloc, tokens, at + 1);
+    }
+    if !is_branch {
+        return place_at(alloc, tokens, at);
+    }
+    if mark == b'*' {
+        place_at(alloc, tokens, at + 1)
     } else {
-        place_at(alloc, tokens, at)
+        target_at(alloc, tokens, at)
     }
 }
 

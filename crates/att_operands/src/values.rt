@@ -6,7 +6,7 @@ ghost use Rattle.asm_base.specs.Tokens.{SpelledToken, spelled};
 ghost use Rattle.asm_expr.specs.Forms.{signed};
 ghost use Rattle.asm_expr.specs.Found.{spelled_from};
 ghost use Rattle.asm_expr.specs.Grammar.{operator_follows};
-ghost use Rattle.att_operands.specs.Values.{GivesSo, suffix_of, suffix_by, suffix_at, names_by, without_suffix, value_with, value_at};
+ghost use Rattle.att_operands.specs.Values.{GivesSo, suffix_of, suffix_by, suffix_at, names_by, without_suffix, value_with, value_at, begun_at};
 ghost use Rattle.att_operands.specs.Amounts.{FindsAmount, FindsRead, GivesAmount, IsValueRead};
 
 use crate::faults::{OperandCause, OperandFault};
@@ -384,9 +384,25 @@ fn value_with<'a>(
     }
 }
 
-/// The value at this place.
+/// The value at this place, where some token stands.
 #[inline(always)]
 #[tactic(auto, unfolding(crate::specs::Values::value_at))]
+fn value_from<'a>(
+    alloc: Global,
+    tokens: &[Token<'a>],
+    at: usize,
+) -> Result<ReadValue<'a>, OperandFault>
+    requires { at < length tokens.now }
+    ensures value { GivesSo IsValueRead result (value_at (map spelled tokens.now) at) }
+    ensures within { IfOk result (λ found. found.next ≤ length tokens.now) }
+{
+    let suffix = suffix_at(tokens, at);
+    value_with(alloc, tokens, at, suffix)
+}
+
+/// The value at this place, where an expression is due.
+#[inline(always)]
+#[tactic(auto, using(crate::proofs::FrontReadings::nothing_due))]
 pub(crate) fn value_at<'a>(
     alloc: Global,
     tokens: &[Token<'a>],
@@ -395,9 +411,26 @@ pub(crate) fn value_at<'a>(
     ensures value { GivesSo IsValueRead result (value_at (map spelled tokens.now) at) }
     ensures within { IfOk result (λ found. found.next ≤ length tokens.now) }
 {
+    if at < tokens.len() {
+        value_from(alloc, tokens, at)
+    } else {
+        Err(OperandFault::Fault(OperandCause::BadExpression))
+    }
+}
+
+/// The value at this place, where a mark of another operand may stand, which begins no value.
+#[inline(always)]
+#[tactic(auto, unfolding(crate::specs::Values::begun_at))]
+pub(crate) fn begun_at<'a>(
+    alloc: Global,
+    tokens: &[Token<'a>],
+    at: usize,
+) -> Result<ReadValue<'a>, OperandFault>
+    ensures value { GivesSo IsValueRead result (begun_at (map spelled tokens.now) at) }
+    ensures within { IfOk result (λ found. found.next ≤ length tokens.now) }
+{
     if begins_value(tokens, at) {
-        let suffix = suffix_at(tokens, at);
-        value_with(alloc, tokens, at, suffix)
+        value_from(alloc, tokens, at)
     } else {
         Err(OperandFault::Fault(OperandCause::BadOperand))
     }
