@@ -17,12 +17,12 @@ use Rattle.asm_expr.specs.Reading.{ReadTree, read, reading, reading_of}
 use Rattle.asm_expr.specs.Grammar.{operator_follows}
 use Rattle.asm_expr.specs.Found.{spelled_from, front_of}
 use Rattle.asm_operands.specs.declared.constants.FrontConstant.{FrontConstant}
-use Rattle.asm_operands.specs.Constants.{IsFront}
+use Rattle.asm_operands.specs.Constants.{IsConstant, IsFront}
 use Rattle.x86_insn.specs.declared.amounts.Amount.{Amount}
 use Rattle.x86_insn.specs.declared.amounts.Amount.TheVariants as amount
 use Rattle.att_operands.specs.declared.faults.OperandCause.{OperandCause}
 use Rattle.att_operands.specs.declared.values.ReadAmount.{ReadAmount}
-use Rattle.att_operands.specs.Values.{GivesSo, CountAlike, IsAmountOf, stated}
+use Rattle.att_operands.specs.Values.{GivesSo, CountAlike, IsLike, IsAmountOf, stated}
 use Rattle.att_operands.specs.Amounts.{IsAmountRead, in_operand, GivesAmount}
 use Rattle.att_operands.proofs.FrontReadings.{placed_reads, placed_fails, slice_reads, left_at}
 
@@ -37,10 +37,13 @@ pub sum_is : (tokens : List Token) (at next : ℕ) (tree : Tree) (held : Amount)
     → (let found : Result ReadAmount (Refusal ExprCause) = Ok (record { amount = held; next = next }) in GivesSo IsAmountRead found (reading_of (map spelled tokens) at))
 sum_is tokens at next tree held order within is none of = amount_is (map spelled tokens) at next tree held (slice_reads tokens at next tree order within is none) of
 
--- a number counts as the number
 constant_alike : (value : ℕ) (tree : Tree) → ((known : Knowledge) → linear known tree ≡ Ok (constant_form value)) → CountAlike (number value) tree
 unfolding linear
 constant_alike value tree counts known fits = sym (counts known)
+
+-- a tree without names that counts a number is like the number
+constant_like : (tokens : List SpelledToken) (value : ℕ) (is : IsConstant tokens value) → IsLike (number value) is.tree
+constant_like tokens value is = record { counts = constant_alike value is.tree is.counts; names = sym is.names }
 
 -- the amount of numbers alone
 constant_at : (tokens : List Token) (at : ℕ) (found : FrontConstant) → at ≤ length tokens → IsFront (map spelled (drop at tokens)) found
@@ -52,7 +55,7 @@ constant_at tokens at found order is none =
     let within : at + found.length ≤ length tokens = omega (arith, length-map (drop at tokens) spelled, length-drop at tokens) in
     let reads : reading 1 0 (map spelled (take ((at + found.length) - at) (drop at tokens))) ≡ Ok (read is.one.tree []) =
     ap (λ (n : ℕ). reading 1 0 (map spelled (take n (drop at tokens)))) count ∙ ap (reading 1 0) (sym (take-map spelled found.length (drop at tokens))) ∙ is.one.reads in
-    sum_is tokens at (at + found.length) is.one.tree (amount.Number found.value) (omega arith) within reads none (constant_alike found.value is.one.tree is.one.counts)
+    sum_is tokens at (at + found.length) is.one.tree (amount.Number found.value) (omega arith) within reads none (constant_like (take found.length (map spelled (drop at tokens))) found.value is.one)
 
 pub constant_is : (tokens : List Token) (at : ℕ) (found : FrontConstant) → at < length tokens → IsFront (map spelled (take (length tokens - at) (drop at tokens))) found
     → operator_follows (spelled_from tokens (at + found.length)) ≡ false

@@ -95,4 +95,4 @@ negative_is tokens at value turned e within minus is none turns =
     let both = negative_reads (spelled (get_or tokens at e)) (spelled (get_or tokens (at + 1) e)) is.one.tree sign is.one.reads in
     let reads = ap (λ (ts : List Token). reading 1 0 (map spelled ts)) (two_tokens tokens at e e within) ∙ both in
     sum_is tokens at (at + 2) (unary Minus is.one.tree) (amount.Number turned) (omega arith) within reads none
-    (negative_counts is.one.tree value turned (omega (arith, turns)) is.one.counts)
+    (record { counts = negative_counts is.one.tree value turned (omega (arith, turns)) is.one.counts; names = sym is.one.names })

@@ -12,6 +12,7 @@ use Rattle.asm_expr.specs.Trees.{Tree, number, tree_of}
 use Rattle.asm_expr.specs.Forms.{Form}
 use Rattle.asm_expr.specs.Knowledge.{constant, form, Knowledge}
 use Rattle.asm_expr.specs.Linear.{linear}
+use Rattle.asm_expr.specs.NamesOf.{names_of}
 use Rattle.asm_expr.specs.Reading.{ReadTree, reading_of}
 use Rattle.x86_insn.specs.declared.amounts.Amount.{Amount}
 use Rattle.x86_insn.specs.declared.amounts.Amount.TheVariants as amount
@@ -44,10 +45,15 @@ pub record KnowsFitting (known : Knowledge) : Type 0 where
 abbrev pub CountAlike : Tree → Tree → Type 0
 CountAlike one other = (known : Knowledge) → KnowsFitting known → linear known one ≡ linear known other
 
--- the amount is that of the tree: the number or the sum that it counts whatever is known, or the tree itself
+-- the trees count the same, and have the same names in the same order
+pub record IsLike (one other : Tree) : Type 0 where
+  pub counts : CountAlike one other
+  pub names : names_of one ≡ names_of other
+
+-- the amount is that of the tree: the number or the sum that it counts whatever is known, if it has no other names, or the tree itself
 abbrev pub IsAmountOf : Amount → Tree → Type 0
-IsAmountOf (amount.Number value) tree = CountAlike (number value) tree
-IsAmountOf (amount.Name bytes more) tree = CountAlike (named_tree bytes.now more) tree
+IsAmountOf (amount.Number value) tree = IsLike (number value) tree
+IsAmountOf (amount.Name bytes more) tree = IsLike (named_tree bytes.now more) tree
 IsAmountOf (amount.Tree boxed) tree = tree_of boxed.value ≡ tree
 
 -- the suffix that a word is, in either case
