@@ -4,10 +4,11 @@ use Rattle.std.specs.Str.{bytes_eq, str_eq_ignore_ascii_case}
 use Rattle.asm_base.specs.declared.refusals.Refusal.{Refusal}
 use Rattle.asm_base.specs.Refusals.{Fails}
 use Rattle.asm_base.specs.declared.tokens.TokenKind.{TokenKind}
-use Rattle.asm_base.specs.declared.tokens.TokenKind.TheVariants.{Name, String}
+use Rattle.asm_base.specs.declared.tokens.TokenKind.TheVariants.{Name, String, Digits}
 use Rattle.asm_base.specs.Tokens.{SpelledToken}
 use Rattle.asm_expr.specs.declared.faults.ExprCause.{ExprCause}
 use Rattle.asm_expr.specs.declared.faults.ExprCause.TheVariants as cause
+use Rattle.asm_expr.specs.Leaves.{is_numeric_label}
 use Rattle.asm_expr.specs.Trees.{Tree, number, tree_of}
 use Rattle.asm_expr.specs.Forms.{Form}
 use Rattle.asm_expr.specs.Knowledge.{constant, form, Knowledge}
@@ -69,10 +70,11 @@ unfoldable pub suffix_by : Option SpelledToken → Option Suffix
 suffix_by None = None
 suffix_by (Some token) = suffix_of token.bytes
 
--- the word or the string is a name; the place is none
+-- a word, a string and a numeric label are names; the place is none
 abbrev pub is_name : TokenKind → List ℕ → Bool
 is_name Name bytes = not (bytes_eq bytes (codes "."))
 is_name String bytes = true
+is_name Digits bytes = is_numeric_label bytes
 is_name _ bytes = false
 
 -- the token is a name

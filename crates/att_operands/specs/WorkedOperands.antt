@@ -1,7 +1,7 @@
 -- Operands as they are read from the bytes of statements, worked out by hand (GNU as manual, "Memory References").
 use Rattle.std.specs.Prelude.{◌≡◌, ℕ, Bool, true, false, List, Option, Some, None, Ok, Err, codes}
 use Rattle.asm_base.specs.Tokens.{tokens_of}
-use Rattle.asm_expr.specs.declared.trees.Written.TheVariants.{Plain}
+use Rattle.asm_expr.specs.declared.trees.Written.TheVariants.{Plain, Next}
 use Rattle.asm_expr.specs.declared.trees.UnaryOp.TheVariants.{Minus}
 use Rattle.asm_expr.specs.declared.trees.BinaryOp.TheVariants.{Add}
 use Rattle.asm_expr.specs.Trees.{Tree, number, name, unary, binary}
@@ -41,6 +41,7 @@ pub record WorkedOperands : Type 0 where
   pub segmented : Begins false (codes "%fs:40, %rax") (memory (in_segment (Some segment.Fs) base.Absent index.Absent) (valued (number 40) None)) 4
   pub got : Begins false (codes "x@gotpcrel+4(%rip)") (memory (in_segment None base.Rip index.Absent) (valued (binary Add (name (Plain (codes "x"))) (number 4)) (Some GotPcRel))) 9
   pub called : Begins true (codes "f@PLT") (target (valued (name (Plain (codes "f"))) (Some Plt))) 3
+  pub called_ahead : Begins true (codes "1f@plt") (target (valued (name (Next 1)) (Some Plt))) 3
   pub indirect : Begins true (codes "*%rax") (register (record { class = class.Quad; number = 0 })) 3
   pub immediate_of_branch : Begins true (codes "$5") (immediate (valued (number 5) None)) 2
   pub stack_index : Refuses false (codes "(%rax,%rsp)") BadOperand
@@ -49,6 +50,9 @@ pub record WorkedOperands : Type 0 where
   pub third : Refuses false (codes "(%rax,%rbx,3)") BadOperand
   pub lone_two : Refuses false (codes "(,2)") BadOperand
   pub unknown_suffix : Refuses false (codes "x@BAR") BadOperand
+  pub numbered : Refuses false (codes "0x1f@PLT") BadOperand
+  pub late_suffix : Refuses false (codes "4+x@PLT") BadOperand
+  pub inner_suffix : Refuses false (codes "$(x@PLT)") BadExpression
   pub unstarred : Refuses true (codes "%rax") BadOperand
   pub unstarred_memory : Refuses true (codes "(%rax)") BadOperand
   pub starred : Refuses false (codes "*%rax, %rbx") BadOperand

@@ -6,13 +6,14 @@ ghost use Rattle.asm_base.specs.Tokens.{SpelledToken, spelled};
 ghost use Rattle.asm_expr.specs.Forms.{signed};
 ghost use Rattle.asm_expr.specs.Found.{spelled_from};
 ghost use Rattle.asm_expr.specs.Grammar.{operator_follows};
+ghost use Rattle.asm_expr.specs.Leaves.{is_numeric_label};
 ghost use Rattle.att_operands.specs.Values.{GivesSo, suffix_of, suffix_by, suffix_at, names_by, without_suffix, value_with, value_at, begun_at};
 ghost use Rattle.att_operands.specs.Amounts.{FindsAmount, FindsRead, GivesAmount, IsValueRead};
 
 use crate::faults::{OperandCause, OperandFault};
 use crate::marks::{begins_value, mark_at, token_at};
 use asm_base::{Token, TokenKind};
-use asm_expr::parse_front;
+use asm_expr::{all_digits, parse_front};
 use asm_operands::{Addend, Sum, Summand, front_constant, single_constant, sum_operand};
 use std::alloc::Global;
 use x86_insn::{Amount, Suffix, Value};
@@ -230,6 +231,18 @@ fn suffix_by(tokens: &[Token], at: usize) -> Option<Suffix>
     }
 }
 
+/// Whether the digits are a numeric label: decimal, with a `b` or an `f` behind them.
+#[inline(never)]
+fn is_numeric_label(digits: &[u8]) -> bool
+    ensures { result ≡ is_numeric_label digits.now }
+{
+    if digits.is_empty() {
+        return false;
+    }
+    let end = digits.len() - 1;
+    (digits[end] == b'b' || digits[end] == b'f') && all_digits(10, &digits[..end])
+}
+
 /// Whether the token at this place is a name.
 #[inline(always)]
 #[tactic(auto, unfolding(crate::specs::Values::names_by))]
@@ -240,6 +253,7 @@ fn names_at(tokens: &[Token], at: usize) -> bool
         Some(token) => match token.kind {
             TokenKind::Name => token.bytes != b".".as_slice(),
             TokenKind::String => true,
+            TokenKind::Digits => is_numeric_label(token.bytes),
             _ => false,
         },
         None => false,
