@@ -10,5 +10,7 @@ pub mod SpelledWhole
 pub mod ReadAddresses
 pub mod ReadValues
 pub mod ReadOperands
+pub mod RefusedFails
+pub mod FailsRefused
 pub mod WorkedTexts
 pub mod NegativeNumbers

@@ -7,5 +7,6 @@ pub mod Values
 pub mod Amounts
 pub mod OperandTexts
 pub mod Spells
+pub mod Failing
 pub mod WorkedOperands
 pub mod Prefixes

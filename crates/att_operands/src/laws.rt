@@ -4,6 +4,8 @@ ghost use Rattle.std.specs.Prelude.{◌≡◌, ℕ, ◌++◌, Bool, true, List, 
 ghost use Rattle.asm_base.specs.Tokens.{SpelledToken};
 ghost use Rattle.att_operands.specs.OperandTexts.{OperandText, ReadPart, operand_at};
 ghost use Rattle.att_operands.specs.Spells.{SpellsOperand, ends, IsReadWhole, IsSpelledIn};
+ghost use Rattle.att_operands.specs.Failing.{HasFaultExactly};
+ghost use Rattle.att_operands.specs.declared.faults.OperandCause.{OperandCause};
 ghost use Rattle.att_operands.specs.WorkedOperands.{WorkedOperands};
 
 /// A text of an operand is read as that operand, whatever stands before it, where a comma or
@@ -28,6 +30,14 @@ pub fn read_is_spelled()
 pub fn one_operand()
     ensures { (branch : Bool) (one other : OperandText) (text : List SpelledToken)
         → SpellsOperand branch one text → SpellsOperand branch other text → one ≡ other }
+{}
+
+/// An operand is refused exactly for the fault that it has: that of its expression where that fails,
+/// and else a bad operand where nothing is spelled.
+#[tactic(auto, using(crate::proofs::FailsRefused::has_fault_exactly))]
+pub fn faults_of_an_operand()
+    ensures { (branch : Bool) (tokens : List SpelledToken) (at : ℕ) (cause : OperandCause)
+        → HasFaultExactly branch tokens at cause }
 {}
 
 /// Operands in the bytes of statements, and what they are read as, worked out by hand.

@@ -13,7 +13,9 @@ mod registers;
 mod values;
 
 pub use faults::{OperandCause, OperandFault};
-pub use laws::{one_operand, read_is_spelled, spelled_is_read, worked_operands};
+pub use laws::{
+    faults_of_an_operand, one_operand, read_is_spelled, spelled_is_read, worked_operands,
+};
 pub use operands::{FoundOperand, ReadOperand, read_operand};
 pub use prefixes::prefix_named;
 pub use registers::{NamedRegister, register_named};
