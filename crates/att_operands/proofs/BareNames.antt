@@ -2,6 +2,7 @@
 use Rattle.std.proofs.Common.{◌≡◌, ℕ, ◌+◌, ◌^◌, ◌<◌, ◌==◌, Bool, true, false, cond, List, [], ◌∷◌, ◌++◌, map, Option, Some, None, is_none, Result, Ok, refl, sym, ap, subst, ◌∙◌, arith, append_assoc}
 use Rattle.std.proofs.lemmas.Bool.{eqb-true}
 use Rattle.std.proofs.lemmas.List.Sums.{sum_by-cons}
+use Rattle.std.proofs.lemmas.List.{append-nil}
 use Rattle.std.specs.List.{list_all}
 use Rattle.asm_expr.specs.declared.faults.ExprCause.{ExprCause}
 use Rattle.asm_expr.specs.declared.forms.Term.{Term}
@@ -41,13 +42,9 @@ put_kept : (made : Form) (term : Term) (number : Option ℕ) (rest : List Term) 
 put_kept made term None rest = append_assoc made.terms (term ∷ []) rest
 put_kept made term (Some number) rest = refl
 
-no_more : (terms : List Term) → terms ≡ terms ++ []
-no_more [] = refl
-no_more (term ∷ terms) = ap (λ (ts : List Term). term ∷ ts) (no_more terms)
-
 put_terms : (all : List Term) (told : ℕ → Told) (made : Form) (terms : List Term) → (put_all (map (spot_of told) all) told made terms).terms ≡ made.terms ++ kept told all terms
 unfolding put_all
-put_terms all told made [] = no_more made.terms
+put_terms all told made [] = sym (append-nil made.terms)
 put_terms all told made (term ∷ terms) =
     put_terms all told (put_one made term (number_for told all term)) terms
     ∙ put_kept made term (number_for told all term) (kept told all terms)

@@ -1,6 +1,7 @@
 -- The reading of an expression at a place, by the text that stands there.
 use Rattle.std.proofs.Common.{◌≡◌, ℕ, zero, suc, ◌+◌, ◌-◌, ◌≤◌, false, List, [], ◌∷◌, ◌++◌, None, Ok, Err, length, map, drop, take, slice_get, refl, sym, ap, subst, ◌∙◌, arith, length-drop}
-use Rattle.std.proofs.lemmas.List.{drop-map, take-append-drop, map-append, length-map, take_all}
+use Rattle.std.proofs.lemmas.List.{drop-map, take-append-drop, map-append, length-map, take_all, append-nil}
+use Rattle.std.proofs.Math.ListN.{drop_of_length-le}
 use Rattle.asm_base.specs.declared.tokens.Token.{Token}
 use Rattle.asm_base.specs.Tokens.{SpelledToken, spelled}
 use Rattle.asm_base.specs.Refusals.{◌>>=◌}
@@ -24,15 +25,11 @@ text_reads tree text behind is none =
     let quiet = in_one behind none in
     written_reads 64 tree 1 text is.writes 1 0 behind (omega arith) (omega arith) is.low (in_higher 1 2 behind (omega arith) quiet) ∙ stops 1 0 tree behind (sym quiet)
 
-no_more : (text : List SpelledToken) → text ++ [] ≡ text
-no_more [] = refl
-no_more (token ∷ text) = ap (λ (ts : List SpelledToken). token ∷ ts) (no_more text)
-
 -- tokens that are read to their end are a text
 pub whole_is_text : (tree : Tree) (text : List SpelledToken) → reading 1 0 text ≡ Ok (read tree []) → IsTextOf tree text
 whole_is_text tree text is =
     let e = at_spells (length text) 1 0 text (read tree []) (omega arith) (omega arith) (omega arith) is in
-    subst (IsTextOf tree) (sym (e.spells.stands ∙ no_more e.spells.text)) (record { writes = e.spells.writes; low = e.spells.low })
+    subst (IsTextOf tree) (sym (e.spells.stands ∙ append-nil e.spells.text)) (record { writes = e.spells.writes; low = e.spells.low })
 
 -- what is read from a place on is read at the place
 pub placed_reads : (tokens : List SpelledToken) (at next : ℕ) (tree : Tree) (rest : List SpelledToken) → reading 1 0 (drop at tokens) ≡ Ok (read tree rest)
@@ -52,12 +49,6 @@ none_there [] at within = refl
 none_there (token ∷ tokens) zero within = absurd (omega arith)
 none_there (token ∷ tokens) (suc at) within = none_there tokens at (omega arith)
 
-all_dropped : (tokens : List SpelledToken) (at : ℕ) → length tokens ≤ at → drop at tokens ≡ []
-all_dropped [] zero within = refl
-all_dropped [] (suc at) within = refl
-all_dropped (token ∷ tokens) zero within = absurd (omega arith)
-all_dropped (token ∷ tokens) (suc at) within = all_dropped tokens at (omega arith)
-
 nothing_reads : reading 1 0 [] ≡ Err cause.BadExpression
 unfolding reading read_at
 nothing_reads = refl
@@ -73,7 +64,7 @@ nothing_due tokens at within =
     let all = map spelled tokens in
     let behind : length all ≤ at = omega (arith, length-map tokens spelled) in
     ap (value_with all at) (unsuffixed all at behind)
-    ∙ ap (as_value None 0) (placed_fails all at cause.BadExpression (ap (reading 1 0) (all_dropped all at behind) ∙ nothing_reads))
+    ∙ ap (as_value None 0) (placed_fails all at cause.BadExpression (ap (reading 1 0) (drop_of_length-le all behind) ∙ nothing_reads))
 
 -- what is left of what is left
 none_left : {A : Type 0} (n : ℕ) → (let none : List A = [] in drop n none ≡ none)

@@ -1,5 +1,6 @@
 -- A value that is read is written.
 use Rattle.std.proofs.Common.{◌≡◌, ℕ, suc, ◌+◌, ◌<◌, ◌==◌, Bool, true, false, cond, List, [], ◌∷◌, ◌++◌, Option, Some, None, Result, Ok, Err, length, drop, take, slice_get, refl, sym, ap, subst, ◌∙◌, arith, length-drop}
+use Rattle.std.proofs.Math.Seq.{drop-append_seam}
 use Rattle.asm_base.specs.Tokens.{SpelledToken}
 use Rattle.asm_expr.specs.declared.faults.ExprCause.{ExprCause}
 use Rattle.asm_expr.specs.Trees.{Tree}
@@ -24,10 +25,6 @@ pub record ValueRead (tokens : List SpelledToken) (at : ℕ) (found : ReadText) 
   pub stands : drop at tokens ≡ text ++ drop (at + length text) tokens
   pub next : found.next ≡ at + length text
 
-behind_text : (text behind : List SpelledToken) → drop (length text) (text ++ behind) ≡ behind
-behind_text [] behind = refl
-behind_text (token ∷ text) behind = behind_text text behind
-
 read_as : Option Suffix → Tree → ℕ → ReadText
 read_as suffix tree next = record { text = record { tree = tree; suffix = suffix }; next = next }
 
@@ -40,7 +37,7 @@ unfolding read_as
 plain_read tokens at found (Err fault) reads is = cc
 plain_read tokens at found (Ok tree) reads is =
     let in_tokens = read_is_text tokens at tree reads in
-    let left : drop (at + length in_tokens.text) tokens ≡ in_tokens.behind = left_behind (length in_tokens.text) tokens (in_tokens.text ++ in_tokens.behind) at (at + length in_tokens.text) in_tokens.stands refl ∙ behind_text in_tokens.text in_tokens.behind in
+    let left : drop (at + length in_tokens.text) tokens ≡ in_tokens.behind = left_behind (length in_tokens.text) tokens (in_tokens.text ++ in_tokens.behind) at (at + length in_tokens.text) in_tokens.stands refl ∙ drop-append_seam in_tokens.text in_tokens.behind in
     let same : read_as None tree.tree (tree.next + 0) ≡ found = ok_is is in
     subst (ValueRead tokens at) same (record {
       text = in_tokens.text;
@@ -75,7 +72,7 @@ suffixed_read tokens at found suffix name word mark (Ok tree) here named there w
     let in_tokens = read_is_text (without_suffix tokens at) at tree reads in
     let parts = begun name (drop (at + 3) tokens) in_tokens.text in_tokens.behind (text_some 64 tree.tree 1 in_tokens.text in_tokens.is_text.writes) (sym all ∙ in_tokens.stands) in
     let left : drop ((at + 3) + length parts.more) tokens ≡ in_tokens.behind =
-    left_behind (length parts.more) tokens (parts.more ++ in_tokens.behind) (at + 3) ((at + 3) + length parts.more) parts.left refl ∙ behind_text parts.more in_tokens.behind in
+    left_behind (length parts.more) tokens (parts.more ++ in_tokens.behind) (at + 3) ((at + 3) + length parts.more) parts.left refl ∙ drop-append_seam parts.more in_tokens.behind in
     let same : read_as (Some suffix) tree.tree (tree.next + 2) ≡ found = ok_is is in
     let end : (at + 3) + length parts.more ≡ at + length (name ∷ mark.token ∷ word ∷ parts.more) = omega arith in
     let count : length in_tokens.text ≡ suc (length parts.more) = ap length parts.is in

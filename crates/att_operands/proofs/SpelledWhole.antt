@@ -1,5 +1,7 @@
 -- Memory, registers and whole operands that are spelled are read.
 use Rattle.std.proofs.Common.{◌≡◌, ℕ, ◌+◌, ◌==◌, ◌||◌, Bool, true, false, cond, List, [], ◌∷◌, ◌++◌, Option, Some, None, Result, Ok, Err, length, drop, refl, sym, ap, ◌∙◌, arith, length-append, append_assoc}
+use Rattle.std.proofs.lemmas.List.{append-nil}
+use Rattle.std.proofs.Math.Seq.{drop-append_seam}
 use Rattle.asm_base.specs.Tokens.{SpelledToken}
 use Rattle.x86_insn.specs.declared.insns.Segment.{Segment}
 use Rattle.x86_insn.specs.declared.insns.Base.{Base}
@@ -43,15 +45,11 @@ memory_reads tokens at segment _ text behind (displacement _ value _ writes) sta
     let reads = begun_reads tokens at value text behind writes stands (ended_quiet behind ended_here) in
     let unopened = value_unopened tokens at value text behind writes stands in
     let left : drop (at + length text) tokens ≡ drop (length text) (text ++ behind) = left_behind (length text) tokens (text ++ behind) at (at + length text) stands refl in
-    let mark : mark_at tokens (at + length text) ≡ mark_at behind 0 = ap mark_by (stands_at 0 tokens behind (at + length text) (at + length text) (left ∙ behind_text text behind) (omega arith)) in
+    let mark : mark_at tokens (at + length text) ≡ mark_at behind 0 = ap mark_by (stands_at 0 tokens behind (at + length text) (at + length text) (left ∙ drop-append_seam text behind) (omega arith)) in
     let none : (mark_at tokens (at + length text) == 40) ≡ false = rw mark (ended_unopened behind ended_here) in
     ap (λ (b : Bool). cond b (addressed segment no_displacement (address_at tokens (at + 1))) (displaced_by tokens segment (begun_at tokens at))) unopened
     ∙ ap (displaced_by tokens segment) reads
     ∙ (rw none refl)
-  where
-    behind_text : (text behind : List SpelledToken) → drop (length text) (text ++ behind) ≡ behind
-    behind_text [] behind = refl
-    behind_text (token ∷ text) behind = behind_text text behind
 memory_reads tokens at segment _ _ behind (address _ base index opening text opening_is writes) stands ended_here =
     let here = token_is 0 tokens (opening ∷ (text ++ behind)) at at opening stands (omega arith) refl in
     let mark = mark_is tokens at 40 opening here opening_is in
@@ -67,7 +65,7 @@ memory_reads tokens at segment _ all behind (both _ base index value opening bef
     let split : drop at tokens ≡ before ++ after = stands ∙ rw is (append_assoc before (opening ∷ text) behind) in
     let reads = begun_reads tokens at value before after writes split (opened_quiet opening (text ++ behind) opening_is) in
     let unopened = value_unopened tokens at value before after writes split in
-    let next : drop (at + length before) tokens ≡ after = left_behind (length before) tokens (before ++ after) at (at + length before) split refl ∙ behind_text before after in
+    let next : drop (at + length before) tokens ≡ after = left_behind (length before) tokens (before ++ after) at (at + length before) split refl ∙ drop-append_seam before after in
     let here = token_is 0 tokens after (at + length before) (at + length before) opening next (omega arith) refl in
     let mark = mark_is tokens (at + length before) 40 opening here opening_is in
     let left : drop ((at + length before) + 1) tokens ≡ text ++ behind = left_behind 1 tokens after (at + length before) ((at + length before) + 1) next refl in
@@ -76,10 +74,6 @@ memory_reads tokens at segment _ all behind (both _ base index value opening bef
     ap (λ (b : Bool). cond b (addressed segment no_displacement (address_at tokens (at + 1))) (displaced_by tokens segment (begun_at tokens at))) unopened
     ∙ ap (displaced_by tokens segment) reads
     ∙ (rw mark (ap (addressed segment value) found ∙ ap (λ (n : ℕ). Ok (part (memory (in_segment segment base index) value) n)) lengths))
-  where
-    behind_text : (text behind : List SpelledToken) → drop (length text) (text ++ behind) ≡ behind
-    behind_text [] behind = refl
-    behind_text (token ∷ text) behind = behind_text text behind
 
 -- the mark in front of memory is none of these
 memory_front : (tokens : List SpelledToken) (at other : ℕ) (segment : Option Segment) (operand : OperandText) (text behind : List SpelledToken) → WritesMemory segment operand text
@@ -158,25 +152,17 @@ operand_found tokens at _ operand _ behind (indirect _ star rest star_is spells)
     let left : drop (at + 1) tokens ≡ rest ++ behind = left_behind 1 tokens (star ∷ (rest ++ behind)) at (at + 1) stands refl in
     rw m (place_reads tokens (at + 1) operand rest behind spells left ended_here ∙ ap (λ (n : ℕ). Ok (part operand n)) (omega arith))
 
-behind_all : (text behind : List SpelledToken) → drop (length text) (text ++ behind) ≡ behind
-behind_all [] behind = refl
-behind_all (token ∷ text) behind = behind_all text behind
-
 -- an operand that is spelled is read whole
 pub operand_reads : (branch : Bool) (operand : OperandText) (tokens : List SpelledToken) (at : ℕ) (text behind : List SpelledToken) → SpellsOperand branch operand text → drop at tokens ≡ text ++ behind
     → ends behind ≡ true → operand_at branch tokens at ≡ Ok (part operand (at + length text))
 unfolding operand_at
 operand_reads branch operand tokens at text behind spells stands ended_here =
-    let left : drop (at + length text) tokens ≡ behind = left_behind (length text) tokens (text ++ behind) at (at + length text) stands refl ∙ behind_all text behind in
+    let left : drop (at + length text) tokens ≡ behind = left_behind (length text) tokens (text ++ behind) at (at + length text) stands refl ∙ drop-append_seam text behind in
     let done : ends_at tokens (at + length text) ≡ true = ap ends_by (stands_at 0 tokens behind (at + length text) (at + length text) left (omega arith)) ∙ ended_here in
     ap (ended tokens) (operand_found tokens at branch operand text behind spells stands ended_here) ∙ (rw done refl)
 
 same_part : (one other : OperandText) (next : ℕ) → (let read : Result ReadPart OperandCause = Ok (part one next) in read ≡ Ok (part other next)) → one ≡ other
 same_part one other next is = let same : part one next ≡ part other next = cc in ap (λ (p : ReadPart). p.operand) same
-
-no_more : (text : List SpelledToken) → text ≡ text ++ []
-no_more [] = refl
-no_more (token ∷ text) = ap (λ (ts : List SpelledToken). token ∷ ts) (no_more text)
 
 nothing_ends : ends [] ≡ true
 unfolding ends_by
@@ -185,6 +171,6 @@ nothing_ends = refl
 -- a text spells one operand
 pub one_operand : (branch : Bool) (one other : OperandText) (text : List SpelledToken) → SpellsOperand branch one text → SpellsOperand branch other text → one ≡ other
 one_operand branch one other text spells also =
-    let first = operand_reads branch one text 0 text [] spells (no_more text) nothing_ends in
-    let second = operand_reads branch other text 0 text [] also (no_more text) nothing_ends in
+    let first = operand_reads branch one text 0 text [] spells (sym (append-nil text)) nothing_ends in
+    let second = operand_reads branch other text 0 text [] also (sym (append-nil text)) nothing_ends in
     same_part one other (0 + length text) (sym first ∙ second)
