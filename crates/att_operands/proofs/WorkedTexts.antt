@@ -37,6 +37,9 @@ worked = record {
   rip_index = refl;
   short_base = refl;
   third = refl;
+  wide_scale = refl;
+  scale_of_base = refl;
+  no_scale = refl;
   lone_two = refl;
   unknown_suffix = refl;
   numbered = refl;
@@ -48,5 +51,6 @@ worked = record {
   empty = refl;
   due = refl;
   due_at_end = refl;
+  wide = refl;
   unclosed = refl;
 }

@@ -12,7 +12,7 @@ use Rattle.x86_insn.specs.declared.insns.Segment.TheVariants as segment
 use Rattle.x86_insn.specs.declared.insns.Base.TheVariants as base
 use Rattle.x86_insn.specs.declared.insns.Index.TheVariants as index
 use Rattle.att_operands.specs.declared.faults.OperandCause.{OperandCause}
-use Rattle.att_operands.specs.declared.faults.OperandCause.TheVariants.{BadExpression, BadOperand}
+use Rattle.att_operands.specs.declared.faults.OperandCause.TheVariants.{BadExpression, NumberTooWide, BadOperand}
 use Rattle.att_operands.specs.Values.{ValueText}
 use Rattle.att_operands.specs.OperandTexts.{OperandText, register, immediate, memory, target, part, no_displacement, operand_at}
 use Rattle.att_operands.specs.Spells.{in_segment}
@@ -48,6 +48,9 @@ pub record WorkedOperands : Type 0 where
   pub rip_index : Refuses false (codes "(%rip,%rax)") BadOperand
   pub short_base : Refuses false (codes "(%eax)") BadOperand
   pub third : Refuses false (codes "(%rax,%rbx,3)") BadOperand
+  pub wide_scale : Refuses false (codes "(%rax,%rbx,18446744073709551616)") BadOperand
+  pub scale_of_base : Refuses false (codes "(%rax,1)") BadOperand
+  pub no_scale : Refuses false (codes "(%rax,%rbx,)") BadOperand
   pub lone_two : Refuses false (codes "(,2)") BadOperand
   pub unknown_suffix : Refuses false (codes "x@BAR") BadOperand
   pub numbered : Refuses false (codes "0x1f@PLT") BadOperand
@@ -59,4 +62,5 @@ pub record WorkedOperands : Type 0 where
   pub empty : Refuses false (codes ", %eax") BadOperand
   pub due : Refuses false (codes "$, %eax") BadExpression
   pub due_at_end : Refuses false (codes "$") BadExpression
+  pub wide : Refuses false (codes "$18446744073709551616") NumberTooWide
   pub unclosed : Refuses false (codes "$(1") BadExpression
