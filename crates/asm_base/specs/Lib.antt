@@ -3,8 +3,6 @@ pub mod Counts
 pub mod Inputs
 pub mod Output
 pub mod Console
-pub mod Memory
-pub mod Faulty
 pub mod FaultTexts
 pub mod Messages
 pub mod WholeFile

@@ -12,8 +12,8 @@ ghost use Rattle.asm_base.specs.Output.{Made, after_create, after_write, after_f
 #[derive(Clone, Copy, PartialEq, Eq, Debug)]
 pub struct Failed;
 
-/// A call failed: its count rises, and stands still at its type's end.
-pub(crate) fn failure(count: &mut u64) -> Failed
+/// A call failed: its count rises, and stands still at its type's end. For who writes an outside of its own.
+pub fn failure(count: &mut u64) -> Failed
     ensures cause { HasRisen count.old count.new }
     ensures kept { count.old ≤ count.new }
 {

@@ -2,10 +2,8 @@
 
 ghost use Rattle.std.specs.Prelude.{◌≡◌, ℕ, ◌<◌};
 
-use asm_base::{
-    Channel, Console, FileInputs, FileOutput, Inputs, MemoryFile, MemoryInputs, Output, Steps,
-    read_text,
-};
+use asm_base::{Channel, Console, FileInputs, FileOutput, Inputs, Output, Steps, read_text};
+use memory_outside::{MemoryFile, MemoryInputs};
 use std::alloc::Global;
 use std::fs::{self, Files};
 use std::io::{Input, Write};

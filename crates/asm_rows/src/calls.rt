@@ -1,7 +1,8 @@
 //! A row run again and again, each time with another call of the outside that fails.
 
 use crate::runs::{Failing, Ran, run_row};
-use asm_base::{Channel, MemoryFile, Stage, Status};
+use asm_base::{Channel, Status};
+use memory_outside::{MemoryFile, Stage};
 use row_texts::Row;
 use std::alloc::Global;
 use std::io::{self, Write};

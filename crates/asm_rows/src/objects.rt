@@ -3,8 +3,8 @@
 use crate::relocations::write_relocations;
 use crate::sections::write_sections;
 use crate::symbols::SymbolTable;
-use asm_base::{MemoryOutput, Stage};
 use elf_object::header_table;
+use memory_outside::{MemoryOutput, Stage};
 use row_texts::shown_name;
 use std::alloc::Global;
 use std::io::{self, Write};

@@ -1,7 +1,8 @@
 //! A run of the assembler over the outside in memory.
 
-use asm_base::{Calls, FaultyConsole, FaultyInputs, FaultyOutput, MemoryFile, Status, Unlisted};
+use asm_base::Status;
 use asm_run::run;
+use memory_outside::{Calls, FaultyConsole, FaultyInputs, FaultyOutput, MemoryFile, Unlisted};
 use row_texts::{FailingCalls, Row, SourceFile};
 use std::alloc::{AllocError, Global};
 

@@ -1,9 +1,9 @@
 //! The outside in memory: an input that never fails, and an output and a console that fail only where memory is refused.
 
 ghost use Rattle.std.specs.Prelude.{◌≡◌, [], Some, string_bytes};
-ghost use Rattle.asm_base.specs.Memory as named;
+ghost use Rattle.memory_outside.specs.Memory as named;
 
-use crate::outside::{Channel, Console, Failed, Inputs, Output, failure};
+use asm_base::{Channel, Console, Failed, Inputs, Output, failure};
 use std::alloc::Global;
 
 /// A file of an input in memory.
@@ -49,7 +49,7 @@ impl<'a> MemoryInputs<'a> {
 }
 
 impl<'a> Inputs for MemoryInputs<'a> {
-    ghost use Rattle.asm_base.specs.Memory.{contents_in};
+    ghost use Rattle.memory_outside.specs.Memory.{contents_in};
 
     ghost contents = { λ m. Some (contents_in m.files.now) };
 
@@ -135,7 +135,7 @@ impl MemoryOutput {
 }
 
 impl Output for MemoryOutput {
-    ghost use Rattle.asm_base.specs.Memory.{made_at};
+    ghost use Rattle.memory_outside.specs.Memory.{made_at};
 
     ghost made = { λ o. Some (made_at o.stage (string_bytes o.name) o.bytes.items) };
 

@@ -2,9 +2,9 @@
 use Rattle.std.specs.Prelude.{ℕ, Bool, nat_eq, List, [], ◌∷◌, Option, None, Some, if◌then◌else◌}
 use Rattle.std.specs.List.{list_any}
 use Rattle.std.specs.Str.{bytes_eq}
-use Rattle.asm_base.specs.declared.memory.MemoryFile.{MemoryFile}
-use Rattle.asm_base.specs.declared.faulty.Unlisted.{Unlisted}
-use Rattle.asm_base.specs.declared.faulty.Unlisted.TheVariants.{Missing, Empty}
+use Rattle.memory_outside.specs.declared.memory.MemoryFile.{MemoryFile}
+use Rattle.memory_outside.specs.declared.faulty.Unlisted.{Unlisted}
+use Rattle.memory_outside.specs.declared.faulty.Unlisted.TheVariants.{Missing, Empty}
 
 -- the call of this number is one of those that fail
 abbrev pub is_listed : ℕ → List ℕ → Bool

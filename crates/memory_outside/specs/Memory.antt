@@ -3,9 +3,9 @@ use Rattle.std.specs.Prelude.{ℕ, true, false, List, [], ◌∷◌, Some, if◌
 use Rattle.std.specs.Str.{bytes_eq}
 use Rattle.asm_base.specs.Inputs.{Contents}
 use Rattle.asm_base.specs.Output.{Made, nothing, file}
-use Rattle.asm_base.specs.declared.memory.MemoryFile.{MemoryFile}
-use Rattle.asm_base.specs.declared.memory.Stage.{Stage}
-use Rattle.asm_base.specs.declared.memory.Stage.TheVariants.{Nothing, Begun, Finished}
+use Rattle.memory_outside.specs.declared.memory.MemoryFile.{MemoryFile}
+use Rattle.memory_outside.specs.declared.memory.Stage.{Stage}
+use Rattle.memory_outside.specs.declared.memory.Stage.TheVariants.{Nothing, Begun, Finished}
 
 -- the bytes of the first file of this name, or none
 abbrev pub bytes_named : List MemoryFile → List ℕ → List ℕ

@@ -1,11 +1,11 @@
 //! The outside in memory with failures: chosen calls fail, and a call reads, writes or says a few bytes at a time.
 
 ghost use Rattle.std.specs.Prelude.{◌≡◌, ◌<◌, ◌≤◌, ◌+◌, ◌-◌, ◌^◌, [], max, min, option_map};
-ghost use Rattle.asm_base.specs.Faulty as named;
-ghost use Rattle.asm_base.specs.Faulty.{is_listed};
+ghost use Rattle.memory_outside.specs.Faulty as named;
+ghost use Rattle.memory_outside.specs.Faulty.{is_listed};
 
 use crate::memory::{MemoryConsole, MemoryFile, MemoryOutput, Stage};
-use crate::outside::{Channel, Console, Failed, Inputs, Output, failure};
+use asm_base::{Channel, Console, Failed, Inputs, Output, failure};
 use std::alloc::Global;
 
 /// The calls of an object: which fail, and how many bytes one takes.
@@ -139,7 +139,7 @@ impl<'a> FaultyInputs<'a> {
 
 impl<'a> Inputs for FaultyInputs<'a> {
     ghost use Rattle.std.specs.Prelude.{Some};
-    ghost use Rattle.asm_base.specs.Faulty.{contents_named};
+    ghost use Rattle.memory_outside.specs.Faulty.{contents_named};
 
     ghost contents = { λ m. Some (contents_named m.files.now m.unlisted) };
 
@@ -218,7 +218,7 @@ impl<'a> FaultyOutput<'a> {
 
 impl<'a> Output for FaultyOutput<'a> {
     ghost use Rattle.std.specs.Prelude.{Some, string_bytes};
-    ghost use Rattle.asm_base.specs.Memory.{made_at};
+    ghost use Rattle.memory_outside.specs.Memory.{made_at};
 
     ghost made = { λ o. Some (made_at o.inner.stage (string_bytes o.inner.name) o.inner.bytes.items) };
 
