@@ -17,7 +17,7 @@ use Rattle.asm_expr.specs.Settled.{spot_of, cancelled_number, put_one, put_all, 
 use Rattle.asm_expr.specs.Arithmetic.{complement, combined}
 use Rattle.asm_expr.specs.Linear.{form_by, form_of, constant_of, unary_form, constant_binary, binary_form, linear}
 use Rattle.asm_expr.specs.Coefficients.{times, is_among, are_apart, is_counted, IsReduced, KnowsReduced, IsEmptyExactly}
-use Rattle.asm_expr.proofs.ReadingLemmas.{steps}
+use Rattle.asm_expr.proofs.RefusedSteps.{steps}
 
 both : (a b : Bool) → (a && b) ≡ true → (a ≡ true) × (b ≡ true)
 both true true is = (refl, refl)

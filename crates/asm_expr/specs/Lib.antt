@@ -10,15 +10,6 @@ pub mod Arithmetic
 pub mod Following
 pub mod Linear
 pub mod Evaluating
-pub mod Numbers
-pub mod Operators
-pub mod Leaves
-pub mod Reading
-pub mod Grammar
-pub mod Found
-pub mod Failing
 pub mod Coefficients
 pub mod FormValues
 pub mod NamesOf
-pub mod Shown
-pub mod Showing

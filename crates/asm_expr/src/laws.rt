@@ -1,49 +1,12 @@
-//! What holds of the texts and trees of all expressions.
+//! What holds of the forms of all expressions.
 
-ghost use Rattle.std.specs.Prelude.{◌≡◌, ℕ, true, false, List, Ok};
-ghost use Rattle.std.specs.List.{list_all};
-ghost use Rattle.asm_base.specs.Tokens.{SpelledToken, tokens_of};
+ghost use Rattle.std.specs.Prelude.{◌≡◌, ℕ, Ok};
 ghost use Rattle.asm_expr.specs.Trees.{Tree};
-ghost use Rattle.asm_expr.specs.Reading.{ReadTree, reading_of};
 ghost use Rattle.asm_expr.specs.Forms.{Form};
 ghost use Rattle.asm_expr.specs.Coefficients.{AreAdded, IsSettled, IsReduced, KnowsReduced, IsEmptyExactly};
 ghost use Rattle.asm_expr.specs.FormValues.{KeepsValue};
 ghost use Rattle.asm_expr.specs.Knowledge.{Told, Knowledge};
 ghost use Rattle.asm_expr.specs.Linear.{linear};
-ghost use Rattle.asm_expr.specs.Grammar.{IsTextOf, IsFoundIn, IsReadAs, operator_follows};
-ghost use Rattle.asm_expr.specs.Failing.{HasFaultExactly};
-ghost use Rattle.asm_expr.specs.declared.faults.ExprCause.{ExprCause};
-ghost use Rattle.asm_expr.specs.Shown.{is_byte, IsShowable, IsReadBack};
-
-use asm_base::one_value;
-
-/// A text of a tree is read as that tree, whatever stands before it, and whatever stands behind it
-/// that is no operator.
-#[tactic(auto, using(crate::proofs::GrammarLaws::text_is_read))]
-pub fn written_is_read()
-    ensures { (tree : Tree) (before text behind : List SpelledToken)
-        → IsTextOf tree text → operator_follows behind ≡ false → IsReadAs tree before text behind }
-{}
-
-/// What is read as a tree begins with a text of it, up to where no operator follows.
-#[tactic(auto, using(crate::proofs::GrammarLaws::read_is_text))]
-pub fn read_is_written()
-    ensures { (tokens : List SpelledToken) (at : ℕ) (found : ReadTree)
-        → reading_of tokens at ≡ Ok found → IsFoundIn tokens at found }
-{}
-
-/// A text has one tree.
-#[tactic(auto, using(crate::proofs::GrammarLaws::text_has_one_tree))]
-pub fn one_tree()
-    ensures { (one other : Tree) (text : List SpelledToken)
-        → IsTextOf one text → IsTextOf other text → one ≡ other }
-{}
-
-/// The reading of an expression has a fault exactly where the expression fails for it: at the first
-/// place from the left where no text of the grammar goes on, or where a text is beyond the limits.
-pub fn faults_of_an_expression()
-    ensures { (tokens : List SpelledToken) (cause : ExprCause) → HasFaultExactly tokens cause }
-{}
 
 /// Forms are maps from symbols to coefficients, which are added symbol by symbol.
 #[tactic(auto, using(crate::proofs::CoefficientLaws::are_added))]
@@ -76,15 +39,3 @@ pub fn a_form_is_empty()
     ensures { (known : Knowledge) (tree : Tree) (made : Form)
         → KnowsReduced known → linear known tree ≡ Ok made → IsEmptyExactly made }
 {}
-
-/// The shown text of an expression that has any text is read as the expression, whole; so is that
-/// of what was read from the bytes of a statement.
-pub fn shown_is_read()
-    ensures tree { (tree : Tree) (text : List SpelledToken)
-        → IsTextOf tree text → IsShowable tree → IsReadBack tree }
-    ensures statement { (statement : List ℕ) (at : ℕ) (found : ReadTree)
-        → list_all is_byte statement ≡ true → reading_of (tokens_of statement) at ≡ Ok found
-        → IsReadBack found.tree }
-{
-    one_value();
-}

@@ -1,4 +1,4 @@
-//! Expressions: their trees, the grammar of their texts, and what they count.
+//! Expressions: their trees, and what they count.
 #![tactic(auto)]
 
 mod arithmetic;
@@ -10,14 +10,8 @@ mod gathering;
 mod ids;
 mod knowledge;
 mod laws;
-mod leaves;
 mod naming;
-mod numbers;
-mod operators;
-mod parsing;
 mod settling;
-mod showing;
-mod spelling;
 mod summing;
 mod trees;
 mod visiting;
@@ -34,16 +28,11 @@ pub use gathering::{Names, names_of};
 pub use ids::SymId;
 pub use knowledge::{Known, Look};
 pub use laws::{
-    coefficients_add, one_tree, read_is_written, shown_is_read, whole_stretches_cancel,
-    written_is_read,
+    a_form_is_empty, cancelled_labels_keep_the_value, coefficients_add,
+    symbols_of_a_form_are_apart, whole_stretches_cancel,
 };
-pub use leaves::{between_quotes, character_code, is_symbol_name};
 pub use naming::{Name, Spelling};
-pub use numbers::{all_digits, decimal_number, spelled_number};
-pub use operators::{closes, level_of, opens, operator_from, operator_of, prefix_of};
-pub use parsing::{parse, parse_front};
 pub use settling::{settled, settled_value};
-pub use showing::{Piece, Shown, shown_text};
 pub use summing::plus_times;
 pub use trees::{BinaryOp, Expr, UnaryOp, Written};
 pub use visiting::ExprFold;

@@ -10,9 +10,9 @@ use Rattle.asm_base.specs.Tokens.{SpelledToken}
 use Rattle.asm_expr.specs.declared.trees.UnaryOp.{UnaryOp}
 use Rattle.asm_expr.specs.declared.trees.BinaryOp.{BinaryOp}
 use Rattle.asm_expr.specs.Trees.{number}
-use Rattle.asm_expr.specs.Numbers.{numeral, spelled_number}
-use Rattle.asm_expr.specs.Operators.{mark_by, mark_of, opens, closes, prefix_by, prefix_of, operator_by, operator_byte, operator_of}
-use Rattle.asm_expr.specs.Leaves.{character_code, digits_leaf, leaf_by, leaf_of}
+use Rattle.expr_texts.specs.Numbers.{numeral, spelled_number}
+use Rattle.expr_texts.specs.Operators.{mark_by, mark_of, opens, closes, prefix_by, prefix_of, operator_by, operator_byte, operator_of}
+use Rattle.expr_texts.specs.Leaves.{character_code, digits_leaf, leaf_by, leaf_of}
 use Rattle.asm_operands.specs.Commas.{is_comma}
 use Rattle.asm_operands.specs.Numbers.{FindsLeaf}
 use Rattle.asm_operands.specs.Constants.{FindsSingle}

@@ -11,10 +11,10 @@ use Rattle.asm_expr.specs.declared.trees.BinaryOp.{BinaryOp}
 use Rattle.asm_expr.specs.Trees.{Tree, number, unary, binary, height}
 use Rattle.asm_expr.specs.Arithmetic.{turned, combined}
 use Rattle.asm_expr.specs.declared.trees.BinaryOp.TheVariants.{Mul, Div, Rem, Shl, Shr, Or, And, Xor, OrNot, Add, Sub, Eq, Ne, Lt, Gt, Le, Ge, BothTrue, OneTrue}
-use Rattle.asm_expr.specs.Operators.{opens, closes, prefix_of, operator_of, level_of}
-use Rattle.asm_expr.specs.Leaves.{leaf_of}
-use Rattle.asm_expr.specs.Reading.{Reading, Read, read, whole, closed, closed_by, deeper, unopened, operand_of, operator_at, operator_from, follow, reading, read_at, read_more}
-use Rattle.asm_expr.specs.Found.{spelled_from, operator_in}
+use Rattle.expr_texts.specs.Operators.{opens, closes, prefix_of, operator_of, level_of}
+use Rattle.expr_texts.specs.Leaves.{leaf_of}
+use Rattle.expr_texts.specs.Reading.{Reading, Read, read, whole, closed, closed_by, deeper, unopened, operand_of, operator_at, operator_from, follow, reading, read_at, read_more}
+use Rattle.expr_texts.specs.Found.{spelled_from, operator_in}
 use Rattle.asm_operands.specs.declared.constants.Counted.{Counted}
 use Rattle.asm_operands.specs.Constants.{IsConstant}
 use Rattle.asm_operands.specs.Levels.{level_by}

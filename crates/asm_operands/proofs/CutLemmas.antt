@@ -9,10 +9,10 @@ use Rattle.asm_expr.specs.declared.trees.UnaryOp.{UnaryOp}
 use Rattle.asm_expr.specs.declared.trees.BinaryOp.{BinaryOp}
 use Rattle.asm_expr.specs.Trees.{number}
 use Rattle.asm_expr.specs.Arithmetic.{turned}
-use Rattle.asm_expr.specs.Operators.{opens, closes, prefix_of, operator_of, level_of}
-use Rattle.asm_expr.specs.Leaves.{leaf_of}
-use Rattle.asm_expr.specs.Reading.{operator_at}
-use Rattle.asm_expr.specs.Found.{spelled_from, operator_in}
+use Rattle.expr_texts.specs.Operators.{opens, closes, prefix_of, operator_of, level_of}
+use Rattle.expr_texts.specs.Leaves.{leaf_of}
+use Rattle.expr_texts.specs.Reading.{operator_at}
+use Rattle.expr_texts.specs.Found.{spelled_from, operator_in}
 use Rattle.asm_operands.specs.declared.constants.Counted.{Counted}
 use Rattle.asm_operands.specs.Levels.{token_level}
 use Rattle.asm_operands.specs.Commas.{is_comma}

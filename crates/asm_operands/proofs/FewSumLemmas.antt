@@ -3,7 +3,7 @@ use Rattle.std.proofs.Common.{◌≡◌, ℕ, List, [], ◌∷◌, Some, Ok, ap,
 use Rattle.asm_base.specs.Tokens.{SpelledToken}
 use Rattle.asm_base.specs.Refusals.{◌>>=◌}
 use Rattle.asm_expr.specs.declared.naming.Name.TheVariants.{Plain}
-use Rattle.asm_expr.specs.Reading.{read, reading}
+use Rattle.expr_texts.specs.Reading.{read, reading}
 use Rattle.asm_expr.specs.Trees.{Tree}
 use Rattle.asm_operands.specs.declared.sums.Sum.{Sum}
 use Rattle.asm_operands.specs.Sums.{sum_tree, FindsSum}

@@ -12,11 +12,11 @@ use Rattle.asm_base.specs.declared.tokens.TokenKind.{TokenKind}
 use Rattle.asm_base.specs.declared.tokens.TokenKind.TheVariants.{Name, Digits, Character, String, Operator, Other}
 use Rattle.asm_expr.specs.declared.faults.ExprCause.{ExprCause}
 use Rattle.asm_expr.specs.Trees.{Tree, number}
-use Rattle.asm_expr.specs.Numbers.{numeral, spelled_number}
-use Rattle.asm_expr.specs.Operators.{prefix_by}
-use Rattle.asm_expr.specs.Leaves.{last_byte, without_last, is_numeric_label, digits_leaf, leaf_by, leaf_of}
+use Rattle.expr_texts.specs.Numbers.{numeral, spelled_number}
+use Rattle.expr_texts.specs.Operators.{prefix_by}
+use Rattle.expr_texts.specs.Leaves.{last_byte, without_last, is_numeric_label, digits_leaf, leaf_by, leaf_of}
 use Rattle.asm_expr.specs.Linear.{linear}
-use Rattle.asm_expr.specs.Reading.{Read, read, operand_of, reading, read_at, read_more}
+use Rattle.expr_texts.specs.Reading.{Read, read, operand_of, reading, read_at, read_more}
 use Rattle.asm_operands.specs.Numbers.{FindsNumeral, FindsNumber, FindsLeaf}
 use Rattle.asm_operands.specs.Constants.{FindsConstant}
 use Rattle.asm_operands.proofs.NumberLemmas.{numeral_all, one_decimal, two_decimal, three_decimal}

@@ -1,6 +1,6 @@
 -- The table of levels is the definition of the levels, byte by byte.
 use Rattle.std.proofs.Common.{◌≡◌, ℕ, zero, suc, ◌+◌, ◌<◌, get_or, refl, ap, ◌∙◌, arith}
-use Rattle.asm_expr.specs.Operators.{operator_byte, level_of}
+use Rattle.expr_texts.specs.Operators.{operator_byte, level_of}
 use Rattle.asm_operands.specs.Levels.{level_by, levels_from, the_levels}
 
 pub table_is : the_levels ≡ levels_from 256 0

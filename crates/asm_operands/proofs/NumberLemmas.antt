@@ -7,7 +7,7 @@ use Rattle.std.proofs.lemmas.List.{at_drop_more, at_drop_all}
 use Rattle.asm_base.specs.Digits.{digit_of, is_digit_of, number_after}
 use Rattle.asm_expr.specs.declared.faults.ExprCause.{ExprCause}
 use Rattle.asm_expr.specs.declared.faults.ExprCause.TheVariants.{BadExpression, NumberTooWide}
-use Rattle.asm_expr.specs.Numbers.{numeral}
+use Rattle.expr_texts.specs.Numbers.{numeral}
 
 -- one digit more makes a number below the next power
 pub step_below : (radix number digit i : ℕ) → number < radix ^ i → digit < radix → number * radix + digit < radix ^ (i + 1)

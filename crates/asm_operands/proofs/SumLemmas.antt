@@ -5,9 +5,9 @@ use Rattle.asm_base.specs.Tokens.{SpelledToken, spelled}
 use Rattle.asm_base.specs.Refusals.{◌>>=◌}
 use Rattle.asm_expr.specs.declared.faults.ExprCause.{ExprCause}
 use Rattle.asm_expr.specs.Trees.{Tree, height, binary}
-use Rattle.asm_expr.specs.Operators.{prefix_of, level_of}
-use Rattle.asm_expr.specs.Reading.{Reading, Read, read, closed, deeper, unopened, operand_of, operator_from, reading, read_at}
-use Rattle.asm_expr.specs.Found.{operator_in}
+use Rattle.expr_texts.specs.Operators.{prefix_of, level_of}
+use Rattle.expr_texts.specs.Reading.{Reading, Read, read, closed, deeper, unopened, operand_of, operator_from, reading, read_at}
+use Rattle.expr_texts.specs.Found.{operator_in}
 use Rattle.asm_operands.specs.declared.sums.Summand.{Summand}
 use Rattle.asm_operands.specs.declared.sums.Summand.TheVariants.{Number, Name, Back, Next, Here}
 use Rattle.asm_operands.specs.declared.sums.Addend.{Addend}

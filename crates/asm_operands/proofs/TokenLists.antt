@@ -3,7 +3,7 @@ use Rattle.std.proofs.Common.{◌≡◌, ℕ, ◌+◌, ◌<◌, ◌≤◌, List,
 use Rattle.std.proofs.lemmas.List.{nil_from_length}
 use Rattle.asm_base.specs.declared.tokens.Token.{Token}
 use Rattle.asm_base.specs.Tokens.{spelled}
-use Rattle.asm_expr.specs.Found.{spelled_from}
+use Rattle.expr_texts.specs.Found.{spelled_from}
 use Rattle.asm_operands.specs.Levels.{token_level}
 use Rattle.asm_operands.specs.Counting.{first_level}
 

@@ -17,7 +17,7 @@ use Rattle.asm_expr.specs.Settled.{put_all, settled}
 use Rattle.asm_expr.specs.Arithmetic.{turned, combined}
 use Rattle.asm_expr.specs.Linear.{unary_form, binary_form, linear}
 use Rattle.asm_expr.specs.NamesOf.{names_of}
-use Rattle.asm_expr.specs.Reading.{read, whole}
+use Rattle.expr_texts.specs.Reading.{read, whole}
 use Rattle.asm_operands.specs.Counting.{Counts}
 
 -- a number counts itself

@@ -7,7 +7,7 @@ use Rattle.asm_expr.specs.Forms.{constant_form}
 use Rattle.asm_expr.specs.Knowledge.{Knowledge}
 use Rattle.asm_expr.specs.Linear.{linear}
 use Rattle.asm_expr.specs.NamesOf.{names_of}
-use Rattle.asm_expr.specs.Reading.{read, reading}
+use Rattle.expr_texts.specs.Reading.{read, reading}
 use Rattle.asm_operands.specs.declared.constants.FrontConstant.{FrontConstant}
 use Rattle.asm_operands.specs.Commas.{is_comma}
 

@@ -5,14 +5,14 @@ use Rattle.asm_base.specs.Tokens.{SpelledToken, spelled}
 use Rattle.asm_expr.specs.declared.faults.ExprCause.TheVariants.{BadExpression}
 use Rattle.asm_expr.specs.declared.trees.BinaryOp.{BinaryOp}
 use Rattle.asm_expr.specs.Arithmetic.{combined}
-use Rattle.asm_expr.specs.Operators.{operator_of}
+use Rattle.expr_texts.specs.Operators.{operator_of}
 use Rattle.asm_expr.specs.Trees.{Tree, height}
 use Rattle.asm_expr.specs.Forms.{constant_form}
 use Rattle.asm_expr.specs.Knowledge.{Knowledge}
 use Rattle.asm_expr.specs.Linear.{linear}
 use Rattle.asm_expr.specs.NamesOf.{names_of}
-use Rattle.asm_expr.specs.Reading.{Reading, Read, read, operand_of, read_at, read_more}
-use Rattle.asm_expr.specs.Found.{spelled_from}
+use Rattle.expr_texts.specs.Reading.{Reading, Read, read, operand_of, read_at, read_more}
+use Rattle.expr_texts.specs.Found.{spelled_from}
 use Rattle.asm_operands.specs.declared.constants.Counted.{Counted}
 use Rattle.asm_operands.specs.Levels.{token_level}
 use Rattle.asm_operands.specs.Commas.{is_comma}

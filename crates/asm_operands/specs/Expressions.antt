@@ -7,7 +7,7 @@ use Rattle.asm_base.specs.Tokens.{SpelledToken}
 use Rattle.asm_expr.specs.Trees.{Tree}
 use Rattle.asm_expr.specs.Forms.{Form}
 use Rattle.asm_expr.specs.Knowledge.{Knowledge}
-use Rattle.asm_expr.specs.Reading.{reading}
+use Rattle.expr_texts.specs.Reading.{reading}
 use Rattle.asm_expr.specs.Linear.{linear, value_of}
 use Rattle.asm_operands.specs.declared.up_to_three.UpToThree.{UpToThree}
 use Rattle.asm_base.specs.Refusals.{◌>>=◌}

@@ -2,7 +2,7 @@
 use Rattle.std.specs.Prelude.{ℕ, zero, suc, List, [], ◌∷◌, Option, None, Some}
 use Rattle.asm_base.specs.Tokens.{SpelledToken}
 use Rattle.asm_expr.specs.declared.trees.BinaryOp.{BinaryOp}
-use Rattle.asm_expr.specs.Operators.{operator_byte, operator_of, level_of}
+use Rattle.expr_texts.specs.Operators.{operator_byte, operator_of, level_of}
 use Rattle.asm_operands.specs.declared.levels.TheConstants.{LEVELS}
 
 -- how tightly an operator binds, and 0 where there is none

@@ -3,8 +3,8 @@ use Rattle.std.specs.Prelude.{◌≡◌, ◌<◌, ℕ, List, Option, None, Some,
 use Rattle.asm_base.specs.Digits.{digit_of}
 use Rattle.asm_base.specs.Tokens.{SpelledToken}
 use Rattle.asm_expr.specs.Trees.{number}
-use Rattle.asm_expr.specs.Numbers.{numeral}
-use Rattle.asm_expr.specs.Leaves.{digits_leaf, leaf_of}
+use Rattle.expr_texts.specs.Numbers.{numeral}
+use Rattle.expr_texts.specs.Leaves.{digits_leaf, leaf_of}
 
 -- a digit that is found is the value of the byte, and the radix has it; where none is found nothing is said
 abbrev pub FindsDigit : ℕ → ℕ → Option ℕ → Type 0

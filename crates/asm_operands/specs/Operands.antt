@@ -9,7 +9,7 @@ use Rattle.asm_base.specs.declared.tokens.TokenKind.TheVariants.{Name, String, D
 use Rattle.asm_base.specs.Tokens.{SpelledToken}
 use Rattle.asm_base.specs.Strings.{string_value}
 use Rattle.asm_base.specs.Refusals.{◌>>=◌}
-use Rattle.asm_expr.specs.Leaves.{between_quotes, is_symbol_name}
+use Rattle.expr_texts.specs.Leaves.{between_quotes, is_symbol_name}
 use Rattle.asm_base.specs.Digits.{is_digit_of}
 
 -- the class of names without quotes

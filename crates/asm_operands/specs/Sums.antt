@@ -5,9 +5,9 @@ use Rattle.asm_expr.specs.declared.trees.Written.TheVariants as written
 use Rattle.asm_expr.specs.declared.trees.BinaryOp.{BinaryOp}
 use Rattle.asm_expr.specs.declared.trees.BinaryOp.TheVariants.{Add, Sub}
 use Rattle.asm_expr.specs.Trees.{Tree, number, name, here, binary}
-use Rattle.asm_expr.specs.Operators.{opens, prefix_of, operator_of}
-use Rattle.asm_expr.specs.Leaves.{digits_leaf, leaf_of}
-use Rattle.asm_expr.specs.Reading.{read, reading}
+use Rattle.expr_texts.specs.Operators.{opens, prefix_of, operator_of}
+use Rattle.expr_texts.specs.Leaves.{digits_leaf, leaf_of}
+use Rattle.expr_texts.specs.Reading.{read, reading}
 use Rattle.asm_operands.specs.declared.sums.Summand.{Summand}
 use Rattle.asm_operands.specs.declared.sums.Summand.TheVariants.{Number, Name, Back, Next, Here}
 use Rattle.asm_operands.specs.declared.sums.Addend.{Addend}

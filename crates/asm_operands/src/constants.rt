@@ -2,7 +2,7 @@
 
 ghost use Rattle.std.specs.Prelude.{◌≡◌, ◌<◌, ◌≤◌, ℕ, length, map};
 ghost use Rattle.asm_base.specs.Tokens.{spelled};
-ghost use Rattle.asm_expr.specs.Found.{spelled_from};
+ghost use Rattle.expr_texts.specs.Found.{spelled_from};
 ghost use Rattle.asm_operands.specs.Constants.{FindsConstant, FindsSingle, FindsFront};
 ghost use Rattle.asm_operands.specs.Counting.{first_level, ReadsOperand, ReadsExpression};
 ghost use Rattle.asm_operands.specs.Counting.{FindsCounted, FindsExpression, FindsValue};
@@ -10,7 +10,8 @@ ghost use Rattle.asm_operands.specs.Counting.{FindsCounted, FindsExpression, Fin
 use crate::levels::token_level;
 use crate::numbers::leaf;
 use asm_base::{Token, TokenKind};
-use asm_expr::{closes, combined, opens, operator_of, prefix_of, turned};
+use asm_expr::{combined, turned};
+use expr_texts::{closes, opens, operator_of, prefix_of};
 
 /// The most tokens that are looked at: a tree of so many nodes is not too high.
 const MOST_TOKENS: usize = 200;
@@ -197,7 +198,7 @@ fn rarer_value(token: &Token, a: u64, b: u64) -> Option<u64>
 
 /// What the operator that the token is gives.
 #[inline(always)]
-#[tactic(auto, unfolding(asm_expr::specs::Operators::operator_by, asm_expr::specs::Operators::operator_byte, asm_expr::specs::Arithmetic::combined))]
+#[tactic(auto, unfolding(expr_texts::specs::Operators::operator_by, expr_texts::specs::Operators::operator_byte, asm_expr::specs::Arithmetic::combined))]
 fn operator_value(token: &Token, a: u64, b: u64) -> Option<u64>
     ensures { FindsValue (spelled token.now) a b result }
 {

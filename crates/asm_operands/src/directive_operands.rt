@@ -3,14 +3,15 @@
 ghost use Rattle.std.specs.Prelude.{◌≡◌, ◌≤◌, length, map, IsTrue};
 ghost use Rattle.asm_base.specs.Strings.{string_value};
 ghost use Rattle.asm_base.specs.Tokens.{spelled};
-ghost use Rattle.asm_expr.specs.Leaves.{between_quotes};
+ghost use Rattle.expr_texts.specs.Leaves.{between_quotes};
 ghost use Rattle.asm_base.specs.Refusals.{GivesBy};
 ghost use Rattle.std.specs.List.{list_any, position_or_len};
 ghost use Rattle.asm_operands.specs.Operands.{is_name, is_dot, begins_with_place, names_symbol, is_mark, is_comma, checked_name, symbol_name, name_of, string_of, is_assignment, begins_with_dot, is_number, begins_with_label};
 
 use crate::place_faults::{PlaceCause, PlaceFault};
 use asm_base::{Token, TokenKind, string_value};
-use asm_expr::{Spelling, all_digits, between_quotes, is_symbol_name};
+use asm_expr::Spelling;
+use expr_texts::{all_digits, between_quotes, is_symbol_name};
 use std::alloc::Global;
 
 /// The operands of a directive, one after the other: what stands between its commas, or none where nothing stands.

@@ -3,10 +3,10 @@
 ghost use Rattle.std.specs.Prelude.{◌≡◌};
 ghost use Rattle.asm_base.specs.Tokens.{spelled};
 ghost use Rattle.asm_operands.specs.Levels.{token_level, level_by, the_levels};
-ghost use Rattle.asm_expr.specs.Operators.{operator_byte};
+ghost use Rattle.expr_texts.specs.Operators.{operator_byte};
 
 use asm_base::{Token, TokenKind};
-use asm_expr::{level_of, operator_of};
+use expr_texts::{level_of, operator_of};
 
 /// How tightly the operator of each byte binds, and 0 where the byte is none, sixteen bytes a line.
 #[rattlefmt::skip]
@@ -61,7 +61,7 @@ fn long_level(token: &Token) -> u8
 
 /// How tightly the operator that the token is binds, and 0 where it is none.
 #[inline(always)]
-#[tactic(auto, unfolding(asm_expr::specs::Operators::operator_by, crate::specs::Levels::level_by))]
+#[tactic(auto, unfolding(expr_texts::specs::Operators::operator_by, crate::specs::Levels::level_by))]
 pub(crate) fn token_level(token: &Token) -> u8
     ensures { result ≡ token_level (spelled token.now) }
 {

@@ -6,7 +6,7 @@ ghost use Rattle.asm_base.specs.Tokens.{spelled};
 ghost use Rattle.asm_operands.specs.Numbers.{FindsDigit, FindsNumeral, FindsNumber, FindsLeaf};
 
 use asm_base::{Token, TokenKind, digit_of};
-use asm_expr::{character_code, spelled_number};
+use expr_texts::{character_code, spelled_number};
 
 /// The value of a digit, if the radix has it.
 #[inline(always)]
@@ -172,7 +172,7 @@ fn number(digits: &[u8]) -> Option<u64>
 
 /// The number that a token of another class is.
 #[inline(never)]
-#[tactic(auto, unfolding(asm_expr::specs::Leaves::leaf_of))]
+#[tactic(auto, unfolding(expr_texts::specs::Leaves::leaf_of))]
 fn other_leaf(token: &Token) -> Option<u64>
     ensures { FindsLeaf (spelled token.now) result }
 {
@@ -184,7 +184,7 @@ fn other_leaf(token: &Token) -> Option<u64>
 
 /// The number that a token is.
 #[inline(always)]
-#[tactic(auto, unfolding(asm_expr::specs::Leaves::leaf_of))]
+#[tactic(auto, unfolding(expr_texts::specs::Leaves::leaf_of))]
 pub(crate) fn leaf(token: &Token) -> Option<u64>
     ensures { FindsLeaf (spelled token.now) result }
 {

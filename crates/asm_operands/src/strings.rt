@@ -10,7 +10,7 @@ ghost use Rattle.asm_operands.specs.OperandParts.{operands_left};
 use crate::directive_operands::Operands;
 use crate::place_faults::{PlaceCause, PlaceFault};
 use asm_base::{Token, TokenKind, string_value};
-use asm_expr::between_quotes;
+use expr_texts::between_quotes;
 use std::alloc::{AllocError, Global};
 
 /// The zero byte that ends a string, where it is asked for.

@@ -7,7 +7,7 @@ ghost use Rattle.asm_operands.specs.Sums.{FindsLabel, FindsSummand, FindsMinus, 
 
 use crate::numbers::leaf;
 use asm_base::{Token, TokenKind};
-use asm_expr::{all_digits, decimal_number};
+use expr_texts::{all_digits, decimal_number};
 
 /// What one token spells: a number, a name, or the place of the statement.
 #[derive(Clone, Copy)]
@@ -48,7 +48,7 @@ pub struct LongSum<'t, 'a> {
 
 /// The numeric label that a token of digits is: decimal digits, and a letter behind them.
 #[inline(never)]
-#[tactic(auto, unfolding(asm_expr::specs::Leaves::digits_leaf))]
+#[tactic(auto, unfolding(expr_texts::specs::Leaves::digits_leaf))]
 fn label<'t, 'a>(digits: &'a [u8]) -> Option<Summand<'t, 'a>>
     ensures { FindsLabel digits.now result }
 {
@@ -66,7 +66,7 @@ fn label<'t, 'a>(digits: &'a [u8]) -> Option<Summand<'t, 'a>>
 
 /// What a token of digits spells: a number or a numeric label.
 #[inline(never)]
-#[tactic(auto, unfolding(asm_expr::specs::Leaves::leaf_of, asm_expr::specs::Operators::prefix_by))]
+#[tactic(auto, unfolding(expr_texts::specs::Leaves::leaf_of, expr_texts::specs::Operators::prefix_by))]
 fn digits_of<'t, 'a>(token: &'t Token<'a>) -> Option<Summand<'t, 'a>>
     requires { token.now.kind ≡ Digits }
     ensures { FindsSummand (spelled token.now) result }
@@ -79,7 +79,7 @@ fn digits_of<'t, 'a>(token: &'t Token<'a>) -> Option<Summand<'t, 'a>>
 
 /// What the token spells, if it is a name without quotes or a number.
 #[inline(always)]
-#[tactic(auto, unfolding(asm_expr::specs::Leaves::leaf_of, asm_expr::specs::Operators::prefix_by))]
+#[tactic(auto, unfolding(expr_texts::specs::Leaves::leaf_of, expr_texts::specs::Operators::prefix_by))]
 fn summand_of<'t, 'a>(token: &'t Token<'a>) -> Option<Summand<'t, 'a>>
     ensures { FindsSummand (spelled token.now) result }
 {
@@ -97,7 +97,7 @@ fn summand_of<'t, 'a>(token: &'t Token<'a>) -> Option<Summand<'t, 'a>>
 
 /// Whether the operator is `-`; only `+` and `-` make sums.
 #[inline(always)]
-#[tactic(auto, unfolding(asm_expr::specs::Operators::operator_by, asm_expr::specs::Operators::operator_byte))]
+#[tactic(auto, unfolding(expr_texts::specs::Operators::operator_by, expr_texts::specs::Operators::operator_byte))]
 fn minus(token: &Token) -> Option<bool>
     ensures { FindsMinus (spelled token.now) result }
 {

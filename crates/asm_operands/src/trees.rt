@@ -15,7 +15,8 @@ use crate::place_faults::{PlaceCause, PlaceFault};
 use crate::plain_names::needed_name;
 use crate::up_to_three::{first_tree, no_more};
 use asm_base::Token;
-use asm_expr::{Expr, ExprFault, Linear, Spelling, parse_front, value_of};
+use asm_expr::{Expr, ExprFault, Linear, Spelling, value_of};
+use expr_texts::parse_front;
 use std::alloc::Global;
 
 /// The expression, where nothing stands behind it.

@@ -5,7 +5,7 @@ use Rattle.asm_operands.specs.declared.place_faults.PlaceCause.{PlaceCause}
 use Rattle.asm_operands.specs.declared.place_faults.PlaceCause.TheVariants.{NumberTooWide, UnknownMnemonic, UnknownDirective, BadOperand}
 use Rattle.asm_base.specs.declared.positions.Pos.{Pos}
 use Rattle.asm_base.specs.Tokens.{SpelledToken}
-use Rattle.asm_expr.specs.Numbers.{numeral}
+use Rattle.expr_texts.specs.Numbers.{numeral}
 use Rattle.asm_symbols.specs.declared.entries.Definition.TheVariants.{Label}
 use Rattle.asm_symbols.specs.Defining.{defined}
 use Rattle.asm_words.specs.declared.directives.Directive.{Directive}

@@ -15,7 +15,6 @@ use crate::idents::{place_file, place_ident};
 use crate::section_changes::{place_popped, place_pushed, place_section, set_current};
 use crate::symbol_words::{place_said, place_type};
 use asm_base::{Pos, Token};
-use asm_expr::decimal_number;
 use asm_operands::{
     PlaceCause, PlaceFault, begins_assignment, begins_with_dot, begins_with_label, is_dot, is_name,
     is_number, names_symbol,
@@ -23,6 +22,7 @@ use asm_operands::{
 use asm_symbols::Definition;
 use asm_values::Assembler;
 use asm_words::{Directive, InitialSection, Row, directive_of, find_row, put_instruction};
+use expr_texts::decimal_number;
 
 /// The number of a section that is there from the beginning.
 fn initial_number(initial: InitialSection) -> u32

@@ -12,11 +12,11 @@ use Rattle.asm_lines.specs.Faults.{nul_found, source_found}
 use Rattle.asm_lines.specs.Statements.{statements_in, statements_of}
 use Rattle.asm_lines.specs.Intervals.{trimmed}
 use Rattle.asm_lines.specs.LineNumbers.{line_of}
-use Rattle.asm_expr.specs.Numbers.{numeral, spelled_number}
-use Rattle.asm_expr.specs.Leaves.{character_code, digits_leaf, leaf_of}
-use Rattle.asm_expr.specs.Operators.{prefix_by, operator_byte, operator_bytes, operator_by, level_of}
+use Rattle.expr_texts.specs.Numbers.{numeral, spelled_number}
+use Rattle.expr_texts.specs.Leaves.{character_code, digits_leaf, leaf_of}
+use Rattle.expr_texts.specs.Operators.{prefix_by, operator_byte, operator_bytes, operator_by, level_of}
 use Rattle.asm_expr.specs.Trees.{height}
-use Rattle.asm_expr.specs.Reading.{whole, operand_of, read_at, reading}
+use Rattle.expr_texts.specs.Reading.{whole, operand_of, read_at, reading}
 use Rattle.asm_expr.specs.Linear.{linear, unary_form, binary_form}
 use Rattle.asm_expr.specs.Arithmetic.{combined}
 use Rattle.asm_expr.specs.Forms.{with_term, with_terms}

@@ -6,7 +6,7 @@ use Rattle.asm_base.specs.declared.tokens.TokenKind.{TokenKind}
 use Rattle.asm_base.specs.declared.tokens.TokenKind.TheVariants.{Digits}
 use Rattle.asm_base.specs.Tokens.{SpelledToken}
 use Rattle.asm_expr.specs.declared.naming.Name.TheVariants as naming
-use Rattle.asm_expr.specs.Numbers.{numeral}
+use Rattle.expr_texts.specs.Numbers.{numeral}
 use Rattle.asm_base.specs.Refusals.{◌>>=◌}
 use Rattle.asm_operands.specs.ExprFaults.{in_statement}
 use Rattle.asm_uses.specs.Tables.{Table, symbol_of, next_symbol}

@@ -2,9 +2,10 @@
 
 use crate::tables::SymbolUses;
 use asm_base::{Pos, Token, TokenKind};
-use asm_expr::{Name, decimal_number};
+use asm_expr::Name;
 use asm_operands::{PlaceCause, PlaceFault, symbol_name};
 use asm_symbols::SymId;
+use expr_texts::decimal_number;
 use std::alloc::Global;
 
 impl SymbolUses {

@@ -13,9 +13,9 @@ use Rattle.asm_expr.specs.Trees.{Tree, number, tree_of}
 use Rattle.asm_expr.specs.Forms.{constant_form}
 use Rattle.asm_expr.specs.Knowledge.{Knowledge}
 use Rattle.asm_expr.specs.Linear.{linear}
-use Rattle.asm_expr.specs.Reading.{ReadTree, read, reading, reading_of}
-use Rattle.asm_expr.specs.Grammar.{operator_follows}
-use Rattle.asm_expr.specs.Found.{spelled_from, front_of}
+use Rattle.expr_texts.specs.Reading.{ReadTree, read, reading, reading_of}
+use Rattle.expr_texts.specs.Grammar.{operator_follows}
+use Rattle.expr_texts.specs.Found.{spelled_from, front_of}
 use Rattle.asm_operands.specs.declared.constants.FrontConstant.{FrontConstant}
 use Rattle.asm_operands.specs.Constants.{IsConstant, IsFront}
 use Rattle.x86_insn.specs.declared.amounts.Amount.{Amount}

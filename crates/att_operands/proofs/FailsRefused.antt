@@ -3,9 +3,9 @@ use Rattle.std.proofs.Common.{◌≡◌, ℕ, ◌+◌, ◌==◌, ◌||◌, Bool,
 use Rattle.asm_base.specs.Tokens.{SpelledToken}
 use Rattle.asm_expr.specs.declared.faults.ExprCause.{ExprCause}
 use Rattle.asm_expr.specs.declared.faults.ExprCause.TheVariants as cause
-use Rattle.asm_expr.specs.Reading.{reading}
-use Rattle.asm_expr.specs.Failing.{FailsAt}
-use Rattle.asm_expr.proofs.RefusedFails.{has_fault}
+use Rattle.expr_texts.specs.Reading.{reading}
+use Rattle.expr_texts.specs.Failing.{FailsAt}
+use Rattle.expr_texts.proofs.RefusedFails.{has_fault}
 use Rattle.x86_insn.specs.declared.amounts.Suffix.{Suffix}
 use Rattle.x86_insn.specs.declared.insns.Segment.{Segment}
 use Rattle.att_operands.specs.declared.faults.OperandCause.{OperandCause}

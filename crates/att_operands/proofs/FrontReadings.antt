@@ -8,16 +8,16 @@ use Rattle.asm_base.specs.Refusals.{◌>>=◌}
 use Rattle.asm_expr.specs.declared.faults.ExprCause.{ExprCause}
 use Rattle.asm_expr.specs.declared.faults.ExprCause.TheVariants as cause
 use Rattle.asm_expr.specs.Trees.{Tree}
-use Rattle.asm_expr.specs.Reading.{Read, read, reading, reading_of, read_at}
-use Rattle.asm_expr.specs.Grammar.{IsTextOf, operator_follows}
-use Rattle.asm_expr.specs.Found.{spelled_from}
+use Rattle.expr_texts.specs.Reading.{Read, read, reading, reading_of, read_at}
+use Rattle.expr_texts.specs.Grammar.{IsTextOf, operator_follows}
+use Rattle.expr_texts.specs.Found.{spelled_from}
 use Rattle.att_operands.specs.declared.faults.OperandCause.TheVariants.{BadExpression}
 use Rattle.att_operands.specs.Marks.{mark_by}
 use Rattle.att_operands.specs.Values.{suffix_at, as_value, value_with, value_at}
-use Rattle.asm_expr.proofs.Marks.{in_one, in_higher}
-use Rattle.asm_expr.proofs.ParsingLemmas.{stops}
-use Rattle.asm_expr.proofs.WrittenIsRead.{written_reads}
-use Rattle.asm_expr.proofs.ReadIsWritten.{at_spells}
+use Rattle.expr_texts.proofs.Marks.{in_one, in_higher}
+use Rattle.expr_texts.proofs.ParsingLemmas.{stops}
+use Rattle.expr_texts.proofs.WrittenIsRead.{written_reads}
+use Rattle.expr_texts.proofs.ReadIsWritten.{at_spells}
 
 -- a text is read as its tree, up to where no operator follows
 pub text_reads : (tree : Tree) (text behind : List SpelledToken) → IsTextOf tree text → operator_follows behind ≡ false → reading 1 0 (text ++ behind) ≡ Ok (read tree behind)

@@ -10,13 +10,13 @@ use Rattle.asm_expr.specs.Forms.{Form, constant_form, wrapped, signed, with_term
 use Rattle.asm_expr.specs.Knowledge.{Knowledge}
 use Rattle.asm_expr.specs.Settled.{settled, put_all}
 use Rattle.asm_expr.specs.Linear.{linear, unary_form}
-use Rattle.asm_expr.specs.Operators.{mark_of, prefix_of, prefix_by, prefix_level, level_of}
-use Rattle.asm_expr.specs.Leaves.{leaf_of}
-use Rattle.asm_expr.specs.Reading.{read, reading, reading_of}
-use Rattle.asm_expr.specs.Grammar.{Writes, leaf, prefixed, between, enclosed, operator_follows}
-use Rattle.asm_expr.proofs.LeafLemmas.{leaf_height}
+use Rattle.expr_texts.specs.Operators.{mark_of, prefix_of, prefix_by, prefix_level, level_of}
+use Rattle.expr_texts.specs.Leaves.{leaf_of}
+use Rattle.expr_texts.specs.Reading.{read, reading, reading_of}
+use Rattle.expr_texts.specs.Grammar.{Writes, leaf, prefixed, between, enclosed, operator_follows}
+use Rattle.expr_texts.proofs.LeafLemmas.{leaf_height}
 use Rattle.asm_base.specs.declared.refusals.Refusal.{Refusal}
-use Rattle.asm_expr.specs.Found.{spelled_from}
+use Rattle.expr_texts.specs.Found.{spelled_from}
 use Rattle.asm_operands.specs.Constants.{IsSingle}
 use Rattle.x86_insn.specs.declared.amounts.Amount.TheVariants as amount
 use Rattle.att_operands.specs.declared.values.ReadAmount.{ReadAmount}

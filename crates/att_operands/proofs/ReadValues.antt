@@ -4,9 +4,9 @@ use Rattle.std.proofs.Math.Seq.{drop-append_seam}
 use Rattle.asm_base.specs.Tokens.{SpelledToken}
 use Rattle.asm_expr.specs.declared.faults.ExprCause.{ExprCause}
 use Rattle.asm_expr.specs.Trees.{Tree}
-use Rattle.asm_expr.specs.Reading.{ReadTree, reading_of}
-use Rattle.asm_expr.specs.Grammar.{IsTextOf}
-use Rattle.asm_expr.proofs.GrammarLaws.{read_is_text}
+use Rattle.expr_texts.specs.Reading.{ReadTree, reading_of}
+use Rattle.expr_texts.specs.Grammar.{IsTextOf}
+use Rattle.expr_texts.proofs.GrammarLaws.{read_is_text}
 use Rattle.x86_insn.specs.declared.amounts.Suffix.{Suffix}
 use Rattle.att_operands.specs.declared.faults.OperandCause.{OperandCause}
 use Rattle.att_operands.specs.declared.faults.OperandCause.TheVariants.{BadOperand}

@@ -8,9 +8,9 @@ use Rattle.asm_base.specs.declared.tokens.TokenKind.TheVariants as kind
 use Rattle.asm_expr.specs.declared.trees.UnaryOp.{UnaryOp}
 use Rattle.asm_expr.specs.declared.trees.BinaryOp.{BinaryOp}
 use Rattle.asm_expr.specs.Trees.{Tree}
-use Rattle.asm_expr.specs.Operators.{opens, mark_of, prefix_of, prefix_by, prefix_byte, operator_of, operator_by, operator_byte, level_of, prefix_level}
-use Rattle.asm_expr.specs.Leaves.{leaf_of, leaf_by}
-use Rattle.asm_expr.specs.Grammar.{Writes, leaf, prefixed, between, enclosed}
+use Rattle.expr_texts.specs.Operators.{opens, mark_of, prefix_of, prefix_by, prefix_byte, operator_of, operator_by, operator_byte, level_of, prefix_level}
+use Rattle.expr_texts.specs.Leaves.{leaf_of, leaf_by}
+use Rattle.expr_texts.specs.Grammar.{Writes, leaf, prefixed, between, enclosed}
 use Rattle.att_operands.specs.Marks.{mark_byte, mark_by, mark_at, begins_by}
 
 -- what stands at a place, where the tokens from an earlier one on are known

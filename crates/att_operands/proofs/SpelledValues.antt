@@ -4,9 +4,9 @@ use Rattle.std.proofs.lemmas.Bool.{eqb-true}
 use Rattle.asm_base.specs.Tokens.{SpelledToken}
 use Rattle.asm_base.specs.declared.tokens.TokenKind.{TokenKind}
 use Rattle.asm_base.specs.declared.tokens.TokenKind.TheVariants as kind
-use Rattle.asm_expr.specs.Operators.{mark_of, operator_by, operator_byte}
-use Rattle.asm_expr.specs.Reading.{reading}
-use Rattle.asm_expr.specs.Grammar.{operator_follows}
+use Rattle.expr_texts.specs.Operators.{mark_of, operator_by, operator_byte}
+use Rattle.expr_texts.specs.Reading.{reading}
+use Rattle.expr_texts.specs.Grammar.{operator_follows}
 use Rattle.att_operands.specs.declared.faults.OperandCause.{OperandCause}
 use Rattle.att_operands.specs.declared.faults.OperandCause.TheVariants.{BadOperand}
 use Rattle.att_operands.specs.Marks.{mark_byte, mark_by, mark_at, ends_by, begins_by}

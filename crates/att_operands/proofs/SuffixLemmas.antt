@@ -9,10 +9,10 @@ use Rattle.asm_base.specs.declared.tokens.Token.{Token}
 use Rattle.asm_base.specs.Tokens.{SpelledToken, spelled}
 use Rattle.asm_expr.specs.declared.faults.ExprCause.{ExprCause}
 use Rattle.asm_expr.specs.Trees.{Tree}
-use Rattle.asm_expr.specs.Reading.{Reading, Read, read, reading, reading_of}
-use Rattle.asm_expr.specs.Grammar.{operator_follows}
-use Rattle.asm_expr.specs.Found.{spelled_from}
-use Rattle.asm_expr.proofs.Fuel.{reading_takes}
+use Rattle.expr_texts.specs.Reading.{Reading, Read, read, reading, reading_of}
+use Rattle.expr_texts.specs.Grammar.{operator_follows}
+use Rattle.expr_texts.specs.Found.{spelled_from}
+use Rattle.expr_texts.proofs.Fuel.{reading_takes}
 use Rattle.x86_insn.specs.declared.amounts.Amount.{Amount}
 use Rattle.att_operands.specs.declared.faults.OperandCause.{OperandCause}
 use Rattle.att_operands.specs.declared.values.ReadAmount.{ReadAmount}

@@ -5,10 +5,10 @@ use Rattle.asm_base.specs.ByteClasses.{is_blank, is_name_start, is_name_byte, is
 use Rattle.asm_base.specs.Dividing.{comment_length, quoted_length, is_plain, piece_kind, piece_length, pieces_from}
 use Rattle.asm_base.specs.Digits.{digit_of, number_after}
 use Rattle.asm_base.specs.Strings.{low_byte, escape_length, control_byte, escaped_byte, string_value_from}
-use Rattle.asm_expr.specs.Operators.{prefix_by, operator_byte, operator_bytes, operator_by, level_of}
-use Rattle.asm_expr.specs.Leaves.{character_code, digits_leaf, leaf_of}
-use Rattle.asm_expr.specs.Numbers.{numeral, spelled_number}
-use Rattle.asm_expr.specs.Reading.{whole, operand_of, reading, reading_more, reading_of, read_at, read_more}
+use Rattle.expr_texts.specs.Operators.{prefix_by, operator_byte, operator_bytes, operator_by, level_of}
+use Rattle.expr_texts.specs.Leaves.{character_code, digits_leaf, leaf_of}
+use Rattle.expr_texts.specs.Numbers.{numeral, spelled_number}
+use Rattle.expr_texts.specs.Reading.{whole, operand_of, reading, reading_more, reading_of, read_at, read_more}
 use Rattle.asm_expr.specs.Trees.{height}
 use Rattle.att_operands.specs.Registers.{register_names, register_of}
 use Rattle.att_operands.specs.Marks.{mark_by, ends_by, begins_by}

@@ -4,7 +4,7 @@ use Rattle.asm_base.specs.Tokens.{SpelledToken}
 use Rattle.asm_base.specs.declared.tokens.TokenKind.{TokenKind}
 use Rattle.asm_base.specs.declared.tokens.TokenKind.TheVariants.{Digits}
 use Rattle.asm_expr.specs.declared.faults.ExprCause.{ExprCause}
-use Rattle.asm_expr.specs.Numbers.{spelled_number}
+use Rattle.expr_texts.specs.Numbers.{spelled_number}
 use Rattle.x86_insn.specs.declared.registers.Class.{Class}
 use Rattle.x86_insn.specs.declared.registers.Class.TheVariants.{Quad}
 use Rattle.x86_insn.specs.declared.insns.Base.{Base}

@@ -3,7 +3,7 @@ use Rattle.std.specs.Prelude.{◌≡◌, ℕ, List, Option, Some, None, Result, 
 use Rattle.asm_base.specs.declared.refusals.Refusal.{Refusal}
 use Rattle.asm_base.specs.Tokens.{SpelledToken}
 use Rattle.asm_expr.specs.declared.faults.ExprCause.{ExprCause}
-use Rattle.asm_expr.specs.Reading.{ReadTree, reading_of}
+use Rattle.expr_texts.specs.Reading.{ReadTree, reading_of}
 use Rattle.asm_operands.specs.declared.sums.Sum.{Sum}
 use Rattle.asm_operands.specs.Sums.{sum_tree}
 use Rattle.x86_insn.specs.declared.amounts.Amount.{Amount}

@@ -2,7 +2,7 @@
 use Rattle.std.specs.Prelude.{◌≡◌, ℕ, Bool, true, false, List, ◌∷◌, ◌++◌, drop, Option, Some, None, Err, slice_get}
 use Rattle.asm_base.specs.Tokens.{SpelledToken}
 use Rattle.asm_expr.specs.declared.faults.ExprCause.{ExprCause}
-use Rattle.asm_expr.specs.Failing.{FailsAt}
+use Rattle.expr_texts.specs.Failing.{FailsAt}
 use Rattle.x86_insn.specs.declared.amounts.Suffix.{Suffix}
 use Rattle.x86_insn.specs.declared.insns.Segment.{Segment}
 use Rattle.att_operands.specs.declared.faults.OperandCause.{OperandCause}

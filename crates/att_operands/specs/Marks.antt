@@ -1,7 +1,7 @@
 -- Marks of punctuation, by their places among the tokens of a statement.
 use Rattle.std.specs.Prelude.{ℕ, ◌==◌, ◌||◌, not, Bool, true, false, List, [], ◌∷◌, Option, Some, None, slice_get}
 use Rattle.asm_base.specs.Tokens.{SpelledToken}
-use Rattle.asm_expr.specs.Operators.{mark_of}
+use Rattle.expr_texts.specs.Operators.{mark_of}
 
 -- the byte of a mark of one byte, and 0 of anything else
 abbrev pub mark_byte : List ℕ → ℕ

@@ -2,7 +2,7 @@
 use Rattle.std.specs.Prelude.{◌≡◌, ℕ, ◌+◌, Bool, true, false, List, [], ◌∷◌, ◌++◌, length, drop, Option, Some, None, Ok, slice_get}
 use Rattle.asm_base.specs.Tokens.{SpelledToken}
 use Rattle.asm_expr.specs.Trees.{Tree}
-use Rattle.asm_expr.specs.Grammar.{IsTextOf}
+use Rattle.expr_texts.specs.Grammar.{IsTextOf}
 use Rattle.x86_insn.specs.declared.registers.Reg.{Reg}
 use Rattle.x86_insn.specs.declared.amounts.Suffix.{Suffix}
 use Rattle.x86_insn.specs.declared.insns.Segment.{Segment}

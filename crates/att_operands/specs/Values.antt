@@ -8,13 +8,13 @@ use Rattle.asm_base.specs.declared.tokens.TokenKind.TheVariants.{Name, String, D
 use Rattle.asm_base.specs.Tokens.{SpelledToken}
 use Rattle.asm_expr.specs.declared.faults.ExprCause.{ExprCause}
 use Rattle.asm_expr.specs.declared.faults.ExprCause.TheVariants as cause
-use Rattle.asm_expr.specs.Leaves.{is_numeric_label}
+use Rattle.expr_texts.specs.Leaves.{is_numeric_label}
 use Rattle.asm_expr.specs.Trees.{Tree, number, tree_of}
 use Rattle.asm_expr.specs.Forms.{Form}
 use Rattle.asm_expr.specs.Knowledge.{constant, form, Knowledge}
 use Rattle.asm_expr.specs.Linear.{linear}
 use Rattle.asm_expr.specs.NamesOf.{names_of}
-use Rattle.asm_expr.specs.Reading.{ReadTree, reading_of}
+use Rattle.expr_texts.specs.Reading.{ReadTree, reading_of}
 use Rattle.x86_insn.specs.declared.amounts.Amount.{Amount}
 use Rattle.x86_insn.specs.declared.amounts.Amount.TheVariants as amount
 use Rattle.x86_insn.specs.declared.amounts.Suffix.{Suffix}

@@ -7,7 +7,7 @@ ghost use Rattle.att_operands.specs.Addresses.{register_by, register_at, base_by
 use crate::marks::{mark_at, token_at};
 use crate::registers::{NamedRegister, register_named};
 use asm_base::{Token, TokenKind};
-use asm_expr::spelled_number;
+use expr_texts::spelled_number;
 use x86_insn::{Base, Class, Index, Reg};
 
 /// The base and the index of an address, and the index of the first token behind it.

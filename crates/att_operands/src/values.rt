@@ -4,17 +4,17 @@ ghost use Rattle.std.specs.Prelude.{◌≡◌, ◌+◌, ◌^◌, ◌<◌, ◌≤
 ghost use Rattle.asm_base.specs.declared.refusals.Refusal.TheVariants.{NoMemory};
 ghost use Rattle.asm_base.specs.Tokens.{SpelledToken, spelled};
 ghost use Rattle.asm_expr.specs.Forms.{signed};
-ghost use Rattle.asm_expr.specs.Found.{spelled_from};
-ghost use Rattle.asm_expr.specs.Grammar.{operator_follows};
-ghost use Rattle.asm_expr.specs.Leaves.{is_numeric_label};
+ghost use Rattle.expr_texts.specs.Found.{spelled_from};
+ghost use Rattle.expr_texts.specs.Grammar.{operator_follows};
+ghost use Rattle.expr_texts.specs.Leaves.{is_numeric_label};
 ghost use Rattle.att_operands.specs.Values.{GivesSo, suffix_of, suffix_by, suffix_at, names_by, without_suffix, value_with, value_at, begun_at};
 ghost use Rattle.att_operands.specs.Amounts.{FindsAmount, FindsRead, GivesAmount, IsValueRead};
 
 use crate::faults::{OperandCause, OperandFault};
 use crate::marks::{begins_value, mark_at, token_at};
 use asm_base::{Token, TokenKind};
-use asm_expr::{all_digits, parse_front};
 use asm_operands::{Addend, Sum, Summand, front_constant, single_constant, sum_operand};
+use expr_texts::{all_digits, parse_front};
 use std::alloc::Global;
 use x86_insn::{Amount, Suffix, Value};
 
@@ -57,7 +57,7 @@ fn amount_of<'a>(sum: Sum<'_, 'a>) -> Option<Amount<'a>>
 
 /// Whether no operator stands at this place, in the usual cases.
 #[inline(always)]
-#[tactic(auto, unfolding(asm_expr::specs::Operators::operator_by, asm_expr::specs::Operators::operator_byte))]
+#[tactic(auto, unfolding(expr_texts::specs::Operators::operator_by, expr_texts::specs::Operators::operator_byte))]
 fn stops_at(tokens: &[Token], at: usize) -> bool
     ensures { IsTrue result → operator_follows (spelled_from tokens.now at) ≡ false }
 {

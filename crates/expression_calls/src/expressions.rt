@@ -6,9 +6,9 @@ ghost use Rattle.expression_calls.specs.Numbered.{numbered, instance_of, the_pla
 use asm_base::Tokens;
 use asm_expr::{
     Expr, ExprFault, Known, KnownNow, Linear, Look, SymId, Written, constant_form, fold,
-    known_value, linear_form, names_of, parse, plus_times, settled, settled_value, shown_text,
-    symbol_form, value_of,
+    known_value, linear_form, names_of, plus_times, settled, settled_value, symbol_form, value_of,
 };
+use expr_texts::{parse, shown_text};
 use std::alloc::Global;
 use std::fmt::Display;
 use std::io::{self, Write};

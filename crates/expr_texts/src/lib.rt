@@ -1,0 +1,19 @@
+//! The texts of expressions: their grammar, the trees that they are read as, and how trees are shown.
+#![tactic(auto)]
+
+mod laws;
+mod leaves;
+mod numbers;
+mod operators;
+mod parsing;
+mod showing;
+mod spelling;
+
+pub use laws::{
+    faults_of_an_expression, one_tree, read_is_written, shown_is_read, written_is_read,
+};
+pub use leaves::{between_quotes, character_code, is_symbol_name};
+pub use numbers::{all_digits, decimal_number, spelled_number};
+pub use operators::{closes, level_of, opens, operator_from, operator_of, prefix_of};
+pub use parsing::{parse, parse_front};
+pub use showing::{Piece, Shown, shown_text};
