@@ -2,12 +2,27 @@
 
 PREFIX ?= /usr/local
 DESTDIR ?=
-SOURCES := crates.txt $(shell find crates -path '*/out' -prune -o \( -name '*.rt' -o -name '*.antt' \) -print)
+CRATES := $(shell sed -n 's/^\([a-z0-9_]*\):.*/\1/p' crates.txt)
+
+# As many crates are proved side by side as there are processors, each behind those that it stands on.
+MAKEFLAGS += --jobs=$(shell nproc 2>/dev/null || echo 1)
 
 all: build/as build/gcc/as
 
+stands_on = $(filter $(CRATES),$(shell sed -n 's/^$(1)://p' crates.txt))
+sources_of = $(shell find crates/$(1) -path '*/out' -prune -o \( -name '*.rt' -o -name '*.antt' \) -print)
+
+# The library of a crate, proved; the log stays where a proof fails.
+define library
+build/libraries/$(1): crates.txt $(call sources_of,$(1)) $(patsubst %,build/libraries/%,$(call stands_on,$(1)))
+	@mkdir -p build/libraries
+	@cd crates/$(1) && rt lib >../../build/libraries/$(1).log 2>&1 || { cat ../../build/libraries/$(1).log; exit 1; }
+	@mv build/libraries/$(1).log $$@
+endef
+$(foreach crate,$(filter-out asm_cli asm_rows asm_calls,$(CRATES)),$(eval $(call library,$(crate))))
+
 # Only a proved program is linked. A word that is no command makes it end at once, with status 2.
-build/as: $(SOURCES)
+build/as: crates.txt $(call sources_of,asm_cli) $(patsubst %,build/libraries/%,$(call stands_on,asm_cli))
 	@mkdir -p build
 	@rm -f crates/asm_cli/out/asm_cli
 	@cd crates/asm_cli && rt run -- --build >../../build/log 2>&1; test -x out/asm_cli || { cat ../../build/log; exit 1; }
