@@ -69,9 +69,10 @@ pub struct Symbol {
     pub meaning: Meaning,
     pub binding: Option<Binding>,
     pub kind: Option<Kind>,
+    /// It stands beside the other small fields: a symbol is eight bytes shorter so.
+    pub visibility: Option<Visibility>,
     pub size: Option<BoxedForm>,
     /// The number of its size among all sizes in the order in which they were said, from 1; 0 where
     /// it has none.
     pub sized: u64,
-    pub visibility: Option<Visibility>,
 }
