@@ -2,6 +2,7 @@
 pub mod RankLemmas
 pub mod ExpandingLemmas
 pub mod ExpansionLemmas
+pub mod OwnForms
 pub mod WayLemmas
 pub mod Changes
 pub mod PlacingLemmas

@@ -1,11 +1,12 @@
 -- The expansion of assigned symbols in forms: each is replaced by the expansion of the form that it was assigned last.
-use Rattle.std.specs.Prelude.{◌≡◌, ℕ, zero, suc, Bool, true, false, ◌&&◌, not, List, [], ◌∷◌, length, drop, Option, None, Some, is_some, option_map, slice_get, if◌then◌else◌}
+use Rattle.std.specs.Prelude.{◌≡◌, ℕ, zero, suc, Bool, true, false, ◌&&◌, not, List, [], ◌∷◌, length, map, drop, Option, None, Some, is_some, option_map, slice_get, if◌then◌else◌}
 use Rattle.std.specs.Option.{option_flatten}
 use Rattle.std.specs.List.{list_any}
 use Rattle.asm_expr.specs.declared.forms.Term.{Term}
 use Rattle.asm_expr.specs.Forms.{Form, constant_form, symbol_form, plus_times}
 use Rattle.asm_symbols.specs.SymbolMap.{SymbolMap}
-use Rattle.asm_symbols.specs.Assigning.{form_at, IsNamedIn}
+use Rattle.asm_symbols.specs.Assigning.{form_of, form_at, IsNamedIn}
+use Rattle.asm_symbols.specs.declared.entries.Symbol.{Symbol}
 
 -- the form that stands for a symbol, or else the symbol itself
 abbrev pub form_or_symbol : ℕ → Option Form → Form
@@ -32,6 +33,19 @@ is_assigned map term = is_some (form_at map.symbols term.symbol)
 -- the form names an assigned symbol
 abbrev pub names_assigned : SymbolMap → Form → Bool
 names_assigned map form = list_any (is_assigned map) form.terms
+
+-- the form, if it is there, names no assigned symbol
+abbrev pub is_expanded : SymbolMap → Option Form → Bool
+is_expanded map None = true
+is_expanded map (Some form) = not (names_assigned map form)
+
+-- the symbol is no assigned one, or its form names none
+abbrev pub stands_for_itself : SymbolMap → Symbol → Bool
+stands_for_itself map symbol = is_expanded map (form_of symbol.meaning)
+
+-- the form of each symbol, where it is an assigned one
+abbrev pub own_forms : List Symbol → List (Option Form)
+own_forms symbols = map (λ symbol. form_of symbol.meaning) symbols
 
 -- the form expanded, in assigned symbols that lead to one another so far at most
 unfoldable pub expanded_within : ℕ → SymbolMap → Form → Form

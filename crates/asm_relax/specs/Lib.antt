@@ -1,6 +1,7 @@
 -- The definitions that contracts cite, in reading order.
 pub mod Expanding
 pub mod Expansions
+pub mod FoundForms
 pub mod Final
 pub mod Ranks
 pub mod Layout

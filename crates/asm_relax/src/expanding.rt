@@ -3,16 +3,17 @@
 
 ghost use Rattle.std.specs.Prelude.{◌≡◌, ◌<◌, ◌≤◌, length, None, IsSome, IfOk, option_map};
 ghost use Rattle.asm_symbols.specs.Assigning.{form_of, form_at};
-ghost use Rattle.asm_relax.specs.Expanding.{is_assigned, names_assigned, expanded, terms_of, Expands};
+ghost use Rattle.asm_relax.specs.Expanding.{is_assigned, names_assigned, form_or_symbol, terms_of, Expands};
+ghost use Rattle.asm_expr.specs.Forms.{plus_times};
 
 use asm_base::NoMemory;
 use asm_expr::{Linear, Term, constant_form, copied_form, plus_times, symbol_form};
-use asm_symbols::{Meaning, SymId, Symbols, no_form_leads_back};
+use asm_symbols::{Meaning, Symbols, no_form_leads_back};
 use std::alloc::Global;
 use std::marker::Model;
 
 /// The form of an assigned symbol.
-fn form_of(meaning: &Meaning) -> Option<&Linear>
+pub(crate) fn form_of(meaning: &Meaning) -> Option<&Linear>
     ensures { option_map (λ form. form.now) result ≡ form_of meaning.now }
 {
     match meaning {
@@ -22,7 +23,7 @@ fn form_of(meaning: &Meaning) -> Option<&Linear>
 }
 
 /// The form of the symbol at the index, where it is an assigned one.
-fn form_at(symbols: &Symbols, at: usize) -> Option<&Linear>
+pub(crate) fn form_at(symbols: &Symbols, at: usize) -> Option<&Linear>
     ensures { option_map (λ form. form.now) result ≡ form_at symbols.now.symbols at }
 {
     match symbols.as_slice().get(at) {
@@ -49,10 +50,28 @@ fn is_assigned(symbols: &Symbols, term: &Term) -> bool
 }
 
 /// Whether the form names an assigned symbol.
-fn names_assigned(symbols: &Symbols, form: &Linear) -> bool
+pub(crate) fn names_assigned(symbols: &Symbols, form: &Linear) -> bool
     ensures { result ≡ names_assigned symbols.now form.now }
 {
     form.terms().iter().any(|term| is_assigned(symbols, term))
+}
+
+/// The form plus the term, with this form in place of the term's symbol, where there is one.
+pub(crate) fn plus_replaced(
+    alloc: Global,
+    made: Linear,
+    term: &Term,
+    found: Option<&Linear>,
+) -> Result<Linear, NoMemory>
+    ensures { let there = option_map (λ form. form.now) found.entry in
+        IfOk result (λ form. form
+        ≡ plus_times made term.now.coefficient (form_or_symbol term.now.symbol there)) }
+{
+    let sum = match found {
+        Some(form) => plus_times(made, term.coefficient, form),
+        None => plus_times(made, term.coefficient, &symbol_form(alloc, term.symbol)?),
+    };
+    Ok(sum?)
 }
 
 /// A symbol whose form is being expanded: its index, how many terms of its form are expanded, and
@@ -100,18 +119,18 @@ enum Expansion<'a> {
     Made(Box<Linear>),
 }
 
-/// The expanded forms of all assigned symbols: for each symbol none, or its expanded form.
+/// The expanded forms of all assigned symbols, in a list: for each symbol none, or its expanded form.
 ///
 /// Each symbol is expanded once: its terms are added one after the other, and where one names a
 /// symbol whose expanded form is not there, that symbol goes first and the sum so far waits. So a
 /// term of a symbol's form is looked up a fixed number of times, however many forms lead to it. The
 /// symbols that wait stand in a list on the heap, since a chain of them may be long.
 #[derive(Drop)]
-pub struct Expansions<'a> {
+pub(crate) struct MadeForms<'a> {
     forms: Vec<Expansion<'a>>,
 }
 
-impl<'a> Model for Expansions<'a> {
+impl<'a> Model for MadeForms<'a> {
     ghost use Rattle.std.specs.Prelude.{List, Option, map};
     ghost use Rattle.asm_expr.specs.Forms.{Form};
     ghost use Rattle.asm_relax.specs.Expansions.{form_there};
@@ -121,25 +140,25 @@ impl<'a> Model for Expansions<'a> {
     ghost view = { λ made. map form_there made.forms.items };
 }
 
-impl<'a> Expansions<'a> {
-    ghost use Rattle.std.specs.Prelude.{◌≡◌, ◌<◌, ◌≤◌, true, false, length, set, replicate, None, Some, option_map, IsNone, IfOk, OnOk, IfSome};
+impl<'a> MadeForms<'a> {
+    ghost use Rattle.std.specs.Prelude.{◌≡◌, ◌<◌, ◌≤◌, false, length, set, replicate, None, Some, option_map, IsNone, IfOk, OnOk, IfSome};
     ghost use Rattle.asm_expr.specs.Forms.{plus_times};
     ghost use Rattle.asm_symbols.specs.Assigning.{form_at};
-    ghost use Rattle.asm_relax.specs.Expanding.{names_assigned, names_expanded, expanded, form_or_symbol, entry_at, awaits, terms_of, Expands, IsAwaited, AreExpansions, ArePartly, KeepsForms};
+    ghost use Rattle.asm_relax.specs.Expanding.{form_or_symbol, entry_at, awaits, terms_of, Expands, IsAwaited, AreExpansions, ArePartly, KeepsForms};
 
     /// No form for any of so many symbols.
-    fn none(alloc: Global, count: usize) -> Result<Expansions<'a>, NoMemory>
+    fn none(alloc: Global, count: usize) -> Result<MadeForms<'a>, NoMemory>
         ensures { IfOk result (λ made. made ≡ replicate count None) }
     {
         let mut forms = Vec::with_capacity(alloc, count)?;
         for _ in 0..count {
             forms.push(Expansion::Absent)?;
         }
-        Ok(Expansions { forms })
+        Ok(MadeForms { forms })
     }
 
     /// The form that is there for the symbol at the index.
-    fn entry_at(&self, at: usize) -> Option<&Linear>
+    pub(crate) fn entry_at(&self, at: usize) -> Option<&Linear>
         ensures { option_map (λ form. form.now) result ≡ entry_at self.now at }
     {
         match self.forms.get(at) {
@@ -147,13 +166,6 @@ impl<'a> Expansions<'a> {
             Some(Expansion::Made(form)) => Some(form),
             _ => None,
         }
-    }
-
-    /// The expanded form of the symbol, where it is an assigned one.
-    pub fn of(&self, id: SymId) -> Option<&Linear>
-        ensures { option_map (λ form. form.now) result ≡ entry_at self.now id }
-    {
-        self.entry_at(id.index() as usize)
     }
 
     /// Whether the symbol is an assigned one whose expanded form is not there.
@@ -169,11 +181,12 @@ impl<'a> Expansions<'a> {
             IfOk result (λ form. form
             ≡ plus_times made term.now.coefficient (form_or_symbol term.now.symbol found)) }
     {
-        let sum = match self.of(term.symbol) {
-            Some(form) => plus_times(made, term.coefficient, form),
-            None => plus_times(made, term.coefficient, &symbol_form(alloc, term.symbol)?),
-        };
-        Ok(sum?)
+        plus_replaced(
+            alloc,
+            made,
+            term,
+            self.entry_at(term.symbol.index() as usize),
+        )
     }
 
     /// Expands terms up to the first of a symbol whose expanded form is not there, and answers that
@@ -279,50 +292,14 @@ impl<'a> Expansions<'a> {
     }
 
     /// The expanded forms of the symbols.
-    pub fn new(alloc: Global, symbols: &'a Symbols) -> Result<Expansions<'a>, NoMemory>
+    #[inline(never)]
+    pub(crate) fn new(alloc: Global, symbols: &'a Symbols) -> Result<MadeForms<'a>, NoMemory>
         ensures { IfOk result (AreExpansions symbols.now) }
     {
-        let mut made = Expansions::none(alloc, symbols.len())?;
+        let mut made = MadeForms::none(alloc, symbols.len())?;
         for at in 0..symbols.len() {
             made.fill(alloc, symbols, at)?;
         }
         Ok(made)
-    }
-
-    /// The sum of the terms and the constant of a form that names assigned symbols, with their
-    /// expanded forms in place of these.
-    fn sum_of(&self, alloc: Global, symbols: &Symbols, form: &Linear) -> Result<Linear, NoMemory>
-        requires expansions { AreExpansions symbols.now self.now }
-        requires assigned { names_assigned symbols.now form.now ≡ true }
-        ensures { IfOk result (λ made. made ≡ expanded symbols.now form.now) }
-    {
-        no_form_leads_back(symbols);
-        let terms = form.terms();
-        let mut made = constant_form(alloc, form.constant());
-        for term in terms {
-            made = self.plus_term(alloc, made, term)?;
-        }
-        Ok(made)
-    }
-
-    /// Whether the form names a symbol whose expanded form is there.
-    fn names_expanded(&self, form: &Linear) -> bool
-        ensures { result ≡ names_expanded self.now form.now }
-    {
-        form.terms()
-            .iter()
-            .any(|term| self.of(term.symbol).is_some())
-    }
-
-    /// The form expanded. One that names no assigned symbol is handed back.
-    #[tactic(auto, using(crate::proofs::ExpandingLemmas::expanded_none, crate::proofs::ExpansionLemmas::names_there))]
-    pub fn expand(&self, alloc: Global, symbols: &Symbols, form: Linear) -> Result<Linear, NoMemory>
-        requires { AreExpansions symbols.now self.now }
-        ensures { IfOk result (λ made. made ≡ expanded symbols.now form) }
-    {
-        if self.names_expanded(&form) {
-            return self.sum_of(alloc, symbols, &form);
-        }
-        Ok(form)
     }
 }

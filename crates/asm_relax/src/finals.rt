@@ -6,7 +6,7 @@ ghost use Rattle.asm_expr.specs.Settled.{cannot_cancel, constant_left};
 ghost use Rattle.asm_relax.specs.Expanding.{AreExpansions};
 ghost use Rattle.asm_relax.specs.Final.{spot_told, final_meaning, final_form, laid_value, field_value};
 
-use crate::expanding::Expansions;
+use crate::expansions::Expansions;
 use crate::places::address_of;
 use asm_base::NoMemory;
 use asm_expr::{Known, Linear, Look, SymId, Term, Written, copied_form, settled, settled_value};

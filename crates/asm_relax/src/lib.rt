@@ -2,6 +2,7 @@
 #![tactic(auto)]
 
 mod expanding;
+mod expansions;
 mod faults;
 mod finals;
 mod laws;
@@ -10,7 +11,7 @@ mod places;
 mod planning;
 mod range_checks;
 
-pub use expanding::Expansions;
+pub use expansions::Expansions;
 pub use faults::LayoutFault;
 pub use finals::{FinalView, end_value, final_form, laid_value};
 pub use laws::{

@@ -2,7 +2,7 @@
 
 ghost use Rattle.std.specs.Prelude.{◌≡◌};
 
-use crate::expanding::Expansions;
+use crate::expansions::Expansions;
 use crate::faults::LayoutFault;
 use crate::laying::lay_all;
 use crate::range_checks::first_fault;

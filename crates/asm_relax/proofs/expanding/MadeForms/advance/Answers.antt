@@ -1,7 +1,7 @@
 -- A term is added, or names a symbol that is awaited.
 use Rattle.std.proofs.Common.{sym, ◌∙◌}
 use Rattle.asm_relax.proofs.ExpansionLemmas.{expands_step, is_awaited}
-use Rattle.asm_relax.proofs.expanding.Expansions.advance.Goals as goal
+use Rattle.asm_relax.proofs.expanding.MadeForms.advance.Goals as goal
 
 pub returns-then-awaits-clause-awaited : goal.returns-then-awaits-clause-awaited
 returns-then-awaits-clause-awaited c =

@@ -1,7 +1,7 @@
 -- The sum so far and the terms that follow give the expanded form.
 use Rattle.std.proofs.Common.{length, ◌-◌}
 use Rattle.asm_relax.specs.Expanding.{Expands}
-use Rattle.asm_relax.proofs.expanding.Expansions.advance.Given as goal
+use Rattle.asm_relax.proofs.expanding.MadeForms.advance.Given as goal
 
 abbrev pub invariant-loop-seen : goal.invariant-loop-seen
 invariant-loop-seen l = Expands l.symbols l.symbol l.seen l.made

@@ -2,7 +2,7 @@
 use Rattle.std.proofs.Common.{sym, ap, ◌∙◌, length, ◌<◌}
 use Rattle.std.specs.Option.{option_map}
 use Rattle.asm_relax.proofs.ExpansionLemmas.{own_there, partly_put, kept_put, there_put}
-use Rattle.asm_relax.proofs.expanding.Expansions.fill.Goals as goal
+use Rattle.asm_relax.proofs.expanding.MadeForms.fill.Goals as goal
 
 pub returns-clause-partly : goal.returns-clause-partly
 returns-clause-partly c =

@@ -2,7 +2,7 @@
 use Rattle.std.proofs.Common.{◌++◌, [], ◌∷◌, refl, sym, ap, ◌∙◌}
 use Rattle.asm_relax.proofs.ExpansionLemmas.{awaits_within}
 use Rattle.asm_relax.proofs.WayLemmas.{filling_start, last_within, last_inside, last_sum, filling_more, less_more, filling_less, less_less}
-use Rattle.asm_relax.proofs.expanding.Expansions.fill_from.Goals as goal
+use Rattle.asm_relax.proofs.expanding.MadeForms.fill_from.Goals as goal
 
 pub way-init : goal.way-init
 way-init c =

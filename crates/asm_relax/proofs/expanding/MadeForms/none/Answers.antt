@@ -3,7 +3,7 @@ use Rattle.std.proofs.Common.{◌≡◌, ◌++◌, [], ◌∷◌, ap, ◌∙◌,
 use Rattle.std.proofs.lemmas.List.{replicate_more}
 use Rattle.asm_relax.specs.declared.expanding.Expansion.TheVariants.{Absent}
 use Rattle.asm_relax.proofs.ExpansionLemmas.{map_absent}
-use Rattle.asm_relax.proofs.expanding.Expansions.none.Goals as goal
+use Rattle.asm_relax.proofs.expanding.MadeForms.none.Goals as goal
 
 pub loop-preserved : goal.loop-preserved
 loop-preserved c = c.in_ok-push.ensures.items ∙ ap (λ xs. xs ++ Absent ∷ []) c.loop.invariant ∙ replicate_more c.loop.counter Absent

@@ -2,7 +2,7 @@
 use Rattle.std.proofs.Common.{sym}
 use Rattle.asm_relax.proofs.ExpandingLemmas.{expanded_some}
 use Rattle.asm_relax.proofs.ExpansionLemmas.{expand_step, expand_end}
-use Rattle.asm_relax.proofs.expanding.Expansions.sum_of.Goals as goal
+use Rattle.asm_relax.proofs.expansions.Expansions.sum_of.Goals as goal
 
 pub loop-term-init : goal.loop-term-init
 loop-term-init c =
@@ -12,7 +12,7 @@ loop-term-init c =
 pub loop-term-preserved : goal.loop-term-preserved
 loop-term-preserved c =
     expand_step c.args.symbols.now c.args.self.now c.requires.expansions c.terms-terms.result.now c.loop-term.term-index c.term-item.result c.loop-term.made c.in_ok-made.made _
-    c.loop-term-test.true c.term-item.is c.in_ok-made.ensures c.loop-term.invariant
+    c.loop-term-test.true c.term-item.is (rw c.of.ensures at c.in_ok-made.ensures) c.loop-term.invariant
 
 pub returns : goal.returns
 returns c = expand_end c.args.symbols.now c.args.self.now c.terms-terms.result.now c.loop-term.term-index c.loop-term.made _ c.loop-term-test.false c.loop-term.invariant
