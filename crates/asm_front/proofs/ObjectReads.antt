@@ -34,8 +34,9 @@ use Rattle.asm_words.proofs.Readings.{found_reads, one_instruction}
 use Rattle.elf_object.specs.declared.faults.ObjectCause.{ObjectCause}
 use Rattle.elf_object.specs.Faults.{object_fault}
 use Rattle.elf_object.specs.Image.{image_of}
-use Rattle.elf_object.specs.Places.{PieceAt, IsFiled, IsBetween}
-use Rattle.elf_object.proofs.FilePlaces.{drop_stands}
+use Rattle.elf_file.specs.Places.{PieceAt}
+use Rattle.elf_object.specs.Places.{IsFiled, IsBetween}
+use Rattle.elf_file.proofs.FilePlaces.{drop_stands}
 use Rattle.elf_object.proofs.ItemPlaces.{bytes_stand}
 use Rattle.asm_front.specs.Ending.{Flags, first_warning, warned_end, made_end, laid_end, noted, finished}
 use Rattle.asm_front.specs.declared.ending.Ended.{Ended}

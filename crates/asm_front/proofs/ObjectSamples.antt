@@ -22,16 +22,17 @@ use Rattle.asm_relax.specs.Final.{shift_in, section_size, address_of, final_told
 use Rattle.asm_relax.specs.Expanding.{plus_terms, expanded_within, expanded}
 use Rattle.asm_relax.specs.Settling.{LaidItem, LaidSections}
 use Rattle.elf_object.specs.declared.faults.ObjectCause.{ObjectCause}
-use Rattle.elf_object.specs.Fields.{half, word, xword}
-use Rattle.elf_object.specs.StringTable.{string_table_of, name_offsets}
+use Rattle.elf_file.specs.Fields.{half, word, xword}
+use Rattle.elf_file.specs.StringTable.{string_table_of, name_offsets}
 use Rattle.elf_object.specs.Relocations.{reference_found, field_relocation}
 use Rattle.elf_object.specs.Contents.{filled, interleaved, section_bytes}
 use Rattle.elf_object.specs.Faults.{fields_fault, object_fault}
 use Rattle.elf_object.specs.Naming.{named_of}
-use Rattle.elf_object.specs.Aliases.{said_along, symbol_kind, symbol_size}
-use Rattle.elf_object.specs.SymbolTable.{listed, table_of}
-use Rattle.elf_object.specs.Sections.{section_names}
-use Rattle.elf_object.specs.Image.{null_header, header_table, elf_header, file_of, symbol_names, symbol_table_of, before_names, all_names, with_names, file_with, image_with, image_of}
+use Rattle.elf_symbols.specs.Aliases.{said_along, symbol_kind, symbol_size}
+use Rattle.elf_symbols.specs.SymbolTable.{listed, table_of, symbol_names, symbol_table_of}
+use Rattle.elf_file.specs.Sections.{section_names}
+use Rattle.elf_file.specs.Image.{null_header, header_table, elf_header, file_of, all_names, with_names, file_with}
+use Rattle.elf_object.specs.Image.{before_names, image_with, image_of}
 use Rattle.elf_object.specs.Objects.{object_of}
 
 symbol : Name → Meaning → Symbol

@@ -3,7 +3,7 @@
 use crate::relocations::write_relocations;
 use crate::sections::write_sections;
 use crate::symbols::SymbolTable;
-use elf_object::header_table;
+use elf_file::header_table;
 use memory_outside::{MemoryOutput, Stage};
 use row_texts::shown_name;
 use std::alloc::Global;

@@ -2,7 +2,7 @@
 
 use crate::sections::RELOCATIONS;
 use crate::symbols::SymbolTable;
-use elf_object::{SectionHeader, relocation_at, section_bytes, section_header, section_name};
+use elf_file::{SectionHeader, relocation_at, section_bytes, section_header, section_name};
 use row_texts::{relocation_type, shown_name};
 use std::alloc::Global;
 use std::io::{self, Write};

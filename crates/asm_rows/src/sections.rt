@@ -1,6 +1,6 @@
 //! The sections of an object: their headers and their bytes.
 
-use elf_object::{SectionHeader, section_bytes, section_header, section_name};
+use elf_file::{SectionHeader, section_bytes, section_header, section_name};
 use row_texts::{section_flags, section_type, shown_name, write_bytes};
 use std::alloc::Global;
 use std::io::{self, Write};

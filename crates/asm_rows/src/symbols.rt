@@ -1,6 +1,6 @@
 //! The symbols of an object.
 
-use elf_object::{
+use elf_file::{
     SectionHeader, SymbolRecord, section_bytes, section_header, section_name, section_named,
     symbol_at, text_at,
 };

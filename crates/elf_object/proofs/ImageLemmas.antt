@@ -1,18 +1,19 @@
 -- The sections of a file, put together.
 use Rattle.std.proofs.Common.{◌≡◌, ℕ, ◌+◌, List, [], ◌∷◌, ◌++◌, map, refl, ap, ◌∙◌, append_assoc}
+use Rattle.std.proofs.lemmas.List.{map-append}
 use Rattle.std.specs.Prelude.{codes}
 use Rattle.asm_symbols.specs.SymbolMap.{SymbolMap}
 use Rattle.asm_relax.specs.Settling.{LaidSections}
 use Rattle.elf_object.specs.declared.relocations.Relocation.{Relocation}
-use Rattle.elf_object.specs.declared.sections.FileSection.{FileSection}
-use Rattle.elf_object.specs.Image.{symbol_names, symbol_table_of, before_names}
-use Rattle.elf_object.specs.Naming.{NamedOf}
-use Rattle.elf_object.specs.Numbers.{NumbersOf, numbers_of, first_other}
-use Rattle.elf_object.specs.Sections.{SectionEntry, source_section, symbol_section, string_section, entries_from, header_indices, next_header}
-use Rattle.elf_object.specs.StringTable.{string_table_of}
-use Rattle.elf_object.specs.SymbolTable.{SymbolEntry, table_of}
-use Rattle.elf_object.specs.Views.{section_view}
-use Rattle.elf_object.proofs.LayingLemmas.{map_push}
+use Rattle.elf_file.specs.declared.sections.FileSection.{FileSection}
+use Rattle.elf_symbols.specs.SymbolTable.{symbol_names, symbol_table_of, SymbolEntry, table_of}
+use Rattle.elf_object.specs.Image.{before_names}
+use Rattle.elf_symbols.specs.Targets.{NamedOf}
+use Rattle.elf_symbols.specs.Numbers.{NumbersOf, numbers_of, first_other}
+use Rattle.elf_file.specs.Sections.{SectionEntry, symbol_section, string_section}
+use Rattle.elf_object.specs.Sections.{source_section, entries_from, header_indices, next_header}
+use Rattle.elf_file.specs.StringTable.{string_table_of}
+use Rattle.elf_file.specs.Views.{section_view}
 
 pub sections_made : (symbols : SymbolMap) (sections : LaidSections) (found : List (List Relocation)) (named : NamedOf) (numbers : NumbersOf) (tables first : ℕ)
     (headers entries strings : List ℕ) (table : List SymbolEntry) (held : List SectionEntry) (made pushed last : List FileSection) (s t : FileSection)
@@ -25,8 +26,8 @@ unfolding before_names
 sections_made symbols sections found named numbers tables first headers entries strings table held made pushed last s t
     number next other index listed kept filled texts begun symbol more string most =
     let front : map section_view last ≡ (map section_view made ++ section_view s ∷ []) ++ section_view t ∷ [] =
-    ap (λ (xs : List FileSection). map section_view xs) most ∙ map_push pushed t
-    ∙ ap (λ (xs : List SectionEntry). xs ++ section_view t ∷ []) (ap (λ (xs : List FileSection). map section_view xs) more ∙ map_push made s) in
+    ap (λ (xs : List FileSection). map section_view xs) most ∙ map-append section_view pushed (t ∷ [])
+    ∙ ap (λ (xs : List SectionEntry). xs ++ section_view t ∷ []) (ap (λ (xs : List FileSection). map section_view xs) more ∙ map-append section_view made (s ∷ [])) in
     let row : map section_view last ≡ map section_view made ++ section_view s ∷ section_view t ∷ [] =
     front ∙ append_assoc (map section_view made) (section_view s ∷ []) (section_view t ∷ []) in
     rw (row, begun, symbol, string, filled, texts, number, kept, other, index, listed, next) refl

@@ -1,5 +1,5 @@
 -- Plain bytes, the values of fields and the bytes of items stand in the object.
-use Rattle.std.proofs.Common.{◌≡◌, ℕ, zero, suc, ◌+◌, ◌-◌, ◌<◌, ◌≤◌, List, [], ◌∷◌, ◌++◌, Some, length, map, ◌^◌, ◌==◌, false, refl, sym, ap, ◌∙◌, subst, arith, append_assoc}
+use Rattle.std.proofs.Common.{◌≡◌, ℕ, zero, suc, ◌+◌, ◌-◌, ◌<◌, ◌≤◌, List, [], ◌∷◌, ◌++◌, Some, length, map, ◌^◌, ◌==◌, false, refl, sym, ap, ◌∙◌, subst, arith}
 use Rattle.std.proofs.Math.Dec.{eqb-suc-zero}
 use Rattle.std.proofs.Math.Nat.{mod-eq_of_lt}
 use Rattle.std.proofs.lemmas.List.{length-map}
@@ -18,36 +18,19 @@ use Rattle.asm_relax.specs.Final.{shift_in, address_in, laid_value}
 use Rattle.asm_relax.specs.Placing.{placed_from, placed_section, shift_of}
 use Rattle.asm_relax.specs.Settling.{LaidItem, LaidSections}
 use Rattle.elf_object.specs.declared.relocations.Relocation.{Relocation}
-use Rattle.elf_object.specs.Fields.{half, word, xword}
 use Rattle.elf_object.specs.Contents.{field_bytes, plain_bytes, interleaved, section_bytes, relocations_from, relocations_of}
-use Rattle.elf_object.specs.Image.{symbol_names, symbol_table_of, bodies_from, header_end, header_table, elf_header, file_of, all_names, with_names, file_with, before_names, file_sections, image_with, image_of}
+use Rattle.elf_symbols.specs.SymbolTable.{symbol_names, symbol_table_of, table_of}
+use Rattle.elf_object.specs.Image.{before_names, file_sections, image_with, image_of}
 use Rattle.elf_object.specs.Naming.{named_of}
-use Rattle.elf_object.specs.Numbers.{NumbersOf, numbers_of, first_other}
-use Rattle.elf_object.specs.Places.{PieceAt, body_offset, section_offset, moved, IsBetween, IsFiled, BytesStand, ValuesStand, ItemsStand, PlacesAreAddresses}
-use Rattle.elf_object.specs.Sections.{SectionEntry, file_bytes, source_section, symbol_section, string_section, with_relocations, header_count, next_header, entries_from, header_indices_from, header_indices}
-use Rattle.elf_object.specs.StringTable.{name_offsets, string_table_of}
-use Rattle.elf_object.specs.SymbolTable.{table_of}
-use Rattle.elf_object.proofs.FilePlaces.{stands_in, body_stands}
+use Rattle.elf_symbols.specs.Numbers.{NumbersOf, numbers_of, first_other}
+use Rattle.elf_file.specs.Places.{PieceAt}
+use Rattle.elf_object.specs.Places.{section_offset, moved, IsBetween, IsFiled, BytesStand, ValuesStand, ItemsStand, PlacesAreAddresses}
+use Rattle.elf_file.specs.Sections.{SectionEntry, file_bytes, symbol_section, string_section}
+use Rattle.elf_object.specs.Sections.{source_section, with_relocations, header_count, next_header, entries_from, header_indices_from, header_indices}
+use Rattle.elf_file.specs.StringTable.{string_table_of}
+use Rattle.elf_file.proofs.FilePlaces.{stands_in, file_stands}
 use Rattle.elf_object.proofs.ItemBytes.{low_length, plain_long}
 use Rattle.elf_object.proofs.PlainPlaces.{piece_is, inside, plain_stands, value_stands, bytes_between, item_stands, placed_get}
-
--- the header has 64 bytes
-pub header_length : (offset count : ℕ) → length (elf_header offset count) ≡ header_end
-unfolding elf_header half word xword
-header_length offset count = refl
-
--- the body of a section stands in the file
-file_stands : (entries : List SectionEntry) (index : ℕ) (s : SectionEntry) → slice_get entries index ≡ Some s
-    → PieceAt (file_with entries) (body_offset header_end entries index) (file_bytes s.content)
-unfolding file_with file_of with_names
-file_stands entries index s is =
-    let names = name_offsets (all_names entries) in
-    let last = string_section (codes ".shstrtab") (string_table_of (all_names entries)) ∷ [] in
-    let bodies = bodies_from header_end (entries ++ last) in
-    let header = elf_header (header_end + length bodies) (1 + length (entries ++ last)) in
-    let table = header_table names (entries ++ last) in
-    body_stands entries last index header_end s header table (file_with entries) is (header_length (header_end + length bodies) (1 + length (entries ++ last)))
-    (append_assoc header bodies table)
 
 pub get_front : {A : Type 0} (xs ys : List A) (i : ℕ) (x : A) → slice_get xs i ≡ Some x → slice_get (xs ++ ys) i ≡ Some x
 get_front [] ys i x is = absurd cc

@@ -1,13 +1,7 @@
 -- Loops over lists that put what they make of each element behind what they have.
-use Rattle.std.proofs.Common.{◌≡◌, ℕ, ◌+◌, ◌<◌, ◌≤◌, Bool, true, false, cond, List, [], ◌∷◌, ◌++◌, length, get_or, drop, map, Option, None, Some, refl, sym, ap, ◌∙◌, append-nil, append_assoc}
+use Rattle.std.proofs.Common.{◌≡◌, ℕ, ◌+◌, ◌<◌, Bool, false, List, [], ◌∷◌, ◌++◌, length, get_or, drop, map, Option, sym, ap, ◌∙◌, append_assoc}
 use Rattle.std.specs.Prelude.{find}
-use Rattle.std.proofs.lemmas.List.{at_drop_all, at_drop_more, map-append}
-use Rattle.asm_symbols.specs.declared.entries.Symbol.{Symbol}
-use Rattle.asm_symbols.specs.SymbolMap.{SymbolMap}
-use Rattle.asm_relax.specs.Settling.{LaidSections}
-use Rattle.elf_object.specs.declared.numbers.Standing.{Standing}
-use Rattle.elf_object.specs.Numbers.{standing_of}
-use Rattle.elf_object.specs.SymbolTable.{SymbolEntry, is_bound, part, PutsPart, listed, listed_by}
+use Rattle.std.proofs.lemmas.List.{at_drop_more, map-append}
 
 -- what is left begins with the element
 pub next_is : {X Y : Type 0} (f : List X → Y) (xs : List X) (i : ℕ) (x : X) → i < length xs → x ≡ get_or xs i x → f (drop i xs) ≡ f (x ∷ drop (i + 1) xs)
@@ -27,46 +21,3 @@ find_step p g xs i x whole inside is not_so before =
     let rest = drop (i + 1) xs in
     let here : find p (x ∷ rest) ≡ find p rest = rw not_so in
     ap g (sym here) ∙ ap g (sym (next_is (find p) xs i x inside is)) ∙ before
-
--- one more entry is listed
-pub listed_next : (symbols : SymbolMap) (sections : LaidSections) (marks : List Bool) (all : List Symbol) (i : ℕ) (mark : Bool) (symbol : Symbol) → length marks ≡ length all
-    → i < length all → mark ≡ get_or marks i mark → symbol ≡ get_or all i symbol
-    → listed_by symbols sections (drop i marks) (drop i all) ≡ listed symbols sections mark symbol ∷ listed_by symbols sections (drop (i + 1) marks) (drop (i + 1) all)
-listed_next symbols sections marks all i mark symbol long inside first second =
-    let there : i < length marks = rw long inside in
-    next_is (λ ms. listed_by symbols sections ms (drop i all)) marks i mark there first
-    ∙ next_is (λ ss. listed_by symbols sections (mark ∷ drop (i + 1) marks) ss) all i symbol inside second
-
--- no entry is left
-pub listed_none : (symbols : SymbolMap) (sections : LaidSections) (marks : List Bool) (all : List Symbol) (i : ℕ) → length marks ≡ length all → length all ≤ i
-    → listed_by symbols sections (drop i marks) (drop i all) ≡ []
-listed_none symbols sections marks all i long end =
-    let past : length marks ≤ i = rw long end in
-    at_drop_all (λ ms. listed_by symbols sections ms (drop i all)) marks i past
-
--- all is pushed
-pub all_pushed : {Y : Type 0} (out rest whole : List Y) → rest ≡ [] → out ++ rest ≡ whole → out ≡ whole
-all_pushed out rest whole none before = sym (append-nil out) ∙ ap (λ ys. out ++ ys) (sym none) ∙ before
-
--- a part of the entries of one symbol and more is that of the one and that of the others
-part_front : (local : Bool) (one : Option SymbolEntry) (more : List (Option SymbolEntry)) → part local (one ∷ more) ≡ part local (one ∷ []) ++ part local more
-part_front local None more = refl
-part_front local (Some entry) more = by_bound (is_bound local entry)
-  where
-    by_bound : (bound : Bool) → cond bound (entry ∷ part local more) (part local more) ≡ cond bound (entry ∷ []) [] ++ part local more
-    by_bound true = refl
-    by_bound false = refl
-
--- the part of one more entry is put last
-pub part_put : (local : Bool) (out more : List SymbolEntry) (one : Option SymbolEntry) (rest next : List (Option SymbolEntry)) (whole : List SymbolEntry)
-    → PutsPart local (one ∷ []) out more → rest ≡ one ∷ next → out ++ part local rest ≡ whole → more ++ part local next ≡ whole
-part_put local out more one rest next whole put front before =
-    ap (λ xs. xs ++ part local next) put ∙ append_assoc out (part local (one ∷ [])) (part local next)
-    ∙ ap (λ ys. out ++ ys) (sym (part_front local one next)) ∙ ap (λ ys. out ++ part local ys) (sym front) ∙ before
-
--- where one more symbol stands is pushed
-pub standing_put : (out more : List Standing) (standing : Standing) (one : Option SymbolEntry) (rest next : List (Option SymbolEntry)) (whole : List Standing)
-    → standing ≡ standing_of one → more ≡ out ++ standing ∷ [] → rest ≡ one ∷ next → out ++ map standing_of rest ≡ whole → more ++ map standing_of next ≡ whole
-standing_put out more standing one rest next whole is put front before =
-    ap (λ xs. xs ++ map standing_of next) put ∙ append_assoc out (standing ∷ []) (map standing_of next)
-    ∙ ap (λ z. out ++ (z ∷ map standing_of next)) is ∙ ap (λ ys. out ++ map standing_of ys) (sym front) ∙ before

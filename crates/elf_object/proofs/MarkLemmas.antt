@@ -3,9 +3,10 @@ use Rattle.std.proofs.Common.{◌≡◌, ℕ, zero, suc, ◌+◌, ◌<◌, ◌�
 use Rattle.std.proofs.lemmas.List.{at_drop_all}
 use Rattle.elf_object.specs.declared.contents.HeldSection.{HeldSection}
 use Rattle.elf_object.specs.declared.relocations.Relocation.{Relocation}
-use Rattle.elf_object.specs.declared.relocations.Target.{Target}
-use Rattle.elf_object.specs.declared.relocations.Target.TheVariants.{OfSymbol}
-use Rattle.elf_object.specs.Naming.{is_named, is_named_by, marks_from, NamedOf, named_of}
+use Rattle.elf_symbols.specs.declared.targets.Target.{Target}
+use Rattle.elf_symbols.specs.declared.targets.Target.TheVariants.{OfSymbol}
+use Rattle.elf_symbols.specs.Targets.{NamedOf}
+use Rattle.elf_object.specs.Naming.{is_named, is_named_by, marks_from, named_of}
 use Rattle.elf_object.specs.Marking.{mark_at}
 use Rattle.elf_object.specs.Views.{relocations_in}
 use Rattle.elf_object.proofs.LoopSteps.{next_is}

@@ -17,9 +17,10 @@ use Rattle.asm_relax.specs.Final.{laid_value}
 use Rattle.asm_relax.specs.Placing.{placed_from, shift_of}
 use Rattle.asm_relax.specs.Settling.{LaidItem, LaidSections}
 use Rattle.elf_object.specs.Contents.{field_bytes, fits_behind, filled, reached, interleaved}
-use Rattle.elf_object.specs.Places.{PieceAt, IsBetween}
+use Rattle.elf_file.specs.Places.{PieceAt}
+use Rattle.elf_object.specs.Places.{IsBetween}
 use Rattle.elf_object.proofs.FieldLemmas.{filled_one}
-use Rattle.elf_object.proofs.FilePlaces.{behind_front}
+use Rattle.elf_file.proofs.FilePlaces.{behind_front}
 use Rattle.elf_object.proofs.ItemBytes.{one_of, both_true, le_from, low_length, length-at}
 
 length-slice : (bytes : List ℕ) (from to : ℕ) → from ≤ to → to ≤ length bytes → length (slice_range bytes from to) ≡ to - from

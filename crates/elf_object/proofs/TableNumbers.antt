@@ -8,14 +8,14 @@ use Rattle.asm_symbols.specs.declared.entries.Symbol.{Symbol}
 use Rattle.asm_symbols.specs.SymbolMap.{SymbolMap}
 use Rattle.asm_relax.specs.Settling.{LaidSections}
 use Rattle.elf_object.specs.declared.relocations.Relocation.{Relocation}
-use Rattle.elf_object.specs.declared.relocations.Target.{Target}
-use Rattle.elf_object.specs.declared.relocations.Target.TheVariants.{OfSection, OfSymbol}
-use Rattle.elf_object.specs.declared.symbol_values.SymbolValue.{SymbolValue}
+use Rattle.elf_symbols.specs.declared.targets.Target.{Target}
+use Rattle.elf_symbols.specs.declared.targets.Target.TheVariants.{OfSection, OfSymbol}
+use Rattle.elf_symbols.specs.declared.symbol_values.SymbolValue.{SymbolValue}
 use Rattle.elf_object.specs.Contents.{relocations_of}
 use Rattle.elf_object.specs.Naming.{same_target, is_named_by, is_named, marks_from, named_of}
-use Rattle.elf_object.specs.Numbers.{section_numbers, standing_by, standing_of, symbol_numbers, first_section_symbol, first_local, first_other, numbers_of, target_number}
-use Rattle.elf_object.specs.SymbolValues.{symbol_value_of}
-use Rattle.elf_object.specs.SymbolTable.{SymbolEntry, is_local_entry, part, file_entry, section_entry, section_entries, entry_at, needs_naming, listed_if, listed, listed_by, listed_all, table_of}
+use Rattle.elf_symbols.specs.Numbers.{section_numbers, standing_by, standing_of, symbol_numbers, first_section_symbol, first_local, first_other, numbers_of, target_number}
+use Rattle.elf_symbols.specs.SymbolValues.{symbol_value_of}
+use Rattle.elf_symbols.specs.SymbolTable.{SymbolEntry, is_local_entry, part, file_entry, section_entry, section_entries, entry_at, needs_naming, listed_if, listed, listed_by, listed_all, table_of}
 use Rattle.elf_object.specs.TableLaws.{named_targets, IsEntryOf, TargetsStand}
 use Rattle.elf_object.proofs.ItemPlaces.{get_front, found_long}
 use Rattle.elf_object.proofs.Targets.{Sits, got_inside, all_sit}

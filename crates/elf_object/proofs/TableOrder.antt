@@ -3,7 +3,7 @@ use Rattle.std.proofs.Common.{◌≡◌, ℕ, ◌+◌, ◌-◌, ◌&&◌, Bool, 
 use Rattle.std.proofs.lemmas.List.{length-map, drop_at, take-append-le, take_all}
 use Rattle.std.specs.List.{list_all}
 use Rattle.asm_expr.specs.declared.naming.Name.{Name}
-use Rattle.elf_object.specs.SymbolTable.{SymbolEntry, is_local_entry, is_bound, part, file_entry, section_entries, listed_all, table_of}
+use Rattle.elf_symbols.specs.SymbolTable.{SymbolEntry, is_local_entry, is_bound, part, file_entry, section_entries, listed_all, table_of}
 use Rattle.elf_object.specs.TableLaws.{LocalsFirst, named_targets, info_in}
 
 all_append : (p : SymbolEntry → Bool) (these those : List SymbolEntry) → list_all p these ≡ true → list_all p those ≡ true → list_all p (these ++ those) ≡ true

@@ -16,12 +16,12 @@ use Rattle.asm_relax.specs.Settling.{LaidItem, LaidSections}
 use Rattle.elf_object.specs.declared.references.SymbolReference.{SymbolReference}
 use Rattle.elf_object.specs.declared.references.Reference.{Reference}
 use Rattle.elf_object.specs.declared.relocations.Relocation.{Relocation}
-use Rattle.elf_object.specs.declared.relocations.Target.{Target}
-use Rattle.elf_object.specs.declared.relocations.Target.TheVariants.{OfSection, OfSymbol}
-use Rattle.elf_object.specs.declared.symbol_values.SymbolValue.{SymbolValue}
+use Rattle.elf_symbols.specs.declared.targets.Target.{Target}
+use Rattle.elf_symbols.specs.declared.targets.Target.TheVariants.{OfSection, OfSymbol}
+use Rattle.elf_symbols.specs.declared.symbol_values.SymbolValue.{SymbolValue}
 use Rattle.elf_object.specs.Contents.{filed_fields, section_relocations, relocations_from}
 use Rattle.elf_object.specs.Relocations.{merge, symbol_reference, label_reference, meaning_reference, reference_at, reference_found, own_address, less, reference, direct, relative, pair, is_plus, is_minus, reference_by, final_reference, relocation, field_place, field_relocation}
-use Rattle.elf_object.specs.SymbolValues.{has_flag, symbol_value_of}
+use Rattle.elf_symbols.specs.SymbolValues.{has_flag, symbol_value_of}
 
 -- the section is there, or the symbol, and the symbol stands somewhere
 abbrev pub Sits : SymbolMap → LaidSections → Target → Type 0

@@ -9,6 +9,7 @@ use Rattle.asm_frags.specs.Writing.{is_run}
 use Rattle.asm_symbols.specs.SymbolMap.{SymbolMap}
 use Rattle.asm_relax.specs.Final.{laid_value}
 use Rattle.asm_relax.specs.Settling.{LaidItem, LaidSections}
+use Rattle.elf_file.specs.Sections.{no_bits}
 use Rattle.elf_object.specs.declared.relocations.Relocation.{Relocation}
 use Rattle.elf_object.specs.Relocations.{field_relocation}
 
@@ -55,10 +56,6 @@ section_bytes map sections section = interleaved (plain_bytes map sections secti
 abbrev pub is_lost : SymbolMap → LaidSections → ℕ → SectionOf LaidItem → Field → Bool
 is_lost map sections number section field =
     not (is_some (laid_value map sections field.form) || is_some (field_relocation map sections number section field))
-
--- SHT_NOBITS: the section takes no bytes in the file (gABI, chapter 4, "Sections")
-abbrev pub no_bits : ℕ
-no_bits = 8
 
 -- the fields whose bytes stand in the file
 abbrev pub filed_fields : SectionOf LaidItem → List Field

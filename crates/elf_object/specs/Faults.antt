@@ -17,7 +17,7 @@ use Rattle.asm_relax.specs.Settling.{LaidItem, LaidSections}
 use Rattle.elf_object.specs.declared.faults.ObjectCause.{ObjectCause}
 use Rattle.elf_object.specs.declared.searching.UnknownSize.{UnknownSize}
 use Rattle.elf_object.specs.declared.faults.ObjectCause.TheVariants.{UndefinedLocalSymbol, NoRelocation, SizeNotKnown}
-use Rattle.elf_object.specs.FileLocals.{is_file_local}
+use Rattle.elf_symbols.specs.FileLocals.{is_file_local}
 use Rattle.elf_object.specs.Contents.{filed_fields, is_lost}
 
 -- a symbol that is named and not defined

@@ -1,23 +1,12 @@
 -- The definitions that contracts cite, in reading order.
-pub mod Fields
-pub mod StringTable
-pub mod FileLocals
-pub mod SymbolValues
 pub mod Relocations
 pub mod Contents
 pub mod Faults
 pub mod Naming
-pub mod Aliases
-pub mod SymbolTable
-pub mod Numbers
-pub mod Pieces
 pub mod Sections
 pub mod Image
 pub mod Objects
-pub mod Reader
 pub mod Places
 pub mod TableLaws
-pub mod FileLaws
 pub mod Views
 pub mod Marking
-pub mod Waiting

@@ -1,8 +1,9 @@
 -- What marking more relocations changes.
 use Rattle.std.specs.Prelude.{◌≡◌, ℕ, ◌<◌, ◌||◌, Bool, false, List, length, slice_index_or}
 use Rattle.elf_object.specs.declared.relocations.Relocation.{Relocation}
-use Rattle.elf_object.specs.declared.relocations.Target.TheVariants.{OfSection, OfSymbol}
-use Rattle.elf_object.specs.Naming.{is_named_by, NamedOf}
+use Rattle.elf_symbols.specs.declared.targets.Target.TheVariants.{OfSection, OfSymbol}
+use Rattle.elf_symbols.specs.Targets.{NamedOf}
+use Rattle.elf_object.specs.Naming.{is_named_by}
 
 -- the mark of this number, and false behind the last
 abbrev pub mark_at : List Bool → ℕ → Bool

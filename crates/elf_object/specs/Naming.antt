@@ -2,8 +2,9 @@
 use Rattle.std.specs.Prelude.{ℕ, zero, suc, ◌+◌, Bool, false, List, [], ◌∷◌, length, nat_eq}
 use Rattle.std.specs.List.{list_any}
 use Rattle.elf_object.specs.declared.relocations.Relocation.{Relocation}
-use Rattle.elf_object.specs.declared.relocations.Target.{Target}
-use Rattle.elf_object.specs.declared.relocations.Target.TheVariants.{OfSection, OfSymbol}
+use Rattle.elf_symbols.specs.Targets.{NamedOf}
+use Rattle.elf_symbols.specs.declared.targets.Target.{Target}
+use Rattle.elf_symbols.specs.declared.targets.Target.TheVariants.{OfSection, OfSymbol}
 
 -- both name the same section or the same symbol
 abbrev pub same_target : Target → Target → Bool
@@ -24,11 +25,6 @@ is_named found target = list_any (is_named_by target) found
 abbrev pub marks_from : (ℕ → Bool) → ℕ → ℕ → List Bool
 marks_from is_so number zero = []
 marks_from is_so number (suc count) = is_so number ∷ marks_from is_so (number + 1) count
-
--- a mark for each section and for each symbol
-pub record NamedOf : Type 0 where
-  pub sections : List Bool
-  pub symbols : List Bool
 
 -- what the relocations of the sections name, of so many symbols
 unfoldable pub named_of : List (List Relocation) → ℕ → NamedOf

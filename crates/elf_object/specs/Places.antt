@@ -1,5 +1,5 @@
 -- Where the bytes of sections, of their fields and of their items stand in the file.
-use Rattle.std.specs.Prelude.{◌≡◌, ℕ, zero, suc, ◌+◌, ◌-◌, ◌^◌, ◌<◌, ◌≤◌, ◌==◌, false, List, [], ◌∷◌, ◌++◌, All, length, take, drop, Some, slice_get, slice_index_or, slice_range}
+use Rattle.std.specs.Prelude.{◌≡◌, ℕ, ◌+◌, ◌-◌, ◌^◌, ◌<◌, ◌≤◌, ◌==◌, false, List, All, length, take, drop, Some, slice_get, slice_index_or, slice_range}
 use Rattle.asm_frags.specs.declared.fields.Field.{Field}
 use Rattle.asm_frags.specs.Contents.{bytes_at}
 use Rattle.asm_frags.specs.PlainBytes.{field_end, IsBeside, FieldsStand}
@@ -8,22 +8,12 @@ use Rattle.asm_symbols.specs.SymbolMap.{SymbolMap}
 use Rattle.asm_relax.specs.Final.{address_in}
 use Rattle.asm_relax.specs.Placing.{placed_section, shift_of}
 use Rattle.asm_relax.specs.Settling.{LaidItem, LaidSections}
-use Rattle.elf_object.specs.Contents.{field_bytes, no_bits, relocations_of}
-use Rattle.elf_object.specs.Sections.{SectionEntry, header_indices}
-use Rattle.elf_object.specs.Image.{header_end, next_multiple, body_from, file_sections, image_of}
-
--- this piece of the bytes stands at this offset
-pub record PieceAt (bytes : List ℕ) (at : ℕ) (piece : List ℕ) : Type 0 where
-  pub front : List ℕ
-  pub rest : List ℕ
-  pub long : length front ≡ at
-  pub whole : bytes ≡ front ++ (piece ++ rest)
-
--- where the body of the section at this index stands, if those of the sections stand from this position on
-unfoldable pub body_offset : ℕ → List SectionEntry → ℕ → ℕ
-body_offset position [] index = position
-body_offset position (s ∷ ss) zero = next_multiple s.alignment position
-body_offset position (s ∷ ss) (suc index) = body_offset (position + length (body_from position s)) ss index
+use Rattle.elf_file.specs.Sections.{no_bits}
+use Rattle.elf_object.specs.Contents.{field_bytes, relocations_of}
+use Rattle.elf_object.specs.Sections.{header_indices}
+use Rattle.elf_file.specs.Image.{header_end}
+use Rattle.elf_file.specs.Places.{PieceAt, body_offset}
+use Rattle.elf_object.specs.Image.{file_sections, image_of}
 
 -- where the body of the section of this number stands in the file; the header at index 0 is that of no section
 unfoldable pub section_offset : SymbolMap → LaidSections → ℕ → ℕ

@@ -1,5 +1,5 @@
 -- The relocations of fields (psABI for AMD64, section 4.4, "Relocation").
-use Rattle.std.specs.Prelude.{ℕ, ◌+◌, ◌-◌, ◌^◌, ◌==◌, ◌&&◌, not, Bool, true, false, List, [], ◌∷◌, ◌++◌, Option, None, Some, slice_get, option_map, option_and_then, if◌then◌else◌}
+use Rattle.std.specs.Prelude.{ℕ, ◌+◌, ◌-◌, ◌^◌, ◌==◌, ◌&&◌, not, Bool, true, false, List, [], ◌∷◌, Option, None, Some, slice_get, option_map, option_and_then, if◌then◌else◌}
 use Rattle.asm_expr.specs.declared.forms.Term.{Term}
 use Rattle.asm_expr.specs.Forms.{Form, wrapped}
 use Rattle.asm_expr.specs.Knowledge.{Told, absent, constant, label, form}
@@ -17,13 +17,13 @@ use Rattle.asm_relax.specs.Final.{address_in, address_of, final_told}
 use Rattle.asm_relax.specs.Settling.{LaidItem, LaidSections}
 use Rattle.elf_object.specs.declared.relocations.RelocationKind.{RelocationKind}
 use Rattle.elf_object.specs.declared.relocations.RelocationKind.TheVariants.{Direct64, Pc32, Direct32, Direct16, Pc16, Direct8, Pc8, Pc64}
-use Rattle.elf_object.specs.declared.relocations.Target.{Target}
-use Rattle.elf_object.specs.declared.relocations.Target.TheVariants.{OfSection, OfSymbol}
+use Rattle.elf_symbols.specs.declared.targets.Target.{Target}
+use Rattle.elf_symbols.specs.declared.targets.Target.TheVariants.{OfSection, OfSymbol}
 use Rattle.elf_object.specs.declared.relocations.Relocation.{Relocation}
 use Rattle.elf_object.specs.declared.references.Reference.{Reference}
 use Rattle.elf_object.specs.declared.references.SymbolReference.{SymbolReference}
-use Rattle.elf_object.specs.Fields.{word, xword}
-use Rattle.elf_object.specs.SymbolValues.{binding_of, is_local, has_flag}
+use Rattle.elf_file.specs.TableEntries.{elf_relocation}
+use Rattle.elf_symbols.specs.SymbolValues.{binding_of, is_local, has_flag}
 
 -- R_X86_64_64 and the others (psABI for AMD64, table 4.9)
 abbrev pub kind_number : RelocationKind → ℕ
@@ -135,12 +135,6 @@ reference_of map sections number place made = reference_by map sections number p
 abbrev pub final_reference : SymbolMap → LaidSections → ℕ → ℕ → Form → Option Reference
 final_reference map sections number place made = reference_of map sections number place (settled (final_told map sections) made)
 
--- the symbol that a form has alone
-abbrev pub lone_symbol : List Term → Option ℕ
-lone_symbol [] = None
-lone_symbol (term ∷ []) = if is_plus term then Some term.symbol else None
-lone_symbol (one ∷ other ∷ more) = None
-
 -- no label cancels in a form of these terms that has no value: a symbol alone, or one less another one
 abbrev pub stays : List Term → Bool
 stays [] = false
@@ -165,4 +159,4 @@ field_relocation map sections number section field =
 -- an entry of a section of relocations, where the target has this number in the symbol table (Elf64_Rela); r_info has the kind in
 -- its low half, and the number in its high half
 abbrev pub relocation_entry : ℕ → Relocation → List ℕ
-relocation_entry number r = xword r.offset ++ word (kind_number r.kind) ++ word number ++ xword r.addend
+relocation_entry number r = elf_relocation r.offset (kind_number r.kind) number r.addend

@@ -4,12 +4,13 @@ use Rattle.std.specs.List.{list_all}
 use Rattle.asm_symbols.specs.SymbolMap.{SymbolMap}
 use Rattle.asm_relax.specs.Settling.{LaidSections}
 use Rattle.elf_object.specs.declared.relocations.Relocation.{Relocation}
-use Rattle.elf_object.specs.declared.relocations.Target.{Target}
-use Rattle.elf_object.specs.declared.relocations.Target.TheVariants.{OfSection, OfSymbol}
+use Rattle.elf_symbols.specs.declared.targets.Target.{Target}
+use Rattle.elf_symbols.specs.declared.targets.Target.TheVariants.{OfSection, OfSymbol}
 use Rattle.elf_object.specs.Contents.{relocations_of}
-use Rattle.elf_object.specs.Naming.{NamedOf, named_of}
-use Rattle.elf_object.specs.Numbers.{first_other, numbers_of, target_number}
-use Rattle.elf_object.specs.SymbolTable.{SymbolEntry, is_local_entry, section_entry, listed_all, table_of}
+use Rattle.elf_symbols.specs.Targets.{NamedOf}
+use Rattle.elf_object.specs.Naming.{named_of}
+use Rattle.elf_symbols.specs.Numbers.{first_other, numbers_of, target_number}
+use Rattle.elf_symbols.specs.SymbolTable.{SymbolEntry, is_local_entry, section_entry, listed_all, table_of}
 
 -- what the relocations of the sections name
 abbrev pub named_targets : SymbolMap → LaidSections → NamedOf

@@ -8,19 +8,20 @@ ghost use Rattle.asm_frags.specs.Fields.{low_bytes, width};
 ghost use Rattle.asm_frags.specs.PlainBytes.{field_end};
 ghost use Rattle.elf_object.specs.Contents as spec;
 ghost use Rattle.elf_object.specs.Faults.{IsDue, IsLostAt, fields_fault, field_fault_in, field_fault_from};
-ghost use Rattle.elf_object.specs.Pieces.{held_before, mixed, mixed_bytes};
+ghost use Rattle.elf_file.specs.Pieces.{held_before, mixed, mixed_bytes};
 ghost use Rattle.elf_object.specs.Relocations.{field_relocation};
-ghost use Rattle.elf_object.specs.Sections.{source_section, stored};
-ghost use Rattle.elf_object.specs.Views.{content_view, held_entry, relocations_in};
+ghost use Rattle.elf_file.specs.Sections.{stored};
+ghost use Rattle.elf_object.specs.Sections.{source_section};
+ghost use Rattle.elf_file.specs.Views.{content_view};
+ghost use Rattle.elf_object.specs.Views.{held_entry, relocations_in};
 
 use crate::faults::{ObjectCause, ObjectFault};
-use crate::file_pieces::{Between, Mixed, Repetition};
 use crate::references::field_relocation;
 use crate::relocations::Relocation;
-use crate::sections::Body;
-use crate::symbol_values::Placement;
 use asm_frags::{Content, Field, FieldSize, Frag, Laid, SHT_NOBITS, Section, size};
 use asm_relax::{laid_value, section_size};
+use elf_file::{Between, Body, Mixed, Repetition};
+use elf_symbols::Placement;
 use std::alloc::{AllocError, Global};
 
 /// The plain bytes of a section with the values of its fields, and the relocations of the others.

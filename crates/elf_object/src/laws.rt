@@ -1,6 +1,5 @@
 //! Laws of the definitions.
 
-ghost use Rattle.elf_object.specs.FileLaws.{NamesStand, SectionsStand};
 ghost use Rattle.elf_object.specs.Places.{BytesStand, ValuesStand, ItemsStand, PlacesAreAddresses};
 ghost use Rattle.elf_object.specs.TableLaws.{LocalsFirst, TargetsStand};
 
@@ -39,14 +38,4 @@ pub fn locals_first()
 /// Each relocation names a symbol that is there: its number is that of the entry of the section or symbol that it means.
 pub fn targets_stand()
     ensures { TargetsStand }
-{}
-
-/// The name of a symbol or a section is read from its string table at the offset that `st_name` or `sh_name` has.
-pub fn names_stand()
-    ensures { NamesStand }
-{}
-
-/// The bytes of a section stand in the file where its header says, and its header where the ELF header says.
-pub fn sections_stand()
-    ensures { SectionsStand }
 {}

@@ -3,18 +3,13 @@
 ghost use Rattle.std.specs.Prelude.{◌≡◌, length, map, IfOk, slice_set, true};
 ghost use Rattle.elf_object.specs.Naming.{named_of};
 ghost use Rattle.elf_object.specs.Marking.{Marks};
-ghost use Rattle.elf_object.specs.Views.{relocations_in, named_view};
+ghost use Rattle.elf_symbols.specs.Views.{named_view};
+ghost use Rattle.elf_object.specs.Views.{relocations_in};
 
 use crate::contents::HeldSection;
-use crate::relocations::{Relocation, Target};
+use crate::relocations::Relocation;
+use elf_symbols::{Named, Target};
 use std::alloc::{AllocError, Global};
-
-/// A mark for each section and each symbol: whether a relocation names it.
-#[derive(Drop)]
-pub(crate) struct Named {
-    pub(crate) sections: Vec<bool>,
-    pub(crate) symbols: Vec<bool>,
-}
 
 /// Sets the mark at the index, if there is one.
 fn mark(marks: &mut [bool], index: usize)

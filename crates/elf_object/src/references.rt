@@ -6,13 +6,13 @@ ghost use Rattle.asm_expr.specs.Settled.{settled};
 ghost use Rattle.asm_relax.specs.Final.{final_told, laid_value};
 ghost use Rattle.elf_object.specs.Relocations as spec;
 
-use crate::relocations::{Relocation, Target, kind_for};
-use crate::symbol_values::{Placement, binding_of, has_flag, is_local};
+use crate::relocations::{Relocation, kind_for};
 use asm_base::NoMemory;
 use asm_expr::{Known, Linear, Look, SymId, Term, copied_form, settled};
 use asm_frags::{Field, Laid, Section, SectionFlags};
 use asm_relax::{FinalView, address_in, address_of};
 use asm_symbols::{Meaning, Spot, Symbol};
+use elf_symbols::{Placement, Target, binding_of, has_flag, is_local};
 use std::alloc::{AllocError, Global};
 
 /// What a relocation names for a symbol, and what that lacks of the symbol's address.
@@ -186,16 +186,6 @@ fn reference_by(at: Placement, section: usize, place: u64, form: &Linear) -> Opt
     match form.terms() {
         [term] if is_plus(term) => direct(at, term.symbol, form.constant()),
         [one, other] => pair(at, section, place, one, other, form.constant()),
-        _ => None,
-    }
-}
-
-/// The symbol that a form has alone.
-pub(crate) fn lone_symbol(terms: &[Term]) -> Option<SymId>
-    ensures { result ≡ spec.lone_symbol terms.now }
-{
-    match terms {
-        [term] if is_plus(term) => Some(term.symbol),
         _ => None,
     }
 }

@@ -3,9 +3,9 @@
 ghost use Rattle.std.specs.Prelude.{◌≡◌};
 ghost use Rattle.elf_object.specs.Relocations.{kind_number, kind_for, relocation_entry};
 
-use crate::fields::{put_word, put_xword};
-use crate::offsets::{R_ADDEND, R_OFFSET, R_SYM, R_TYPE};
 use asm_frags::FieldSize;
+use elf_file::elf_relocation;
+use elf_symbols::Target;
 
 /// How the linker works a field out (`R_X86_64_`): from S + A, or S + A - P where the name begins with `Pc`.
 #[derive(Clone, Copy)]
@@ -59,15 +59,6 @@ pub(crate) fn kind_for(relative: bool, size: FieldSize) -> RelocationKind
     }
 }
 
-/// What a relocation names.
-#[derive(Clone, Copy)]
-pub enum Target {
-    /// The section of this number, by the symbol that stands for it.
-    OfSection(usize),
-    /// The symbol at this index, in first-seen order.
-    OfSymbol(usize),
-}
-
 /// A relocation of a field.
 #[derive(Clone, Copy)]
 pub struct Relocation {
@@ -80,14 +71,13 @@ pub struct Relocation {
 }
 
 /// The entry of a relocation whose target has this number in the symbol table (`Elf64_Rela`).
-#[tactic(auto, unfolding(crate::specs::Fields::word, crate::specs::Fields::xword))]
 pub(crate) fn relocation_entry(number: usize, relocation: &Relocation) -> [u8; 24]
     ensures { result ≡ relocation_entry number relocation.now }
 {
-    let mut entry = [0; 24];
-    put_xword(&mut entry[R_OFFSET..], relocation.offset);
-    put_word(&mut entry[R_TYPE..], u64::from(relocation.kind.number()));
-    put_word(&mut entry[R_SYM..], number as u64);
-    put_xword(&mut entry[R_ADDEND..], relocation.addend);
-    entry
+    elf_relocation(
+        relocation.offset,
+        relocation.kind.number(),
+        number,
+        relocation.addend,
+    )
 }

@@ -6,11 +6,11 @@ ghost use Rattle.asm_relax.specs.Expanding.{AreExpansions};
 ghost use Rattle.elf_object.specs.Faults as spec;
 
 use crate::faults::ObjectCause;
-use crate::symbol_values::{Placement, is_file_local, size_value};
 use asm_base::NoMemory;
 use asm_expr::BoxedForm;
 use asm_relax::Expansions;
 use asm_symbols::{Meaning, Symbol};
+use elf_symbols::{Placement, is_file_local, size_value};
 use std::alloc::Global;
 
 /// Whether the symbol must be defined in this file, and is not.

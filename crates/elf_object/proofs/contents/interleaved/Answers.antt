@@ -2,7 +2,7 @@
 use Rattle.std.proofs.Common.{◌≡◌, ◌≤◌, length, arith}
 use Rattle.std.proofs.lemmas.Grind.{common_steps}
 use Rattle.elf_object.specs.Contents.{reached}
-use Rattle.elf_object.specs.Pieces.{held_before}
+use Rattle.elf_file.specs.Pieces.{held_before}
 use Rattle.elf_object.proofs.MixedLemmas.{mixed_item, mixed_end}
 use Rattle.elf_object.proofs.contents.interleaved.Goals as goal
 

@@ -1,7 +1,7 @@
 -- The bytes so far, and those from here on, are all.
 use Rattle.std.proofs.Common.{◌≡◌, ◌≤◌, ◌++◌, length, drop, take}
 use Rattle.elf_object.specs.Contents.{interleaved}
-use Rattle.elf_object.specs.Pieces.{mixed, held_before}
+use Rattle.elf_file.specs.Pieces.{mixed, held_before}
 use Rattle.elf_object.proofs.contents.interleaved.Given as goal
 
 abbrev pub invariant-loop-item : goal.invariant-loop-item

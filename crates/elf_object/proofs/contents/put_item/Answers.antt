@@ -1,7 +1,7 @@
 -- The bytes of an item stand behind all held bytes.
 use Rattle.std.proofs.Common.{◌≡◌, ◌+◌, ◌-◌, ◌++◌, List, ℕ, length, ap, ◌∙◌, arith}
-use Rattle.elf_object.specs.declared.file_pieces.Between.{Between}
-use Rattle.elf_object.specs.Pieces.{mixed, held_before}
+use Rattle.elf_file.specs.declared.file_pieces.Between.{Between}
+use Rattle.elf_file.specs.Pieces.{mixed, held_before}
 use Rattle.elf_object.proofs.MixedLemmas.{mixed_last}
 use Rattle.elf_object.proofs.contents.put_item.Goals as goal
 

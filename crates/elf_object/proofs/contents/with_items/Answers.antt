@@ -1,7 +1,7 @@
 -- One run alone has the plain bytes.
 use Rattle.std.proofs.Common.{sym, ap, ◌∙◌}
 use Rattle.elf_object.specs.Contents.{is_one_run}
-use Rattle.elf_object.specs.Sections.{stored}
+use Rattle.elf_file.specs.Sections.{stored}
 use Rattle.elf_object.proofs.ItemLemmas.{one_run}
 use Rattle.elf_object.proofs.contents.with_items.Goals as goal
 

@@ -1,6 +1,6 @@
 -- The marks so far, and what is named by the relocations to come, are all.
 use Rattle.std.proofs.Common.{◌≡◌, ℕ, ◌<◌, ◌||◌, drop, length}
-use Rattle.elf_object.specs.declared.relocations.Target.TheVariants.{OfSection, OfSymbol}
+use Rattle.elf_symbols.specs.declared.targets.Target.TheVariants.{OfSection, OfSymbol}
 use Rattle.elf_object.specs.Naming.{is_named_by}
 use Rattle.elf_object.specs.Marking.{mark_at}
 use Rattle.elf_object.proofs.naming.mark_all.Given as goal

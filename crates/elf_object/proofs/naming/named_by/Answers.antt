@@ -2,10 +2,11 @@
 use Rattle.std.proofs.Common.{◌≡◌, ◌<◌, List, length, map, refl, sym, subst, ◌∙◌}
 use Rattle.std.proofs.lemmas.List.{length-map}
 use Rattle.elf_object.specs.declared.contents.HeldSection.{HeldSection}
-use Rattle.elf_object.specs.declared.relocations.Target.TheVariants.{OfSection, OfSymbol}
+use Rattle.elf_symbols.specs.declared.targets.Target.TheVariants.{OfSection, OfSymbol}
 use Rattle.elf_object.specs.Marking.{mark_at}
 use Rattle.elf_object.specs.Naming.{is_named, named_of}
-use Rattle.elf_object.specs.Views.{relocations_in, named_view}
+use Rattle.elf_symbols.specs.Views.{named_view}
+use Rattle.elf_object.specs.Views.{relocations_in}
 use Rattle.elf_object.proofs.MarkLemmas.{all_marked, mark_step, named_are}
 use Rattle.elf_object.proofs.naming.named_by.Goals as goal
 

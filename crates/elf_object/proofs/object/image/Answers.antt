@@ -1,12 +1,14 @@
 -- The sections of the file are those of the definition.
-use Rattle.std.proofs.Common.{◌≡◌, ◌++◌, List, length, map, ap, subst, ◌∙◌}
+use Rattle.std.proofs.Common.{◌≡◌, List, length, map, ap, subst, ◌∙◌}
 use Rattle.std.specs.Result.{IfOk}
-use Rattle.elf_object.specs.Image.{before_names, image_with, file_with}
+use Rattle.elf_file.specs.Image.{file_with}
+use Rattle.elf_object.specs.Image.{before_names, image_with}
 use Rattle.elf_object.specs.declared.contents.HeldSection.{HeldSection}
 use Rattle.elf_object.specs.Naming.{named_of}
-use Rattle.elf_object.specs.Pieces.{flat}
-use Rattle.elf_object.specs.Sections.{SectionEntry, next_header, header_indices}
-use Rattle.elf_object.specs.Views.{held_entry, relocations_in, symbol_view, numbers_view, named_view}
+use Rattle.elf_file.specs.Sections.{SectionEntry}
+use Rattle.elf_object.specs.Sections.{next_header, header_indices}
+use Rattle.elf_symbols.specs.Views.{symbol_view, numbers_view, named_view}
+use Rattle.elf_object.specs.Views.{held_entry, relocations_in}
 use Rattle.elf_object.proofs.MarkLemmas.{named_long}
 use Rattle.elf_object.proofs.ImageLemmas.{sections_made}
 use Rattle.elf_object.proofs.object.image.Goals as goal
@@ -31,4 +33,4 @@ returns c =
     c.in_ok-sections.sections.items c.push.new.self.items c.push-2.new.self.items c.symbol_section.result c.string_section.result
     c.in_ok-listing.ensures.numbers next c.in_ok-listing.ensures.first_other indices listed c.requires.entries c.in_ok-table.ensures.entries c.in_ok-table.ensures.strings
     c.in_ok-sections.ensures c.symbol_section.ensures c.in_ok-push.ensures.items c.string_section.ensures c.in_ok-push-2.ensures.items in
-    subst (λ (ss : List SectionEntry). IfOk c.laid_file.result (λ f. f.header ++ flat f.pieces.items ≡ file_with ss)) (made ∙ ap (before_names symbols sections found) named) c.laid_file.ensures
+    subst (λ (ss : List SectionEntry). IfOk c.laid_file.result (λ f. f ≡ file_with ss)) (made ∙ ap (before_names symbols sections found) named) c.laid_file.ensures

@@ -1,7 +1,9 @@
 -- The sections so far, and those to come, are all.
 use Rattle.std.proofs.Common.{◌≡◌, ◌++◌, ◌+◌, ◌*◌, ◌≤◌, length, map}
 use Rattle.elf_object.specs.Sections.{entries_from}
-use Rattle.elf_object.specs.Views.{section_view, held_entry, relocations_in, numbers_view}
+use Rattle.elf_file.specs.Views.{section_view}
+use Rattle.elf_symbols.specs.Views.{numbers_view}
+use Rattle.elf_object.specs.Views.{held_entry, relocations_in}
 use Rattle.elf_object.proofs.sections.file_sections.Given as goal
 
 abbrev pub invariant-loop-section : goal.invariant-loop-section

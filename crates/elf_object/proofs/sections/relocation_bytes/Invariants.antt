@@ -1,7 +1,7 @@
 -- The entries so far, and those to come, are all.
 use Rattle.std.proofs.Common.{◌≡◌, ◌++◌, drop}
 use Rattle.elf_object.specs.Sections.{relocation_bytes}
-use Rattle.elf_object.specs.Views.{numbers_view}
+use Rattle.elf_symbols.specs.Views.{numbers_view}
 use Rattle.elf_object.proofs.sections.relocation_bytes.Given as goal
 
 abbrev pub invariant-loop-relocation : goal.invariant-loop-relocation

@@ -1,0 +1,11 @@
+-- Lemmas, in reading order.
+mod WritingLemmas
+mod LoopSteps
+mod PieceLemmas
+mod MixedLemmas
+mod LayingLemmas
+mod ObjectLemmas
+mod WaitingLemmas
+pub mod FilePlaces
+mod NamePlaces
+mod HeaderPlaces

@@ -1,0 +1,4 @@
+-- Lemmas, in reading order.
+mod LoopSteps
+mod AliasLemmas
+mod AliasSamples

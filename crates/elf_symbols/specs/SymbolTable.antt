@@ -1,0 +1,207 @@
+-- The symbol table: which symbols stand in it, in which order, and what their entries say (gABI, chapter 4, "Symbol Table").
+use Rattle.std.specs.Prelude.{◌≡◌, ℕ, ◌+◌, ◌*◌, ◌&&◌, ◌||◌, not, Bool, true, false, List, [], ◌∷◌, ◌++◌, map, replicate, Option, None, Some, unwrap_or, slice_index_or, if◌then◌else◌}
+use Rattle.asm_expr.specs.declared.naming.Name.{Name}
+use Rattle.asm_expr.specs.declared.naming.Name.TheVariants.{Plain, Numeric, Place}
+use Rattle.asm_expr.specs.Forms.{Form}
+use Rattle.asm_symbols.specs.declared.entries.Symbol.{Symbol}
+use Rattle.asm_symbols.specs.declared.entries.Binding.{Binding}
+use Rattle.asm_symbols.specs.declared.entries.Binding.TheVariants.{Local, Global, Weak}
+use Rattle.asm_symbols.specs.declared.entries.Kind.{Kind}
+use Rattle.asm_symbols.specs.declared.entries.Kind.TheVariants as said
+use Rattle.asm_symbols.specs.declared.entries.Visibility.{Visibility}
+use Rattle.asm_symbols.specs.declared.entries.Visibility.TheVariants.{Internal, Hidden, Protected}
+use Rattle.asm_symbols.specs.SymbolMap.{SymbolMap}
+use Rattle.asm_relax.specs.Final.{field_value}
+use Rattle.asm_relax.specs.Settling.{LaidSections}
+use Rattle.elf_symbols.specs.declared.symbol_values.SymbolSection.{SymbolSection}
+use Rattle.elf_symbols.specs.declared.symbol_values.SymbolSection.TheVariants.{Undefined, Absolute, Common, InSection}
+use Rattle.elf_symbols.specs.declared.symbol_values.SymbolValue.{SymbolValue}
+use Rattle.elf_symbols.specs.declared.entries.SymbolType.{SymbolType}
+use Rattle.elf_symbols.specs.declared.entries.SymbolType.TheVariants as type
+use Rattle.elf_file.specs.StringTable.{name_offsets}
+use Rattle.elf_file.specs.TableEntries.{elf_symbol}
+use Rattle.elf_symbols.specs.FileLocals.{is_file_local}
+use Rattle.elf_symbols.specs.Targets.{NamedOf}
+use Rattle.elf_symbols.specs.Aliases.{symbol_kind, symbol_size}
+use Rattle.elf_symbols.specs.SymbolValues.{symbol_value_of, binding_of, is_local, is_thread_local}
+
+-- a symbol, as the table tells it
+pub record SymbolEntry : Type 0 where
+  pub name : List ℕ
+  pub binding : Binding
+  pub kind : SymbolType
+  pub visibility : Option Visibility
+  pub section : SymbolSection
+  pub value : ℕ
+  pub size : ℕ
+
+-- STB_LOCAL and the others
+abbrev pub binding_number : Binding → ℕ
+binding_number Local = 0
+binding_number Global = 1
+binding_number Weak = 2
+
+-- STT_NOTYPE and the others
+abbrev pub type_number : SymbolType → ℕ
+type_number type.NoType = 0
+type_number type.Object = 1
+type_number type.Function = 2
+type_number type.Section = 3
+type_number type.File = 4
+type_number type.Common = 5
+type_number type.Tls = 6
+
+-- STV_DEFAULT and the others
+abbrev pub visibility_number : Option Visibility → ℕ
+visibility_number None = 0
+visibility_number (Some Internal) = 1
+visibility_number (Some Hidden) = 2
+visibility_number (Some Protected) = 3
+
+-- SHN_UNDEF, SHN_ABS and SHN_COMMON, and the header indices of sections (gABI, chapter 4, "Special Section Indexes");
+-- each section that a symbol stands in is there
+abbrev pub section_index_of : List ℕ → SymbolSection → ℕ
+section_index_of headers Undefined = 0
+section_index_of headers Absolute = 0xfff1
+section_index_of headers Common = 0xfff2
+section_index_of headers (InSection number) = slice_index_or headers number 0
+
+-- the entry of a symbol whose name stands at this offset (Elf64_Sym)
+abbrev pub symbol_bytes : List ℕ → ℕ → SymbolEntry → List ℕ
+symbol_bytes headers name s =
+    elf_symbol name (16 * binding_number s.binding + type_number s.kind) (visibility_number s.visibility) (section_index_of headers s.section) s.value s.size
+
+-- the entries of symbols whose names stand at these offsets
+abbrev pub all_symbol_bytes : List ℕ → List ℕ → List SymbolEntry → List ℕ
+all_symbol_bytes headers [] symbols = []
+all_symbol_bytes headers (name ∷ names) [] = []
+all_symbol_bytes headers (name ∷ names) (s ∷ symbols) = symbol_bytes headers name s ++ all_symbol_bytes headers names symbols
+
+-- the symbol has binding STB_LOCAL
+abbrev pub is_local_entry : SymbolEntry → Bool
+is_local_entry s = is_local s.binding
+
+-- the type that `.type` says, and STT_NOTYPE where it says none
+abbrev pub said_type : Option Kind → SymbolType
+said_type None = type.NoType
+said_type (Some said.NoType) = type.NoType
+said_type (Some said.Object) = type.Object
+said_type (Some said.Function) = type.Function
+said_type (Some said.Tls) = type.Tls
+said_type (Some said.Common) = type.Common
+
+-- symbols in a TLS section have type STT_TLS
+abbrev pub type_of : LaidSections → SymbolSection → Option Kind → SymbolType
+type_of sections section kind = if is_thread_local sections section then type.Tls else said_type kind
+
+-- the value of a size, and 0 where no size is said; a size without a value is a fault before
+abbrev pub size_of : SymbolMap → LaidSections → Option Form → ℕ
+size_of map sections None = 0
+size_of map sections (Some made) = unwrap_or (field_value map sections made) 0
+
+-- the bytes of a name; numeric labels and places have none
+abbrev pub text_of : Name → List ℕ
+text_of (Plain text) = text
+text_of (Numeric number instance) = []
+text_of (Place section item offset) = []
+
+-- the entry of a symbol that stands there; an alias has its symbol's type and size where none is said of it
+abbrev pub entry_at : SymbolMap → LaidSections → Symbol → SymbolValue → SymbolEntry
+entry_at map sections symbol there = record {
+  name = text_of symbol.name;
+  binding = binding_of symbol.meaning symbol.binding;
+  kind = type_of sections there.section (symbol_kind map symbol);
+  visibility = symbol.visibility;
+  section = there.section;
+  value = there.value;
+  size = size_of map sections (symbol_size map symbol);
+}
+
+-- the symbol has section SHN_UNDEF
+abbrev pub is_undefined_section : SymbolSection → Bool
+is_undefined_section Undefined = true
+is_undefined_section Absolute = false
+is_undefined_section Common = false
+is_undefined_section (InSection number) = false
+
+-- a symbol of another object, and one that is local to the file by its name and binding, stand in the table only where a relocation names them
+abbrev pub needs_naming : Symbol → SymbolValue → Bool
+needs_naming symbol there = is_undefined_section there.section || (is_file_local symbol.name && is_local (binding_of symbol.meaning symbol.binding))
+
+-- the entry of a symbol that has a value, unless it needs naming and nothing names it
+abbrev pub listed_if : SymbolMap → LaidSections → Bool → Symbol → Option SymbolValue → Option SymbolEntry
+listed_if map sections named symbol None = None
+listed_if map sections named symbol (Some there) = if needs_naming symbol there && not named then None else Some (entry_at map sections symbol there)
+
+-- the entry of a symbol, if it stands in the table
+unfoldable pub listed : SymbolMap → LaidSections → Bool → Symbol → Option SymbolEntry
+listed map sections named symbol = listed_if map sections named symbol (symbol_value_of map sections symbol.meaning)
+
+-- the entry of a source file's name
+abbrev pub file_entry : Name → SymbolEntry
+file_entry name = record {
+  name = text_of name;
+  binding = Local;
+  kind = type.File;
+  visibility = None;
+  section = Absolute;
+  value = 0;
+  size = 0;
+}
+
+-- the entry that stands for a section; it has the section's name, and none in the table
+abbrev pub section_entry : ℕ → SymbolEntry
+section_entry number = record {
+  name = [];
+  binding = Local;
+  kind = type.Section;
+  visibility = None;
+  section = InSection number;
+  value = 0;
+  size = 0;
+}
+
+-- the entries of the symbols that stand in the table; the marks tell which of them relocations name
+abbrev pub listed_by : SymbolMap → LaidSections → List Bool → List Symbol → List (Option SymbolEntry)
+listed_by map sections [] symbols = []
+listed_by map sections (mark ∷ marks) [] = []
+listed_by map sections (mark ∷ marks) (symbol ∷ symbols) = listed map sections mark symbol ∷ listed_by map sections marks symbols
+
+-- the entries of the sections that are marked, from this number on
+abbrev pub section_entries : ℕ → List Bool → List SymbolEntry
+section_entries number [] = []
+section_entries number (true ∷ marks) = section_entry number ∷ section_entries (number + 1) marks
+section_entries number (false ∷ marks) = section_entries (number + 1) marks
+
+-- whether the entry is local, or whether it is not
+abbrev pub is_bound : Bool → SymbolEntry → Bool
+is_bound true s = is_local_entry s
+is_bound false s = not (is_local_entry s)
+
+-- the local ones of the entries that there are, or the others
+abbrev pub part : Bool → List (Option SymbolEntry) → List SymbolEntry
+part local [] = []
+part local (None ∷ more) = part local more
+part local (Some entry ∷ more) = if is_bound local entry then entry ∷ part local more else part local more
+
+-- the local ones of the entries, or the others, are put last
+abbrev pub PutsPart : Bool → List (Option SymbolEntry) → List SymbolEntry → List SymbolEntry → Type 0
+PutsPart local all before after = after ≡ before ++ part local all
+
+-- the entry of each symbol, if it stands in the table
+abbrev pub listed_all : SymbolMap → LaidSections → NamedOf → List (Option SymbolEntry)
+listed_all symbols sections named = listed_by symbols sections named.symbols symbols.symbols
+
+-- the entries behind the null symbol's: names of files, sections, local symbols, and the others, each in their order
+unfoldable pub table_of : SymbolMap → LaidSections → NamedOf → List SymbolEntry
+table_of symbols sections named =
+    map file_entry symbols.files ++ section_entries 0 named.sections
+    ++ part true (listed_all symbols sections named) ++ part false (listed_all symbols sections named)
+
+-- the names of symbols in the symbol table
+unfoldable pub symbol_names : List SymbolEntry → List (List ℕ)
+symbol_names symbols = map (λ s. s.name) symbols
+
+-- the table of the symbols, which begins with the null symbol
+unfoldable pub symbol_table_of : List ℕ → List SymbolEntry → List ℕ
+symbol_table_of headers symbols = replicate 24 0 ++ all_symbol_bytes headers (name_offsets (symbol_names symbols)) symbols
