@@ -97,7 +97,12 @@ fn read_rest<I: Inputs>(alloc: Global, ins: &mut I) -> Result<Text, TextFault>
     let mut buffer = make_buffer(alloc, BUFFER_BYTES)?;
     'pieces: while bytes.len() <= MOST_BYTES {
         match read_piece(ins, &mut buffer, &mut bytes) {
-            Ok(0) => return Ok(Text::new(bytes)),
+            Ok(0) => {
+                // What is left over is given back, so that a text of up to 32 MiB is memory that is
+                // used again once the text is let go.
+                bytes.shrink_to_fit();
+                return Ok(Text::new(bytes));
+            }
             Ok(_) => {}
             Err(fault) => return Err(fault),
         }
