@@ -1,6 +1,5 @@
 -- The end of a source: the layout of what was placed, and its object, or the first fault of either.
-use Rattle.std.specs.Prelude.{ℕ, ◌^◌, Bool, true, false, List, nat_eq, nat_lt, if◌then◌else◌, Option, None, Some, option_map, unwrap_or, slice_get, Result, Ok, Err}
-use Rattle.std.specs.Map.{lookup}
+use Rattle.std.specs.Prelude.{ℕ, ◌^◌, Bool, true, false, List, nat_lt, if◌then◌else◌, Option, None, Some, option_map, unwrap_or, slice_get, Result, Ok, Err}
 use Rattle.asm_base.specs.declared.faults.EndFault.{EndFault}
 use Rattle.asm_base.specs.declared.faults.EndFault.TheVariants as end
 use Rattle.asm_base.specs.declared.faults.Fault.TheVariants.{End}
@@ -12,7 +11,7 @@ use Rattle.asm_relax.specs.declared.faults.LayoutFault.TheVariants as layout
 use Rattle.elf_object.specs.declared.faults.ObjectCause.{ObjectCause}
 use Rattle.elf_object.specs.declared.faults.ObjectCause.TheVariants as object
 use Rattle.elf_object.specs.Objects.{object_of}
-use Rattle.asm_uses.specs.Tables.{Table}
+use Rattle.asm_uses.specs.Tables.{Table, last_sized}
 use Rattle.asm_frags.specs.Writing.{LooseSection}
 use Rattle.asm_place.specs.Sources.{fault_at}
 use Rattle.asm_place.specs.declared.place_faults.FaultAt.{FaultAt}
@@ -41,9 +40,9 @@ source_start = record { file = 0; line = 1 }
 abbrev pub named_at : List Pos → ℕ → Pos
 named_at named index = unwrap_or (slice_get named index) source_start
 
--- the place of the `.size` statement of a symbol; there are at most 2^24 symbols
+-- the place of the last `.size` statement of a symbol; there are at most 2^24 symbols
 abbrev pub sized_at : List (ℕ × Pos) → ℕ → Pos
-sized_at sized index = if nat_lt index (2 ^ 32) then unwrap_or (lookup (nat_eq index) sized) source_start else source_start
+sized_at sized index = if nat_lt index (2 ^ 32) then unwrap_or (last_sized index sized) source_start else source_start
 
 -- the fault of the object: at the first statement that names the symbol, at that of the field, or where the size is said
 abbrev pub object_end : Table → ObjectCause → Ended

@@ -1,6 +1,5 @@
 -- What is said of symbols: attributes and kinds, sizes, and definitions as space.
-use Rattle.std.specs.Prelude.{ℕ, nat_eq, List, Result, Ok, Option, None, Some, slice_get}
-use Rattle.indexmap.specs.IndexMap.{insert_entry}
+use Rattle.std.specs.Prelude.{ℕ, List, [], ◌∷◌, ◌++◌, Result, Ok, Option, None, Some, slice_get}
 use Rattle.asm_operands.specs.declared.place_faults.PlaceCause.{PlaceCause}
 use Rattle.asm_base.specs.declared.positions.Pos.{Pos}
 use Rattle.asm_expr.specs.declared.naming.Name.{Name}
@@ -39,7 +38,7 @@ kind_said kind map index = Ok (with_symbol (with_kind kind) map index)
 
 -- the size is said of the symbol at this place
 abbrev pub sized : Pos → Form → Table × ℕ → Table
-sized pos form found = record (with_map found.0 (with_next_size form found.0.symbols found.1)) { sized = insert_entry nat_eq found.0.sized found.1 pos }
+sized pos form found = record (with_map found.0 (with_next_size form found.0.symbols found.1)) { sized = found.0.sized ++ (found.1, pos) ∷ [] }
 
 -- what a symbol names that is space: an object, unless something else was said
 abbrev pub kind_or_object : Option Kind → Kind

@@ -1,5 +1,5 @@
 -- The symbols of a source, and where each is named.
-use Rattle.std.specs.Prelude.{ℕ, nat_lt, nat_le, Bool, true, ◌&&◌, ◌||◌, List, [], ◌∷◌, ◌++◌, length, Result, Ok, Err, if◌then◌else◌}
+use Rattle.std.specs.Prelude.{ℕ, nat_eq, nat_lt, nat_le, Bool, true, ◌&&◌, ◌||◌, List, [], ◌∷◌, ◌++◌, length, Option, None, Some, Result, Ok, Err, if◌then◌else◌}
 use Rattle.std.specs.List.{list_all}
 use Rattle.asm_operands.specs.declared.place_faults.PlaceCause.{PlaceCause}
 use Rattle.asm_operands.specs.declared.place_faults.PlaceCause.TheVariants.{BadSymbolUse}
@@ -15,7 +15,7 @@ use Rattle.asm_symbols.specs.Counting.{meant_name, may_be_meant, next_named}
 use Rattle.asm_base.specs.Refusals.{◌>>=◌}
 use Rattle.asm_operands.specs.LayerFaults.{of_symbols}
 
--- the symbol map; for each symbol where it is first named; and where the sizes of symbols are said, each with its symbol's index
+-- the symbol map; for each symbol where it is first named; and where the sizes of symbols are said, in order, each with its symbol's index
 pub record Table : Type 0 where
   pub symbols : SymbolMap
   pub named : List Pos
@@ -24,6 +24,15 @@ pub record Table : Type 0 where
 -- no symbol is named
 abbrev pub no_table : Table
 no_table = record { symbols = nothing_named; named = []; sized = [] }
+
+-- where the size of the symbol at this index is said last among these, or else what was found before
+abbrev pub said_last : Option Pos → ℕ → List (ℕ × Pos) → Option Pos
+said_last found index [] = found
+said_last found index (said ∷ rest) = said_last (if nat_eq said.0 index then Some said.1 else found) index rest
+
+-- where the size of the symbol at this index is said last
+abbrev pub last_sized : ℕ → List (ℕ × Pos) → Option Pos
+last_sized index sized = said_last None index sized
 
 -- the map in which a name was asked for at this place: one that is new is named here first
 abbrev pub named_in : Pos → Table → SymbolMap → Table

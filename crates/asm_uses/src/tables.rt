@@ -5,7 +5,6 @@ use asm_expr::{Linear, Name, Written, constant_form};
 use asm_operands::PlaceFault;
 use asm_symbols::{Definition, Kind, SymFault, SymId, Symbols};
 use asm_words::SymbolAttribute;
-use indexmap::IndexMap;
 use std::alloc::Global;
 use std::marker::Model;
 
@@ -23,8 +22,8 @@ pub struct SymbolUses {
     symbols: Symbols,
     /// For each symbol where the first statement stands that names it.
     named: Vec<Pos>,
-    /// For symbols whose size was said by `.size`, the index of the symbol and where that stands.
-    sized: IndexMap<u32, Pos>,
+    /// For each size that was said by `.size`, the index of the symbol and where that stands.
+    sized: Vec<(u32, Pos)>,
 }
 
 impl Model for SymbolUses {
@@ -32,12 +31,11 @@ impl Model for SymbolUses {
 
     ghost Value = { Table };
 
-    ghost view = { λ inside. record { symbols = inside.symbols; named = inside.named.items; sized = inside.sized.entries } };
+    ghost view = { λ inside. record { symbols = inside.symbols; named = inside.named.items; sized = inside.sized.items } };
 }
 
 impl SymbolUses {
-    ghost use Rattle.std.specs.Prelude.{◌≡◌, ◌<◌, ◌≤◌, nat_eq, length, Some, OnOk, IfOk, Ok};
-    ghost use Rattle.std.specs.Map.{lookup};
+    ghost use Rattle.std.specs.Prelude.{◌≡◌, ◌<◌, ◌≤◌, length, Some, OnOk, IfOk, Ok};
     ghost use Rattle.asm_symbols.specs.Defining.{defined};
     ghost use Rattle.asm_symbols.specs.LeadsBack.{assigned};
     ghost use Rattle.asm_base.specs.Refusals.{Gives, GivesBy};
@@ -46,7 +44,7 @@ impl SymbolUses {
     ghost use Rattle.asm_symbols.specs.SymbolMap.{names, index_of};
     ghost use Rattle.asm_symbols.specs.Interning.{number_of};
     ghost use Rattle.asm_symbols.specs.Counting.{meant_name, may_be_meant};
-    ghost use Rattle.asm_uses.specs.Tables.{no_table, with_map, with_name, symbol_of, next_symbol, changed_by, file_named};
+    ghost use Rattle.asm_uses.specs.Tables.{no_table, last_sized, with_map, with_name, symbol_of, next_symbol, changed_by, file_named};
     ghost use Rattle.asm_uses.specs.Attributes.{as_space, said, kind_said, sized};
 
     /// No symbols.
@@ -56,7 +54,7 @@ impl SymbolUses {
         SymbolUses {
             symbols: Symbols::new(alloc),
             named: Vec::new(alloc),
-            sized: IndexMap::new(alloc),
+            sized: Vec::new(alloc),
         }
     }
 
@@ -74,11 +72,17 @@ impl SymbolUses {
         self.named.as_slice()
     }
 
-    /// Where the size of the symbol at this index is said, where `.size` says one.
+    /// Where the size of the symbol at this index is said last, where `.size` says one.
     pub fn sized(&self, index: u32) -> Option<Pos>
-        ensures { result ≡ lookup (nat_eq index) self.now.sized }
+        ensures { result ≡ last_sized index self.now.sized }
     {
-        self.sized.get(&index).copied()
+        let mut last = None;
+        for said in &self.sized {
+            if said.0 == index {
+                last = Some(said.1);
+            }
+        }
+        last
     }
 
     /// The symbol of the name, which is put last if it is new.
@@ -172,7 +176,7 @@ impl SymbolUses {
         ensures { Gives self.new result (Ok (sized pos size (self.old, id))) }
     {
         self.symbols.size(id, size).map_err(SymFault::raise)?;
-        self.sized.insert(id.index(), pos)?;
+        self.sized.push((id.index(), pos))?;
         Ok(())
     }
 
