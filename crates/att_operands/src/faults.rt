@@ -7,6 +7,9 @@ use thiserror::Error;
 /// A fault of an instruction as it is written.
 #[derive(Clone, Copy, Debug, PartialEq, Eq, Error)]
 pub enum OperandCause {
+    /// No row of the instruction table has the name.
+    #[error("unknown mnemonic")]
+    UnknownMnemonic,
     /// An operand of an expression or a closing parenthesis is missing, or a token spells no number
     /// and no name.
     #[error("bad expression")]
@@ -20,6 +23,9 @@ pub enum OperandCause {
     /// An operand has no spelling.
     #[error("bad operand")]
     BadOperand,
+    /// Rows of several operand sizes take such operands, and nothing fixes one.
+    #[error("unknown operand size")]
+    UnknownOperandSize,
 }
 
 /// Why the reading of operands is refused: they have a fault, or memory ran out.

@@ -10,12 +10,15 @@ mod operands;
 mod prefixes;
 mod register_slots;
 mod registers;
+mod usual;
 mod values;
 
 pub use faults::{OperandCause, OperandFault};
 pub use laws::{
     faults_of_an_operand, one_operand, read_is_spelled, spelled_is_read, worked_operands,
 };
+pub use marks::mark_at;
 pub use operands::{FoundOperand, ReadOperand, read_operand};
 pub use prefixes::prefix_named;
 pub use registers::{NamedRegister, register_named};
+pub use usual::whole_register;

@@ -34,7 +34,7 @@ fn mark_of(token: &Token) -> u8
 /// The mark at this place, and 0 where there is none.
 #[inline(always)]
 #[tactic(auto, unfolding(crate::specs::Marks::mark_by))]
-pub(crate) fn mark_at(tokens: &[Token], at: usize) -> u8
+pub fn mark_at(tokens: &[Token], at: usize) -> u8
     ensures value { result ≡ mark_at (map spelled tokens.now) at }
     ensures within { 0 < result → at < length tokens.now }
 {
