@@ -1,0 +1,199 @@
+//! The operands of an instruction, one after the other.
+
+ghost use Rattle.std.specs.Prelude.{◌≡◌, ◌≤◌, map, length, IfOk};
+ghost use Rattle.asm_base.specs.Tokens.{spelled};
+ghost use Rattle.att_operands.specs.OperandTexts.{OperandText, register, operand_at, IsOperandOf};
+ghost use Rattle.att_operands.specs.Values.{ValueText};
+ghost use Rattle.att_insns.specs.InsnTexts.{InsnText, IsInsnOf, with_operand, text_of, HasTexts};
+ghost use Rattle.att_insns.specs.Reading.{Makes, Puts, operands_at, with_all};
+
+use asm_base::Token;
+use att_operands::{
+    FoundOperand, OperandCause, OperandFault, ReadOperand, read_operand, whole_register,
+};
+use std::alloc::Global;
+use x86_insn::{Insn, Reg, Slot};
+
+/// The operands move one place on, and another stands first.
+#[inline(always)]
+fn lead(insn: &mut Insn, first: Slot)
+    ensures { insn.new ≡ record insn.old { first = first; second = insn.old.first; third = insn.old.second } }
+{
+    insn.third = insn.second;
+    insn.second = insn.first;
+    insn.first = first;
+}
+
+/// The operand stands before those that were written before it.
+#[inline(always)]
+#[tactic(auto, using(crate::proofs::Fillings::register_put, crate::proofs::Fillings::immediate_put, crate::proofs::Fillings::memory_put, crate::proofs::Fillings::target_put))]
+fn put_text<'a>(insn: &mut Insn<'a>, operand: ReadOperand<'a>)
+    ensures { (i d : ValueText) (text : OperandText) → HasTexts insn.old i d
+        → IsOperandOf operand.entry text → IsInsnOf insn.new (with_operand text (text_of insn.old i d)) }
+{
+    match operand {
+        ReadOperand::Register(reg) => lead(insn, Slot::Register(reg)),
+        ReadOperand::Immediate(value) => {
+            lead(insn, Slot::Immediate);
+            insn.immediate = value;
+        }
+        ReadOperand::Memory(address, displacement) => {
+            lead(insn, Slot::Memory);
+            insn.address = address;
+            insn.displacement = displacement;
+        }
+        ReadOperand::Target(value) => {
+            lead(insn, Slot::Target);
+            insn.displacement = value;
+        }
+    }
+}
+
+/// The same of an instruction that has a text.
+#[inline(always)]
+fn put<'a>(insn: &mut Insn<'a>, operand: ReadOperand<'a>)
+    ensures { (due : InsnText) (text : OperandText) → IsInsnOf insn.old due
+        → IsOperandOf operand.entry text → IsInsnOf insn.new (with_operand text due) }
+{
+    put_text(insn, operand);
+}
+
+/// A register stands before the operands that were written before it.
+#[inline(always)]
+fn put_register(insn: &mut Insn, reg: Reg)
+    ensures { (due : InsnText) → IsInsnOf insn.old due
+        → IsInsnOf insn.new (with_operand (register reg) due) }
+{
+    put(insn, ReadOperand::Register(reg));
+}
+
+/// Any operand at this place stands before those that were written before it; the index of the first
+/// token behind it.
+#[inline(never)]
+fn put_any<'a>(
+    alloc: Global,
+    tokens: &[Token<'a>],
+    at: usize,
+    is_branch: bool,
+    insn: &mut Insn<'a>,
+) -> Result<usize, OperandFault>
+    ensures value { (due : InsnText) → IsInsnOf insn.old due
+        → Puts insn.new result due (operand_at is_branch (map spelled tokens.now) at) }
+    ensures within { IfOk result (λ next. next ≤ length tokens.now) }
+{
+    match read_operand(alloc, tokens, at, is_branch) {
+        Ok(FoundOperand { operand, next }) => {
+            put(insn, operand);
+            Ok(next)
+        }
+        Err(refusal) => Err(refusal),
+    }
+}
+
+/// The same, with a short way for registers.
+#[inline(always)]
+fn put_operand<'a>(
+    alloc: Global,
+    tokens: &[Token<'a>],
+    at: usize,
+    is_branch: bool,
+    insn: &mut Insn<'a>,
+) -> Result<usize, OperandFault>
+    ensures value { (due : InsnText) → IsInsnOf insn.old due
+        → Puts insn.new result due (operand_at is_branch (map spelled tokens.now) at) }
+    ensures within { IfOk result (λ next. next ≤ length tokens.now) }
+{
+    if !is_branch {
+        if let Some(reg) = whole_register(tokens, at) {
+            put_register(insn, reg);
+            return Ok(at + 2);
+        }
+    }
+    put_any(alloc, tokens, at, is_branch, insn)
+}
+
+/// The last operand that may stand, at this place.
+#[inline(always)]
+fn put_last<'a>(
+    alloc: Global,
+    tokens: &[Token<'a>],
+    at: usize,
+    is_branch: bool,
+    insn: &mut Insn<'a>,
+) -> Result<(), OperandFault>
+    ensures { (due : InsnText) → IsInsnOf insn.old due
+        → Makes insn.new result (operands_at 1 is_branch (map spelled tokens.now) at due) }
+{
+    match put_operand(alloc, tokens, at, is_branch, insn) {
+        Ok(next) => if next < tokens.len() {
+            Err(OperandFault::Fault(OperandCause::BadOperand))
+        } else {
+            Ok(())
+        },
+        Err(refusal) => Err(refusal),
+    }
+}
+
+/// The one or two operands from this place on.
+#[inline(always)]
+fn put_two<'a>(
+    alloc: Global,
+    tokens: &[Token<'a>],
+    at: usize,
+    is_branch: bool,
+    insn: &mut Insn<'a>,
+) -> Result<(), OperandFault>
+    ensures { (due : InsnText) → IsInsnOf insn.old due
+        → Makes insn.new result (operands_at 2 is_branch (map spelled tokens.now) at due) }
+{
+    match put_operand(alloc, tokens, at, is_branch, insn) {
+        Ok(next) => if next < tokens.len() {
+            put_last(alloc, tokens, next + 1, is_branch, insn)
+        } else {
+            Ok(())
+        },
+        Err(refusal) => Err(refusal),
+    }
+}
+
+/// The one to three operands from this place on.
+#[inline(always)]
+fn put_three<'a>(
+    alloc: Global,
+    tokens: &[Token<'a>],
+    at: usize,
+    is_branch: bool,
+    insn: &mut Insn<'a>,
+) -> Result<(), OperandFault>
+    ensures { (due : InsnText) → IsInsnOf insn.old due
+        → Makes insn.new result (operands_at 3 is_branch (map spelled tokens.now) at due) }
+{
+    match put_operand(alloc, tokens, at, is_branch, insn) {
+        Ok(next) => if next < tokens.len() {
+            put_two(alloc, tokens, next + 1, is_branch, insn)
+        } else {
+            Ok(())
+        },
+        Err(refusal) => Err(refusal),
+    }
+}
+
+/// All operands from this place on.
+#[inline(always)]
+#[tactic(auto, unfolding(crate::specs::Reading::with_all))]
+pub(crate) fn put_all<'a>(
+    alloc: Global,
+    tokens: &[Token<'a>],
+    at: usize,
+    is_branch: bool,
+    insn: &mut Insn<'a>,
+) -> Result<(), OperandFault>
+    ensures { (due : InsnText) → IsInsnOf insn.old due
+        → Makes insn.new result (with_all is_branch (map spelled tokens.now) at due) }
+{
+    if at < tokens.len() {
+        put_three(alloc, tokens, at, is_branch, insn)
+    } else {
+        Ok(())
+    }
+}

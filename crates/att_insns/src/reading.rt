@@ -1,0 +1,104 @@
+//! From the tokens of a statement to an instruction.
+
+ghost use Rattle.std.specs.Prelude.{◌≡◌, map};
+ghost use Rattle.asm_base.specs.Tokens.{spelled};
+ghost use Rattle.att_operands.specs.Values.{GivesSo, IsValueOf};
+ghost use Rattle.att_operands.specs.OperandTexts.{no_displacement};
+ghost use Rattle.att_insns.specs.InsnTexts.{blank, IsInsnOf};
+ghost use Rattle.att_insns.specs.Heads.{head};
+ghost use Rattle.att_insns.specs.Reading.{Makes, headed_insn, insn_of};
+
+use crate::filling::put_all;
+use crate::heads::{FoundHead, head_of};
+use crate::rules::{apply, is_branch};
+use crate::sizes::give_size;
+use asm_base::Token;
+use att_operands::{OperandCause, OperandFault};
+use std::alloc::Global;
+use x86_insn::{Address, Amount, Base, Index, Insn, Mnemonic, Prefix, Slot, Value};
+
+/// The number 0.
+#[inline(always)]
+#[tactic(auto, unfolding(asm_expr::specs::Linear::linear))]
+fn zero<'a>() -> Value<'a>
+    ensures { IsValueOf result no_displacement }
+{
+    Value {
+        amount: Amount::Number(0),
+        suffix: None,
+    }
+}
+
+/// An instruction without operands.
+#[inline(always)]
+fn blank<'a>(name: Mnemonic, size: u8, prefix: Prefix) -> Insn<'a>
+    ensures { IsInsnOf result (blank name size prefix) }
+{
+    Insn {
+        name,
+        size,
+        prefix,
+        first: Slot::Absent,
+        second: Slot::Absent,
+        third: Slot::Absent,
+        address: Address {
+            segment: None,
+            base: Base::Absent,
+            index: Index::Absent,
+        },
+        immediate: zero(),
+        displacement: zero(),
+    }
+}
+
+/// The instruction gets its operands and its size.
+#[inline(always)]
+fn fill<'a>(
+    alloc: Global,
+    tokens: &[Token<'a>],
+    found: FoundHead,
+    insn: &mut Insn<'a>,
+) -> Result<(), OperandFault>
+    ensures { IsInsnOf insn.old (blank found.named.now.2 found.named.now.3 found.prefix)
+        → Makes insn.new result (headed_insn (map spelled tokens.now)
+        (head found.named.now found.prefix found.next)) }
+{
+    let rule = found.named.4;
+    match put_all(alloc, tokens, found.next, is_branch(rule), insn) {
+        Ok(()) => {
+            apply(insn, rule);
+            give_size(insn)
+        }
+        Err(refusal) => Err(refusal),
+    }
+}
+
+/// The instruction that the tokens of a statement are takes the place of another one. After a fault
+/// anything may stand there.
+#[tactic(auto, unfolding(crate::specs::Reading::insn_of))]
+pub fn read_into<'a>(
+    alloc: Global,
+    tokens: &[Token<'a>],
+    insn: &mut Insn<'a>,
+) -> Result<(), OperandFault>
+    ensures { Makes insn.new result (insn_of (map spelled tokens.now)) }
+{
+    match head_of(tokens) {
+        Some(found) => {
+            *insn = blank(found.named.2, found.named.3, found.prefix);
+            fill(alloc, tokens, found, insn)
+        }
+        None => Err(OperandFault::Fault(OperandCause::UnknownMnemonic)),
+    }
+}
+
+/// The instruction that the tokens of a statement are.
+pub fn read_insn<'a>(alloc: Global, tokens: &[Token<'a>]) -> Result<Insn<'a>, OperandFault>
+    ensures { GivesSo IsInsnOf result (insn_of (map spelled tokens.now)) }
+{
+    let mut insn = blank(Mnemonic(0), 0, Prefix::Absent);
+    match read_into(alloc, tokens, &mut insn) {
+        Ok(()) => Ok(insn),
+        Err(refusal) => Err(refusal),
+    }
+}
