@@ -8,3 +8,4 @@ pub mod WorkedReadings
 pub mod Heads
 pub mod Ranges
 pub mod WorkedWrites
+pub mod WorkedOrder

@@ -1,6 +1,6 @@
 -- Which bytes read as an instruction (Intel SDM, volume 2, chapter 2): those of some row and some fields that fit it, which the row shows as
 -- that instruction.
-use Rattle.std.specs.Prelude.{◌≡◌, ◌==◌, ◌+◌, ◌%◌, ◌^◌, ◌&&◌, ◌++◌, ℕ, List, Bool, true, false, Option, Some, None, slice_get, length, if◌then◌else◌}
+use Rattle.std.specs.Prelude.{◌≡◌, ◌<◌, ◌≤◌, ◌==◌, ◌+◌, ◌%◌, ◌^◌, ◌&&◌, ◌++◌, ℕ, List, Bool, true, false, Option, Some, None, slice_get, length, if◌then◌else◌}
 use Rattle.x86_insn.specs.Views.{Seen, absent, register, immediate as shown_immediate, memory, target, View}
 use Rattle.x86_insn.specs.declared.registers.Class.{Class}
 use Rattle.x86_insn.specs.declared.registers.Class.TheVariants as class
@@ -120,3 +120,7 @@ Reads bytes insn = (i : ℕ) × (r : Row) × (p : Fields) × ReadsRow bytes insn
 -- no bytes read as two instructions, and none that read begin others that read
 abbrev pub ReadsOneWay : Type 0
 ReadsOneWay = (x y more others : List ℕ) (a b : View) → Reads x a → Reads y b → x ++ more ≡ y ++ others → (a ≡ b) × (x ≡ y)
+
+-- an instruction has at least one byte, and at most 15 (Intel SDM, volume 2, section 2.3.11)
+abbrev pub InstructionLength : Type 0
+InstructionLength = (bytes : List ℕ) (insn : View) → Reads bytes insn → (0 < length bytes) × (length bytes ≤ 15)

@@ -3,10 +3,11 @@
 ghost use Rattle.std.specs.Prelude.{IsTrue};
 ghost use Rattle.x86_table.specs.Rows.{the_rows};
 ghost use Rattle.x86_table.specs.Heads.{all_apart, all_stand};
-ghost use Rattle.x86_table.specs.Reads.{ReadsOneWay};
+ghost use Rattle.x86_table.specs.Reads.{ReadsOneWay, InstructionLength};
 ghost use Rattle.x86_table.specs.Fits.{FieldsHaveBytes};
 ghost use Rattle.x86_table.specs.WorkedReadings.{WorkedReadings};
 ghost use Rattle.x86_table.specs.WorkedWrites.{WorkedWrites};
+ghost use Rattle.x86_table.specs.WorkedOrder.{WorkedOrder};
 
 /// No two rows admit one head.
 pub fn rows_are_apart()
@@ -28,6 +29,11 @@ pub fn read_one_way()
     ensures { ReadsOneWay }
 {}
 
+/// An instruction has at least one byte, and at most 15 (Intel SDM, volume 2, section 2.3.11).
+pub fn instruction_length()
+    ensures { InstructionLength }
+{}
+
 /// Fields that fit a row of the table have bytes.
 pub fn fields_have_bytes()
     ensures { FieldsHaveBytes }
@@ -36,4 +42,10 @@ pub fn fields_have_bytes()
 /// What some instructions write, by the Intel manual.
 pub fn worked_writes()
     ensures { WorkedWrites }
+{}
+
+/// Which of two forms of an instruction of two registers comes first, where both have as many bytes: the
+/// one that assemblers write.
+pub fn worked_order()
+    ensures { WorkedOrder }
 {}

@@ -17,7 +17,8 @@ pub use forms::{
     StoreKind, Words,
 };
 pub use laws::{
-    fields_have_bytes, opcodes_stand, read_one_way, rows_are_apart, worked_readings, worked_writes,
+    fields_have_bytes, instruction_length, opcodes_stand, read_one_way, rows_are_apart,
+    worked_order, worked_readings, worked_writes,
 };
 pub use parts::{Parts, Place, Width};
 pub use ranges::{RowRange, rows, rows_of, rows_of_size};
