@@ -1,11 +1,12 @@
 #!/usr/bin/env python3
-"""Writes what is found by the instruction table and its mnemonics: where the rows of a name stand, where the mnemonics stand by the hashes of their texts, and
-the keys of the rows.
+"""Writes what is found by the instruction table and its mnemonics: where the rows of a name stand, where the mnemonics stand by the hashes of their texts, the
+codes of those that stand without operands, and the keys of the rows.
 
     tools/instruction_indices.py [--check] [--crates crates]
 
 With `--check` nothing is written: ends with 1 where a file is not what the table gives. That each of these is right is proved when its crate is checked (the
-rows of a range are those of the name, a mnemonic is found by its slot, a key is that of its row); this saves the writing by hand when the table changes.
+rows of a range are those of the name, a mnemonic is found by its slot, a code and a key are those of the row); this saves the writing by hand when the table
+changes.
 """
 import argparse
 import pathlib
@@ -50,10 +51,10 @@ FACTOR, SHIFTS, PLACES, ON_A_LINE = 0x9E37_79B9_7F4A_7C15, 256, 1024, 14
 
 
 def hash_of(text: str) -> int:
-    """The hash of a text, of 64 bits."""
+    """The hash of a text, of 64 bits: by the low five bits of its bytes, in which the cases of letters are alike."""
     hashed = 0
     for byte in text.encode():
-        hashed = (hashed + byte) * FACTOR % (1 << 64)
+        hashed = (hashed + byte % 32) * FACTOR % (1 << 64)
     return hashed
 
 
@@ -87,6 +88,59 @@ def slots_file(lists: list[tuple[str, str, list[Name]]]) -> str:
             text += f"    {' '.join(f'{slot},' for slot in slots[at:at + ON_A_LINE])}\n"
         text += "];\n"
     return text
+
+
+# ---- The codes of mnemonics without operands
+
+# Of each row without operands the bytes, which are four at most, and how many they are; of each mnemonic the number of its code.
+CODE_BYTES, NO_CODE, NUMBERS_ON_A_LINE = 4, 255, 16
+CODES_HEAD = """\
+//! The bytes of instructions without operands, by the mnemonics of AT&T syntax.
+
+/// Bytes, with zeros behind them up to four, and how many they are.
+#[derive(Clone, Copy)]
+pub struct Code(pub [u8; 4], pub u8);
+
+/// Of the rows without operands, in the order of the table.
+#[rattlefmt::skip]
+pub static CODES: [Code; {count}] = [
+"""
+NUMBERS_HEAD = """\
+
+/// Of each mnemonic the number of its code, or 255 where no row of its name and size is without operands.
+#[rattlefmt::skip]
+pub static ATT_CODES: [u8; {count}] = [
+"""
+
+
+def bare_code(row: Row) -> bytes:
+    """The bytes of a row without operands."""
+    repeat = {"Absent": b"", "F2": b"\xf2", "F3": b"\xf3"}[row.repeat]
+    modrm = bytes([row.digit]) if row.shape == "Fixed" else b""
+    return b"\x66" * row.has_66 + repeat + b"\x48" * row.rex_w + ESCAPES[row.map] + bytes([row.code]) + modrm
+
+
+def codes_file(rows: list[Row], names: list[Name]) -> str:
+    """The file of the codes, and of their numbers by mnemonics."""
+    bare = [row for row in rows if not row.operands]
+    text = CODES_HEAD.format(count=len(bare))
+    for row in bare:
+        code = bare_code(row)
+        if len(code) > CODE_BYTES:
+            raise TableError(f"line {row.line} has more than {CODE_BYTES} bytes: {row.text}")
+        padded = ", ".join(f"0x{byte:02X}" for byte in code + bytes(CODE_BYTES - len(code)))
+        size = f" {row.size}" if row.size else ""
+        text += f"    Code([{padded}], {len(code)}), // {row.name}{size}\n"
+    numbers = []
+    for name in names:
+        own = [number for number, row in enumerate(bare) if row.name == name.row and name.size in (0, row.size)]
+        if len(own) > 1:
+            raise TableError(f"{name.text} has {len(own)} rows without operands")
+        numbers.append(own[0] if own else NO_CODE)
+    text += "];\n" + NUMBERS_HEAD.format(count=len(numbers))
+    for at in range(0, len(numbers), NUMBERS_ON_A_LINE):
+        text += f"    {' '.join(f'{number:>3},' for number in numbers[at:at + NUMBERS_ON_A_LINE])}\n"
+    return text + "];\n"
 
 
 # ---- The keys of rows
@@ -156,7 +210,8 @@ def files(crates: pathlib.Path) -> dict[pathlib.Path, str]:
     table, names = crates / "x86_table/src", crates / "x86_lookup/src"
     rows = read_table(table)
     lists = [(syntax, f"{prefix}_SLOTS", read_names(names, f"{prefix}_NAMES")) for syntax, prefix in (("AT&T", "ATT"), ("Intel", "INTEL"))]
-    return {table / "spans.rt": spans_file(rows), names / "slots.rt": slots_file(lists), crates / "x86_encode/src/keys.rt": keys_file(rows)}
+    return {table / "spans.rt": spans_file(rows), names / "slots.rt": slots_file(lists), names / "bare_codes.rt": codes_file(rows, lists[0][2]),
+            crates / "x86_encode/src/keys.rt": keys_file(rows)}
 
 
 def main() -> int:

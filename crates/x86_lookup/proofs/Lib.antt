@@ -2,3 +2,5 @@
 mod RowLookups
 mod RowWrites
 mod NameLookups
+mod BareLookups
+mod BareReadings

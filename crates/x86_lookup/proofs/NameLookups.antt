@@ -1,6 +1,8 @@
 -- One look finds the mnemonic that the list has.
-use Rattle.std.proofs.Common.{◌≡◌, ◌<◌, ℕ, ◌+◌, List, [], ◌∷◌, true, Option, Some, None, slice_get, refl, arith, zero, suc, sym, ap, ◌∙◌, inl, inr}
-use Rattle.std.proofs.lemmas.Bool.{and_parts, eqb-true, cases_Bool}
+use Rattle.std.proofs.Common.{◌≡◌, ◌<◌, ℕ, ◌+◌, ◌*◌, ◌%◌, ◌^◌, List, [], ◌∷◌, true, Option, Some, None, slice_get, refl, arith, zero, suc, sym, ap, ◌∙◌, inl, inr}
+use Rattle.std.proofs.lemmas.Bool.{and_parts, eqb-true, cases_Bool, cases_order}
+use Rattle.std.proofs.lemmas.Str.Ascii.{lowercase_is}
+use Rattle.std.specs.Char.{to_ascii_lowercase}
 use Rattle.std.specs.List.{find}
 use Rattle.std.specs.Str.{str_eq_ignore_ascii_case, str_to_ascii_lowercase}
 use Rattle.std.specs.Cmp.Lexicographic.{bytes_decides}
@@ -18,10 +20,34 @@ intel_placed = refl
 some_is : {A : Type 0} {m n : A} → Some m ≡ Some n → m ≡ n
 some_is h = cc
 
+-- a text is itself in either case
+pub same_text : (text own : List ℕ) → text ≡ own → true ≡ str_eq_ignore_ascii_case text own
+same_text text own e = sym ((bytes_decides (str_to_ascii_lowercase text) (str_to_ascii_lowercase own)).1 (ap str_to_ascii_lowercase e))
+
+-- letters of both cases have one hash
+same_letter : (c : ℕ) → to_ascii_lowercase c % 32 ≡ c % 32
+same_letter c = elim (cases_order c 65) [
+  | inl e ↦ (let lower : to_ascii_lowercase c ≡ c + 32 = (lowercase_is c).0 (omega arith, omega arith) in rw lower (omega arith))
+  | inr (inl lt) ↦ ap (λ n. n % 32) ((lowercase_is c).1 lt)
+  | inr (inr gt) ↦ (elim (cases_order 90 c) [
+    | inl e ↦ (let lower : to_ascii_lowercase c ≡ c + 32 = (lowercase_is c).0 (omega arith, omega arith) in rw lower (omega arith))
+    | inr (inl above) ↦ ap (λ n. n % 32) ((lowercase_is c).2 above)
+    | inr (inr below) ↦ (let lower : to_ascii_lowercase c ≡ c + 32 = (lowercase_is c).0 (omega arith, omega arith) in rw lower (omega arith))
+  ])
+]
+
+mixed-lowercase : (hash : ℕ) (text : List ℕ) → mixed hash (str_to_ascii_lowercase text) ≡ mixed hash text
+mixed-lowercase hash [] = refl
+mixed-lowercase hash (c ∷ text) =
+    ap (λ (low : ℕ). mixed ((hash + low) % 2 ^ 64 * 11400714819323198485 % 2 ^ 64) (str_to_ascii_lowercase text)) (same_letter c)
+    ∙ mixed-lowercase ((hash + c % 32) % 2 ^ 64 * 11400714819323198485 % 2 ^ 64) text
+
 -- texts that differ in case alone have one index
 one_slot : (slots text other : List ℕ) → str_eq_ignore_ascii_case text other ≡ true → slot_of slots text ≡ slot_of slots other
 unfolding slot_of
-one_slot slots text other h = ap (λ (t : List ℕ). slot_at slots (mixed 0 t)) ((bytes_decides (str_to_ascii_lowercase text) (str_to_ascii_lowercase other)).0 h)
+one_slot slots text other h =
+    let lower = (bytes_decides (str_to_ascii_lowercase text) (str_to_ascii_lowercase other)).0 h in
+    ap (slot_at slots) (sym (mixed-lowercase 0 text) ∙ ap (mixed 0) lower ∙ mixed-lowercase 0 other)
 
 index_is : (found : Option ℕ) (i : ℕ) → is_index found i ≡ true → found ≡ Some i
 index_is None i h = cc

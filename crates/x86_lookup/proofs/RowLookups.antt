@@ -30,7 +30,7 @@ get_drop (suc a) j [] = refl
 get_drop (suc a) j (x ∷ xs) = let z : suc (a + j) ≡ suc a + j = omega arith in subst (λ (k : ℕ). slice_get (drop a xs) j ≡ slice_get (x ∷ xs) k) z (get_drop a j xs)
 
 -- what is found is one of them and passes
-found_one : (p : Row → Bool) (xs : List Row) (r : Row) → find p xs ≡ Some r → (j : ℕ) × (slice_get xs j ≡ Some r) × (p r ≡ true)
+pub found_one : (p : Row → Bool) (xs : List Row) (r : Row) → find p xs ≡ Some r → (j : ℕ) × (slice_get xs j ≡ Some r) × (p r ≡ true)
 found_one p [] r h = cc
 found_one p (x ∷ xs) r h = elim (cases_Bool (p x)) [
   | inl t ↦

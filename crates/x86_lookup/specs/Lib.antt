@@ -1,3 +1,5 @@
 -- The definitions that contracts cite, in reading order.
 pub mod Names
 pub mod Writing
+pub mod BareInstructions
+pub mod BareCodes

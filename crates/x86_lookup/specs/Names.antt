@@ -2,7 +2,7 @@
 use Rattle.std.specs.Prelude.{◌+◌, ◌*◌, ◌/◌, ◌%◌, ◌^◌, ◌==◌, ◌&&◌, ◌∷◌, [], ℕ, nat_lt, List, Bool, true, false, not, Option, Some, None, slice_get, take, drop, if◌then◌else◌}
 use Rattle.std.specs.List.{list_all}
 use Rattle.std.specs.Char.{to_ascii_lowercase}
-use Rattle.std.specs.Str.{str_eq_ignore_ascii_case, str_to_ascii_lowercase}
+use Rattle.std.specs.Str.{str_eq_ignore_ascii_case}
 use Rattle.x86_lookup.specs.declared.names.Named.{Named}
 use Rattle.x86_lookup.specs.declared.att_mnemonics.TheConstants.{ATT_NAMES}
 use Rattle.x86_lookup.specs.declared.intel_mnemonics.TheConstants.{INTEL_NAMES}
@@ -37,10 +37,10 @@ has_text text named = str_eq_ignore_ascii_case text (text_of named)
 abbrev pub is_of : ℕ → ℕ → Named → Bool
 is_of name size named = (named.2.0 == name) && (named.3 == size)
 
--- the hash of a text
+-- the hash of a text, by the low five bits of its bytes, in which the cases of letters are alike
 abbrev pub mixed : ℕ → List ℕ → ℕ
 mixed hash [] = hash
-mixed hash (byte ∷ bytes) = mixed ((hash + byte) % 2 ^ 64 * 11400714819323198485 % 2 ^ 64) bytes
+mixed hash (byte ∷ bytes) = mixed ((hash + byte % 32) % 2 ^ 64 * 11400714819323198485 % 2 ^ 64) bytes
 
 -- the index behind a shift
 abbrev pub slot_behind : List ℕ → ℕ → Option ℕ → Option ℕ
@@ -53,7 +53,7 @@ slot_at slots hash = slot_behind slots hash (slice_get slots (hash / 2 ^ 56))
 
 -- the index by a text
 unfoldable pub slot_of : List ℕ → List ℕ → Option ℕ
-slot_of slots text = slot_at slots (mixed 0 (str_to_ascii_lowercase text))
+slot_of slots text = slot_at slots (mixed 0 text)
 
 -- the mnemonic, if it has the text
 abbrev pub if_text : List ℕ → Option Named → Option Named
@@ -67,7 +67,7 @@ name_at names text (Some index) = if_text text (slice_get names index)
 
 -- the mnemonic of the text at its index
 abbrev pub name_by : List Named → List ℕ → List ℕ → Option Named
-name_by names slots text = name_at names text (slot_at slots (mixed 0 (str_to_ascii_lowercase text)))
+name_by names slots text = name_at names text (slot_at slots (mixed 0 text))
 
 -- the index is this one
 abbrev pub is_index : Option ℕ → ℕ → Bool

@@ -2,7 +2,6 @@
 
 ghost use Rattle.std.specs.Prelude.{◌≡◌, option_map, Some};
 ghost use Rattle.std.specs.List.{find};
-ghost use Rattle.std.specs.Str.{str_to_ascii_lowercase};
 ghost use Rattle.x86_lookup.specs.Names.{text_of, has_text, is_of, the_att_names, the_intel_names, the_att_slots, the_intel_slots, mixed, slot_at, name_at, name_by};
 
 use crate::att_mnemonics::ATT_NAMES;
@@ -77,7 +76,7 @@ pub fn intel_names() -> &'static [Named]
 
 /// Where the mnemonics of AT&T syntax stand.
 #[tactic(auto, unfolding(crate::specs::Names::the_att_slots))]
-fn att_slots() -> &'static [u16]
+pub(crate) fn att_slots() -> &'static [u16]
     ensures { result.now ≡ the_att_slots }
 {
     &ATT_SLOTS
@@ -91,21 +90,21 @@ fn intel_slots() -> &'static [u16]
     &INTEL_SLOTS
 }
 
-/// The hash of a text in lower case.
-fn mixed(text: &[u8]) -> u64
-    ensures { result ≡ mixed 0 (str_to_ascii_lowercase text.now) }
+/// The hash of a text: by the low five bits of its bytes, in which the cases of letters are alike.
+pub(crate) fn mixed(text: &[u8]) -> u64
+    ensures { result ≡ mixed 0 text.now }
 {
     let mut hash: u64 = 0;
     for byte in text {
         hash = hash
-            .wrapping_add(u64::from(byte.to_ascii_lowercase()))
+            .wrapping_add(u64::from(byte % 32))
             .wrapping_mul(0x9E37_79B9_7F4A_7C15);
     }
     hash
 }
 
 /// The index by a hash: a shift by its highest byte, and then the index itself.
-fn slot_at(slots: &[u16], hash: u64) -> Option<u16>
+pub(crate) fn slot_at(slots: &[u16], hash: u64) -> Option<u16>
     ensures { result ≡ slot_at slots.now hash }
 {
     let shift = *slots.get((hash / 0x100_0000_0000_0000) as usize)?;
@@ -113,15 +112,17 @@ fn slot_at(slots: &[u16], hash: u64) -> Option<u16>
     Some(*slots.get(256 + place as usize)?)
 }
 
-/// Whether the mnemonic has the text, in either case.
+/// Whether the mnemonic has the text, in either case: most texts are in lower case.
+#[tactic(auto, using(crate::proofs::NameLookups::same_text))]
 fn has_text(text: &[u8], named: &Named) -> bool
     ensures { result ≡ has_text text.now named.now }
 {
-    text.eq_ignore_ascii_case(named.text())
+    let own = named.text();
+    text == own || text.eq_ignore_ascii_case(own)
 }
 
 /// The mnemonic at the index, if it has the text.
-fn name_at(names: &'static [Named], text: &[u8], index: u16) -> Option<&'static Named>
+pub(crate) fn name_at(names: &'static [Named], text: &[u8], index: u16) -> Option<&'static Named>
     ensures { let due = name_at names.now text.now (Some index) in
         option_map (λ named. named.now) result ≡ due }
 {
