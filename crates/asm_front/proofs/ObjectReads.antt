@@ -1,5 +1,5 @@
 -- Written bytes read back: the bytes of an instruction stand in the object.
-use Rattle.std.proofs.Common.{◌≡◌, ℕ, ◌+◌, ◌≤◌, ◌&&◌, not, nat_lt, Bool, true, false, cond, List, [], ◌∷◌, ◌++◌, Option, Some, None, Result, Ok, Err, find, length, map, drop, refl, sym, ap, ◌∙◌, arith}
+use Rattle.std.proofs.Common.{◌≡◌, ℕ, ◌+◌, ◌≤◌, ◌&&◌, not, nat_lt, Bool, true, false, cond, List, [], ◌∷◌, ◌++◌, Option, Some, None, Result, Ok, Err, length, map, drop, refl, sym, ap, ◌∙◌, arith}
 use Rattle.std.proofs.lemmas.List.{map-append}
 use Rattle.std.proofs.lemmas.Option.{slice_get-map}
 use Rattle.std.specs.Prelude.{slice_get, option_map}
@@ -19,18 +19,17 @@ use Rattle.asm_relax.specs.Expanding.{expanded}
 use Rattle.asm_relax.specs.Settling.{LaidItem, LaidSections, unless, layout_of}
 use Rattle.asm_relax.specs.declared.faults.LayoutFault.{LayoutFault}
 use Rattle.asm_relax.specs.Placing.{placed_from, placed_section}
-use Rattle.asm_words.specs.declared.instructions.Row.{Row}
-use Rattle.asm_words.specs.Rows.{the_rows, has_name, bytes_of}
-use Rattle.asm_words.specs.Reads.{Reads}
+use Rattle.x86_insn.specs.Views.{View}
+use Rattle.x86_table.specs.Reads.{Reads, ReadsOneWay}
+use Rattle.x86_lookup.specs.BareInstructions.{Coded, bare_instruction, BareCodesRead, BareCodesStand}
 use Rattle.asm_operands.specs.Operands.{is_name, begins_with_dot}
 use Rattle.asm_frags.specs.Writing.{LooseSection}
 use Rattle.asm_values.specs.State.{Placed, nothing_placed}
 use Rattle.asm_uses.specs.Tables.{Table}
 use Rattle.asm_place.specs.Sources.{place_all}
-use Rattle.asm_place.specs.Instructions.{behind_labels, row_written, next_item, next_offset, StandsAt}
+use Rattle.asm_place.specs.Instructions.{behind_labels, instruction_written, next_item, next_offset, StandsAt}
 use Rattle.asm_place.proofs.GrowthLemmas.{nothing_within}
 use Rattle.asm_place.proofs.InstructionLaws.{instruction_there}
-use Rattle.asm_words.proofs.Readings.{found_reads, one_instruction}
 use Rattle.elf_object.specs.declared.faults.ObjectCause.{ObjectCause}
 use Rattle.elf_object.specs.Faults.{object_fault}
 use Rattle.elf_object.specs.Image.{image_of}
@@ -85,30 +84,28 @@ object_stands symbols sections laid n item offset bytes e holds =
     (beside_kept (expanded symbols) offset last holds.section.fields holds.free) between in
     rw there stands
 
-row_of_one : (name plain : Bool) (found : Option Row) (row : Row) → cond (name && plain) found None ≡ Some row → found ≡ Some row
-row_of_one true true found row e = e
-row_of_one true false found row e = absurd cc
-row_of_one false plain found row e = absurd cc
+written_of_one : (name plain : Bool) (found : Option Coded) (coded : Coded) → cond (name && plain) found None ≡ Some coded → found ≡ Some coded
+written_of_one true true found coded e = e
+written_of_one true false found coded e = absurd cc
+written_of_one false plain found coded e = absurd cc
 
--- the bytes of the row that is written read as its instruction
-written_reads : (tokens : List SpelledToken) (row : Row) → row_written tokens ≡ Some row → Reads (bytes_of row) row.mnemonic
-unfolding row_written
-written_reads [] row e = absurd cc
-written_reads (name ∷ []) row e =
-    found_reads (λ row. has_name row name.bytes) row
-    (row_of_one (is_name name) (not (begins_with_dot name.bytes)) (find (λ row. has_name row name.bytes) the_rows) row e)
-written_reads (name ∷ operand ∷ rest) row e = absurd cc
+-- the bytes of the instruction that is written read as it
+written_reads : BareCodesRead → (tokens : List SpelledToken) (coded : Coded) → instruction_written tokens ≡ Some coded → Reads coded.bytes coded.insn
+unfolding instruction_written
+written_reads read [] coded e = absurd cc
+written_reads read (name ∷ []) coded e =
+    read name.bytes coded (written_of_one (is_name name) (not (begins_with_dot name.bytes)) (bare_instruction name.bytes) coded e)
+written_reads read (name ∷ operand ∷ rest) coded e = absurd cc
 
--- bytes that begin with those of a row read as its instruction, and as no other
-reads_row : (bytes rest : List ℕ) (at : ℕ) (row : Row) → drop at bytes ≡ bytes_of row ++ rest → Reads (bytes_of row) row.mnemonic
-    → ReadsAt bytes at row.mnemonic
-reads_row bytes rest at row stands reads = record {
-  instruction = bytes_of row;
+-- bytes that begin with those that read as an instruction read as it, and as no other
+reads_code : ReadsOneWay → (bytes code rest : List ℕ) (at : ℕ) (insn : View) → drop at bytes ≡ code ++ rest → Reads code insn → ReadsAt bytes at insn
+reads_code one_way bytes code rest at insn stands reads = record {
+  code = code;
   rest = rest;
   stands = stands;
   reads = reads;
   only = λ front after other begins as_other.
-      one_instruction front (bytes_of row) after rest other row.mnemonic as_other reads (sym begins ∙ stands);
+      one_way front code after rest other insn as_other reads (sym begins ∙ stands);
 }
 
 warned_is : (place : Option Pos) (object made : List ℕ) → warned_end place object ≡ Ok made → made ≡ object
@@ -162,15 +159,15 @@ assembly_is flags source made statements whole laid are all is e =
     (lines_is flags source made statements whole are all (not_too_large (nat_lt most_bytes (length source)) _ (assembly_of_lines flags main_file source) made e))
 
 -- each instruction that was written reads back
-pub reads_back : (flags : Flags) (source : List ℕ) (made : NotedObject) → assembly_of flags main_file source ≡ Ok made → ReadsBack flags source made.object
-reads_back flags source made e before after s row placed whole laid are front all is row_is =
+pub reads_back : ReadsOneWay → BareCodesRead → BareCodesStand → (flags : Flags) (source : List ℕ) (made : NotedObject) → assembly_of flags main_file source ≡ Ok made → ReadsBack flags source made.object
+reads_back one_way read stand flags source made e before after s coded placed whole laid are front all is written =
     let split = map-append in_tokens before (s ∷ after) in
     let whole_is = sym (ap (λ statements. place_all statements (nothing_placed flags.no_warn)) split) ∙ all in
-    let holds = instruction_there (map in_tokens before) (in_tokens s) (map in_tokens after) (nothing_placed flags.no_warn) placed whole row
-    (nothing_within flags.no_warn) front whole_is row_is in
+    let holds = instruction_there stand (map in_tokens before) (in_tokens s) (map in_tokens after) (nothing_placed flags.no_warn) placed whole coded
+    (nothing_within flags.no_warn) front whole_is written in
     let symbols = whole.table.symbols in
     let at = file_place symbols laid placed.current (next_item placed) (next_offset placed) in
     let same : made.object ≡ image_of symbols laid = assembly_is flags source made (before ++ s ∷ after) whole laid are all is e in
-    let stands = object_stands symbols whole.sections laid placed.current (next_item placed) (next_offset placed) (bytes_of row) is holds in
-    reads_row made.object stands.rest at row (ap (drop at) same ∙ drop_stands (image_of symbols laid) at (bytes_of row) stands)
-    (written_reads (behind_labels (in_tokens s).tokens) row row_is)
+    let stands = object_stands symbols whole.sections laid placed.current (next_item placed) (next_offset placed) coded.bytes is holds in
+    reads_code one_way made.object coded.bytes stands.rest at coded.insn (ap (drop at) same ∙ drop_stands (image_of symbols laid) at coded.bytes stands)
+    (written_reads read (behind_labels (in_tokens s).tokens) coded written)

@@ -6,9 +6,9 @@ use Rattle.asm_lines.specs.Statements.{StatementAt, statements_of}
 use Rattle.asm_lines.specs.NextStatements.{in_tokens}
 use Rattle.asm_symbols.specs.SymbolMap.{SymbolMap}
 use Rattle.asm_relax.specs.Settling.{LaidSections, layout_of}
-use Rattle.asm_words.specs.declared.instructions.Mnemonic.{Mnemonic}
-use Rattle.asm_words.specs.declared.instructions.Row.{Row}
-use Rattle.asm_words.specs.Reads.{Reads}
+use Rattle.x86_insn.specs.Views.{View}
+use Rattle.x86_table.specs.Reads.{Reads}
+use Rattle.x86_lookup.specs.BareInstructions.{Coded}
 use Rattle.asm_values.specs.State.{Placed, nothing_placed}
 use Rattle.asm_place.specs.Sources.{place_all}
 use Rattle.asm_place.specs.Instructions.{instruction_of, next_item, next_offset}
@@ -19,13 +19,13 @@ use Rattle.asm_front.specs.declared.answers.Assembled.{Assembled}
 use Rattle.asm_front.specs.declared.answers.AsmFault.{AsmFault}
 
 -- the bytes from this place on begin with bytes that read as this instruction only, and no other front of them reads as any
-pub record ReadsAt (bytes : List ℕ) (at : ℕ) (mnemonic : Mnemonic) : Type 0 where
-  pub instruction : List ℕ
+pub record ReadsAt (bytes : List ℕ) (at : ℕ) (insn : View) : Type 0 where
+  pub code : List ℕ
   pub rest : List ℕ
-  pub stands : drop at bytes ≡ instruction ++ rest
-  pub reads : Reads instruction mnemonic
-  pub only : (front after : List ℕ) (other : Mnemonic) → drop at bytes ≡ front ++ after → Reads front other
-      → (other ≡ mnemonic) × (front ≡ instruction)
+  pub stands : drop at bytes ≡ code ++ rest
+  pub reads : Reads code insn
+  pub only : (front after : List ℕ) (other : View) → drop at bytes ≡ front ++ after → Reads front other
+      → (other ≡ insn) × (front ≡ code)
 
 -- the offset in the file of a place of a section: so many items and so many plain bytes stand before it
 abbrev pub file_place : SymbolMap → LaidSections → ℕ → ℕ → ℕ → ℕ
@@ -36,10 +36,10 @@ file_place symbols sections number item offset =
 -- statements that are handed out before it end
 abbrev pub ReadsBack : Flags → List ℕ → List ℕ → Type 0
 ReadsBack flags source object =
-    (before after : List StatementAt) (s : StatementAt) (row : Row) (placed whole : Placed) (laid : LaidSections)
+    (before after : List StatementAt) (s : StatementAt) (coded : Coded) (placed whole : Placed) (laid : LaidSections)
     → statements_of main_file source ≡ Ok (before ++ s ∷ after) → place_all (map in_tokens before) (nothing_placed flags.no_warn) ≡ Ok placed
     → place_all (map in_tokens (before ++ s ∷ after)) (nothing_placed flags.no_warn) ≡ Ok whole → layout_of whole.table.symbols whole.sections ≡ Ok laid
-    → instruction_of (in_tokens s) ≡ Some row → ReadsAt object (file_place whole.table.symbols laid placed.current (next_item placed) (next_offset placed)) row.mnemonic
+    → instruction_of (in_tokens s) ≡ Some coded → ReadsAt object (file_place whole.table.symbols laid placed.current (next_item placed) (next_offset placed)) coded.insn
 
 -- where the source is told, its object reads back as the source
 abbrev pub AnswerReadsBack : Flags → Option (List ℕ) → Result Assembled AsmFault → Type 0

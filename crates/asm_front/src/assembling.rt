@@ -15,6 +15,7 @@ ghost use Rattle.asm_front.specs.ReadsBack.{ReadsBackFrom};
 
 use crate::answers::{AsmFault, Assembled, Options};
 use crate::ending::{NotedObject, finished};
+use crate::laws::written_reads_back;
 use asm_base::{
     Fault, Files, Inputs, NoMemory, Notes, Pos, Refusal, StatementFault, Text, TextFault, read_text,
 };
@@ -170,6 +171,7 @@ pub fn assemble<I: Inputs>(
     ensures contents { I.contents ins.new ≡ I.contents ins.old }
     ensures whole { OnOk result (IsAtEnd (I.rest ins.new)) }
 {
+    written_reads_back();
     let name = options.file.as_str();
     match read_text(alloc, ins, name) {
         Ok(text) => answered(alloc, name, assemble_text(alloc, options, text)),

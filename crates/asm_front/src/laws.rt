@@ -12,6 +12,9 @@ ghost use Rattle.asm_front.specs.Assembly.{assembly_of, assembly_of_lines};
 ghost use Rattle.asm_front.specs.Outcome.{main_file};
 ghost use Rattle.asm_front.specs.ReadsBack.{ReadsBack};
 
+use x86_lookup::bare_codes_read;
+use x86_table::read_one_way;
+
 /// Only the reading of a file answers that it is too large: no later step does.
 #[tactic(auto, using(crate::proofs::FaultLaws::not_too_large))]
 pub fn never_too_large()
@@ -23,8 +26,10 @@ pub fn never_too_large()
 
 /// Each instruction of a source stands in the object, where the statements before it end, as bytes that read as it and as
 /// no other instruction.
-#[tactic(auto, using(crate::proofs::ObjectReads::reads_back))]
 pub fn written_reads_back()
     ensures { (flags : Flags) (source : List ℕ) (made : NotedObject)
         → assembly_of flags main_file source ≡ Ok made → ReadsBack flags source made.object }
-{}
+{
+    read_one_way();
+    bare_codes_read();
+}

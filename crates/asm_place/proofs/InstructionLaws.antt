@@ -1,6 +1,6 @@
 -- Where the bytes of instructions stand.
 use Rattle.std.proofs.Common.{◌≡◌, ℕ, ◌+◌, ◌-◌, ◌≤◌, inl, inr, Bool, true, false, cond, List, [], ◌∷◌, ◌++◌, All, length, take, drop, Option, None, Some, Result, Ok, Err, refl, sym, ap, ◌∙◌, subst, slice_get, arith, append_assoc, length-append}
-use Rattle.std.specs.Prelude.{◌==◌, ◌&&◌, not, find, slice_range}
+use Rattle.std.specs.Prelude.{◌==◌, ◌&&◌, not, option_map, slice_range}
 use Rattle.std.specs.List.{list_all}
 use Rattle.std.specs.Option.{option_map_or}
 use Rattle.std.proofs.Math.Seq.{take-append_seam, drop-append_seam}
@@ -19,49 +19,17 @@ use Rattle.asm_frags.specs.declared.faults.FragCause.TheVariants as frag
 use Rattle.asm_frags.specs.PlainBytes.{is_zero, field_end, IsBeside}
 use Rattle.asm_frags.specs.Writing.{LooseItem, LooseSection, new_item, ends_in_run, takes_zeros_alone, with_item, with_run, with_bytes, bytes_put}
 use Rattle.asm_frags.specs.Sections.{with_section_or_fault, put_into_there}
-use Rattle.asm_words.specs.declared.instructions.Row.{Row}
+use Rattle.x86_lookup.specs.BareInstructions.{Coded, bare_instruction, BareCodesStand}
 use Rattle.asm_base.specs.Refusals.{◌>>=◌}
-use Rattle.asm_words.specs.Rows.{the_rows, has_name, bytes_of}
 use Rattle.asm_operands.specs.LayerFaults.{of_sections}
 use Rattle.asm_operands.specs.Operands.{is_name, is_dot, names_symbol, begins_with_dot, is_label}
 use Rattle.asm_values.specs.State.{Placed, with_table, unless_dot, put_bytes_into}
-use Rattle.asm_place.specs.Placing.{place_row, place_instruction, place_body, place_label, place_labelled, has_wide_label, place_tokens}
+use Rattle.asm_place.specs.Placing.{place_code, place_instruction, place_body, place_label, place_labelled, has_wide_label, place_tokens}
 use Rattle.asm_place.specs.Sources.{pos_at, located, place, place_all}
-use Rattle.asm_place.specs.Instructions.{behind_labels, row_written, instruction_of, run_end, next_item, next_offset, with_more, IsContinued, Grows, IsWithin, AreWithin, IsPut, StandsAt}
+use Rattle.asm_place.specs.Instructions.{behind_labels, instruction_written, instruction_of, run_end, next_item, next_offset, with_more, IsContinued, Grows, IsWithin, AreWithin, IsPut, StandsAt}
 use Rattle.asm_place.proofs.GrowthLemmas.{get_set, All-there, run_keeps, run_added}
 use Rattle.asm_place.proofs.PlacingLaws.{all_grow, all_within}
 use Rattle.asm_place.proofs.StatementSplits.{err-ok, same_Ok, both_ok, all_split}
-
--- some byte of the row is not 0
-abbrev is_not_zeros : Row → Bool
-is_not_zeros row = not (list_all is_zero (bytes_of row))
-
-none_zeros : list_all is_not_zeros the_rows ≡ true
-unfolding the_rows
-none_zeros = refl
-
-module _ {X : Type 0} (test good : X → Bool) where
-  first_of_all : (passes : Bool) (x : X) (found : X) (rest : Option X) → cond passes (Some x) rest ≡ Some found → good x ≡ true → (rest ≡ Some found → good found ≡ true) → good found ≡ true
-  first_of_all true x found rest is fine later = subst (λ y. good y ≡ true) (ap (λ o. option_map_or (λ y. y) o x) is) fine
-  first_of_all false x found rest is fine later = later is
-
-  both_parts : (a b : Bool) → (a && b) ≡ true → (a ≡ true) × (b ≡ true)
-  both_parts true b is = (refl, is)
-  both_parts false b is = absurd (false≢true is)
-
-  -- what holds of all holds of what is found
-  holds_of_found : (xs : List X) (found : X) → list_all good xs ≡ true → find test xs ≡ Some found → good found ≡ true
-  holds_of_found [] found all is = absurd (none-some found is)
-  holds_of_found (x ∷ xs) found all is =
-      let parts = both_parts (good x) (list_all good xs) all in
-      first_of_all (test x) x found (find test xs) is parts.0 (holds_of_found xs found parts.1)
-
-false_of_not : (b : Bool) → not b ≡ true → b ≡ false
-false_of_not true is = absurd (false≢true is)
-false_of_not false is = refl
-
-row_not_zeros : (name : List ℕ) (row : Row) → find (λ row. has_name row name) the_rows ≡ Some row → list_all is_zero (bytes_of row) ≡ false
-row_not_zeros name row is = false_of_not _ (holds_of_found (λ row. has_name row name) is_not_zeros the_rows row none_zeros is)
 
 -- bytes that some section takes
 left_false : (a b : Bool) → (a && not b) ≡ false → b ≡ false → a ≡ false
@@ -93,11 +61,11 @@ module _ (pos : Pos) (number : ℕ) (bytes : List ℕ) (some : list_all is_zero 
       subst (λ s. IsPut before.sections s number pos bytes) (ap (λ (p : Placed). p.sections) (same_Ok _ placed made))
       (put_found before.sections (slice_get before.sections number) sections refl pushed))
 
--- the row that is named
-name_test : (named dotted : Bool) (found : Option Row) (row : Row) → cond (named && not dotted) found None ≡ Some row → (named ≡ true) × (dotted ≡ false) × (found ≡ Some row)
-name_test true true found row is = absurd (none-some row is)
-name_test true false found row is = (refl, refl, is)
-name_test false dotted found row is = absurd (none-some row is)
+-- the instruction that is named
+name_test : (named dotted : Bool) (found : Option Coded) (coded : Coded) → cond (named && not dotted) found None ≡ Some coded → (named ≡ true) × (dotted ≡ false) × (found ≡ Some coded)
+name_test true true found coded is = absurd (none-some coded is)
+name_test true false found coded is = (refl, refl, is)
+name_test false dotted found coded is = absurd (none-some coded is)
 
 body_test : (symbol named dotted : Bool) (assignment directive instruction : Result Placed PlaceCause) → named ≡ true → dotted ≡ false
     → cond (symbol && false) assignment (cond (not named) (Err UnknownMnemonic) (cond dotted directive instruction)) ≡ instruction
@@ -107,15 +75,15 @@ body_test true true false assignment directive instruction named not_dotted = re
 body_test false true false assignment directive instruction named not_dotted = refl
 
 -- the bytes of an instruction
-abbrev Puts : Pos → Row → Placed → Placed → Type 0
-Puts pos row before placed = IsPut before.sections placed.sections before.current pos (bytes_of row)
+abbrev Puts : Pos → Coded → Placed → Placed → Type 0
+Puts pos coded before placed = IsPut before.sections placed.sections before.current pos coded.bytes
 
-name_puts : (pos : Pos) (first : SpelledToken) (before placed : Placed) (row : Row) → row_written (first ∷ []) ≡ Some row → place_body pos first [] before ≡ Ok placed → Puts pos row before placed
-unfolding row_written place_body place_instruction
-name_puts pos first before placed row written is =
-    let parts = name_test (is_name first) (begins_with_dot first.bytes) (find (λ row. has_name row first.bytes) the_rows) row written in
-    put_last pos before.current (bytes_of row) (row_not_zeros first.bytes row parts.2) before placed
-    (ap (λ found. place_row pos found [] before) (sym parts.2)
+name_puts : BareCodesStand → (pos : Pos) (first : SpelledToken) (before placed : Placed) (coded : Coded) → instruction_written (first ∷ []) ≡ Some coded → place_body pos first [] before ≡ Ok placed → Puts pos coded before placed
+unfolding instruction_written place_body place_instruction
+name_puts stand pos first before placed coded written is =
+    let parts = name_test (is_name first) (begins_with_dot first.bytes) (bare_instruction first.bytes) coded written in
+    put_last pos before.current coded.bytes (stand first.bytes coded parts.2) before placed
+    (ap (λ found. place_code pos (option_map (λ coded. coded.bytes) found) [] before) (sym parts.2)
     ∙ (sym (body_test (names_symbol first) (is_name first) (begins_with_dot first.bytes) _ _ _ parts.0 parts.1) ∙ is))
 
 -- a statement that is placed names no symbol by `.`,
@@ -136,47 +104,47 @@ label_keeps pos token before placed is =
     let same : with_table before table ≡ placed = dot_ok (is_dot token) (with_table before table) placed is_placed in
     (ap (λ (p : Placed). p.sections) (sym same), ap (λ (p : Placed). p.current) (sym same)))
 
-label_test : (pos : Pos) (test : Bool) (first second : SpelledToken) (rest : List SpelledToken) (before placed : Placed) (row : Row)
-    → ((labels : Placed) → row_written (behind_labels rest) ≡ Some row → place_labelled pos rest labels ≡ Ok placed → Puts pos row labels placed)
-    → row_written (cond test (behind_labels rest) (first ∷ second ∷ rest)) ≡ Some row
+label_test : (pos : Pos) (test : Bool) (first second : SpelledToken) (rest : List SpelledToken) (before placed : Placed) (coded : Coded)
+    → ((labels : Placed) → instruction_written (behind_labels rest) ≡ Some coded → place_labelled pos rest labels ≡ Ok placed → Puts pos coded labels placed)
+    → instruction_written (cond test (behind_labels rest) (first ∷ second ∷ rest)) ≡ Some coded
     → cond test (place_label pos first before >>= (λ labels. place_labelled pos rest labels)) (place_body pos first (second ∷ rest) before) ≡ Ok placed
-    → Puts pos row before placed
-unfolding row_written
-label_test pos true first second rest before placed row again written is =
+    → Puts pos coded before placed
+unfolding instruction_written
+label_test pos true first second rest before placed coded again written is =
     both_ok _ _ placed is (λ labels labelled later.
     let keeps = label_keeps pos first before labels labelled in
-    subst (λ sections. IsPut sections placed.sections before.current pos (bytes_of row)) keeps.0
-    (subst (λ number. IsPut labels.sections placed.sections number pos (bytes_of row)) keeps.1 (again labels written later)))
-label_test pos false first second rest before placed row again written is = absurd (none-some row written)
+    subst (λ sections. IsPut sections placed.sections before.current pos coded.bytes) keeps.0
+    (subst (λ number. IsPut labels.sections placed.sections number pos coded.bytes) keeps.1 (again labels written later)))
+label_test pos false first second rest before placed coded again written is = absurd (none-some coded written)
 
-no_tokens : (row : Row) → row_written [] ≡ Some row → ⊥
-unfolding row_written
-no_tokens row written = none-some row written
+no_tokens : (coded : Coded) → instruction_written [] ≡ Some coded → ⊥
+unfolding instruction_written
+no_tokens coded written = none-some coded written
 
-labelled_put : (pos : Pos) (tokens : List SpelledToken) (before placed : Placed) (row : Row) → row_written (behind_labels tokens) ≡ Some row
-    → place_labelled pos tokens before ≡ Ok placed → Puts pos row before placed
+labelled_put : BareCodesStand → (pos : Pos) (tokens : List SpelledToken) (before placed : Placed) (coded : Coded) → instruction_written (behind_labels tokens) ≡ Some coded
+    → place_labelled pos tokens before ≡ Ok placed → Puts pos coded before placed
 unfolding behind_labels place_labelled
-labelled_put pos [] before placed row written is = absurd (no_tokens row written)
-labelled_put pos (first ∷ []) before placed row written is = name_puts pos first before placed row written is
-labelled_put pos (first ∷ second ∷ rest) before placed row written is =
-    label_test pos (is_label first second) first second rest before placed row (λ labels. labelled_put pos rest labels placed row) written is
+labelled_put stand pos [] before placed coded written is = absurd (no_tokens coded written)
+labelled_put stand pos (first ∷ []) before placed coded written is = name_puts stand pos first before placed coded written is
+labelled_put stand pos (first ∷ second ∷ rest) before placed coded written is =
+    label_test pos (is_label first second) first second rest before placed coded (λ labels. labelled_put stand pos rest labels placed coded) written is
 
 -- where the tokens are an instruction, its bytes are put last in the current section, and nothing else
-pub instruction_put : (pos : Pos) (tokens : List SpelledToken) (before placed : Placed) (row : Row) → row_written (behind_labels tokens) ≡ Some row
-    → place_tokens pos tokens before ≡ Ok placed → IsPut before.sections placed.sections before.current pos (bytes_of row)
+pub instruction_put : BareCodesStand → (pos : Pos) (tokens : List SpelledToken) (before placed : Placed) (coded : Coded) → instruction_written (behind_labels tokens) ≡ Some coded
+    → place_tokens pos tokens before ≡ Ok placed → IsPut before.sections placed.sections before.current pos coded.bytes
 unfolding place_tokens
-instruction_put pos tokens before placed row written is =
-    labelled_put pos tokens before placed row written (wide_ok (has_wide_label tokens) (place_labelled pos tokens before) placed is)
+instruction_put stand pos tokens before placed coded written is =
+    labelled_put stand pos tokens before placed coded written (wide_ok (has_wide_label tokens) (place_labelled pos tokens before) placed is)
 
 -- what a statement adds, where the others before and behind it are placed too
 located_ok : (pos : Pos) (notes : List Noted) (answer : Result Placed PlaceCause) (next : Placed) → located pos notes answer ≡ Ok next → answer ≡ Ok next
 located_ok pos notes (Ok more) next is = ap Ok (same_Ok more next is)
 located_ok pos notes (Err fault) next is = err-ok _ next is
 
-statement_put : (s : TokenStatement) (before next : Placed) (row : Row) → instruction_of s ≡ Some row → place s before ≡ Ok next → Puts (pos_at s.file s.line) row before next
+statement_put : BareCodesStand → (s : TokenStatement) (before next : Placed) (coded : Coded) → instruction_of s ≡ Some coded → place s before ≡ Ok next → Puts (pos_at s.file s.line) coded before next
 unfolding place
-statement_put s before next row written is =
-    instruction_put (pos_at s.file s.line) s.tokens before next row written
+statement_put stand s before next coded written is =
+    instruction_put stand (pos_at s.file s.line) s.tokens before next coded written
     (located_ok (pos_at s.file s.line) before.notes (place_tokens (pos_at s.file s.line) s.tokens before) next is)
 
 first_placed : {C : Type 0} (s : TokenStatement) (later : List TokenStatement) (placed whole : Placed) → place_all (s ∷ later) placed ≡ Ok whole
@@ -257,11 +225,11 @@ put_stands before next whole number pos bytes put within grows =
     (stands pos put.section bytes (All-there IsWithin before number put.section put.there within) whole number (grows.kept number new there) put.takes_bytes)
 
 -- the bytes of an instruction stand in the whole
-pub instruction_there : (front : List TokenStatement) (s : TokenStatement) (later : List TokenStatement) (before placed whole : Placed) (row : Row)
-    → AreWithin before.sections → place_all front before ≡ Ok placed → place_all (front ++ s ∷ later) before ≡ Ok whole → instruction_of s ≡ Some row
-    → StandsAt whole.sections placed.current (next_item placed) (next_offset placed) (bytes_of row)
-instruction_there front s later before placed whole row within is_front is_whole written =
+pub instruction_there : BareCodesStand → (front : List TokenStatement) (s : TokenStatement) (later : List TokenStatement) (before placed whole : Placed) (coded : Coded)
+    → AreWithin before.sections → place_all front before ≡ Ok placed → place_all (front ++ s ∷ later) before ≡ Ok whole → instruction_of s ≡ Some coded
+    → StandsAt whole.sections placed.current (next_item placed) (next_offset placed) coded.bytes
+instruction_there stand front s later before placed whole coded within is_front is_whole written =
     first_placed s later placed whole (sym (all_split front (s ∷ later) before ∙ ap (λ r. r >>= place_all (s ∷ later)) is_front) ∙ is_whole)
     (λ next is_next is_later.
-    put_stands placed.sections next.sections whole.sections placed.current (pos_at s.file s.line) (bytes_of row)
-    (statement_put s placed next row written is_next) (all_within front before placed is_front within) (all_grow later next whole is_later))
+    put_stands placed.sections next.sections whole.sections placed.current (pos_at s.file s.line) coded.bytes
+    (statement_put stand s placed next coded written is_next) (all_within front before placed is_front within) (all_grow later next whole is_later))

@@ -28,7 +28,6 @@ use Rattle.asm_symbols.specs.LeadsBack.{assigned}
 use Rattle.asm_words.specs.declared.directives.Directive.{Directive}
 use Rattle.asm_words.specs.declared.directives.Directive.TheVariants as directive
 use Rattle.asm_words.specs.declared.directives.SymbolAttribute.{SymbolAttribute}
-use Rattle.asm_words.specs.declared.instructions.Row.{Row}
 use Rattle.asm_place.specs.declared.section_changes.Header.{Header}
 use Rattle.asm_uses.specs.declared.tables.Naming.{Naming}
 use Rattle.asm_values.specs.declared.stacks.Entered.{Entered}
@@ -53,7 +52,7 @@ use Rattle.asm_place.specs.Commons.{bss, with_space, with_common, is_said_local,
 use Rattle.asm_words.specs.Spaces.{space_size, space_of, units_of, unit_size, log_of}
 use Rattle.asm_place.specs.Idents.{items_in, comment_bytes, comment_header, place_ident, place_file, one_string, file_name}
 use Rattle.asm_values.specs.Data.{put_data, place_data, place_strings, with_named, place_zero, place_skip, place_fill}
-use Rattle.asm_place.specs.Placing.{bare, initial_number, place_by, place_found, place_directive, place_row, place_instruction, place_body, place_label, place_tokens, place_labelled, has_wide_label}
+use Rattle.asm_place.specs.Placing.{bare, initial_number, place_by, place_found, place_directive, place_code, place_instruction, place_body, place_label, place_tokens, place_labelled, has_wide_label}
 use Rattle.asm_uses.specs.Labels.{label_symbol}
 use Rattle.asm_place.specs.Sources.{pos_at, located, place, place_all}
 use Rattle.asm_place.specs.declared.place_faults.FaultAt.{FaultAt}
@@ -358,14 +357,14 @@ unfolding place_directive
 directive_steps pos name tokens placed = found_steps _ pos tokens placed
 
 -- instructions
-row_steps : (pos : Pos) (row : Option Row) (operands : List SpelledToken) (placed : Placed) → Steps placed (place_row pos row operands placed)
-row_steps pos None operands placed = refused _
-row_steps pos (Some row) [] placed = bytes_steps pos placed.current _ placed
-row_steps pos (Some row) (token ∷ rest) placed = refused _
+code_steps : (pos : Pos) (code : Option (List ℕ)) (operands : List SpelledToken) (placed : Placed) → Steps placed (place_code pos code operands placed)
+code_steps pos None operands placed = refused _
+code_steps pos (Some bytes) [] placed = bytes_steps pos placed.current bytes placed
+code_steps pos (Some bytes) (token ∷ rest) placed = refused _
 
 instruction_steps : (pos : Pos) (name : List ℕ) (operands : List SpelledToken) (placed : Placed) → Steps placed (place_instruction pos name operands placed)
 unfolding place_instruction
-instruction_steps pos name operands placed = row_steps pos _ operands placed
+instruction_steps pos name operands placed = code_steps pos _ operands placed
 
 -- statements
 body_steps : (pos : Pos) (first : SpelledToken) (rest : List SpelledToken) (placed : Placed) → Steps placed (place_body pos first rest placed)

@@ -1,5 +1,5 @@
 -- Statements that are instructions, and where their bytes go.
-use Rattle.std.specs.Prelude.{◌≡◌, ℕ, ◌+◌, ◌≤◌, ◌==◌, ◌&&◌, ◌++◌, false, not, List, [], ◌∷◌, All, find, if◌then◌else◌, Option, None, Some, length, take, drop, slice_get, slice_set, slice_range}
+use Rattle.std.specs.Prelude.{◌≡◌, ℕ, ◌+◌, ◌≤◌, ◌==◌, ◌&&◌, ◌++◌, false, not, List, [], ◌∷◌, All, if◌then◌else◌, Option, None, Some, length, take, drop, slice_get, slice_set, slice_range}
 use Rattle.std.specs.Option.{option_map_or}
 use Rattle.asm_base.specs.Tokens.{SpelledToken}
 use Rattle.asm_base.specs.declared.positions.Pos.{Pos}
@@ -7,8 +7,7 @@ use Rattle.asm_lines.specs.NextStatements.{TokenStatement}
 use Rattle.asm_frags.specs.declared.fields.Field.{Field}
 use Rattle.asm_frags.specs.PlainBytes.{field_end, IsBeside}
 use Rattle.asm_frags.specs.Writing.{LooseItem, LooseSection, ends_in_run, with_bytes}
-use Rattle.asm_words.specs.declared.instructions.Row.{Row}
-use Rattle.asm_words.specs.Rows.{the_rows, has_name}
+use Rattle.x86_lookup.specs.BareInstructions.{Coded, bare_instruction}
 use Rattle.asm_operands.specs.Operands.{is_name, is_label, begins_with_dot}
 use Rattle.asm_values.specs.State.{Placed}
 
@@ -18,16 +17,16 @@ behind_labels [] = []
 behind_labels (token ∷ []) = token ∷ []
 behind_labels (first ∷ second ∷ rest) = if is_label first second then behind_labels rest else (first ∷ second ∷ rest)
 
--- the row of the instruction that the tokens name: one name that no dot begins, and nothing behind it
-unfoldable pub row_written : List SpelledToken → Option Row
-row_written [] = None
-row_written (name ∷ []) =
-    if is_name name && not (begins_with_dot name.bytes) then find (λ row. has_name row name.bytes) the_rows else None
-row_written (name ∷ operand ∷ rest) = None
+-- the instruction that the tokens write, with its bytes: one name that no dot begins, and nothing behind it
+unfoldable pub instruction_written : List SpelledToken → Option Coded
+instruction_written [] = None
+instruction_written (name ∷ []) =
+    if is_name name && not (begins_with_dot name.bytes) then bare_instruction name.bytes else None
+instruction_written (name ∷ operand ∷ rest) = None
 
--- the row of the instruction that the statement is, if it is one
-abbrev pub instruction_of : TokenStatement → Option Row
-instruction_of s = row_written (behind_labels s.tokens)
+-- the instruction that the statement is, with its bytes, if it is one
+abbrev pub instruction_of : TokenStatement → Option Coded
+instruction_of s = instruction_written (behind_labels s.tokens)
 
 -- how many items stand before plain bytes that are put last, the run that they belong to among them
 abbrev pub run_end : LooseSection → ℕ

@@ -1,5 +1,5 @@
 -- What each statement adds to the sections, the symbols and the notes, or its fault.
-use Rattle.std.specs.Prelude.{ℕ, ◌&&◌, ◌||◌, Bool, false, not, List, [], ◌∷◌, drop, find, Option, None, Some, Result, Ok, Err, if◌then◌else◌}
+use Rattle.std.specs.Prelude.{ℕ, ◌&&◌, ◌||◌, Bool, false, not, List, [], ◌∷◌, drop, Option, None, Some, Result, Ok, Err, if◌then◌else◌}
 use Rattle.std.specs.Result.{is_err}
 use Rattle.asm_operands.specs.declared.place_faults.PlaceCause.{PlaceCause}
 use Rattle.asm_operands.specs.declared.place_faults.PlaceCause.TheVariants.{NumberTooWide, UnknownMnemonic, UnknownDirective, BadOperand}
@@ -12,9 +12,8 @@ use Rattle.asm_words.specs.declared.directives.Directive.{Directive}
 use Rattle.asm_words.specs.declared.directives.Directive.TheVariants as directive
 use Rattle.asm_words.specs.declared.directives.InitialSection.{InitialSection}
 use Rattle.asm_words.specs.declared.directives.InitialSection.TheVariants.{Text, Data, Bss}
-use Rattle.asm_words.specs.declared.instructions.Row.{Row}
 use Rattle.asm_base.specs.Refusals.{◌>>=◌}
-use Rattle.asm_words.specs.Rows.{the_rows, has_name, bytes_of}
+use Rattle.x86_lookup.specs.BareInstructions.{bare_code}
 use Rattle.asm_uses.specs.Tables.{changed_by}
 use Rattle.asm_values.specs.State.{Placed, with_table, unless_dot, here, put_bytes}
 use Rattle.asm_operands.specs.Operands.{is_name, is_dot, names_symbol, is_assignment, begins_with_dot, is_number, is_label}
@@ -69,15 +68,15 @@ place_found (Some found) pos tokens placed = place_by found pos tokens placed
 unfoldable pub place_directive : Pos → List ℕ → List SpelledToken → Placed → Result Placed PlaceCause
 place_directive pos name tokens placed = place_found (directive_of name) pos tokens placed
 
--- an instruction of this row, which takes no operands
-abbrev pub place_row : Pos → Option Row → List SpelledToken → Placed → Result Placed PlaceCause
-place_row pos None operands placed = Err UnknownMnemonic
-place_row pos (Some row) [] placed = put_bytes pos (bytes_of row) placed
-place_row pos (Some row) (token ∷ rest) placed = Err BadOperand
+-- the bytes of an instruction, which takes no operands
+abbrev pub place_code : Pos → Option (List ℕ) → List SpelledToken → Placed → Result Placed PlaceCause
+place_code pos None operands placed = Err UnknownMnemonic
+place_code pos (Some bytes) [] placed = put_bytes pos bytes placed
+place_code pos (Some bytes) (token ∷ rest) placed = Err BadOperand
 
--- an instruction by its name
+-- an instruction by its mnemonic
 unfoldable pub place_instruction : Pos → List ℕ → List SpelledToken → Placed → Result Placed PlaceCause
-place_instruction pos name operands placed = place_row pos (find (λ row. has_name row name) the_rows) operands placed
+place_instruction pos name operands placed = place_code pos (bare_code name) operands placed
 
 -- what stands behind the labels: an assignment, a directive or an instruction
 unfoldable pub place_body : Pos → SpelledToken → List SpelledToken → Placed → Result Placed PlaceCause

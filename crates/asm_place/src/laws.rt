@@ -4,15 +4,16 @@ ghost use Rattle.std.specs.Prelude.{◌≡◌, ◌∷◌, ◌++◌, Bool, List, 
 ghost use Rattle.asm_base.specs.declared.positions.Pos.{Pos};
 ghost use Rattle.asm_base.specs.Tokens.{SpelledToken};
 ghost use Rattle.asm_lines.specs.NextStatements.{TokenStatement};
-ghost use Rattle.asm_words.specs.declared.instructions.Row.{Row};
-ghost use Rattle.asm_words.specs.Rows.{bytes_of};
+ghost use Rattle.x86_lookup.specs.BareInstructions.{Coded};
 ghost use Rattle.asm_values.specs.State.{Placed, nothing_placed};
 ghost use Rattle.asm_place.specs.Placing.{place_tokens};
 ghost use Rattle.asm_place.specs.Sources.{place, place_all};
 ghost use Rattle.asm_lines.specs.Placing.{placed_in_order};
 ghost use Rattle.asm_place.specs.declared.place_faults.FaultAt.{FaultAt};
 ghost use Rattle.asm_place.specs.Faults.{is_file_too_large};
-ghost use Rattle.asm_place.specs.Instructions.{behind_labels, row_written, instruction_of, next_item, next_offset, Grows, AreWithin, IsPut, StandsAt};
+ghost use Rattle.asm_place.specs.Instructions.{behind_labels, instruction_written, instruction_of, next_item, next_offset, Grows, AreWithin, IsPut, StandsAt};
+
+use x86_lookup::bare_codes_read;
 
 /// Placing only adds bytes, fields and items, behind those that are there.
 #[tactic(auto, using(crate::proofs::PlacingLaws::all_grow))]
@@ -46,22 +47,24 @@ pub fn placing_is_not_reading()
 {}
 
 /// Where a statement is an instruction, its bytes are put last in the current section, and nothing else.
-#[tactic(auto, using(crate::proofs::InstructionLaws::instruction_put))]
 pub fn instruction_stands()
-    ensures { (pos : Pos) (tokens : List SpelledToken) (before placed : Placed) (row : Row)
-        → row_written (behind_labels tokens) ≡ Some row
+    ensures { (pos : Pos) (tokens : List SpelledToken) (before placed : Placed) (coded : Coded)
+        → instruction_written (behind_labels tokens) ≡ Some coded
         → place_tokens pos tokens before ≡ Ok placed
-        → IsPut before.sections placed.sections before.current pos (bytes_of row) }
-{}
+        → IsPut before.sections placed.sections before.current pos coded.bytes }
+{
+    bare_codes_read();
+}
 
 /// The bytes of an instruction stand in what all statements place, where those before it end.
-#[tactic(auto, using(crate::proofs::InstructionLaws::instruction_there))]
 pub fn instruction_items()
     ensures { (front : List TokenStatement) (s : TokenStatement) (later : List TokenStatement)
-        (before placed whole : Placed) (row : Row)
+        (before placed whole : Placed) (coded : Coded)
         → AreWithin before.sections
         → place_all front before ≡ Ok placed → place_all (front ++ s ∷ later) before ≡ Ok whole
-        → instruction_of s ≡ Some row
+        → instruction_of s ≡ Some coded
         → StandsAt whole.sections placed.current (next_item placed) (next_offset placed)
-        (bytes_of row) }
-{}
+        coded.bytes }
+{
+    bare_codes_read();
+}

@@ -6,8 +6,6 @@ ghost use Rattle.asm_place.specs.Placing.{initial_number, is_too_wide, has_wide_
 ghost use Rattle.asm_base.specs.Refusals.{Gives};
 ghost use Rattle.asm_values.specs.Answers.{KeepsNotes};
 ghost use Rattle.asm_place.specs.SectionChanges.{with_current};
-ghost use Rattle.asm_values.specs.State.{put_bytes};
-ghost use Rattle.asm_words.specs.Rows.{bytes_of};
 ghost use Rattle.asm_values.specs.PlacedBy.{placed_by, PlacesBy};
 
 use crate::commons::{place_comm, place_lcomm};
@@ -21,8 +19,9 @@ use asm_operands::{
 };
 use asm_symbols::Definition;
 use asm_values::Assembler;
-use asm_words::{Directive, InitialSection, Row, directive_of, find_row, put_instruction};
+use asm_words::{Directive, InitialSection, directive_of};
 use expr_texts::decimal_number;
+use x86_lookup::bare_code;
 
 /// The number of a section that is there from the beginning.
 fn initial_number(initial: InitialSection) -> u32
@@ -123,16 +122,6 @@ fn place_directive(
     }
 }
 
-/// An instruction of this row.
-fn put_row(assembler: &mut Assembler, pos: Pos, row: &Row) -> Result<(), PlaceFault>
-    ensures placed { PlacesBy (put_bytes pos (bytes_of row.now)) assembler.old assembler.new result }
-    ensures kept { assembler.new.notes ≡ assembler.old.notes }
-{
-    assembler.scratch.clear();
-    put_instruction(&mut assembler.scratch, row)?;
-    assembler.put_scratch(pos)
-}
-
 /// An instruction by its name, which takes no operands.
 #[tactic(auto, unfolding(crate::specs::Placing::place_instruction))]
 fn place_instruction(
@@ -145,13 +134,13 @@ fn place_instruction(
         assembler.old assembler.new result }
     ensures kept { assembler.new.notes ≡ assembler.old.notes }
 {
-    match find_row(name) {
+    match bare_code(name) {
         None => Err(PlaceFault::Fault(PlaceCause::UnknownMnemonic)),
-        Some(row) => {
+        Some(bytes) => {
             if !operands.is_empty() {
                 return Err(PlaceFault::Fault(PlaceCause::BadOperand));
             }
-            put_row(assembler, pos, row)
+            assembler.put_bytes(pos, bytes)
         }
     }
 }

@@ -152,7 +152,7 @@ impl Assembler {
 
     /// Puts these bytes last in the current section. `BadSection` comes where there is no section too.
     #[tactic(auto, unfolding(crate::specs::State::put_bytes_into))]
-    pub(crate) fn put_bytes(&mut self, pos: Pos, bytes: &[u8]) -> Result<(), PlaceFault>
+    pub fn put_bytes(&mut self, pos: Pos, bytes: &[u8]) -> Result<(), PlaceFault>
         ensures placed { PlacesBy (put_bytes pos bytes.now) self.old self.new result }
         ensures kept { self.new.notes ≡ self.old.notes }
     {

@@ -7,7 +7,6 @@ use Rattle.std.proofs.lemmas.List.{length-map, get_or-map}
 use Rattle.std.proofs.lemmas.Option.{none-some, same_Some}
 use Rattle.std.proofs.lemmas.Slice.Eq.{bytes_eq-Decides}
 use Rattle.asm_words.specs.Directives.{the_directives, the_directive_slots, directive_name, is_directive}
-use Rattle.asm_words.specs.Rows.{the_rows, the_row_slots, name_of, has_name}
 use Rattle.asm_words.specs.Slots.{slot_of, small_slot, slot, row_in, all_in_slots}
 
 -- the slot of a name of one byte or none,
@@ -95,10 +94,6 @@ directives_in_slots : all_in_slots directive_name the_directive_slots 0 the_dire
 unfolding the_directive_slots the_directives small_slot
 directives_in_slots = refl
 
-rows_in_slots : all_in_slots name_of the_row_slots 0 the_rows ≡ true
-unfolding the_row_slots the_rows small_slot
-rows_in_slots = refl
-
 module _ {X : Type 0} (test : X → Bool) (rows : List X) (n : ℕ) (is : find test rows ≡ passing test (slice_get rows n)) where
   -- it is the row that stands there, where that passes, and else none
   pub there_if : (row : X) → slice_get rows n ≡ Some row → test row ≡ true → Some row ≡ find test rows
@@ -117,11 +112,3 @@ directive_by_slot name n leads =
     found_by_slot directive_name the_directive_slots (is_directive name) the_directives name directives_in_slots
     (λ row is. ap slot ((bytes_eq-Decides (directive_name row) name).0 is))
     ∙ ap (λ k. passing (is_directive name) (slice_get the_directives k)) (sym leads)
-
--- the row of a name is that of its slot, if it has the name
-pub row_by_slot : (name : List ℕ) (n : ℕ) → n ≡ row_in the_row_slots name
-    → find (λ row. has_name row name) the_rows ≡ passing (λ row. has_name row name) (slice_get the_rows n)
-row_by_slot name n leads =
-    found_by_slot name_of the_row_slots (λ row. has_name row name) the_rows name rows_in_slots
-    (λ row is. ap small_slot ((bytes_eq-Decides (str_to_ascii_lowercase (name_of row)) (str_to_ascii_lowercase name)).0 is))
-    ∙ ap (λ k. passing (λ row. has_name row name) (slice_get the_rows k)) (sym leads)

@@ -1,8 +1,6 @@
 -- The definitions that the contracts cite, in reading order.
 pub mod Slots
 pub mod Directives
-pub mod Rows
-pub mod Reads
 pub mod Spaces
 pub mod SectionWords
 pub mod SaidWords

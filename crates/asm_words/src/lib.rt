@@ -1,8 +1,7 @@
-//! The words of statements: directives, instructions, and what the operands of sections and of space say.
+//! The words of statements: directives, and what the operands of sections and of space say.
 #![tactic(auto)]
 
 mod directives;
-mod instructions;
 mod section_defaults;
 mod section_operands;
 mod slots;
@@ -12,10 +11,6 @@ mod symbol_kinds;
 pub use directives::{
     DIRECTIVE_SLOTS, DIRECTIVES, Directive, DirectiveRow, InitialSection, SymbolAttribute,
     directive_of, directives_apart, directives_are_whole,
-};
-pub use instructions::{
-    Mnemonic, ROW_SLOTS, ROWS, Row, find_row, instruction_length, names_apart, names_are_whole,
-    one_reading, put_instruction, rows, rows_apart, rows_read,
 };
 pub use section_defaults::{DefaultHeader, default_header};
 pub use section_operands::{SectionWords, said_flags, said_kind, says_merge, section_words};

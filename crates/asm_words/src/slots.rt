@@ -1,9 +1,9 @@
-//! The slot of a name: where its row's number stands, in the table of directives and in that of instructions.
+//! The slot of a name: where its row's number stands in the table of directives.
 
 ghost use Rattle.std.specs.Prelude.{◌≡◌, ◌<◌, length};
 ghost use Rattle.asm_words.specs.Slots.{slot, slot_of};
 
-/// How many slots a table has.
+/// How many slots there are.
 const SLOTS: usize = 128;
 
 /// The slot of a name of this length with these bytes, which are in small letters.
@@ -14,7 +14,7 @@ fn slot_of(length: usize, first: u8, second: u8, last: u8) -> usize
     (6 * (length % SLOTS) + 12 * first as usize + second as usize + 6 * last as usize) % SLOTS
 }
 
-/// The slot of a name, in either case. Multipliers and size are chosen so that no two names of a table share one.
+/// The slot of a name, in either case. Multipliers and size are chosen so that no two names share one.
 #[tactic(auto, using(crate::proofs::SlotLemmas::long_slot, crate::proofs::SlotLemmas::short_slot))]
 pub(crate) fn slot(name: &[u8]) -> usize
     ensures value { result ≡ slot name.now }

@@ -21,10 +21,10 @@ returns-in-Err-TooLarge-clause-outcome g c =
     c.fault_on_line-fault.ensures c.answered-in-Err-TooLarge.ensures)
 
 pub returns-in-Ok-clause-reads_back : goal.returns-in-Ok-clause-reads_back
-returns-in-Ok-clause-reads_back g c = answer_reads_back (flags_of c.args.options.now) (g.I.Inputs.contents c.args.ins.now) (string_bytes c.args.options.now.file) c.answered.result (returns-in-Ok-clause-outcome g c)
+returns-in-Ok-clause-reads_back g c = answer_reads_back c.written_reads_back.ensures (flags_of c.args.options.now) (g.I.Inputs.contents c.args.ins.now) (string_bytes c.args.options.now.file) c.answered.result (returns-in-Ok-clause-outcome g c)
 
 pub returns-in-Err-TooLarge-clause-reads_back : goal.returns-in-Err-TooLarge-clause-reads_back
-returns-in-Err-TooLarge-clause-reads_back g c = answer_reads_back (flags_of c.args.options.now) (g.I.Inputs.contents c.args.ins.now) (string_bytes c.args.options.now.file) c.answered-in-Err-TooLarge.result (returns-in-Err-TooLarge-clause-outcome g c)
+returns-in-Err-TooLarge-clause-reads_back g c = answer_reads_back c.written_reads_back.ensures (flags_of c.args.options.now) (g.I.Inputs.contents c.args.ins.now) (string_bytes c.args.options.now.file) c.answered-in-Err-TooLarge.result (returns-in-Err-TooLarge-clause-outcome g c)
 
 pub returns-in-Ok-clause-taken : goal.returns-in-Ok-clause-taken
 returns-in-Ok-clause-taken g c =

@@ -1,0 +1,5 @@
+use Rattle.asm_front.proofs.ObjectReads.{reads_back}
+use Rattle.asm_front.proofs.laws.written_reads_back.Goals as goal
+
+pub returns : goal.returns
+returns c = reads_back c.read_one_way.ensures c.bare_codes_read.ensures.read c.bare_codes_read.ensures.stand
