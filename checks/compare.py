@@ -133,7 +133,8 @@ def facts(data: bytes) -> Counter[str]:
 WORDS = ["a", "Fn", "_v", "x.y", "e$", "Tab_", ".q"]
 DATA = {1: [".byte"], 2: [".short", ".value", ".word", ".2byte"], 4: [".long", ".int", ".4byte"], 8: [".quad", ".8byte"]}
 INSTRUCTIONS = ("nop pause ret leave pushf popf endbr64 syscall ud2 cpuid rdtsc hlt int3 lfence mfence sfence clc stc cmc cld std sahf lahf cbtw cwtl cltq "
-                "cwtd cltd cqto RET Nop").split()
+                "cwtd cltd cqto RET Nop movsb movsw movsl movsq cmpsb cmpsw cmpsl cmpsq stosb stosw stosl stosq lodsb lodsw lodsl lodsq scasb scasw scasl "
+                "scasq pushfq popfq retq leaveq").split()
 PIECES = ["a", "Bc", " ", "#", ";", "/*", "%d", "\\n", "\\t", "\\\\", '\\"', "\\0", "\\101", "\\377", "\\x4a ", "\\b", "\\f", "\\r", "\xe9"]
 
 # Sections with what may stand behind their names. `.eh_frame`, `.init_array` and the like differ, and so do bare names as `.data1` that GNU as knows.
