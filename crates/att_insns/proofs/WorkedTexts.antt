@@ -65,12 +65,16 @@ rules_worked = record {
   accumulator = refl;
   accumulator_last = refl;
   tested = refl;
+  tested_register = refl;
+  not_turned = refl;
   shifted = refl;
+  shifted_by = refl;
   multiplied = refl;
   compared = refl;
   moved = refl;
   moved_quad = refl;
   converted = refl;
+  converted_quad = refl;
 }
 
 refusals_worked : WorkedRefusals

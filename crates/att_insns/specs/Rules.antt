@@ -118,13 +118,13 @@ one_for_two insn =
 abbrev pub exchanged : InsnText → InsnText
 exchanged insn = record insn { first = insn.second; second = insn.first }
 
--- of two operands, memory is the first
+-- of a register and memory, memory is the first
 abbrev pub memory_first : InsnText → InsnText
-memory_first insn = if is_memory insn.second then exchanged insn else insn
+memory_first insn = if is_register insn.first && is_memory insn.second then exchanged insn else insn
 
--- of two operands, memory is the first, or else the accumulator of two registers
+-- of a register and memory, memory is the first, and of two registers the accumulator
 abbrev pub accumulator_first : InsnText → InsnText
-accumulator_first insn = if is_memory insn.second || (is_register insn.first && is_accumulator insn.second) then exchanged insn else insn
+accumulator_first insn = if is_register insn.first && (is_memory insn.second || is_accumulator insn.second) then exchanged insn else insn
 
 -- the register xmm0 is the third operand, written or not
 abbrev pub without_xmm0 : InsnText → InsnText

@@ -16,7 +16,7 @@ use Rattle.x86_insn.specs.declared.insns.Index.TheVariants as index
 use Rattle.x86_insn.specs.declared.insns.Address.{Address}
 use Rattle.x86_insn.specs.declared.insns.Slot.{Slot}
 use Rattle.x86_insn.specs.declared.insns.Slot.TheVariants as slot
-use Rattle.x86_table.specs.declared.mnemonics.TheConstants.{ADD, MOV, MOVABS, MOVQ, LEA, XCHG, TEST, IMUL, SHL, PUSH, STOS, CALL, JMP, LOOP, RET, NOP, CMPPS, CVTSI2SS, PBLENDVB, CRC32}
+use Rattle.x86_table.specs.declared.mnemonics.TheConstants.{ADD, MOV, MOVABS, MOVQ, LEA, XCHG, TEST, IMUL, SHL, PUSH, STOS, CALL, JMP, LOOP, RET, NOP, CMPPS, CVTSI2SS, CVTSI2SD, PBLENDVB, CRC32}
 use Rattle.att_operands.specs.declared.faults.OperandCause.{OperandCause}
 use Rattle.att_operands.specs.declared.faults.OperandCause.TheVariants.{UnknownMnemonic, BadExpression, BadOperand, UnknownOperandSize}
 use Rattle.att_operands.specs.Values.{ValueText}
@@ -116,12 +116,17 @@ pub record WorkedRules : Type 0 where
   pub accumulator : Reads (codes "xchg %eax,%ecx") (made_of XCHG 32 (reg class.Long 0) (reg class.Long 1) slot.Absent)
   pub accumulator_last : Reads (codes "xchg %ecx,%eax") (made_of XCHG 32 (reg class.Long 0) (reg class.Long 1) slot.Absent)
   pub tested : Reads (codes "test (%rax),%cl") (at_address (at_reg 0) no_displacement (made_of TEST 8 slot.Memory (reg class.Byte 1) slot.Absent))
+  pub tested_register : Reads (codes "test %cl,(%rax)") (at_address (at_reg 0) no_displacement (made_of TEST 8 slot.Memory (reg class.Byte 1) slot.Absent))
+  pub not_turned : Reads (codes "testl (%rax),$5")
+      (with_immediate (plainly 5) (at_address (at_reg 0) no_displacement (made_of TEST 32 slot.Immediate slot.Memory slot.Absent)))
   pub shifted : Reads (codes "shl %eax") (with_immediate (plainly 1) (made_of SHL 32 (reg class.Long 0) slot.Immediate slot.Absent))
+  pub shifted_by : Reads (codes "shl %cl,%eax") (made_of SHL 32 (reg class.Long 0) (reg class.Byte 1) slot.Absent)
   pub multiplied : Reads (codes "imul $3,%ecx") (with_immediate (plainly 3) (made_of IMUL 32 (reg class.Long 1) (reg class.Long 1) slot.Immediate))
   pub compared : Reads (codes "cmpltps %xmm1,%xmm2") (with_immediate (plainly 1) (made_of CMPPS 0 (reg class.Xmm 2) (reg class.Xmm 1) slot.Immediate))
   pub moved : Reads (codes "movd %rax,%xmm1") (made_of MOVQ 0 (reg class.Xmm 1) (reg class.Quad 0) slot.Absent)
   pub moved_quad : Reads (codes "movq %rax,%rbx") (made_of MOV 64 (reg class.Quad 3) (reg class.Quad 0) slot.Absent)
   pub converted : Reads (codes "cvtsi2ss (%rax),%xmm1") (at_address (at_reg 0) no_displacement (made_of CVTSI2SS 32 (reg class.Xmm 1) slot.Memory slot.Absent))
+  pub converted_quad : Reads (codes "cvtsi2sdq (%rax),%xmm1") (at_address (at_reg 0) no_displacement (made_of CVTSI2SD 64 (reg class.Xmm 1) slot.Memory slot.Absent))
 
 -- statements that are no instruction
 pub record WorkedRefusals : Type 0 where

@@ -69,22 +69,22 @@ fn exchange(insn: &mut Insn)
     insn.second = first;
 }
 
-/// Of two operands, memory is the first.
+/// Of a register and memory, memory is the first.
 fn memory_first(insn: &mut Insn)
     ensures { (i d : ValueText) → HasTexts insn.old i d
         → IsInsnOf insn.new (memory_first (text_of insn.old i d)) }
 {
-    if is_memory(insn.second) {
+    if is_register(insn.first) && is_memory(insn.second) {
         exchange(insn);
     }
 }
 
-/// Of two operands, memory is the first, or else the accumulator of two registers.
+/// Of a register and memory, memory is the first, and of two registers the accumulator.
 fn accumulator_first(insn: &mut Insn)
     ensures { (i d : ValueText) → HasTexts insn.old i d
         → IsInsnOf insn.new (accumulator_first (text_of insn.old i d)) }
 {
-    if is_memory(insn.second) || (is_register(insn.first) && is_accumulator(insn.second)) {
+    if is_register(insn.first) && (is_memory(insn.second) || is_accumulator(insn.second)) {
         exchange(insn);
     }
 }
