@@ -1,6 +1,6 @@
 //! The operands of an instruction, one after the other.
 
-ghost use Rattle.std.specs.Prelude.{◌≡◌, ◌≤◌, map, length, IfOk};
+ghost use Rattle.std.specs.Prelude.{◌≡◌, ◌≤◌, false, map, length, IfOk};
 ghost use Rattle.asm_base.specs.Tokens.{spelled};
 ghost use Rattle.att_operands.specs.OperandTexts.{OperandText, register, operand_at, IsOperandOf};
 ghost use Rattle.att_operands.specs.Values.{ValueText};
@@ -9,7 +9,8 @@ ghost use Rattle.att_insns.specs.Reading.{Makes, Puts, operands_at, with_all};
 
 use asm_base::Token;
 use att_operands::{
-    FoundOperand, OperandCause, OperandFault, ReadOperand, read_operand, whole_register,
+    FoundOperand, OperandCause, OperandFault, ReadOperand, bare_memory, displaced_memory,
+    read_operand, whole_register,
 };
 use std::alloc::Global;
 use x86_insn::{Insn, Reg, Slot};
@@ -90,6 +91,33 @@ fn put_any<'a>(
     }
 }
 
+/// The same of an operand that is no branch, with a short way for memory.
+#[inline(never)]
+fn put_memory<'a>(
+    alloc: Global,
+    tokens: &[Token<'a>],
+    at: usize,
+    insn: &mut Insn<'a>,
+) -> Result<usize, OperandFault>
+    ensures value { (due : InsnText) → IsInsnOf insn.old due
+        → Puts insn.new result due (operand_at false (map spelled tokens.now) at) }
+    ensures within { IfOk result (λ next. next ≤ length tokens.now) }
+{
+    match displaced_memory(tokens, at) {
+        Some(FoundOperand { operand, next }) => {
+            put(insn, operand);
+            Ok(next)
+        }
+        None => match bare_memory(tokens, at) {
+            Some(FoundOperand { operand, next }) => {
+                put(insn, operand);
+                Ok(next)
+            }
+            None => put_any(alloc, tokens, at, false, insn),
+        },
+    }
+}
+
 /// The same, with a short way for registers.
 #[inline(always)]
 fn put_operand<'a>(
@@ -103,13 +131,16 @@ fn put_operand<'a>(
         → Puts insn.new result due (operand_at is_branch (map spelled tokens.now) at) }
     ensures within { IfOk result (λ next. next ≤ length tokens.now) }
 {
-    if !is_branch {
-        if let Some(reg) = whole_register(tokens, at) {
-            put_register(insn, reg);
-            return Ok(at + 2);
-        }
+    if is_branch {
+        return put_any(alloc, tokens, at, is_branch, insn);
     }
-    put_any(alloc, tokens, at, is_branch, insn)
+    match whole_register(tokens, at) {
+        Some(reg) => {
+            put_register(insn, reg);
+            Ok(at + 2)
+        }
+        None => put_memory(alloc, tokens, at, insn),
+    }
 }
 
 /// The last operand that may stand, at this place.

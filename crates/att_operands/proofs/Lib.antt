@@ -14,3 +14,4 @@ pub mod RefusedFails
 pub mod FailsRefused
 pub mod WorkedTexts
 pub mod NegativeNumbers
+pub mod UsualOperands

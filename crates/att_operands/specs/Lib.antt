@@ -6,6 +6,7 @@ pub mod Addresses
 pub mod Values
 pub mod Amounts
 pub mod OperandTexts
+pub mod Usual
 pub mod Spells
 pub mod Failing
 pub mod WorkedOperands

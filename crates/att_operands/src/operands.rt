@@ -46,7 +46,7 @@ fn refused<'a>() -> Result<FoundOperand<'a>, OperandFault>
 /// The displacement of memory that shows none.
 #[inline(always)]
 #[tactic(auto, unfolding(asm_expr::specs::Linear::linear))]
-fn no_displacement<'a>() -> Value<'a>
+pub(crate) fn no_displacement<'a>() -> Value<'a>
     ensures { IsValueOf result no_displacement }
 {
     Value {
@@ -114,7 +114,7 @@ fn displaced<'a>(
 
 /// Whether the parenthesis of an address stands at this place.
 #[inline(always)]
-fn opens_address(tokens: &[Token], at: usize) -> bool
+pub(crate) fn opens_address(tokens: &[Token], at: usize) -> bool
     ensures value { result ≡ opens_address (map spelled tokens.now) at }
     ensures within { IsTrue result → at < length tokens.now }
 {

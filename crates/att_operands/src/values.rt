@@ -77,10 +77,11 @@ fn stops_at(tokens: &[Token], at: usize) -> bool
 /// The amount of so many tokens at this place, if no operator stands behind them and they need no
 /// tree.
 #[inline(always)]
-fn sum_amount<'a>(tokens: &[Token<'a>], at: usize, next: usize) -> Option<ReadAmount<'a>>
+pub(crate) fn sum_amount<'a>(tokens: &[Token<'a>], at: usize, next: usize) -> Option<ReadAmount<'a>>
     requires order { at ≤ next }
     requires within { next ≤ length tokens.now }
     ensures value { FindsRead (map spelled tokens.now) at result }
+    ensures next { IfSome result (λ found. found.next ≡ next) }
     ensures within { IfSome result (λ found. found.next ≤ length tokens.now) }
 {
     if !stops_at(tokens, next) {
