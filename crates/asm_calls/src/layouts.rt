@@ -2,7 +2,7 @@
 
 use asm_base::Pos;
 use asm_expr::{Linear, constant_form};
-use asm_frags::{Content, FieldSize, Fill, Frag, FragCause, FragFault, Sections};
+use asm_frags::{Content, FieldRole, FieldSize, Fill, Frag, FragCause, FragFault, Sections};
 use asm_relax::{LayoutFault, Plan, Settled};
 use asm_symbols::Symbols;
 use std::alloc::Global;
@@ -13,7 +13,7 @@ fn push_field(sections: &mut Sections, size: FieldSize, form: Linear) -> Result<
     if sections.is_empty() {
         return Err(FragFault::Fault(FragCause::BadSection));
     }
-    sections.push_field(0, Pos { file: 0, line: 1 }, size, form)
+    sections.push_field(0, Pos { file: 0, line: 1 }, size, FieldRole::data(), form)
 }
 
 /// Puts zeros of this line into `.bss`.

@@ -10,6 +10,7 @@ use Rattle.asm_base.specs.Refusals.{FailsLast}
 use Rattle.asm_frags.specs.declared.faults.FragCause.{FragCause}
 use Rattle.asm_frags.specs.declared.faults.FragCause.TheVariants.{BadSection}
 use Rattle.asm_frags.specs.declared.fields.FieldSize.{FieldSize}
+use Rattle.asm_frags.specs.declared.roles.FieldRole.{FieldRole}
 use Rattle.asm_frags.specs.declared.contents.Content.TheVariants.{Run}
 use Rattle.asm_frags.specs.PlainBytes.{is_zero}
 use Rattle.asm_frags.specs.Contents.{is_known_zeros}
@@ -65,5 +66,5 @@ module _ (old new : LooseSection) (answer : Result (Unit {0}) (Refusal FragCause
   bytes_name pos more = name_kept (takes_zeros_alone old && not (list_all is_zero more)) old (with_bytes pos more old) new answer (run_name pos old)
 
   -- a section that a field is put into keeps its name
-  pub field_name : (pos : Pos) (size : FieldSize) (form : Form) → Changes old new answer (field_put pos size form old) → new.name ≡ old.name
-  field_name pos size form = name_kept (takes_zeros_alone old) old (with_field pos size form old) new answer (run_name pos old)
+  pub field_name : (pos : Pos) (number : ℕ) (size : FieldSize) (role : FieldRole) (form : Form) → Changes old new answer (field_put pos number size role form old) → new.name ≡ old.name
+  field_name pos number size role form = name_kept (takes_zeros_alone old) old (with_field pos number size role form old) new answer (run_name pos old)

@@ -13,6 +13,7 @@ use Rattle.asm_frags.specs.Contents.{unit_of, repeated, size_at, bytes_at, is_kn
 use Rattle.asm_frags.specs.Alignments.{alignment_of_all}
 use Rattle.asm_frags.specs.KnownExtents.{extent_of}
 use Rattle.asm_frags.specs.SectionOf.{new_section}
+use Rattle.asm_frags.specs.Fields.{data_role}
 use Rattle.asm_frags.specs.Writing.{LooseItem, LooseSection, new_item, item_behind, with_bytes, bytes_put, field_put, item_put}
 use Rattle.asm_frags.specs.Sections.{section_flags, first_sections, entered, put_into}
 
@@ -82,7 +83,7 @@ text = new_section (codes ".text") (section_flags 6) 1 0
 -- three bytes, a fill, a byte, and a field of two bytes, each of a line of its own
 filled : Result LooseSection FragCause
 filled = bytes_put (on_line 1) (1 ∷ 2 ∷ 3 ∷ []) text >>= bytes_put (on_line 2) (4 ∷ []) >>= item_put (item 3 (fill 5 1 9)) >>= bytes_put (on_line 4) (7 ∷ [])
-    >>= field_put (on_line 5) Two (constant_form 8)
+    >>= field_put (on_line 5) 0 Two data_role (constant_form 8)
 
 -- plain bytes go on with the run that is there, and a run begins behind the fill
 filled_is : filled ≡ Ok (record {
@@ -91,16 +92,16 @@ filled_is : filled ≡ Ok (record {
   kind = 1;
   entry_size = 0;
   bytes = 1 ∷ 2 ∷ 3 ∷ 4 ∷ 7 ∷ 0 ∷ 0 ∷ [];
-  fields = record { pos = on_line 5; item = 3; offset = 5; size = Two; form = constant_form 8 } ∷ [];
+  fields = record { pos = on_line 5; item = 3; offset = 5; section = 0; size = Two; role = data_role; form = constant_form 8 } ∷ [];
   items = item_behind 0 (item 1 Run) ∷ item_behind 4 (item 3 (fill 5 1 9)) ∷ item_behind 4 (item 4 Run) ∷ [];
 })
 unfolding filled text item fill
 filled_is = refl
 
 -- a field begins a run too
-field_first : field_put (on_line 1) Four (constant_form 0) text ≡ Ok (record text {
+field_first : field_put (on_line 1) 0 Four data_role (constant_form 0) text ≡ Ok (record text {
   bytes = 0 ∷ 0 ∷ 0 ∷ 0 ∷ [];
-  fields = record { pos = on_line 1; item = 1; offset = 0; size = Four; form = constant_form 0 } ∷ [];
+  fields = record { pos = on_line 1; item = 1; offset = 0; section = 0; size = Four; role = data_role; form = constant_form 0 } ∷ [];
   items = item 1 Run ∷ [];
 })
 unfolding text item
@@ -133,7 +134,7 @@ bytes_in_bss : put_into (bytes_put (on_line 1) (0 ∷ 1 ∷ [])) first 2 ≡ Err
 unfolding first first_sections
 bytes_in_bss = refl
 
-field_in_bss : put_into (field_put (on_line 1) Four (constant_form 0)) first 2 ≡ Err BadSection
+field_in_bss : put_into (field_put (on_line 1) 2 Four data_role (constant_form 0)) first 2 ≡ Err BadSection
 unfolding first first_sections
 field_in_bss = refl
 

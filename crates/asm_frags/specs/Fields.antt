@@ -1,8 +1,12 @@
--- Fields of items: their size, and the values that they hold.
-use Rattle.std.specs.Prelude.{ℕ, ◌-◌, ◌^◌, ◌||◌, Bool, true, nat_lt, nat_le, List, take}
+-- Fields: their size, their role, and the values that they hold.
+use Rattle.std.specs.Prelude.{ℕ, ◌-◌, ◌^◌, ◌||◌, Bool, true, false, nat_lt, nat_le, List, take}
 use Rattle.std.specs.Int.{w64, to_le_bytes}
 use Rattle.asm_frags.specs.declared.fields.FieldSize.{FieldSize}
 use Rattle.asm_frags.specs.declared.fields.FieldSize.TheVariants.{One, Two, Four, Eight}
+use Rattle.asm_frags.specs.declared.roles.FieldKind.{FieldKind}
+use Rattle.asm_frags.specs.declared.roles.FieldKind.TheVariants.{Plain, Signed, Address, Branch}
+use Rattle.asm_frags.specs.declared.roles.FieldRole.{FieldRole}
+use Rattle.asm_frags.specs.declared.roles.Suffix.TheVariants.{Absent}
 
 -- the size of a field in bytes
 abbrev pub width : FieldSize → ℕ
@@ -17,6 +21,35 @@ fits One value = nat_lt value (2 ^ 8) || nat_le (2 ^ 64 - 2 ^ 7) value
 fits Two value = nat_lt value (2 ^ 16) || nat_le (2 ^ 64 - 2 ^ 15) value
 fits Four value = nat_lt value (2 ^ 32) || nat_le (2 ^ 64 - 2 ^ 31) value
 fits Eight value = true
+
+-- the same, from -2 ^ (n - 1) to 2 ^ (n - 1) - 1
+unfoldable pub fits_signed : FieldSize → ℕ → Bool
+fits_signed One value = nat_lt value (2 ^ 7) || nat_le (2 ^ 64 - 2 ^ 7) value
+fits_signed Two value = nat_lt value (2 ^ 15) || nat_le (2 ^ 64 - 2 ^ 15) value
+fits_signed Four value = nat_lt value (2 ^ 31) || nat_le (2 ^ 64 - 2 ^ 31) value
+fits_signed Eight value = true
+
+-- a field of this kind and size holds the value: as it is, or with a sign
+abbrev pub holds : FieldKind → FieldSize → ℕ → Bool
+holds Plain size value = fits size value
+holds Signed size value = fits_signed size value
+holds Address size value = fits_signed size value
+holds Branch size value = fits_signed size value
+
+-- the value is a distance from the end of the instruction
+abbrev pub is_distance : FieldKind → Bool
+is_distance Plain = false
+is_distance Signed = false
+is_distance Address = true
+is_distance Branch = true
+
+-- data: the value as it is
+abbrev pub data_role : FieldRole
+data_role = record { kind = Plain; suffix = Absent; behind = 0 }
+
+-- the symbol that, in the form of a field, stands for the place of the field itself; a source has fewer symbols
+abbrev pub own_place : ℕ
+own_place = 2 ^ 32 - 1
 
 -- the low bytes of a value, little-endian
 unfoldable pub low_bytes : FieldSize → ℕ → List ℕ

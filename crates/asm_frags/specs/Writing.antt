@@ -7,6 +7,7 @@ use Rattle.asm_frags.specs.declared.phases.Loose.{Loose}
 use Rattle.asm_frags.specs.declared.faults.FragCause.{FragCause}
 use Rattle.asm_frags.specs.declared.faults.FragCause.TheVariants.{BadSection}
 use Rattle.asm_frags.specs.declared.fields.FieldSize.{FieldSize}
+use Rattle.asm_frags.specs.declared.roles.FieldRole.{FieldRole}
 use Rattle.asm_frags.specs.declared.contents.Content.{Content}
 use Rattle.asm_frags.specs.declared.contents.Content.TheVariants.{Run, Fill, Align}
 use Rattle.asm_frags.specs.declared.items.Frag.{Frag}
@@ -55,15 +56,17 @@ with_run pos section = if ends_in_run section.items then section else with_item 
 abbrev pub with_bytes : Pos → List ℕ → LooseSection → LooseSection
 with_bytes pos more section = record (with_run pos section) { bytes = section.bytes ++ more }
 
--- the section with a field more, over zeros
-abbrev pub with_field : Pos → FieldSize → Form → LooseSection → LooseSection
-with_field pos size form section = record (with_run pos section) {
+-- the section, which has this number, with a field more, over zeros
+abbrev pub with_field : Pos → ℕ → FieldSize → FieldRole → Form → LooseSection → LooseSection
+with_field pos number size role form section = record (with_run pos section) {
   bytes = section.bytes ++ replicate (width size) 0;
   fields = section.fields ++ record {
     pos = pos;
     item = length (with_run pos section).items;
     offset = length section.bytes;
+    section = number;
     size = size;
+    role = role;
     form = form;
   } ∷ [];
 }
@@ -76,9 +79,9 @@ takes_zeros_alone section = section.kind == 8
 abbrev pub bytes_put : Pos → List ℕ → LooseSection → Result LooseSection FragCause
 bytes_put pos more section = if takes_zeros_alone section && not (list_all is_zero more) then Err BadSection else Ok (with_bytes pos more section)
 
--- a field is put into the section, or refused
-abbrev pub field_put : Pos → FieldSize → Form → LooseSection → Result LooseSection FragCause
-field_put pos size form section = if takes_zeros_alone section then Err BadSection else Ok (with_field pos size form section)
+-- a field is put into the section, which has this number, or refused
+abbrev pub field_put : Pos → ℕ → FieldSize → FieldRole → Form → LooseSection → Result LooseSection FragCause
+field_put pos number size role form section = if takes_zeros_alone section then Err BadSection else Ok (with_field pos number size role form section)
 
 -- an item is put into the section, or refused
 abbrev pub item_put : LooseItem → LooseSection → Result LooseSection FragCause

@@ -1,8 +1,9 @@
 //! Fields: values that are written over zeros of a section once they are known.
 
 ghost use Rattle.std.specs.Prelude.{◌≡◌, replicate};
-ghost use Rattle.asm_frags.specs.Fields.{width, fits};
+ghost use Rattle.asm_frags.specs.Fields.{width, fits, fits_signed};
 
+use crate::roles::FieldRole;
 use asm_base::Pos;
 use asm_expr::Linear;
 
@@ -45,6 +46,19 @@ impl FieldSize {
         }
     }
 
+    /// Whether the field holds the value, a number modulo 2^64, as a number with a sign.
+    #[tactic(auto, unfolding(crate::specs::Fields::fits_signed))]
+    pub(crate) fn fits_signed(self, value: u64) -> bool
+        ensures { result ≡ fits_signed self value }
+    {
+        match self {
+            FieldSize::One => value < 1 << 7 || value >= u64::MAX - 0x7f,
+            FieldSize::Two => value < 1 << 15 || value >= u64::MAX - 0x7fff,
+            FieldSize::Four => value < 1 << 31 || value >= u64::MAX - 0x7fff_ffff,
+            FieldSize::Eight => true,
+        }
+    }
+
     /// The bytes that stand at a field: zeros.
     pub(crate) fn blank(self) -> &'static [u8]
         ensures { result.now ≡ replicate (width self) 0 }
@@ -67,7 +81,11 @@ pub struct Field {
     pub item: usize,
     /// How many plain bytes of the section stand before it.
     pub offset: usize,
+    /// The number of the section.
+    pub section: u32,
     pub size: FieldSize,
-    /// The form whose value it holds.
+    /// How it holds its value.
+    pub role: FieldRole,
+    /// The form whose value it holds, less what its role counts from.
     pub form: Linear,
 }

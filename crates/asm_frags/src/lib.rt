@@ -14,6 +14,7 @@ mod laws;
 mod parts;
 mod phases;
 mod pieces;
+mod roles;
 mod section_list;
 mod sizes;
 mod substituting;
@@ -35,6 +36,7 @@ pub use laws::{bytes_are_sized, padding_is_least, stretches_are_fixed, zeros_are
 pub use parts::Section;
 pub use phases::{Laid, Loose, Phase};
 pub use pieces::{BytesAt, TakesBytes, put_bytes};
+pub use roles::{FieldKind, FieldRole, Suffix, own_place};
 pub use section_list::Sections;
 pub use sizes::{SizeAt, size};
 pub use substituting::Substitution;

@@ -13,6 +13,7 @@ use crate::item_list::Items;
 use crate::items::Frag;
 use crate::known_extents::KnownExtent;
 use crate::phases::{Laid, Loose, Phase};
+use crate::roles::FieldRole;
 use crate::substituting::{Substitution, substitute_fields};
 use crate::zeros::{are_zeros, is_known_zeros};
 use asm_base::{Pos, Text};
@@ -199,15 +200,17 @@ impl Section<Loose> {
         Ok(())
     }
 
-    /// Puts a field last, over zeros. `BadSection` comes exactly where the section has the type `SHT_NOBITS`.
+    /// Puts a field last, over zeros, in the section, which has this number. `BadSection` comes exactly where the section has the type `SHT_NOBITS`.
     /// A section has at most 2^33 plain bytes; more are refused as want of memory.
     pub(crate) fn put_field(
         &mut self,
         pos: Pos,
+        number: u32,
         size: FieldSize,
+        role: FieldRole,
         form: Linear,
     ) -> Result<(), FragFault>
-        ensures { Changes self.old self.new result (field_put pos size form self.old) }
+        ensures { Changes self.old self.new result (field_put pos number size role form self.old) }
     {
         if self.kind == SHT_NOBITS {
             return Err(FragFault::Fault(FragCause::BadSection));
@@ -230,7 +233,9 @@ impl Section<Loose> {
                 pos,
                 item,
                 offset,
+                section: number,
                 size,
+                role,
                 form,
             })
             .unwrap();

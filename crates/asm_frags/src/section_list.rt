@@ -11,6 +11,7 @@ use crate::flags::{SHT_NOBITS, SHT_PROGBITS, SectionFlags};
 use crate::items::Frag;
 use crate::parts::Section;
 use crate::phases::{Laid, Loose, Phase};
+use crate::roles::FieldRole;
 use crate::substituting::Substitution;
 use asm_base::{Pos, Text};
 use asm_expr::Linear;
@@ -210,14 +211,15 @@ impl Sections<Loose> {
         section: u32,
         pos: Pos,
         size: FieldSize,
+        role: FieldRole,
         form: Linear,
     ) -> Result<(), FragFault>
         requires { section < length self.old }
         ensures { Changes self.old self.new result
-            (put_into (field_put pos size form) self.old section) }
+            (put_into (field_put pos section size role form) self.old section) }
     {
-        let section = &mut self.sections[section as usize];
-        section.put_field(pos, size, form)
+        let held = &mut self.sections[section as usize];
+        held.put_field(pos, section, size, role, form)
     }
 }
 

@@ -8,6 +8,7 @@ use Rattle.asm_expr.specs.Forms.{Form}
 use Rattle.asm_frags.specs.declared.contents.Content.TheVariants.{Run}
 use Rattle.asm_frags.specs.declared.fields.Field.{Field}
 use Rattle.asm_frags.specs.declared.fields.FieldSize.{FieldSize}
+use Rattle.asm_frags.specs.declared.roles.FieldRole.{FieldRole}
 use Rattle.asm_frags.specs.Fields.{width}
 use Rattle.asm_frags.specs.PlainBytes.{field_end}
 use Rattle.asm_frags.specs.declared.flags.SectionFlags.{SectionFlags}
@@ -225,23 +226,24 @@ bytes_added pos more section =
     (subst (IsAdded (with_run pos section)) (bytes_are_more pos more section) (more_added (with_run pos section) more [] (All-nil _) (All-nil _)))
 
 -- a field over zeros
-abbrev field_of : Pos → FieldSize → Form → LooseSection → Field
-field_of pos size form section = record { pos = pos; item = length (with_run pos section).items; offset = length section.bytes; size = size; form = form }
+abbrev field_of : Pos → ℕ → FieldSize → FieldRole → Form → LooseSection → Field
+field_of pos number size role form section =
+    record { pos = pos; item = length (with_run pos section).items; offset = length section.bytes; section = number; size = size; role = role; form = form }
 
-field_is_more : (pos : Pos) (size : FieldSize) (form : Form) (section : LooseSection)
-    → with_more (with_run pos section) (replicate (width size) 0) (field_of pos size form section ∷ []) [] ≡ with_field pos size form section
-field_is_more pos size form section =
+field_is_more : (pos : Pos) (number : ℕ) (size : FieldSize) (role : FieldRole) (form : Form) (section : LooseSection)
+    → with_more (with_run pos section) (replicate (width size) 0) (field_of pos number size role form section ∷ []) [] ≡ with_field pos number size role form section
+field_is_more pos number size role form section =
     same_holding (with_run pos section) _ _ _ _ _ _ (ap (λ bytes. bytes ++ replicate (width size) 0) (run_keeps (λ s. s.bytes) pos section refl))
-    (ap (λ fields. fields ++ field_of pos size form section ∷ []) (run_keeps (λ s. s.fields) pos section refl)) (append-nil (with_run pos section).items)
+    (ap (λ fields. fields ++ field_of pos number size role form section ∷ []) (run_keeps (λ s. s.fields) pos section refl)) (append-nil (with_run pos section).items)
 
-pub field_added : (pos : Pos) (size : FieldSize) (form : Form) (section : LooseSection) → IsAdded section (with_field pos size form section)
-field_added pos size form section =
+pub field_added : (pos : Pos) (number : ℕ) (size : FieldSize) (role : FieldRole) (form : Form) (section : LooseSection) → IsAdded section (with_field pos number size role form section)
+field_added pos number size role form section =
     let run = with_run pos section in
     let zeros : List ℕ = replicate (width size) 0 in
     let same : length run.bytes ≡ length section.bytes = ap length (run_keeps (λ s. s.bytes) pos section refl) in
     added_on section run _ (run_added pos section)
-    (subst (IsAdded run) (field_is_more pos size form section)
-    (more_added run zeros (field_of pos size form section ∷ [])
+    (subst (IsAdded run) (field_is_more pos number size role form section)
+    (more_added run zeros (field_of pos number size role form section ∷ [])
     (All-cons (λ (field : Field). length run.bytes ≤ field.offset) _ [] (omega (arith, same)) (All-nil _))
     (All-cons (λ (field : Field). field_end field ≤ length (run.bytes ++ zeros)) _ []
     (omega (arith, same, length-append run.bytes zeros, length-replicate {A = ℕ} (width size) 0)) (All-nil _))))

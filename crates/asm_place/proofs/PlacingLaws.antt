@@ -20,6 +20,7 @@ use Rattle.asm_frags.specs.declared.faults.FragCause.TheVariants as frag
 use Rattle.asm_frags.specs.SectionOf.{new_section, is_alike, section_number}
 use Rattle.asm_frags.specs.PlainBytes.{is_zero}
 use Rattle.asm_frags.specs.Contents.{is_known_zeros}
+use Rattle.asm_frags.specs.Fields.{data_role}
 use Rattle.asm_frags.specs.Writing.{LooseSection, new_item, takes_zeros_alone, with_item, with_bytes, with_field, bytes_put, field_put, item_put}
 use Rattle.asm_frags.specs.Sections.{section_flags, entered_there, entered_by, with_section_or_fault, put_into_there}
 use Rattle.asm_symbols.specs.declared.entries.Definition.TheVariants.{Label, Space, Common}
@@ -88,8 +89,9 @@ bytes_steps pos number bytes placed =
 field_steps : (pos : Pos) (number : ℕ) (size : FieldSize) (form : Form) (placed : Placed) → Steps placed (put_field_into pos number size form placed)
 unfolding put_field_into
 field_steps pos number size form placed =
-    put_steps (field_put pos size form)
-    (λ section. either (takes_zeros_alone section) (refused _) (made (with_field pos size form section) (field_added pos size form section))) number placed
+    put_steps (field_put pos number size data_role form)
+    (λ section. either (takes_zeros_alone section) (refused _)
+    (made (with_field pos number size data_role form section) (field_added pos number size data_role form section))) number placed
 
 push_steps : (pos : Pos) (number : ℕ) (item : Content) (placed : Placed) → Steps placed (push_into pos number item placed)
 unfolding push_into

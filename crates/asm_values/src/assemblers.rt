@@ -7,7 +7,7 @@ ghost use Rattle.asm_values.specs.DataItems.{cut_notes};
 use crate::stacks::Entered;
 use asm_base::{Note, Noted, Notes, Pos};
 use asm_expr::Linear;
-use asm_frags::{Content, FieldSize, Frag, FragFault, Sections};
+use asm_frags::{Content, FieldRole, FieldSize, Frag, FragFault, Sections};
 use asm_operands::{PlaceCause, PlaceFault};
 use asm_symbols::Spot;
 use asm_uses::{SymbolUses, View, here_name, spot_at};
@@ -186,7 +186,7 @@ impl Assembler {
     {
         if (self.current as usize) < self.sections.len() {
             self.sections
-                .push_field(self.current, pos, size, form)
+                .push_field(self.current, pos, size, FieldRole::data(), form)
                 .map_err(FragFault::raise)
         } else {
             Err(PlaceFault::Fault(PlaceCause::BadSection))

@@ -8,14 +8,14 @@ use Rattle.asm_frags.proofs.section_list.Sections+Loose.push_field.Goals as goal
 
 pub invariant_of-self : goal.invariant_of-self
 invariant_of-self c =
-    let old = c.index_mut-section.result.now in
-    let named : c.put_field.new.self.name ≡ old.name = field_name old c.put_field.new.self c.put_field.result c.args.pos c.args.size c.args.form c.put_field.ensures in
-    replaced_there _ c.self.inside.sections.items c.args.section c.put_field.new.self old c.self.invariant (named ∙ ap (λ s. s.name) c.index_mut-section.ensures.value)
+    let old = c.index_mut-held.result.now in
+    let named : c.put_field.new.self.name ≡ old.name = field_name old c.put_field.new.self c.put_field.result c.args.pos c.args.section c.args.size c.args.role c.args.form c.put_field.ensures in
+    replaced_there _ c.self.inside.sections.items c.args.section c.put_field.new.self old c.self.invariant (named ∙ ap (λ s. s.name) c.index_mut-held.ensures.value)
 
 pub returns : goal.returns
 returns c =
-    let old = c.index_mut-section.result.now in
+    let old = c.index_mut-held.result.now in
     let within : c.args.section < length c.self.inside.sections.items = rw c.self.view_is c.requires in
-    let found : slice_get c.self.inside.sections.items c.args.section ≡ Some old = slice_get-get_or c.self.inside.sections.items c.args.section old within ∙ ap Some (sym c.index_mut-section.ensures.value) in
-    let changed = put_changes (field_put c.args.pos c.args.size c.args.form) c.self.inside.sections.items c.args.section old c.put_field.new.self old c.put_field.result found c.index_mut-section.ensures.value c.put_field.ensures in
+    let found : slice_get c.self.inside.sections.items c.args.section ≡ Some old = slice_get-get_or c.self.inside.sections.items c.args.section old within ∙ ap Some (sym c.index_mut-held.ensures.value) in
+    let changed = put_changes (field_put c.args.pos c.args.section c.args.size c.args.role c.args.form) c.self.inside.sections.items c.args.section old c.put_field.new.self old c.put_field.result found c.index_mut-held.ensures.value c.put_field.ensures in
     rw (← c.self.view_is) changed
