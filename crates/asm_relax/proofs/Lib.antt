@@ -1,5 +1,6 @@
 -- The proofs of this crate.
 pub mod RankLemmas
+pub mod DistanceLemmas
 pub mod ExpandingLemmas
 pub mod ExpansionLemmas
 pub mod OwnForms

@@ -6,6 +6,7 @@ pub mod Final
 pub mod Ranks
 pub mod Layout
 pub mod Placing
+pub mod FieldValues
 pub mod Faults
 pub mod RangeChecks
 pub mod Settling

@@ -5,12 +5,14 @@ use Rattle.asm_base.specs.declared.positions.Pos.{Pos}
 use Rattle.asm_symbols.specs.SymbolMap.{SymbolMap}
 use Rattle.asm_frags.specs.declared.fields.Field.{Field}
 use Rattle.asm_frags.specs.declared.fields.FieldSize.{FieldSize}
-use Rattle.asm_frags.specs.Fields.{fits}
+use Rattle.asm_frags.specs.declared.roles.FieldKind.{FieldKind}
+use Rattle.asm_frags.specs.Fields.{holds}
 use Rattle.asm_frags.specs.declared.items.Frag.{Frag}
 use Rattle.asm_frags.specs.SectionOf.{SectionOf}
 use Rattle.asm_relax.specs.declared.faults.LayoutFault.{LayoutFault}
 use Rattle.asm_relax.specs.declared.faults.LayoutFault.TheVariants.{SectionTooLarge, DistanceOutOfRange}
-use Rattle.asm_relax.specs.Final.{section_size, laid_value}
+use Rattle.asm_relax.specs.Final.{section_size}
+use Rattle.asm_relax.specs.FieldValues.{held_value}
 use Rattle.asm_relax.specs.Faults.{or_later, first_of}
 
 -- a section that ends at this address is too large: it has more than 2^30 bytes
@@ -31,14 +33,14 @@ large_section section =
     if is_large (section_size section) then option_map (λ item. SectionTooLarge item.pos (section_size section)) (first_large section.items) else None
 
 -- the fault of a field that does not hold its value; a field without a value is left to the linker
-abbrev pub misfit : Pos → FieldSize → Option ℕ → Option LayoutFault
-misfit pos size None = None
-misfit pos size (Some value) = if fits size value then None else Some (DistanceOutOfRange pos value)
+abbrev pub misfit : Pos → FieldKind → FieldSize → Option ℕ → Option LayoutFault
+misfit pos kind size None = None
+misfit pos kind size (Some value) = if holds kind size value then None else Some (DistanceOutOfRange pos value)
 
 module _ {P : Type 0} (map : SymbolMap) (sections : List (SectionOf (Frag P ℕ))) where
   -- the fault of a field whose value is out of its range
   abbrev pub field_misfit : Field → Option LayoutFault
-  field_misfit field = misfit field.pos field.size (laid_value map sections field.form)
+  field_misfit field = misfit field.pos field.role.kind field.size (held_value map sections field)
 
   -- the fault of the first such field of a section
   abbrev pub section_misfit : SectionOf (Frag P ℕ) → Option LayoutFault

@@ -4,7 +4,7 @@ ghost use Rattle.std.specs.Prelude.{◌≡◌, IfOk};
 ghost use Rattle.asm_expr.specs.Knowledge.{told_by};
 ghost use Rattle.asm_expr.specs.Settled.{cannot_cancel, constant_left};
 ghost use Rattle.asm_relax.specs.Expanding.{AreExpansions};
-ghost use Rattle.asm_relax.specs.Final.{spot_told, final_meaning, final_form, laid_value, field_value};
+ghost use Rattle.asm_relax.specs.Final.{spot_told, final_meaning, final_told, final_form, laid_value, field_value};
 
 use crate::expansions::Expansions;
 use crate::places::address_of;
@@ -41,6 +41,21 @@ fn look_of<'a>(sections: &Sections<Laid>, meaning: &Meaning) -> Look<'a>
     }
 }
 
+/// What the symbol is known as.
+#[tactic(auto, unfolding(crate::specs::Final::final_told))]
+pub(crate) fn final_look<'a>(
+    symbols: &Symbols,
+    sections: &Sections<Laid>,
+    symbol: SymId,
+) -> Look<'a>
+    ensures { told_by result ≡ final_told symbols.now sections.now symbol }
+{
+    match symbols.as_slice().get(symbol.index() as usize) {
+        Some(found) => look_of(sections, &found.meaning),
+        None => Look::Absent,
+    }
+}
+
 impl Known for FinalView<'_> {
     ghost use Rattle.asm_relax.specs.Final.{final_told};
 
@@ -50,12 +65,8 @@ impl Known for FinalView<'_> {
 
     ghost place = { λ _. 0 };
 
-    #[tactic(auto, unfolding(crate::specs::Final::final_told))]
     fn look(&self, symbol: SymId) -> Look<'_> {
-        match self.symbols.as_slice().get(symbol.index() as usize) {
-            Some(found) => look_of(self.sections, &found.meaning),
-            None => Look::Absent,
-        }
+        final_look(self.symbols, self.sections, symbol)
     }
 
     fn symbol(&self, _written: &Written) -> SymId {
@@ -89,7 +100,7 @@ pub fn final_form(
 }
 
 /// Whether nothing can cancel in the terms: there is none, or one that counts.
-fn cannot_cancel(terms: &[Term]) -> bool
+pub(crate) fn cannot_cancel(terms: &[Term]) -> bool
     ensures { result ≡ cannot_cancel terms.now }
 {
     match terms {
@@ -100,7 +111,7 @@ fn cannot_cancel(terms: &[Term]) -> bool
 }
 
 /// The constant of a form, if no symbol is left in it.
-fn constant_left(form: &Linear) -> Option<u64>
+pub(crate) fn constant_left(form: &Linear) -> Option<u64>
     ensures { result ≡ constant_left form.now }
 {
     if form.terms().is_empty() {

@@ -7,6 +7,7 @@ ghost use Rattle.asm_symbols.specs.Assigning.{NoFormLeadsBack};
 ghost use Rattle.asm_frags.specs.Addresses.{item_with_address};
 ghost use Rattle.asm_frags.specs.KnownExtents.{extent_of};
 ghost use Rattle.asm_relax.specs.Expanding.{replacement, with_replaced, names_assigned, expanded};
+ghost use Rattle.asm_relax.specs.FieldValues.{DistancesLead};
 ghost use Rattle.asm_relax.specs.Final.{shift_in};
 ghost use Rattle.asm_relax.specs.Layout.{laid_from, shift_with, laid_out, without_addresses, IsInRow};
 ghost use Rattle.asm_relax.specs.Ranks.{Ranks, IsRanking};
@@ -78,4 +79,9 @@ pub fn expansions_are_exact()
         → expanded symbols form ≡ with_replaced (replacement (expanded symbols) symbols) form }
     ensures none { (symbols : SymbolMap) (form : Form) → names_assigned symbols form ≡ false
         → expanded symbols form ≡ form }
+{}
+
+/// A distance to a label of its section leads from the end of its instruction to the label.
+pub fn distances_lead_to_labels()
+    ensures { DistancesLead }
 {}

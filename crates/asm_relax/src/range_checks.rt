@@ -6,7 +6,7 @@ ghost use Rattle.asm_relax.specs.Faults.{first_of};
 ghost use Rattle.asm_relax.specs.RangeChecks.{is_large, begins_late, first_large, large_section, misfit, field_misfit, section_misfit, first_fault};
 
 use crate::faults::LayoutFault;
-use crate::finals::laid_value;
+use crate::field_values::held_value;
 use crate::places::section_size;
 use asm_frags::{Field, Frag, Laid, Section, Sections};
 use asm_symbols::Symbols;
@@ -75,8 +75,8 @@ fn first_large_section(sections: &[Section<Laid>]) -> Option<LayoutFault>
 fn field_misfit(symbols: &Symbols, sections: &Sections<Laid>, field: &Field) -> Option<LayoutFault>
     ensures { result ≡ field_misfit symbols.now sections.now field.now }
 {
-    let distance = laid_value(symbols, sections, &field.form)?;
-    if field.size.fits(distance) {
+    let distance = held_value(symbols, sections, field)?;
+    if field.role.kind.holds(field.size, distance) {
         return None;
     }
     Some(LayoutFault::DistanceOutOfRange {

@@ -1,0 +1,68 @@
+-- Where the distance to a label leads.
+use Rattle.std.proofs.Common.{◌≡◌, ℕ, ◌+◌, ◌-◌, ◌*◌, ◌^◌, ◌==◌, ◌<◌, true, false, cond, List, [], ◌∷◌, Some, refl, sym, ap, ◌∙◌, arith}
+use Rattle.std.specs.Prelude.{option_map}
+use Rattle.std.proofs.lemmas.Bool.Decides.{nat_tests}
+use Rattle.asm_expr.specs.Forms.{Form, wrapped, term_of, constant_form}
+use Rattle.asm_expr.specs.Knowledge.{Told, absent, label}
+use Rattle.asm_expr.specs.Settled.{settled, put_all, constant_left}
+use Rattle.asm_symbols.specs.SymbolMap.{SymbolMap}
+use Rattle.asm_frags.specs.declared.fields.Field.{Field}
+use Rattle.asm_frags.specs.declared.fields.FieldSize.{FieldSize}
+use Rattle.asm_frags.specs.declared.fields.FieldSize.TheVariants.{One, Two, Four, Eight}
+use Rattle.asm_frags.specs.declared.items.Frag.{Frag}
+use Rattle.asm_frags.specs.Fields.{width, own_place}
+use Rattle.asm_frags.specs.SectionOf.{SectionOf}
+use Rattle.asm_relax.specs.Final.{address_of, final_told}
+use Rattle.asm_relax.specs.FieldValues.{is_linked, place_label, place_told, told_in_field, less, counted_bytes, counted, held_value, IsDistanceTo, instruction_end, DistancesLead}
+
+-- a symbol and a number, less another symbol
+abbrev both_of : ℕ → ℕ → ℕ → Form
+both_of one other number = record { terms = term_of one 1 ∷ term_of other (2 ^ 64 - 1) ∷ []; constant = number }
+
+-- the number that is left of them
+abbrev left_of : ℕ → ℕ → ℕ → ℕ
+left_of at origin number = wrapped (wrapped (number + wrapped (1 * at)) + wrapped ((2 ^ 64 - 1) * origin))
+
+both_cancel : (told : ℕ → Told) (stretch at origin one other number : ℕ) → told one ≡ label stretch at → told other ≡ label stretch origin
+    → settled told (both_of one other number) ≡ constant_form (left_of at origin number)
+unfolding settled put_all
+both_cancel told stretch at origin one other number is also =
+    let same : (stretch == stretch) ≡ true = grind (arith, nat_tests) in
+    rw (is, also, same) refl
+
+module _ {P : Type 0} (map : SymbolMap) (sections : List (SectionOf (Frag P ℕ))) (field : Field) where
+  told_else : (symbol : ℕ) → (symbol == own_place) ≡ false → told_in_field map sections field symbol ≡ final_told map sections symbol
+  unfolding told_in_field
+  told_else symbol differs = ap (λ b. cond b (place_told map sections field) (final_told map sections symbol)) differs
+
+  told_own : is_linked map field ≡ false → told_in_field map sections field own_place ≡ place_label sections field
+  unfolding told_in_field
+  told_own free = ap (λ b. cond b absent (place_label sections field)) free
+
+short : (size : FieldSize) → width size < 9
+short One = omega arith
+short Two = omega arith
+short Four = omega arith
+short Eight = omega arith
+
+leads : (at origin number taken : ℕ) → taken < 2 ^ 64 → wrapped (origin + taken + less (left_of at origin number) taken) ≡ wrapped (at + number)
+leads at origin number taken small = omega arith
+
+pub distances_lead : DistancesLead
+unfolding held_value
+distances_lead map sections field symbol number address is free differs there =
+    let place = address_of sections field.section field.item field.offset in
+    let told = told_in_field map sections field in
+    let taken = width field.size + field.role.behind in
+    let value = left_of address place number in
+    let made : settled told field.form ≡ constant_form value =
+    ap (settled told) is.form ∙ both_cancel told field.section address place symbol own_place number (told_else map sections field symbol differs ∙ there) (told_own map sections field free) in
+    let counts : counted field.size field.role value ≡ less value taken =
+    ap (λ b. cond b (less value (cond b taken 0)) value) is.kind in
+    let low = short field.size in
+    let small : taken < 2 ^ 64 = let behind = is.behind in omega arith in (
+      less value taken,
+      ap (λ (f : Form). option_map (counted field.size field.role) (constant_left f)) made ∙ ap Some counts,
+      ap (λ n. wrapped (n + less value taken)) (let e : instruction_end sections field ≡ place + taken = omega arith in e)
+          ∙ leads address place number taken small,
+    )
