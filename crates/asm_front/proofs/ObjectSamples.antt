@@ -10,7 +10,7 @@ use Rattle.asm_frags.specs.declared.contents.Content.TheVariants.{Run}
 use Rattle.asm_frags.specs.declared.fields.Field.{Field}
 use Rattle.asm_frags.specs.declared.fields.FieldSize.{FieldSize}
 use Rattle.asm_frags.specs.declared.fields.FieldSize.TheVariants.{Four, Eight}
-use Rattle.asm_frags.specs.Fields.{low_bytes}
+use Rattle.asm_frags.specs.Fields.{data_role, low_bytes}
 use Rattle.asm_frags.specs.SectionOf.{SectionOf}
 use Rattle.asm_frags.specs.Sections.{section_flags}
 use Rattle.asm_symbols.specs.declared.entries.Symbol.{Symbol}
@@ -18,6 +18,7 @@ use Rattle.asm_symbols.specs.declared.entries.Kind.TheVariants.{Object}
 use Rattle.asm_symbols.specs.declared.entries.Meaning.{Meaning}
 use Rattle.asm_symbols.specs.declared.entries.Meaning.TheVariants as meaning
 use Rattle.asm_symbols.specs.SymbolMap.{SymbolMap}
+use Rattle.asm_relax.specs.FieldValues.{told_beside, told_in_field, held_value}
 use Rattle.asm_relax.specs.Final.{shift_in, section_size, address_of, final_told, laid_value, final_form}
 use Rattle.asm_relax.specs.Expanding.{plus_terms, expanded_within, expanded}
 use Rattle.asm_relax.specs.Settling.{LaidItem, LaidSections}
@@ -73,7 +74,9 @@ field offset size terms constant = record {
   pos = record { file = 0; line = 1 };
   item = 1;
   offset = offset;
+  section = 1;
   size = size;
+  role = data_role;
   form = record { terms = terms; constant = constant };
 }
 
@@ -115,18 +118,18 @@ row : (length (bytes_of (object_of symbols sections)) ≡ 800)
     × (take 64 (drop 64 (bytes_of (object_of symbols sections))) ≡ replicate 24 0 ++ (1 ∷ 0 ∷ 0 ∷ 0 ∷ 1 ∷ []) ++ replicate 3 0 ++ (8 ∷ []) ++ replicate 7 0
     ++ (8 ∷ []) ++ replicate 7 0 ++ (2 ∷ 0 ∷ 0 ∷ 0 ∷ 3 ∷ []) ++ replicate 11 0)
     × (take 4 (drop 652 (bytes_of (object_of symbols sections))) ≡ 3 ∷ 0 ∷ 0 ∷ 0 ∷ [])
-unfolding symbol label x y symbols field run section sections bytes_of put_all settled low_bytes shift_in section_size address_of final_told laid_value final_form plus_terms expanded_within expanded half word xword string_table_of name_offsets reference_found field_relocation filled interleaved section_bytes fields_fault object_fault named_of listed symbol_kind symbol_size said_along table_of section_names null_header header_table elf_header file_of symbol_names symbol_table_of before_names all_names with_names file_with image_with image_of
+unfolding symbol label x y symbols field run section sections bytes_of put_all settled low_bytes shift_in section_size address_of final_told laid_value held_value told_in_field told_beside final_form plus_terms expanded_within expanded half word xword string_table_of name_offsets reference_found field_relocation filled interleaved section_bytes fields_fault object_fault named_of listed symbol_kind symbol_size said_along table_of section_names null_header header_table elf_header file_of symbol_names symbol_table_of before_names all_names with_names file_with image_with image_of
 row = (refl, refl, refl)
 
 -- the length of the file; its symbol 1; `sh_info` of the symbol table
 row_file : (length (bytes_of (object_of one_file no_sections)) ≡ 616)
     × (take 24 (drop 88 (bytes_of (object_of one_file no_sections))) ≡ (1 ∷ 0 ∷ 0 ∷ 0 ∷ 4 ∷ 0 ∷ 0xf1 ∷ 0xff ∷ []) ++ replicate 16 0)
     × (take 4 (drop 468 (bytes_of (object_of one_file no_sections))) ≡ 2 ∷ 0 ∷ 0 ∷ 0 ∷ [])
-unfolding symbol label one_file thread_local no_sections thread_sections field run section bytes_of put_all settled low_bytes shift_in section_size address_of final_told laid_value final_form plus_terms expanded_within expanded half word xword string_table_of name_offsets reference_found field_relocation filled interleaved section_bytes fields_fault object_fault named_of listed symbol_kind symbol_size said_along table_of section_names null_header header_table elf_header file_of symbol_names symbol_table_of before_names all_names with_names file_with image_with image_of
+unfolding symbol label one_file thread_local no_sections thread_sections field run section bytes_of put_all settled low_bytes shift_in section_size address_of final_told laid_value held_value told_in_field told_beside final_form plus_terms expanded_within expanded half word xword string_table_of name_offsets reference_found field_relocation filled interleaved section_bytes fields_fault object_fault named_of listed symbol_kind symbol_size said_along table_of section_names null_header header_table elf_header file_of symbol_names symbol_table_of before_names all_names with_names file_with image_with image_of
 row_file = (refl, refl, refl)
 
 -- the length of the file, and its symbol 1, which is of type TLS
 row_thread : (length (bytes_of (object_of thread_local thread_sections)) ≡ 688)
     × (take 8 (drop 96 (bytes_of (object_of thread_local thread_sections))) ≡ 1 ∷ 0 ∷ 0 ∷ 0 ∷ 6 ∷ 0 ∷ 4 ∷ 0 ∷ [])
-unfolding symbol label one_file thread_local no_sections thread_sections field run section bytes_of put_all settled low_bytes shift_in section_size address_of final_told laid_value final_form plus_terms expanded_within expanded half word xword string_table_of name_offsets reference_found field_relocation filled interleaved section_bytes fields_fault object_fault named_of listed symbol_kind symbol_size said_along table_of section_names null_header header_table elf_header file_of symbol_names symbol_table_of before_names all_names with_names file_with image_with image_of
+unfolding symbol label one_file thread_local no_sections thread_sections field run section bytes_of put_all settled low_bytes shift_in section_size address_of final_told laid_value held_value told_in_field told_beside final_form plus_terms expanded_within expanded half word xword string_table_of name_offsets reference_found field_relocation filled interleaved section_bytes fields_fault object_fault named_of listed symbol_kind symbol_size said_along table_of section_names null_header header_table elf_header file_of symbol_names symbol_table_of before_names all_names with_names file_with image_with image_of
 row_thread = (refl, refl)

@@ -1,6 +1,6 @@
 -- The fields of a section, one after the other.
 use Rattle.std.proofs.Common.{◌≡◌, ℕ, ◌+◌, ◌<◌, ◌≤◌, ◌&&◌, true, cond, arith, nat_le, List, ◌∷◌, ◌++◌, length, get_or, drop, ◌-◌, take_all, length-drop, sym, ap, ◌∙◌, subst, append_assoc, Some, None, Option, [], refl}
-use Rattle.std.specs.Prelude.{slice_range, filter_map}
+use Rattle.std.specs.Prelude.{slice_range, filter_map, option_map}
 use Rattle.std.specs.List.{cons_option}
 use Rattle.std.specs.Option.{option_to_list}
 use Rattle.std.proofs.Math.Nat.{le_of_eq}
@@ -14,7 +14,7 @@ use Rattle.asm_symbols.specs.SymbolMap.{SymbolMap}
 use Rattle.elf_object.specs.Contents.{fits_behind, field_bytes, filled}
 use Rattle.asm_expr.specs.declared.forms.Term.{Term}
 use Rattle.asm_expr.specs.Settled.{settled, constant_by}
-use Rattle.asm_relax.specs.Final.{final_told, laid_value}
+use Rattle.asm_relax.specs.FieldValues.{told_in_field, counted, held_value}
 use Rattle.asm_relax.specs.Settling.{LaidItem, LaidSections}
 use Rattle.elf_object.specs.Relocations.{reference_by, field_place, field_relocation}
 
@@ -62,18 +62,18 @@ unfolding filled
 fields_end map sections bytes fields i from out last whole all before is =
     is ∙ ap (λ xs. out ++ xs) (take_all (length bytes - from) (drop from bytes) (le_of_eq (length-drop from bytes))) ∙ ap (λ xs. out ++ xs) (sym (at_drop_all (filled map sections bytes from) fields i all)) ∙ before
 
-none_left : (map : SymbolMap) (sections : LaidSections) (number place : ℕ) (terms : List Term) (total value : ℕ) → constant_by terms total ≡ Some value
-    → reference_by map sections number place terms total ≡ None
-none_left map sections number place [] total value e = refl
-none_left map sections number place (term ∷ terms) total value e = absurd cc
+none_left : (map : SymbolMap) (sections : LaidSections) (number place : ℕ) (field : Field) (terms : List Term) (total value : ℕ) (count : ℕ → ℕ)
+    → option_map count (constant_by terms total) ≡ Some value → reference_by map sections number place field terms total ≡ None
+none_left map sections number place field [] total value count e = refl
+none_left map sections number place field (term ∷ terms) total value count e = absurd cc
 
 -- a field with a value has no relocation
-pub valued : (map : SymbolMap) (sections : LaidSections) (number value : ℕ) (section : SectionOf LaidItem) (field : Field) → laid_value map sections field.form ≡ Some value
+pub valued : (map : SymbolMap) (sections : LaidSections) (number value : ℕ) (section : SectionOf LaidItem) (field : Field) → held_value map sections field ≡ Some value
     → field_relocation map sections number section field ≡ None
-unfolding laid_value field_relocation
+unfolding held_value field_relocation
 valued map sections number value section field e =
-    let made = settled (final_told map sections) field.form in
-    rw (none_left map sections number (field_place section field) made.terms made.constant value e) refl
+    let made = settled (told_in_field map sections field) field.form in
+    rw (none_left map sections number (field_place section field) field made.terms made.constant value (counted field.size field.role) e) refl
 
 cons_is : {Y : Type 0} (one : Option Y) (rest : List Y) → cons_option one rest ≡ option_to_list one ++ rest
 cons_is None rest = refl

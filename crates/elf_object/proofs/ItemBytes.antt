@@ -16,7 +16,7 @@ use Rattle.asm_frags.specs.PlainBytes.{field_end}
 use Rattle.asm_frags.specs.SectionOf.{SectionOf}
 use Rattle.asm_frags.specs.Contents.{size_at, bytes_at, unit_of, padding}
 use Rattle.asm_frags.proofs.Repeats.{length-repeated}
-use Rattle.asm_relax.specs.Final.{laid_value}
+use Rattle.asm_relax.specs.FieldValues.{held_value}
 use Rattle.asm_frags.specs.Fields.{width, low_bytes}
 use Rattle.asm_relax.specs.Settling.{LaidItem, LaidSections}
 use Rattle.elf_object.specs.Contents.{field_bytes, fits_behind, filled, plain_bytes}
@@ -54,7 +54,7 @@ filled_length symbols laid bytes at (field ∷ fields) within =
     let end : field_end field ≤ length bytes = le_from (field_end field) (length bytes) inside in
     let later : length (filled symbols laid bytes (field_end field) fields) + field_end field ≡ length bytes =
     filled_length symbols laid bytes (field_end field) fields end in
-    let piece : length (field_bytes symbols laid field) ≡ width field.size = low_length field.size (unwrap_or (laid_value symbols laid field.form) 0) in
+    let piece : length (field_bytes symbols laid field) ≡ width field.size = low_length field.size (unwrap_or (held_value symbols laid field) 0) in
     let split : length (drop at bytes) ≡ length (slice_range bytes at field.offset) + length (drop field.offset bytes) =
     ap length (drop_split bytes at field.offset from) ∙ length-append (slice_range bytes at field.offset) (drop field.offset bytes) in
     let first = length-drop at bytes in

@@ -14,7 +14,8 @@ use Rattle.asm_frags.specs.PlainBytes.{field_end, FieldsStand}
 use Rattle.asm_frags.specs.SectionOf.{SectionOf}
 use Rattle.asm_frags.specs.Addresses.{item_with_address}
 use Rattle.asm_symbols.specs.SymbolMap.{SymbolMap}
-use Rattle.asm_relax.specs.Final.{shift_in, address_in, laid_value}
+use Rattle.asm_relax.specs.FieldValues.{held_value}
+use Rattle.asm_relax.specs.Final.{shift_in, address_in}
 use Rattle.asm_relax.specs.Placing.{placed_from, placed_section, shift_of}
 use Rattle.asm_relax.specs.Settling.{LaidItem, LaidSections}
 use Rattle.elf_object.specs.declared.relocations.Relocation.{Relocation}
@@ -150,7 +151,7 @@ bytes_stand symbols sections number count offset section bytes filed begins is b
 pub values_stand : ValuesStand
 values_stand symbols sections number index section field filed stand there between =
     let value = field_bytes symbols sections field in
-    let long : length value ≡ width field.size = low_length field.size (unwrap_or (laid_value symbols sections field.form) 0) in
+    let long : length value ≡ width field.size = low_length field.size (unwrap_or (held_value symbols sections field) 0) in
     let end : field_end field ≡ field.offset + length value = ap (λ n. field.offset + n) (sym long) in
     let within = field_inside section.bytes section.fields index 0 field stand there in
     let found = value_stands symbols sections section.bytes section.fields index 0 field [] (plain_bytes symbols sections section) refl refl stand there in

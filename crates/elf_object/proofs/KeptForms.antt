@@ -1,5 +1,6 @@
 -- A symbol alone, or one less another one, stays as it is where it has no value.
-use Rattle.std.proofs.Common.{◌≡◌, ℕ, ◌+◌, ◌-◌, ◌*◌, ◌^◌, ◌==◌, Bool, true, false, not, List, [], ◌∷◌, None, refl, sym, ap, ◌∙◌, arith}
+use Rattle.std.proofs.Common.{◌≡◌, ℕ, ◌+◌, ◌-◌, ◌*◌, ◌^◌, ◌==◌, Bool, true, false, not, List, [], ◌∷◌, Option, Some, None, refl, sym, ap, ◌∙◌, arith}
+use Rattle.std.specs.Prelude.{option_map}
 use Rattle.std.proofs.lemmas.Bool.Decides.{nat_tests}
 use Rattle.asm_expr.specs.declared.forms.Term.{Term}
 use Rattle.asm_expr.specs.Forms.{Form, wrapped, term_of, constant_form}
@@ -7,7 +8,8 @@ use Rattle.asm_expr.specs.Knowledge.{Told, absent, constant, label, form}
 use Rattle.asm_expr.specs.Settled.{put_all, settled, nothing_cancels, cannot_cancel, constant_left}
 use Rattle.asm_expr.proofs.SettledLemmas.{none_cancel, stays as nothing_left}
 use Rattle.asm_symbols.specs.SymbolMap.{SymbolMap}
-use Rattle.asm_relax.specs.Final.{final_told, laid_value}
+use Rattle.asm_frags.specs.declared.fields.Field.{Field}
+use Rattle.asm_relax.specs.FieldValues.{told_in_field, counted, held_value}
 use Rattle.asm_relax.specs.Settling.{LaidSections}
 use Rattle.elf_object.proofs.ItemBytes.{both_true}
 use Rattle.elf_object.specs.Relocations.{is_plus, is_minus, stays, reference_of, final_reference}
@@ -101,8 +103,18 @@ stays_by told (one ∷ other ∷ []) total is none =
     pair_of_terms told one other total (is_number one.coefficient 1 both.0) (is_number other.coefficient (2 ^ 64 - 1) both.1) none
 stays_by told (one ∷ other ∷ third ∷ more) total is none = absurd cc
 
--- such a form without a value refers to what it says
-pub kept : (map : SymbolMap) (sections : LaidSections) (number place : ℕ) (made : Form) → stays made.terms ≡ true → laid_value map sections made ≡ None
-    → reference_of map sections number place made ≡ final_reference map sections number place made
-unfolding laid_value
-kept map sections number place made is none = ap (reference_of map sections number place) (stays_by (final_told map sections) made.terms made.constant is none)
+no_constant : (made : Form) (count : ℕ → ℕ) → option_map count (constant_left made) ≡ None → constant_left made ≡ None
+no_constant made count none = by (constant_left made) none
+  where
+    by : (o : Option ℕ) → option_map count o ≡ None → o ≡ None
+    by None none = refl
+    by (Some n) none = absurd cc
+
+-- such a form of a field without a value refers to what it says
+pub kept : (map : SymbolMap) (sections : LaidSections) (number place : ℕ) (field : Field) → stays field.form.terms ≡ true → held_value map sections field ≡ None
+    → reference_of map sections number place field field.form ≡ final_reference map sections number place field
+unfolding held_value
+kept map sections number place field is none =
+    let told = told_in_field map sections field in
+    ap (reference_of map sections number place field)
+    (stays_by told field.form.terms field.form.constant is (no_constant (settled told field.form) (counted field.size field.role) none))

@@ -12,4 +12,5 @@ pub mod PlainPlaces
 pub mod ItemPlaces
 mod TableOrder
 mod Targets
+mod RelocationLemmas
 mod TableNumbers

@@ -13,7 +13,7 @@ use Rattle.asm_frags.specs.Contents.{size_at, bytes_at}
 use Rattle.asm_frags.specs.Fields.{width}
 use Rattle.asm_frags.specs.PlainBytes.{field_end, IsBeside, FieldsStand}
 use Rattle.asm_symbols.specs.SymbolMap.{SymbolMap}
-use Rattle.asm_relax.specs.Final.{laid_value}
+use Rattle.asm_relax.specs.FieldValues.{held_value}
 use Rattle.asm_relax.specs.Placing.{placed_from, shift_of}
 use Rattle.asm_relax.specs.Settling.{LaidItem, LaidSections}
 use Rattle.elf_object.specs.Contents.{field_bytes, fits_behind, filled, reached, interleaved}
@@ -77,7 +77,7 @@ cut bytes whole front at offset to is long first second within =
 
 module _ (symbols : SymbolMap) (laid : LaidSections) (bytes : List ℕ) where
   value_long : (field : Field) → length (field_bytes symbols laid field) ≡ width field.size
-  value_long field = low_length field.size (unwrap_or (laid_value symbols laid field.form) 0)
+  value_long field = low_length field.size (unwrap_or (held_value symbols laid field) 0)
 
   -- behind a field that fits stands what is left
   past : (field : Field) (rest front whole : List ℕ) (at : ℕ) → at ≤ field.offset → field_end field ≤ length bytes → length front ≡ at

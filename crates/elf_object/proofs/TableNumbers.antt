@@ -12,7 +12,7 @@ use Rattle.elf_symbols.specs.declared.targets.Target.{Target}
 use Rattle.elf_symbols.specs.declared.targets.Target.TheVariants.{OfSection, OfSymbol}
 use Rattle.elf_symbols.specs.declared.symbol_values.SymbolValue.{SymbolValue}
 use Rattle.elf_object.specs.Contents.{relocations_of}
-use Rattle.elf_object.specs.Naming.{same_target, is_named_by, is_named, marks_from, named_of}
+use Rattle.elf_object.specs.Naming.{same_target, is_named_by, is_named, is_thread_named, marks_from, named_of}
 use Rattle.elf_symbols.specs.Numbers.{section_numbers, standing_by, standing_of, symbol_numbers, first_section_symbol, first_local, first_other, numbers_of, target_number}
 use Rattle.elf_symbols.specs.SymbolValues.{symbol_value_of}
 use Rattle.elf_symbols.specs.SymbolTable.{SymbolEntry, is_local_entry, part, file_entry, section_entry, section_entries, entry_at, needs_naming, listed_if, listed, listed_by, listed_all, table_of}
@@ -128,20 +128,23 @@ behind_front front entries tail base number entry is at =
     past (s ∷ front) entries j entry there =
         let same : suc (length front) + j ≡ suc (length front + j) = omega arith in ap (slice_get (s ∷ (front ++ entries))) same ∙ past front entries j entry there
 
-listed_get : (map : SymbolMap) (sections : LaidSections) (marks : List Bool) (symbols : List Symbol) (i : ℕ) (mark : Bool) (symbol : Symbol) → slice_get marks i ≡ Some mark
-    → slice_get symbols i ≡ Some symbol → slice_get (listed_by map sections marks symbols) i ≡ Some (listed map sections mark symbol)
-listed_get map sections [] symbols i mark symbol is there = absurd cc
-listed_get map sections (m ∷ marks) [] i mark symbol is there = absurd cc
-listed_get map sections (m ∷ marks) (s ∷ symbols) zero mark symbol is there =
-    let first : m ≡ mark = cc in let second : s ≡ symbol = cc in rw (first, second) refl
-listed_get map sections (m ∷ marks) (s ∷ symbols) (suc i) mark symbol is there = listed_get map sections marks symbols i mark symbol is there
+listed_get : (map : SymbolMap) (sections : LaidSections) (marks threads : List Bool) (symbols : List Symbol) (i : ℕ) (mark thread : Bool) (symbol : Symbol)
+    → slice_get marks i ≡ Some mark → slice_get threads i ≡ Some thread → slice_get symbols i ≡ Some symbol
+    → slice_get (listed_by map sections marks threads symbols) i ≡ Some (listed map sections mark thread symbol)
+listed_get map sections [] threads symbols i mark thread symbol is also there = absurd cc
+listed_get map sections (m ∷ marks) [] symbols i mark thread symbol is also there = absurd cc
+listed_get map sections (m ∷ marks) (t ∷ threads) [] i mark thread symbol is also there = absurd cc
+listed_get map sections (m ∷ marks) (t ∷ threads) (s ∷ symbols) zero mark thread symbol is also there =
+    let first : m ≡ mark = cc in let second : t ≡ thread = cc in let third : s ≡ symbol = cc in rw (first, second, third) refl
+listed_get map sections (m ∷ marks) (t ∷ threads) (s ∷ symbols) (suc i) mark thread symbol is also there =
+    listed_get map sections marks threads symbols i mark thread symbol is also there
 
 -- a symbol that is named and stands somewhere is listed
-listed_there : (map : SymbolMap) (sections : LaidSections) (symbol : Symbol) (there : SymbolValue) → symbol_value_of map sections symbol.meaning ≡ Some there
-    → listed map sections true symbol ≡ Some (entry_at map sections symbol there)
+listed_there : (map : SymbolMap) (sections : LaidSections) (thread : Bool) (symbol : Symbol) (there : SymbolValue) → symbol_value_of map sections symbol.meaning ≡ Some there
+    → listed map sections true thread symbol ≡ Some (entry_at map sections thread symbol there)
 unfolding listed
-listed_there map sections symbol there is =
-    ap (listed_if map sections true symbol) is ∙ kept (needs_naming symbol there) (entry_at map sections symbol there)
+listed_there map sections thread symbol there is =
+    ap (listed_if map sections true thread symbol) is ∙ kept (needs_naming symbol there) (entry_at map sections thread symbol there)
   where
     kept : (needs : Bool) (entry : SymbolEntry) → cond (needs && not true) None (Some entry) ≡ Some entry
     kept true entry = refl
@@ -206,9 +209,13 @@ symbol_stands symbols sections i (symbol, there, got, stands) named =
     let mark : slice_get marks i ≡ Some true =
     marks_get (λ index. is_named found (OfSymbol index)) 0 (length symbols.symbols) i (got_inside symbols.symbols i symbol got)
     ∙ ap (λ m. Some (is_named found (OfSymbol m))) zero_plus ∙ ap Some named in
-    let entry = entry_at symbols sections symbol there in
+    let threads = marks_from (λ index. is_thread_named found (OfSymbol index)) 0 (length symbols.symbols) in
+    let thread = is_thread_named found (OfSymbol (0 + i)) in
+    let beside : slice_get threads i ≡ Some thread =
+    marks_get (λ index. is_thread_named found (OfSymbol index)) 0 (length symbols.symbols) i (got_inside symbols.symbols i symbol got) in
+    let entry = entry_at symbols sections thread symbol there in
     symbol_number symbols sections i entry (is_local_entry entry) refl
-    (listed_get symbols sections marks symbols.symbols i true symbol mark got ∙ ap Some (listed_there symbols sections symbol there stands))
+    (listed_get symbols sections marks threads symbols.symbols i true thread symbol mark beside got ∙ ap Some (listed_there symbols sections thread symbol there stands))
 
 target_stands : (symbols : SymbolMap) (sections : LaidSections) (target : Target) → Sits symbols sections target → is_named (relocations_of symbols sections) target ≡ true
     → IsEntryOf symbols sections (target_number (numbers_of symbols sections (named_targets symbols sections)) target) target

@@ -7,7 +7,7 @@ use Rattle.asm_frags.specs.Fields.{low_bytes}
 use Rattle.asm_frags.specs.SectionOf.{SectionOf}
 use Rattle.asm_frags.specs.Writing.{is_run}
 use Rattle.asm_symbols.specs.SymbolMap.{SymbolMap}
-use Rattle.asm_relax.specs.Final.{laid_value}
+use Rattle.asm_relax.specs.FieldValues.{held_value}
 use Rattle.asm_relax.specs.Settling.{LaidItem, LaidSections}
 use Rattle.elf_file.specs.Sections.{no_bits}
 use Rattle.elf_object.specs.declared.relocations.Relocation.{Relocation}
@@ -15,7 +15,7 @@ use Rattle.elf_object.specs.Relocations.{field_relocation}
 
 -- the bytes of a field: its value, or zeros where it has none
 abbrev pub field_bytes : SymbolMap → LaidSections → Field → List ℕ
-field_bytes map sections field = low_bytes field.size (unwrap_or (laid_value map sections field.form) 0)
+field_bytes map sections field = low_bytes field.size (unwrap_or (held_value map sections field) 0)
 
 -- the field begins at this offset or behind it, and ends within the bytes
 abbrev pub fits_behind : List ℕ → ℕ → Field → Bool
@@ -55,7 +55,7 @@ section_bytes map sections section = interleaved (plain_bytes map sections secti
 -- the field of the section of this number has neither a value nor a relocation
 abbrev pub is_lost : SymbolMap → LaidSections → ℕ → SectionOf LaidItem → Field → Bool
 is_lost map sections number section field =
-    not (is_some (laid_value map sections field.form) || is_some (field_relocation map sections number section field))
+    not (is_some (held_value map sections field) || is_some (field_relocation map sections number section field))
 
 -- the fields whose bytes stand in the file
 abbrev pub filed_fields : SectionOf LaidItem → List Field

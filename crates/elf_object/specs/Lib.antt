@@ -8,5 +8,6 @@ pub mod Image
 pub mod Objects
 pub mod Places
 pub mod TableLaws
+pub mod RelocationLaws
 pub mod Views
 pub mod Marking

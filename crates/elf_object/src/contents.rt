@@ -19,7 +19,7 @@ use crate::faults::{ObjectCause, ObjectFault};
 use crate::references::field_relocation;
 use crate::relocations::Relocation;
 use asm_frags::{Content, Field, FieldSize, Frag, Laid, SHT_NOBITS, Section, size};
-use asm_relax::{laid_value, section_size};
+use asm_relax::{held_value, section_size};
 use elf_file::{Between, Body, Mixed, Repetition};
 use elf_symbols::Placement;
 use std::alloc::{AllocError, Global};
@@ -67,7 +67,7 @@ fn put_field(
         (λ fault. IsLostAt field.now.pos (spec.is_lost at.entry.symbols.now at.entry.sections.now
         number section.now field.now) fault) }
 {
-    if let Some(value) = laid_value(at.symbols, at.sections, &field.form) {
+    if let Some(value) = held_value(at.symbols, at.sections, field) {
         put_low(&mut out.bytes, field.offset, field.size, value);
         return Ok(());
     }

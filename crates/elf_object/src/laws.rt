@@ -1,6 +1,7 @@
 //! Laws of the definitions.
 
 ghost use Rattle.elf_object.specs.Places.{BytesStand, ValuesStand, ItemsStand, PlacesAreAddresses};
+ghost use Rattle.elf_object.specs.RelocationLaws.{RelocationsMeanForms};
 ghost use Rattle.elf_object.specs.TableLaws.{LocalsFirst, TargetsStand};
 
 /// Where a section is laid out, plain bytes beside all fields, and between items, stand in the object as
@@ -38,4 +39,10 @@ pub fn locals_first()
 /// Each relocation names a symbol that is there: its number is that of the entry of the section or symbol that it means.
 pub fn targets_stand()
     ensures { TargetsStand }
+{}
+
+/// Wherever sections begin and symbols stand, what the linker makes of the relocation of a field
+/// without a suffix is the value of the field's form, less what its kind counts from.
+pub fn relocations_mean_forms()
+    ensures { RelocationsMeanForms }
 {}

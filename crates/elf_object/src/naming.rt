@@ -1,13 +1,13 @@
 //! Which sections and symbols relocations name.
 
 ghost use Rattle.std.specs.Prelude.{◌≡◌, length, map, IfOk, slice_set, true};
-ghost use Rattle.elf_object.specs.Naming.{named_of};
+ghost use Rattle.elf_object.specs.Naming.{is_thread_kind, named_of};
 ghost use Rattle.elf_object.specs.Marking.{Marks};
 ghost use Rattle.elf_symbols.specs.Views.{named_view};
 ghost use Rattle.elf_object.specs.Views.{relocations_in};
 
 use crate::contents::HeldSection;
-use crate::relocations::Relocation;
+use crate::relocations::{Relocation, RelocationKind};
 use elf_symbols::{Named, Target};
 use std::alloc::{AllocError, Global};
 
@@ -20,6 +20,13 @@ fn mark(marks: &mut [bool], index: usize)
     }
 }
 
+/// Whether the relocation asks for the symbol's offset from the thread pointer.
+fn is_thread_kind(kind: RelocationKind) -> bool
+    ensures { result ≡ is_thread_kind kind }
+{
+    matches!(kind, RelocationKind::GotTpOff | RelocationKind::TpOff32)
+}
+
 /// Marks what these relocations name.
 fn mark_all(named: &mut Named, relocations: &[Relocation])
     ensures { Marks (named_view named.old) (named_view named.new) relocations.now }
@@ -27,7 +34,12 @@ fn mark_all(named: &mut Named, relocations: &[Relocation])
     for relocation in relocations {
         match relocation.target {
             Target::OfSection(number) => mark(&mut named.sections, number),
-            Target::OfSymbol(index) => mark(&mut named.symbols, index),
+            Target::OfSymbol(index) => {
+                mark(&mut named.symbols, index);
+                if is_thread_kind(relocation.kind) {
+                    mark(&mut named.thread_locals, index);
+                }
+            }
         }
     }
 }
@@ -45,6 +57,7 @@ pub(crate) fn named_by(
     let mut named = Named {
         sections: vec![in alloc; false; held.len()]?,
         symbols: vec![in alloc; false; symbols]?,
+        thread_locals: vec![in alloc; false; symbols]?,
     };
     for section in held {
         mark_all(&mut named, &section.relocations);

@@ -3,14 +3,14 @@
 ghost use Rattle.std.specs.Prelude.{◌≡◌, None, IfOk};
 ghost use Rattle.asm_expr.specs.Knowledge.{told_by};
 ghost use Rattle.asm_expr.specs.Settled.{settled};
-ghost use Rattle.asm_relax.specs.Final.{final_told, laid_value};
+ghost use Rattle.asm_relax.specs.FieldValues.{held_value};
 ghost use Rattle.elf_object.specs.Relocations as spec;
 
 use crate::relocations::{Relocation, kind_for};
 use asm_base::NoMemory;
-use asm_expr::{Known, Linear, Look, SymId, Term, copied_form, settled};
+use asm_expr::{Linear, Look, SymId, Term, copied_form, settled};
 use asm_frags::{Field, Laid, Section, SectionFlags};
-use asm_relax::{FinalView, address_in, address_of};
+use asm_relax::{FieldView, address_in, address_of, counted, is_suffixed, look_beside};
 use asm_symbols::{Meaning, Spot, Symbol};
 use elf_symbols::{Placement, Target, binding_of, has_flag, is_local};
 use std::alloc::{AllocError, Global};
@@ -20,6 +20,8 @@ use std::alloc::{AllocError, Global};
 pub struct SymbolReference {
     pub target: Target,
     pub addend: u64,
+    /// Whether the symbol is local.
+    pub local: bool,
 }
 
 /// S + A, or, where it is relative, S + A - P.
@@ -27,25 +29,36 @@ pub struct SymbolReference {
 pub struct Reference {
     pub target: Target,
     pub relative: bool,
+    /// Whether the symbol is local.
+    pub local: bool,
     pub addend: u64,
 }
 
-/// A local symbol is named by its section, unless the linker may move what stands there.
+/// A local symbol is named by its section, unless the linker may move what stands there, or is asked
+/// for something of the symbol itself.
 #[inline(always)]
-fn label_reference(at: Placement, index: usize, local: bool, spot: Spot) -> Option<SymbolReference>
-    ensures { result ≡ spec.label_reference at.entry.sections.now index local spot }
+fn label_reference(
+    at: Placement,
+    itself: bool,
+    index: usize,
+    local: bool,
+    spot: Spot,
+) -> Option<SymbolReference>
+    ensures { result ≡ spec.label_reference itself at.entry.sections.now index local spot }
 {
     match at.sections.as_slice().get(spot.section as usize) {
         Some(section) => {
-            if local && !has_flag(section, SectionFlags::MERGE) {
+            if local && !(itself || has_flag(section, SectionFlags::MERGE)) {
                 Some(SymbolReference {
                     target: Target::OfSection(spot.section as usize),
                     addend: address_of(at.sections, spot.section, spot.item, spot.offset),
+                    local,
                 })
             } else {
                 Some(SymbolReference {
                     target: Target::OfSymbol(index),
                     addend: 0,
+                    local,
                 })
             }
         }
@@ -55,29 +68,38 @@ fn label_reference(at: Placement, index: usize, local: bool, spot: Spot) -> Opti
 
 /// What a relocation names for the symbol at this index.
 #[inline(always)]
-fn reference_at(at: Placement, index: usize, symbol: &Symbol) -> Option<SymbolReference>
-    ensures { result ≡ spec.reference_at at.entry.sections.now index symbol.now }
+fn reference_at(
+    at: Placement,
+    itself: bool,
+    index: usize,
+    symbol: &Symbol,
+) -> Option<SymbolReference>
+    ensures { result ≡ spec.reference_at itself at.entry.sections.now index symbol.now }
 {
     let local = is_local(binding_of(&symbol.meaning, symbol.binding));
     match &symbol.meaning {
         Meaning::Undefined | Meaning::Common { .. } => Some(SymbolReference {
             target: Target::OfSymbol(index),
             addend: 0,
+            local,
         }),
-        Meaning::Label(spot) | Meaning::Space(spot) => label_reference(at, index, local, *spot),
+        Meaning::Label(spot) | Meaning::Space(spot) => {
+            label_reference(at, itself, index, local, *spot)
+        },
         Meaning::Assigned(_) => None,
     }
 }
 
-/// What a relocation names for this symbol, if it is there.
+/// What a relocation of the field names for this symbol, if it is there. A suffix asks for something
+/// of the symbol itself.
 #[inline(always)]
 #[tactic(auto, unfolding(crate::specs::Relocations::reference_found))]
-fn reference_found(at: Placement, id: SymId) -> Option<SymbolReference>
-    ensures { result ≡ spec.reference_found at.entry.symbols.now at.entry.sections.now id }
+fn reference_found(at: Placement, field: &Field, id: SymId) -> Option<SymbolReference>
+    ensures { result ≡ spec.reference_found at.entry.symbols.now at.entry.sections.now field.now id }
 {
     let index = id.index() as usize;
     match at.symbols.as_slice().get(index) {
-        Some(symbol) => reference_at(at, index, symbol),
+        Some(symbol) => reference_at(at, is_suffixed(field.role.suffix), index, symbol),
         None => None,
     }
 }
@@ -101,16 +123,17 @@ fn reference_to(relative: bool, number: u64, to: SymbolReference) -> Reference
     Reference {
         target: to.target,
         relative,
+        local: to.local,
         addend: number.wrapping_add(to.addend),
     }
 }
 
 /// S + c.
 #[inline(always)]
-fn direct(at: Placement, id: SymId, number: u64) -> Option<Reference>
-    ensures { result ≡ spec.direct at.entry.symbols.now at.entry.sections.now id number }
+fn direct(at: Placement, field: &Field, id: SymId, number: u64) -> Option<Reference>
+    ensures { result ≡ spec.direct at.entry.symbols.now at.entry.sections.now field.now id number }
 {
-    match reference_found(at, id) {
+    match reference_found(at, field, id) {
         Some(to) => Some(reference_to(false, number, to)),
         None => None,
     }
@@ -122,20 +145,18 @@ fn relative(
     at: Placement,
     section: usize,
     place: u64,
+    field: &Field,
     id: SymId,
     from: SymId,
     constant: u64,
 ) -> Option<Reference>
-    ensures { result ≡ spec.relative at.entry.symbols.now at.entry.sections.now section place id
-        from constant }
+    ensures { result ≡ spec.relative at.entry.symbols.now at.entry.sections.now section place
+        field.now id from constant }
 {
-    let view = FinalView {
-        symbols: at.symbols,
-        sections: at.sections,
-    };
-    let address = own_address(section, view.look(from))?;
+    let from = look_beside(at.symbols, at.sections, field, from);
+    let address = own_address(section, from)?;
     let number = constant.wrapping_add(place).wrapping_sub(address);
-    match reference_found(at, id) {
+    match reference_found(at, field, id) {
         Some(to) => Some(reference_to(true, number, to)),
         None => None,
     }
@@ -161,17 +182,34 @@ fn pair(
     at: Placement,
     section: usize,
     place: u64,
+    field: &Field,
     one: &Term,
     other: &Term,
     constant: u64,
 ) -> Option<Reference>
-    ensures { result ≡ spec.pair at.entry.symbols.now at.entry.sections.now section place one.now
-        other.now constant }
+    ensures { result ≡ spec.pair at.entry.symbols.now at.entry.sections.now section place field.now
+        one.now other.now constant }
 {
     if is_plus(one) && is_minus(other) {
-        relative(at, section, place, one.symbol, other.symbol, constant)
+        relative(
+            at,
+            section,
+            place,
+            field,
+            one.symbol,
+            other.symbol,
+            constant,
+        )
     } else if is_minus(one) && is_plus(other) {
-        relative(at, section, place, other.symbol, one.symbol, constant)
+        relative(
+            at,
+            section,
+            place,
+            field,
+            other.symbol,
+            one.symbol,
+            constant,
+        )
     } else {
         None
     }
@@ -179,13 +217,19 @@ fn pair(
 
 /// What is left of the form of a field, at this place of the section of this number, where a relocation can say it.
 #[inline(always)]
-fn reference_by(at: Placement, section: usize, place: u64, form: &Linear) -> Option<Reference>
+fn reference_by(
+    at: Placement,
+    section: usize,
+    place: u64,
+    field: &Field,
+    form: &Linear,
+) -> Option<Reference>
     ensures { result ≡ spec.reference_of at.entry.symbols.now at.entry.sections.now section place
-        form.now }
+        field.now form.now }
 {
     match form.terms() {
-        [term] if is_plus(term) => direct(at, term.symbol, form.constant()),
-        [one, other] => pair(at, section, place, one, other, form.constant()),
+        [term] if is_plus(term) => direct(at, field, term.symbol, form.constant()),
+        [one, other] => pair(at, section, place, field, one, other, form.constant()),
         _ => None,
     }
 }
@@ -198,17 +242,18 @@ fn settled_reference(
     at: Placement,
     section: usize,
     place: u64,
-    form: &Linear,
+    field: &Field,
 ) -> Result<Option<Reference>, NoMemory>
     ensures { IfOk result (λ found. found
-        ≡ spec.final_reference at.entry.symbols.now at.entry.sections.now section place form.now) }
+        ≡ spec.final_reference at.entry.symbols.now at.entry.sections.now section place field.now) }
 {
-    let view = FinalView {
+    let view = FieldView {
         symbols: at.symbols,
         sections: at.sections,
+        field,
     };
-    match settled(alloc, &view, copied_form(alloc, form)?) {
-        Ok(made) => Ok(reference_by(at, section, place, &made)),
+    match settled(alloc, &view, copied_form(alloc, &field.form)?) {
+        Ok(made) => Ok(reference_by(at, section, place, field, &made)),
         Err(_) => Err(AllocError),
     }
 }
@@ -233,16 +278,33 @@ fn reference_of(
     at: Placement,
     section: usize,
     place: u64,
-    form: &Linear,
+    field: &Field,
 ) -> Result<Option<Reference>, NoMemory>
-    requires { laid_value at.symbols.now at.sections.now form.now ≡ None }
+    requires { held_value at.symbols.now at.sections.now field.now ≡ None }
     ensures { IfOk result (λ found. found
-        ≡ spec.final_reference at.entry.symbols.now at.entry.sections.now section place form.now) }
+        ≡ spec.final_reference at.entry.symbols.now at.entry.sections.now section place field.now) }
 {
-    if stays(form.terms()) {
-        return Ok(reference_by(at, section, place, form));
+    if stays(field.form.terms()) {
+        return Ok(reference_by(at, section, place, field, &field.form));
     }
-    settled_reference(alloc, at, section, place, form)
+    settled_reference(alloc, at, section, place, field)
+}
+
+/// The relocation of this field at this offset, if it has a kind. A distance counts from the end of
+/// the instruction.
+#[inline(always)]
+fn relocation_of(place: u64, field: &Field, found: Reference) -> Option<Relocation>
+    ensures { result ≡ spec.relocation place field.now found }
+{
+    match kind_for(found.relative, field.role, found.local, field.size) {
+        Some(kind) => Some(Relocation {
+            offset: place,
+            kind,
+            target: found.target,
+            addend: counted(field.size, field.role, found.addend),
+        }),
+        None => None,
+    }
 }
 
 /// The relocation of a field of the section of this number, which has no value.
@@ -254,19 +316,14 @@ pub(crate) fn field_relocation(
     section: &Section<Laid>,
     field: &Field,
 ) -> Result<Option<Relocation>, NoMemory>
-    requires { laid_value at.symbols.now at.sections.now field.now.form ≡ None }
+    requires { held_value at.symbols.now at.sections.now field.now ≡ None }
     ensures { IfOk result (λ found. found
         ≡ spec.field_relocation at.entry.symbols.now at.entry.sections.now number section.now
         field.now) }
 {
     let place = address_in(section, field.item as u64, field.offset as u64);
-    match reference_of(alloc, at, number, place, &field.form)? {
-        Some(found) => Ok(Some(Relocation {
-            offset: place,
-            kind: kind_for(found.relative, field.size),
-            target: found.target,
-            addend: found.addend,
-        })),
+    match reference_of(alloc, at, number, place, field)? {
+        Some(found) => Ok(relocation_of(place, field, found)),
         None => Ok(None),
     }
 }

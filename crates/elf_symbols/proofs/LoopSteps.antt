@@ -13,20 +13,23 @@ pub next_is : {X Y : Type 0} (f : List X → Y) (xs : List X) (i : ℕ) (x : X) 
 next_is f xs i x inside is = at_drop_more f xs i x inside ∙ ap (λ y. f (y ∷ drop (i + 1) xs)) (sym is)
 
 -- one more entry is listed
-pub listed_next : (symbols : SymbolMap) (sections : LaidSections) (marks : List Bool) (all : List Symbol) (i : ℕ) (mark : Bool) (symbol : Symbol) → length marks ≡ length all
-    → i < length all → mark ≡ get_or marks i mark → symbol ≡ get_or all i symbol
-    → listed_by symbols sections (drop i marks) (drop i all) ≡ listed symbols sections mark symbol ∷ listed_by symbols sections (drop (i + 1) marks) (drop (i + 1) all)
-listed_next symbols sections marks all i mark symbol long inside first second =
+pub listed_next : (symbols : SymbolMap) (sections : LaidSections) (marks threads : List Bool) (all : List Symbol) (i : ℕ) (mark thread : Bool) (symbol : Symbol)
+    → length marks ≡ length all → length threads ≡ length all → i < length all → mark ≡ get_or marks i mark → thread ≡ get_or threads i thread → symbol ≡ get_or all i symbol
+    → listed_by symbols sections (drop i marks) (drop i threads) (drop i all)
+    ≡ listed symbols sections mark thread symbol ∷ listed_by symbols sections (drop (i + 1) marks) (drop (i + 1) threads) (drop (i + 1) all)
+listed_next symbols sections marks threads all i mark thread symbol long also inside first second third =
     let there : i < length marks = rw long inside in
-    next_is (λ ms. listed_by symbols sections ms (drop i all)) marks i mark there first
-    ∙ next_is (λ ss. listed_by symbols sections (mark ∷ drop (i + 1) marks) ss) all i symbol inside second
+    let beside : i < length threads = rw also inside in
+    next_is (λ ms. listed_by symbols sections ms (drop i threads) (drop i all)) marks i mark there first
+    ∙ next_is (λ ts. listed_by symbols sections (mark ∷ drop (i + 1) marks) ts (drop i all)) threads i thread beside second
+    ∙ next_is (λ ss. listed_by symbols sections (mark ∷ drop (i + 1) marks) (thread ∷ drop (i + 1) threads) ss) all i symbol inside third
 
 -- no entry is left
-pub listed_none : (symbols : SymbolMap) (sections : LaidSections) (marks : List Bool) (all : List Symbol) (i : ℕ) → length marks ≡ length all → length all ≤ i
-    → listed_by symbols sections (drop i marks) (drop i all) ≡ []
-listed_none symbols sections marks all i long end =
+pub listed_none : (symbols : SymbolMap) (sections : LaidSections) (marks threads : List Bool) (all : List Symbol) (i : ℕ) → length marks ≡ length all → length all ≤ i
+    → listed_by symbols sections (drop i marks) (drop i threads) (drop i all) ≡ []
+listed_none symbols sections marks threads all i long end =
     let past : length marks ≤ i = rw long end in
-    at_drop_all (λ ms. listed_by symbols sections ms (drop i all)) marks i past
+    at_drop_all (λ ms. listed_by symbols sections ms (drop i threads) (drop i all)) marks i past
 
 -- all is pushed
 pub all_pushed : {Y : Type 0} (out rest whole : List Y) → rest ≡ [] → out ++ rest ≡ whole → out ≡ whole

@@ -90,9 +90,9 @@ said_type (Some said.Function) = type.Function
 said_type (Some said.Tls) = type.Tls
 said_type (Some said.Common) = type.Common
 
--- symbols in a TLS section have type STT_TLS
-abbrev pub type_of : LaidSections → SymbolSection → Option Kind → SymbolType
-type_of sections section kind = if is_thread_local sections section then type.Tls else said_type kind
+-- symbols in a TLS section, and those that are named as thread-local, have type STT_TLS
+abbrev pub type_of : LaidSections → Bool → SymbolSection → Option Kind → SymbolType
+type_of sections thread_local section kind = if thread_local || is_thread_local sections section then type.Tls else said_type kind
 
 -- the value of a size, and 0 where no size is said; a size without a value is a fault before
 abbrev pub size_of : SymbolMap → LaidSections → Option Form → ℕ
@@ -106,11 +106,11 @@ text_of (Numeric number instance) = []
 text_of (Place section item offset) = []
 
 -- the entry of a symbol that stands there; an alias has its symbol's type and size where none is said of it
-abbrev pub entry_at : SymbolMap → LaidSections → Symbol → SymbolValue → SymbolEntry
-entry_at map sections symbol there = record {
+abbrev pub entry_at : SymbolMap → LaidSections → Bool → Symbol → SymbolValue → SymbolEntry
+entry_at map sections thread_local symbol there = record {
   name = text_of symbol.name;
   binding = binding_of symbol.meaning symbol.binding;
-  kind = type_of sections there.section (symbol_kind map symbol);
+  kind = type_of sections thread_local there.section (symbol_kind map symbol);
   visibility = symbol.visibility;
   section = there.section;
   value = there.value;
@@ -129,13 +129,14 @@ abbrev pub needs_naming : Symbol → SymbolValue → Bool
 needs_naming symbol there = is_undefined_section there.section || (is_file_local symbol.name && is_local (binding_of symbol.meaning symbol.binding))
 
 -- the entry of a symbol that has a value, unless it needs naming and nothing names it
-abbrev pub listed_if : SymbolMap → LaidSections → Bool → Symbol → Option SymbolValue → Option SymbolEntry
-listed_if map sections named symbol None = None
-listed_if map sections named symbol (Some there) = if needs_naming symbol there && not named then None else Some (entry_at map sections symbol there)
+abbrev pub listed_if : SymbolMap → LaidSections → Bool → Bool → Symbol → Option SymbolValue → Option SymbolEntry
+listed_if map sections named thread_local symbol None = None
+listed_if map sections named thread_local symbol (Some there) =
+    if needs_naming symbol there && not named then None else Some (entry_at map sections thread_local symbol there)
 
 -- the entry of a symbol, if it stands in the table
-unfoldable pub listed : SymbolMap → LaidSections → Bool → Symbol → Option SymbolEntry
-listed map sections named symbol = listed_if map sections named symbol (symbol_value_of map sections symbol.meaning)
+unfoldable pub listed : SymbolMap → LaidSections → Bool → Bool → Symbol → Option SymbolEntry
+listed map sections named thread_local symbol = listed_if map sections named thread_local symbol (symbol_value_of map sections symbol.meaning)
 
 -- the entry of a source file's name
 abbrev pub file_entry : Name → SymbolEntry
@@ -161,11 +162,12 @@ section_entry number = record {
   size = 0;
 }
 
--- the entries of the symbols that stand in the table; the marks tell which of them relocations name
-abbrev pub listed_by : SymbolMap → LaidSections → List Bool → List Symbol → List (Option SymbolEntry)
-listed_by map sections [] symbols = []
-listed_by map sections (mark ∷ marks) [] = []
-listed_by map sections (mark ∷ marks) (symbol ∷ symbols) = listed map sections mark symbol ∷ listed_by map sections marks symbols
+-- the entries of the symbols that stand in the table; the marks tell which of them relocations name, and which as thread-local
+abbrev pub listed_by : SymbolMap → LaidSections → List Bool → List Bool → List Symbol → List (Option SymbolEntry)
+listed_by map sections [] threads symbols = []
+listed_by map sections (mark ∷ marks) [] symbols = []
+listed_by map sections (mark ∷ marks) (thread ∷ threads) [] = []
+listed_by map sections (mark ∷ marks) (thread ∷ threads) (symbol ∷ symbols) = listed map sections mark thread symbol ∷ listed_by map sections marks threads symbols
 
 -- the entries of the sections that are marked, from this number on
 abbrev pub section_entries : ℕ → List Bool → List SymbolEntry
@@ -190,7 +192,7 @@ PutsPart local all before after = after ≡ before ++ part local all
 
 -- the entry of each symbol, if it stands in the table
 abbrev pub listed_all : SymbolMap → LaidSections → NamedOf → List (Option SymbolEntry)
-listed_all symbols sections named = listed_by symbols sections named.symbols symbols.symbols
+listed_all symbols sections named = listed_by symbols sections named.symbols named.thread_locals symbols.symbols
 
 -- the entries behind the null symbol's: names of files, sections, local symbols, and the others, each in their order
 unfoldable pub table_of : SymbolMap → LaidSections → NamedOf → List SymbolEntry

@@ -24,4 +24,4 @@ numbers_view numbers = record { sections = numbers.sections.items; symbols = num
 
 -- the marks of what relocations name
 abbrev pub named_view : Named → NamedOf
-named_view named = record { sections = named.sections.items; symbols = named.symbols.items }
+named_view named = record { sections = named.sections.items; symbols = named.symbols.items; thread_locals = named.thread_locals.items }

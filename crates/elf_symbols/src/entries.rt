@@ -125,11 +125,17 @@ fn said_type(kind: Option<Kind>) -> SymbolType
     }
 }
 
-/// The type of a symbol that stands there. Symbols in a TLS section have type `STT_TLS`.
-fn type_of(sections: &Sections<Laid>, section: SymbolSection, kind: Option<Kind>) -> SymbolType
-    ensures { result ≡ spec.type_of sections.now section kind }
+/// The type of a symbol that stands there. Symbols in a TLS section, and those that are named as
+/// thread-local, have type `STT_TLS`.
+fn type_of(
+    sections: &Sections<Laid>,
+    thread_local: bool,
+    section: SymbolSection,
+    kind: Option<Kind>,
+) -> SymbolType
+    ensures { result ≡ spec.type_of sections.now thread_local section kind }
 {
-    if is_thread_local(sections, section) {
+    if thread_local || is_thread_local(sections, section) {
         SymbolType::Tls
     } else {
         said_type(kind)
@@ -170,17 +176,24 @@ fn entry_at<'a>(
     alloc: Global,
     at: Placement,
     expansions: &Expansions,
+    thread_local: bool,
     symbol: &'a Symbol,
     there: SymbolValue,
 ) -> Result<TableSymbol<'a>, NoMemory>
     requires { AreExpansions at.symbols.now expansions.now }
     ensures { IfOk result (λ entry. symbol_view entry
-        ≡ spec.entry_at at.entry.symbols.now at.entry.sections.now symbol.now there) }
+        ≡ spec.entry_at at.entry.symbols.now at.entry.sections.now thread_local symbol.now
+        there) }
 {
     Ok(TableSymbol {
         name: text_of(&symbol.name),
         binding: binding_of(&symbol.meaning, symbol.binding),
-        kind: type_of(at.sections, there.section, symbol_kind(at.symbols, symbol)),
+        kind: type_of(
+            at.sections,
+            thread_local,
+            there.section,
+            symbol_kind(at.symbols, symbol),
+        ),
         visibility: symbol.visibility,
         section: there.section,
         value: there.value,
@@ -196,25 +209,28 @@ fn needs_naming(symbol: &Symbol, there: SymbolValue) -> bool
         || (is_file_local(&symbol.name) && is_local(binding_of(&symbol.meaning, symbol.binding)))
 }
 
-/// The entry of a symbol, if it stands in the table; `named` where a relocation names it.
+/// The entry of a symbol, if it stands in the table; `named` where a relocation names it, and
+/// `thread_local` where one does as thread-local.
 #[tactic(auto, unfolding(crate::specs::SymbolTable::listed))]
 pub(crate) fn listed<'a>(
     alloc: Global,
     at: Placement,
     expansions: &Expansions,
     named: bool,
+    thread_local: bool,
     symbol: &'a Symbol,
 ) -> Result<Option<TableSymbol<'a>>, NoMemory>
     requires { AreExpansions at.symbols.now expansions.now }
     ensures { IfOk result (λ entry. option_map symbol_view entry
-        ≡ spec.listed at.entry.symbols.now at.entry.sections.now named symbol.now) }
+        ≡ spec.listed at.entry.symbols.now at.entry.sections.now named thread_local symbol.now) }
 {
     match symbol_value_of(alloc, at, expansions, &symbol.meaning)? {
         Some(there) => {
             if needs_naming(symbol, there) && !named {
                 return Ok(None);
             }
-            Ok(Some(entry_at(alloc, at, expansions, symbol, there)?))
+            let entry = entry_at(alloc, at, expansions, thread_local, symbol, there)?;
+            Ok(Some(entry))
         }
         None => Ok(None),
     }

@@ -43,30 +43,32 @@ fn put_listed<'a>(
 }
 
 /// Appends the entries of these symbols, each if it stands in the table, to those of its part; the
-/// marks tell which of them relocations name.
+/// marks tell which of them relocations name, and which as thread-local.
 fn put_symbols<'a>(
     alloc: Global,
     at: Placement,
     expansions: &Expansions,
     marks: &[bool],
+    threads: &[bool],
     symbols: &'a [Symbol],
     locals: &mut Vec<TableSymbol<'a>>,
     others: &mut Vec<TableSymbol<'a>>,
 ) -> Result<Vec<Standing>, NoMemory>
     requires expanded { AreExpansions at.symbols.now expansions.now }
     requires marks { length marks.now ≡ length symbols.now }
+    requires threads { length threads.now ≡ length symbols.now }
     ensures locals { let all = spec.listed_by at.entry.symbols.now at.entry.sections.now marks.now
-        symbols.now in OnOk result (spec.PutsPart true all
+        threads.now symbols.now in OnOk result (spec.PutsPart true all
         (map symbol_view locals.old.items) (map symbol_view locals.new.items)) }
     ensures others { let all = spec.listed_by at.entry.symbols.now at.entry.sections.now marks.now
-        symbols.now in OnOk result (spec.PutsPart false all
+        threads.now symbols.now in OnOk result (spec.PutsPart false all
         (map symbol_view others.old.items) (map symbol_view others.new.items)) }
     ensures standings { let all = spec.listed_by at.entry.symbols.now at.entry.sections.now marks.now
-        symbols.now in IfOk result (λ made. made.items ≡ map standing_of all) }
+        threads.now symbols.now in IfOk result (λ made. made.items ≡ map standing_of all) }
 {
     let mut standings = Vec::with_capacity(alloc, symbols.len())?;
     for (index, symbol) in symbols.iter().enumerate() {
-        let one = listed(alloc, at, expansions, marks[index], symbol)?;
+        let one = listed(alloc, at, expansions, marks[index], threads[index], symbol)?;
         standings.push(put_listed(one, locals, others)?)?;
     }
     Ok(standings)
@@ -114,6 +116,7 @@ pub fn list_symbols<'a>(
 ) -> Result<Listing<'a>, NoMemory>
     requires expanded { AreExpansions at.symbols.now expansions.now }
     requires marks { length named.now.symbols.items ≡ length at.symbols.now.symbols }
+    requires threads { length named.now.thread_locals.items ≡ length at.symbols.now.symbols }
     ensures symbols { IfOk result (λ l. map symbol_view l.symbols.items
         ≡ spec.table_of at.entry.symbols.now at.entry.sections.now (named_view named.now)) }
     ensures first_other { IfOk result (λ l. l.first_other
@@ -133,6 +136,7 @@ pub fn list_symbols<'a>(
         at,
         expansions,
         &named.symbols,
+        &named.thread_locals,
         own,
         &mut symbols,
         &mut others,

@@ -14,4 +14,6 @@ pub enum Target {
 pub struct Named {
     pub sections: Vec<bool>,
     pub symbols: Vec<bool>,
+    /// Whether a relocation asks for the symbol's offset from the thread pointer.
+    pub thread_locals: Vec<bool>,
 }

@@ -3,19 +3,19 @@ use Rattle.std.proofs.Common.{◌≡◌, None, sym, ap, ◌∙◌, arith, append
 use Rattle.std.specs.Prelude.{unwrap_or}
 use Rattle.asm_frags.specs.Fields.{low_bytes}
 use Rattle.asm_frags.specs.PlainBytes.{field_end}
-use Rattle.asm_relax.specs.Final.{laid_value}
+use Rattle.asm_relax.specs.FieldValues.{held_value}
 use Rattle.elf_object.proofs.FieldLemmas.{valued}
 use Rattle.elf_object.proofs.PatchLemmas.{blank_stays}
 use Rattle.elf_object.proofs.contents.put_field.Goals as goal
 
 pub returns-in-Some-clause-relocations : goal.returns-in-Some-clause-relocations
 returns-in-Some-clause-relocations c =
-    let none = valued c.args.at.symbols.now c.args.at.sections.now c.args.number c.in-Some.value c.args.section.now c.args.field.now (sym c.laid_value.ensures ∙ c.in-Some.is) in
+    let none = valued c.args.at.symbols.now c.args.at.sections.now c.args.number c.in-Some.value c.args.section.now c.args.field.now (sym c.held_value.ensures ∙ c.in-Some.is) in
     rw none (sym (append-nil c.args.out.now.relocations.items))
 
 pub returns-in_ok-push-in-Some-2-clause-bytes : goal.returns-in_ok-push-in-Some-2-clause-bytes
 returns-in_ok-push-in-Some-2-clause-bytes c =
     let field = c.args.field.now in
-    let none : laid_value c.args.at.symbols.now c.args.at.sections.now field.form ≡ None = sym c.laid_value.ensures ∙ c.in_default.is in
+    let none : held_value c.args.at.symbols.now c.args.at.sections.now field ≡ None = sym c.held_value.ensures ∙ c.in_default.is in
     blank_stays c.args.out.now.bytes.items field.offset (field_end field) _ (omega arith)
     (c.requires.blank ∙ ap (λ v. low_bytes field.size (unwrap_or v 0)) (sym none))

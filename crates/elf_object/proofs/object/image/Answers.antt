@@ -9,12 +9,15 @@ use Rattle.elf_file.specs.Sections.{SectionEntry}
 use Rattle.elf_object.specs.Sections.{next_header, header_indices}
 use Rattle.elf_symbols.specs.Views.{symbol_view, numbers_view, named_view}
 use Rattle.elf_object.specs.Views.{held_entry, relocations_in}
-use Rattle.elf_object.proofs.MarkLemmas.{named_long}
+use Rattle.elf_object.proofs.MarkLemmas.{named_long, threads_long}
 use Rattle.elf_object.proofs.ImageLemmas.{sections_made}
 use Rattle.elf_object.proofs.object.image.Goals as goal
 
 pub list_symbols-requires-clause-marks : goal.list_symbols-requires-clause-marks
 list_symbols-requires-clause-marks c = named_long (named_view c.in_ok-named.named) _ _ c.in_ok-named.ensures ∙ c.len.ensures
+
+pub list_symbols-requires-clause-threads : goal.list_symbols-requires-clause-threads
+list_symbols-requires-clause-threads c = threads_long (named_view c.in_ok-named.named) _ _ c.in_ok-named.ensures ∙ c.len.ensures
 
 pub returns : goal.returns
 unfolding image_with
