@@ -18,7 +18,8 @@ use x86_insn::{Insn, Reg, Slot};
 /// The operands move one place on, and another stands first.
 #[inline(always)]
 fn lead(insn: &mut Insn, first: Slot)
-    ensures { insn.new ≡ record insn.old { first = first; second = insn.old.first; third = insn.old.second } }
+    ensures { insn.new
+        ≡ record insn.old { first = first; second = insn.old.first; third = insn.old.second } }
 {
     insn.third = insn.second;
     insn.second = insn.first;
@@ -30,7 +31,8 @@ fn lead(insn: &mut Insn, first: Slot)
 #[tactic(auto, using(crate::proofs::Fillings::register_put, crate::proofs::Fillings::immediate_put, crate::proofs::Fillings::memory_put, crate::proofs::Fillings::target_put))]
 fn put_text<'a>(insn: &mut Insn<'a>, operand: ReadOperand<'a>)
     ensures { (i d : ValueText) (text : OperandText) → HasTexts insn.old i d
-        → IsOperandOf operand.entry text → IsInsnOf insn.new (with_operand text (text_of insn.old i d)) }
+        → IsOperandOf operand.entry text
+        → IsInsnOf insn.new (with_operand text (text_of insn.old i d)) }
 {
     match operand {
         ReadOperand::Register(reg) => lead(insn, Slot::Register(reg)),
@@ -68,8 +70,8 @@ fn put_register(insn: &mut Insn, reg: Reg)
     put(insn, ReadOperand::Register(reg));
 }
 
-/// Any operand at this place stands before those that were written before it; the index of the first
-/// token behind it.
+/// Any operand at this place stands before those that were written before it; the index of the
+/// first token behind it.
 #[inline(never)]
 fn put_any<'a>(
     alloc: Global,

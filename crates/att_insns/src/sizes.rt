@@ -71,14 +71,16 @@ fn takes_all(row: &Row, slots: Slots) -> bool
 
 /// The first of the rows that takes such operands.
 fn first_taking(rows: &'static [Row], slots: Slots) -> Option<&'static Row>
-    ensures { option_map (λ row. row.now) result ≡ find (takes_all slots.0 slots.1 slots.2) rows.now }
+    ensures { let due = find (takes_all slots.0 slots.1 slots.2) rows.now in
+        option_map (λ row. row.now) result ≡ due }
 {
     rows.iter().find(|row| takes_all(row, slots))
 }
 
 /// Whether all rows that take such operands have this size.
 fn all_agree(rows: &[Row], slots: Slots, size: u8) -> bool
-    ensures { result ≡ list_all (λ row. not (takes_all slots.0 slots.1 slots.2 row) || (row.size == size)) rows.now }
+    ensures { result ≡ list_all
+        (λ row. not (takes_all slots.0 slots.1 slots.2 row) || (row.size == size)) rows.now }
 {
     rows.iter()
         .all(|row| !takes_all(row, slots) || row.size == size)
