@@ -422,7 +422,7 @@ def make(rows: list[Row], found: dict[Row, list[str]]) -> list[Made]:
                 continue
             other = row if is_beyond else rows_by_bytes.setdefault(code, row)
             if other is not row:
-                found[row].append(f"{code.hex(' ')} are bytes of the row in line {other.line} too")
+                found[row].append(f"{code.hex(' ')} are bytes of the row at {other.place} too")
             made.append(Made(place, case, code, is_beyond))
             place += len(code) + len(PAD)
         if len(made) == before:
@@ -490,7 +490,7 @@ def main() -> int:
     differing = [(row, lines) for row, lines in found.items() if lines]
     for row, lines in differing[:SHOWN_ROWS]:
         more = [f"... and {len(lines) - SHOWN_CASES} more"] if len(lines) > SHOWN_CASES else []
-        print(f"line {row.line}: {row.text}", *lines[:SHOWN_CASES], *more, sep="\n    ")
+        print(f"{row.place}: {row.text}", *lines[:SHOWN_CASES], *more, sep="\n    ")
     idle = [known.reason for number, known in enumerate(KNOWN) if not used[number]]
     for reason in idle:
         print(f"explains nothing: {reason}")

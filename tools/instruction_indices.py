@@ -127,7 +127,7 @@ def codes_file(rows: list[Row], names: list[Name]) -> str:
     for row in bare:
         code = bare_code(row)
         if len(code) > CODE_BYTES:
-            raise TableError(f"line {row.line} has more than {CODE_BYTES} bytes: {row.text}")
+            raise TableError(f"{row.place} has more than {CODE_BYTES} bytes: {row.text}")
         padded = ", ".join(f"0x{byte:02X}" for byte in code + bytes(CODE_BYTES - len(code)))
         size = f" {row.size}" if row.size else ""
         text += f"    Code([{padded}], {len(code)}), // {row.name}{size}\n"

@@ -1,8 +1,9 @@
 """Reads the instruction table from its source text: `tools/instructions.py` prints it, `tools/instruction_indices.py` writes what is found by it, and
 `checks/rows.py` compares it with objdump.
 
-The rows stand in one file, one a line, behind the arms of macros that say what the short words of their columns are, in the types of `forms.rt`; the numbers
-of their names stand in `mnemonics.rt`. What cannot be read is a TableError that tells its place, and so is a row whose columns do not belong together.
+The rows stand one a line in a file for each chapter, in the order that the table names them in; beside the table stand the arms of macros that say what the
+short words of their columns are, in the types of `forms.rt`, and the numbers of their names stand in `mnemonics.rt`. What cannot be read is a TableError that
+tells its place, and so is a row whose columns do not belong together.
 """
 import pathlib
 import re
@@ -101,9 +102,9 @@ class Operand:
 
 @dataclass(frozen=True)
 class Row:
-    """A form of an instruction, with its chapter, its line in the table, and its columns."""
+    """A form of an instruction, with its chapter, the place of its line, and its columns."""
     chapter: str
-    line: int
+    place: str
     text: str
     name: str
     size: int
@@ -160,28 +161,42 @@ def words_in(text: str, forms: Forms) -> dict[str, Term]:
 def rows_in(folder: pathlib.Path) -> list[Row]:
     """The rows of the table."""
     forms = Forms(folder / "forms.rt")
-    path, lines, count = file_with(folder, "ROWS")
-    text = path.read_text()
+    path, text = file_with(folder, "ROWS")
     columns = re.findall(r"\$(\w+):(?:ident|literal)", text)
     if columns != COLUMNS:
         raise TableError(f"{path}: a row has other columns: {columns}")
     words = words_in(text, forms)
-    first = text[:text.index("\n".join(lines))].count("\n") + 1
-    rows, chapter = [], ""
-    for number, line in enumerate(map(str.strip, lines), first):
-        if line.startswith("// "):
-            chapter = line[3:]
-        elif line:
-            try:
-                rows.append(row_of(chapter, number, line, forms, words))
-            except (TableError, KeyError) as fault:
-                raise TableError(f"{path}:{number}: {fault}") from fault
-    if not rows or len(rows) != count:
-        raise TableError(f"{path}: it has {len(rows)} rows, and says {count}")
+    found = re.search(r"^pub static ROWS: \[Row; (\d+)\] = (\w+)! \{\n([\w\s]*)rows;\n\};", text, re.MULTILINE)
+    if not found:
+        raise TableError(f"{path}: ROWS has another form")
+    rows = [row for name in [found[2], *found[3].split()] for row in rows_of_chapter(folder, name, forms, words)]
+    if len(rows) != int(found[1]):
+        raise TableError(f"{path}: it has {len(rows)} rows, and says {found[1]}")
     return rows
 
 
-def row_of(chapter: str, number: int, line: str, forms: Forms, words: dict[str, Term]) -> Row:
+def rows_of_chapter(folder: pathlib.Path, name: str, forms: Forms, words: dict[str, Term]) -> list[Row]:
+    """The rows of the file of this name, which its macro hands on behind those before."""
+    path = folder / "chapters" / f"{name}.rt"
+    text = path.read_text()
+    found = re.search(rf"^macro_rules! {name} \{{\n.*; \$\(\$before\)\*\n(.*?)^    \}} \}};\n\}}$", text, re.MULTILINE | re.DOTALL)
+    if not found:
+        raise TableError(f"{path}: it has another form")
+    first = text[:found.start(1)].count("\n") + 1
+    rows, chapter = [], ""
+    for number, line in enumerate(map(str.strip, found[1].splitlines()), first):
+        if line.startswith("// "):
+            chapter = line[3:]
+        elif line:
+            place = f"{path.relative_to(folder)}:{number}"
+            try:
+                rows.append(row_of(chapter, place, line, forms, words))
+            except (TableError, KeyError) as fault:
+                raise TableError(f"{place}: {fault}") from fault
+    return rows
+
+
+def row_of(chapter: str, place: str, line: str, forms: Forms, words: dict[str, Term]) -> Row:
     """The row that a line has."""
     columns = line.removesuffix(";").split()
     if len(columns) != len(COLUMNS) or not line.endswith(";") or not chapter:
@@ -198,7 +213,7 @@ def row_of(chapter: str, number: int, line: str, forms: Forms, words: dict[str, 
     rm = shape.parts[-1].variant if shape.variant in ("Digit", "Slash") else "Any"
     destinations, implied, store = outputs.parts
     has_66, repeat, rex_w = lead.parts
-    row = Row(chapter, number, " ".join(columns), columns[0], size, has_66, repeat.variant, rex_w, map_.variant, code, shape.variant, digit, rm, tuple(present),
+    row = Row(chapter, place, " ".join(columns), columns[0], size, has_66, repeat.variant, rex_w, map_.variant, code, shape.variant, digit, rm, tuple(present),
               immediate.variant, prefixes.variant, destinations.variant, implied.variant, store.variant)
     if fault := row.fault():
         raise TableError(fault)
@@ -219,18 +234,15 @@ def check_names(rows: list[Row], path: pathlib.Path) -> None:
         raise TableError(f"{path}: the names are not those of the table, by their order")
     for one, other in zip(rows, rows[1:]):
         if (numbers[one.name], one.size) > (numbers[other.name], other.size):
-            raise TableError(f"line {other.line} is not where the rows of its name and size stand: {other.text}")
+            raise TableError(f"{other.place} is not where the rows of its name and size stand: {other.text}")
 
 
-def file_with(folder: pathlib.Path, table: str) -> tuple[pathlib.Path, list[str], int]:
-    """The file of the folder that has this table, the lines of the table, and how many entries it says it has."""
+def file_with(folder: pathlib.Path, table: str) -> tuple[pathlib.Path, str]:
+    """The file of the folder that has this table, and its text."""
     paths = [path for path in sorted(folder.glob("*.rt")) if f"pub static {table}:" in path.read_text()]
     if len(paths) != 1:
         raise TableError(f"{folder}: {len(paths)} files have {table}")
-    found = re.search(rf"^pub static {table}: \[\w+; (\d+)\] = \w+! \{{\n(.*?)^\}};", paths[0].read_text(), re.MULTILINE | re.DOTALL)
-    if not found:
-        raise TableError(f"{paths[0]}: {table} has another form")
-    return paths[0], found[2].splitlines(), int(found[1])
+    return paths[0], paths[0].read_text()
 
 
 def read_table(folder: pathlib.Path) -> list[Row]:
@@ -253,13 +265,16 @@ class Name:
 
 def read_names(folder: pathlib.Path, table: str) -> list[Name]:
     """The mnemonics of a syntax: ATT_NAMES or INTEL_NAMES. Raises TableError or OSError."""
-    path, lines, count = file_with(folder, table)
+    path, text = file_with(folder, table)
+    whole = re.search(rf"^pub static {table}: \[\w+; (\d+)\] = \w+! \{{\n(.*?)^\}};", text, re.MULTILINE | re.DOTALL)
+    if not whole:
+        raise TableError(f"{path}: {table} has another form")
     names = []
-    for line in filter(None, map(str.strip, lines)):
+    for line in filter(None, map(str.strip, whole[2].splitlines())):
         found = re.fullmatch(r'b"(\w+) *" +(\d+) +(\w+) +(\d+) +(\w+)(\(\w+\))?;', line)
         if not found or len(found[1]) != int(found[2]):
             raise TableError(f"{path}: no name: {line}")
         names.append(Name(found[1], found[3], int(found[4]), found[5]))
-    if not names or len(names) != count:
-        raise TableError(f"{path}: it has {len(names)} names, and says {count}")
+    if len(names) != int(whole[1]):
+        raise TableError(f"{path}: it has {len(names)} names, and says {whole[1]}")
     return names

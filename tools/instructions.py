@@ -104,7 +104,7 @@ def att_names(row: Row, sizes: set[int], names: list[Name]) -> str:
     if row.name == "MOVQ" and row.operand("RegMem").register == "Quad":
         told += [f"`{name.text}` (of a register)" for name in names if name.rule == "QuadIsMovq"]
     if not told:
-        raise TableError(f"line {row.line} has no name in AT&T syntax: {row.text}")
+        raise TableError(f"{row.place} has no name in AT&T syntax: {row.text}")
     return " ".join(told)
 
 

@@ -1,6 +1,7 @@
 //! The instruction table, and what bytes read as.
 #![tactic(auto)]
 
+mod chapters;
 mod fitting;
 mod forms;
 mod laws;
