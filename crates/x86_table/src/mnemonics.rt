@@ -1,5 +1,6 @@
-//! The names of rows, by their numbers in the order of the table.
+//! The names of rows, by their numbers in the order of the table and its chapters.
 
+// Arithmetic and logic: two operands
 pub const ADD: u16 = 0;
 
 pub const OR: u16 = 1;
@@ -18,12 +19,14 @@ pub const CMP: u16 = 7;
 
 pub const TEST: u16 = 8;
 
+// No operation, exchange
 pub const NOP: u16 = 9;
 
 pub const PAUSE: u16 = 10;
 
 pub const XCHG: u16 = 11;
 
+// Moves, addresses, the stack
 pub const MOV: u16 = 12;
 
 pub const MOVABS: u16 = 13;
@@ -38,6 +41,7 @@ pub const PUSHF: u16 = 17;
 
 pub const POPF: u16 = 18;
 
+// Arithmetic and logic: one operand
 pub const INC: u16 = 19;
 
 pub const DEC: u16 = 20;
@@ -54,6 +58,7 @@ pub const DIV: u16 = 25;
 
 pub const IDIV: u16 = 26;
 
+// Shifts and rotations
 pub const ROL: u16 = 27;
 
 pub const ROR: u16 = 28;
@@ -72,6 +77,7 @@ pub const SHLD: u16 = 34;
 
 pub const SHRD: u16 = 35;
 
+// Bits
 pub const BT: u16 = 36;
 
 pub const BTS: u16 = 37;
@@ -92,6 +98,7 @@ pub const LZCNT: u16 = 44;
 
 pub const BSWAP: u16 = 45;
 
+// Compare and exchange
 pub const CMPXCHG: u16 = 46;
 
 pub const XADD: u16 = 47;
@@ -100,6 +107,7 @@ pub const CMPXCHG8B: u16 = 48;
 
 pub const CMPXCHG16B: u16 = 49;
 
+// By condition
 pub const SETO: u16 = 50;
 
 pub const SETNO: u16 = 51;
@@ -164,6 +172,7 @@ pub const CMOVLE: u16 = 80;
 
 pub const CMOVG: u16 = 81;
 
+// Extensions
 pub const MOVZX_BYTE: u16 = 82;
 
 pub const MOVZX_WORD: u16 = 83;
@@ -186,6 +195,7 @@ pub const CDQ: u16 = 91;
 
 pub const CQO: u16 = 92;
 
+// Strings
 pub const MOVS: u16 = 93;
 
 pub const CMPS: u16 = 94;
@@ -196,6 +206,7 @@ pub const LODS: u16 = 96;
 
 pub const SCAS: u16 = 97;
 
+// Branches
 pub const CALL: u16 = 98;
 
 pub const JMP: u16 = 99;
@@ -294,6 +305,7 @@ pub const SAHF: u16 = 145;
 
 pub const LAHF: u16 = 146;
 
+// SSE: loads and stores
 pub const MOVUPS: u16 = 147;
 
 pub const MOVUPD: u16 = 148;
@@ -336,6 +348,7 @@ pub const MOVD: u16 = 166;
 
 pub const MOVQ: u16 = 167;
 
+// SSE: arithmetic of floats
 pub const SQRTPS: u16 = 168;
 
 pub const SQRTPD: u16 = 169;
@@ -444,6 +457,7 @@ pub const COMISS: u16 = 220;
 
 pub const COMISD: u16 = 221;
 
+// SSE: conversions
 pub const CVTSI2SS: u16 = 222;
 
 pub const CVTSI2SD: u16 = 223;
@@ -476,6 +490,7 @@ pub const CVTDQ2PD: u16 = 236;
 
 pub const CVTPD2DQ: u16 = 237;
 
+// SSE: integers
 pub const PUNPCKLBW: u16 = 238;
 
 pub const PUNPCKLWD: u16 = 239;
@@ -606,6 +621,7 @@ pub const PEXTRW: u16 = 301;
 
 pub const PMOVMSKB: u16 = 302;
 
+// Three-byte opcodes, 0F 38
 pub const PSHUFB: u16 = 303;
 
 pub const PHADDW: u16 = 304;
@@ -698,6 +714,7 @@ pub const PHMINPOSUW: u16 = 347;
 
 pub const MOVNTDQA: u16 = 348;
 
+// Three-byte opcodes, 0F 3A
 pub const ROUNDPS: u16 = 349;
 
 pub const ROUNDPD: u16 = 350;
@@ -744,6 +761,7 @@ pub const PINSRD: u16 = 370;
 
 pub const PINSRQ: u16 = 371;
 
+// Byte order, checksums
 pub const MOVBE: u16 = 372;
 
 pub const CRC32: u16 = 373;
