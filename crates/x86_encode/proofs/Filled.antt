@@ -6,7 +6,6 @@ use Rattle.x86_table.specs.declared.forms.Pattern.{Pattern}
 use Rattle.x86_encode.specs.declared.searching.Found.{Found}
 use Rattle.x86_encode.specs.declared.encoded.Field.{Field}
 use Rattle.x86_encode.specs.declared.encoded.Position.{Position}
-use Rattle.x86_encode.specs.declared.encoded.Encoded.{Encoded}
 use Rattle.x86_insn.specs.Views.{Seen, View}
 use Rattle.x86_table.specs.Bytes.{has_rex, bytes_of}
 use Rattle.x86_table.specs.Fields.{Fields, located, fields_of}
@@ -15,7 +14,7 @@ use Rattle.x86_table.specs.Reads.{shown}
 use Rattle.x86_table.specs.Rows.{the_rows}
 use Rattle.x86_encode.specs.Codes.{normal, Means}
 use Rattle.x86_encode.specs.Faults.{kind_fits, kinds_fit}
-use Rattle.x86_encode.specs.Filling.{field_holds, filled, valued, exact, Shows, ReadsAs, moved_field, held_field, Noted}
+use Rattle.x86_encode.specs.Filling.{Coding, field_holds, filled, valued, exact, Shows, ReadsAs, moved_field, held_field, Noted}
 use Rattle.x86_encode.specs.Keys.{immediate_length}
 use Rattle.x86_encode.proofs.Complete.{taken}
 use Rattle.x86_encode.proofs.FilledBytes.{filled_bytes}
@@ -85,12 +84,12 @@ taking_fills insn x r bytes here there moved held t b mo he v w kv kw =
     reads_filled x.length x.row here there v w r (fields_of x.parts) insn moved held bytes t.found a.0 a.1 b n mo he kv kw
 
 -- the fields of what is found
-pub taking_notes : (insn : View) (x : Found) (r : Row) (made : Encoded) (here there : Position) → Taking insn x r → made.bytes.items ≡ bytes_of r (fields_of x.parts)
+pub taking_notes : (insn : View) (x : Found) (r : Row) (made : Coding) (here there : Position) → Taking insn x r → made.bytes ≡ bytes_of r (fields_of x.parts)
     → made.displacement ≡ moved_field (x.length - immediate_length r.immediate - 4) here (located x.parts.displacement x.parts.place)
     → made.immediate ≡ held_field (x.length - immediate_length r.immediate) there r.immediate x.parts.immediate → Noted insn made
 taking_notes insn x r made here there t b mo he =
     let a = taken_at insn x r t in
-    let n : x.length ≡ length made.bytes.items = t.length_is ∙ ap (λ (y : Fields). length (bytes_of r y)) (sym t.parts_are) ∙ ap (λ (y : List ℕ). length y) (sym b) in
+    let n : x.length ≡ length made.bytes = t.length_is ∙ ap (λ (y : Fields). length (bytes_of r y)) (sym t.parts_are) ∙ ap (λ (y : List ℕ). length y) (sym b) in
     record {
       row = x.row;
       r = r;

@@ -18,6 +18,9 @@ pub mod Nearest
 pub mod Values
 pub mod Forms
 pub mod Turning
+pub mod Shortest
+pub mod Coded
+pub mod Encodings
 pub mod Comparing
 pub mod Orders
 pub mod ReadBack

@@ -5,18 +5,59 @@ use Rattle.x86_insn.specs.declared.insns.Mnemonic.{Mnemonic}
 use Rattle.x86_table.specs.declared.forms.Immediate.{Immediate}
 use Rattle.x86_encode.specs.declared.encoded.Field.{Field}
 use Rattle.x86_encode.specs.declared.encoded.Position.{Position}
-use Rattle.x86_encode.specs.declared.making.Made.{Made}
 use Rattle.x86_encode.specs.declared.encoded.Position.TheVariants as position
 use Rattle.x86_insn.specs.Views.{Seen, View}
 use Rattle.x86_table.specs.Fields.{Location, nowhere, direct, from_rip, bare, based}
 use Rattle.x86_table.specs.Reads.{is_register, is_accumulator}
-use Rattle.x86_encode.specs.Answers.{IsMade, Makes, IsMadeBack, MakesBack, IsAnswer, Answers, turned_position, turned_field, is_before}
+use Rattle.x86_encode.specs.Answers.{InOrder}
 use Rattle.x86_encode.specs.Codes.{OrderedRow, OrderedCodes, AtMost, Before, HasNoOrderedCode, named, name_meant, meant}
-use Rattle.x86_encode.specs.Exchanges.{turned, exchanges, Codes, HasNoCode, OrderedAt, HasCode, at_most}
-use Rattle.x86_encode.specs.Filling.{field_holds, filled, moved_field, held_field, in_memory, holds_number, operand_in, FieldAt}
+use Rattle.x86_encode.specs.Encoding.{RowCoding, turned_position, turned_field, turned_coding, is_earlier}
+use Rattle.x86_encode.specs.Exchanges.{turned, exchanges, CodeAt, Codes, HasNoCode, OrderedAt, HasCode, at_most}
+use Rattle.x86_encode.specs.Filling.{FieldsFill, field_holds, filled, moved_field, held_field, in_memory, holds_number, operand_in, FieldAt, Noted}
 use Rattle.x86_encode.specs.Keys.{immediate_length}
 use Rattle.x86_encode.proofs.Search.{meant_is}
 use Rattle.x86_table.specs.declared.mnemonics.TheConstants.{XCHG}
+
+-- WHAT IS MADE
+
+-- what is made of the operands in the row's order: the least bytes, their fields, and the operands that these are of
+pub record IsMade (insn : View) (m : RowCoding) : Type 0 where
+  pub code : OrderedAt m.row m.coding.bytes insn
+  pub fields : FieldsFill insn m.coding
+  pub notes : Noted insn m.coding
+  pub moved : FieldAt in_memory insn m.coding.displacement
+  pub held : FieldAt holds_number insn m.coding.immediate
+
+-- the same where there may be none
+abbrev pub Makes : View → Option RowCoding → Type 0
+Makes insn None = HasNoOrderedCode insn
+Makes insn (Some m) = IsMade insn m
+
+-- the same of the other order, with the positions of this one
+pub record IsMadeBack (insn : View) (m : RowCoding) : Type 0 where
+  pub code : OrderedAt m.row m.coding.bytes (turned insn)
+  pub fields : FieldsFill (turned insn) m.coding
+  pub notes : Noted (turned insn) m.coding
+  pub moved : FieldAt in_memory insn m.coding.displacement
+  pub held : FieldAt holds_number insn m.coding.immediate
+
+-- the same where there may be none
+abbrev pub MakesBack : View → Option RowCoding → Type 0
+MakesBack insn None = HasNoOrderedCode (turned insn)
+MakesBack insn (Some m) = IsMadeBack insn m
+
+-- what is made of the instruction
+pub record IsAnswer (insn : View) (m : RowCoding) : Type 0 where
+  pub code : CodeAt m.row m.coding.bytes insn
+  pub fields : InOrder (λ v. FieldsFill v m.coding) insn
+  pub notes : InOrder (λ v. Noted v m.coding) insn
+  pub moved : FieldAt in_memory insn m.coding.displacement
+  pub held : FieldAt holds_number insn m.coding.immediate
+
+-- the same where there may be none
+abbrev pub Answers : View → Option RowCoding → Type 0
+Answers insn None = HasNoCode insn
+Answers insn (Some m) = IsAnswer insn m
 
 -- ORDER OF BYTES
 
@@ -109,7 +150,7 @@ pub other_codes : (insn : View) (bytes : List ℕ) (i : ℕ) → exchanges insn 
 other_codes insn bytes i h (true, e, c) = c
 other_codes insn bytes i h (false, e, c) = absurd (both_ways (exchanges insn) e h)
 
-pub plain : (insn : View) (made : Option Made) → exchanges insn ≡ false → exchanges (turned insn) ≡ false → Makes insn made → Answers insn made
+pub plain : (insn : View) (made : Option RowCoding) → exchanges insn ≡ false → exchanges (turned insn) ≡ false → Makes insn made → Answers insn made
 plain insn None e h k = λ bytes i c. k bytes i (own_codes insn bytes i h c)
 plain insn (Some m) e h k = record {
   code = record { codes = (false, e, k.code.codes); least = λ other j c. k.code.least other j (own_codes insn other j h c) };
@@ -119,7 +160,7 @@ plain insn (Some m) e h k = record {
   held = k.held;
 }
 
-pub back : (insn : View) (made : Option Made) → exchanges insn ≡ true → exchanges (turned insn) ≡ true → MakesBack insn made → Answers insn made
+pub back : (insn : View) (made : Option RowCoding) → exchanges insn ≡ true → exchanges (turned insn) ≡ true → MakesBack insn made → Answers insn made
 back insn None e h k = λ bytes i c. k bytes i (other_codes insn bytes i e c)
 back insn (Some m) e h k = record {
   code = record { codes = (true, h, k.code.codes); least = λ other j c. k.code.least other j (other_codes insn other j e c) };
@@ -135,7 +176,7 @@ never insn e h bytes i (false, x, c) = both_ways (exchanges insn) x e
 
 -- BOTH ORDERS
 
-by_own : (insn : View) (m : Made) → exchanges insn ≡ false → IsMade insn m → ((other : List ℕ) (j : ℕ) → OrderedCodes other (turned insn) j → Before m.encoded.bytes.items m.row other j) → IsAnswer insn m
+by_own : (insn : View) (m : RowCoding) → exchanges insn ≡ false → IsMade insn m → ((other : List ℕ) (j : ℕ) → OrderedCodes other (turned insn) j → Before m.coding.bytes m.row other j) → IsAnswer insn m
 by_own insn m e k l = record {
   code = record { codes = (false, e, k.code.codes); least = λ other j c. least other j c };
   fields = (false, e, k.fields);
@@ -144,11 +185,11 @@ by_own insn m e k l = record {
   held = k.held;
 }
   where
-    least : (other : List ℕ) (j : ℕ) → Codes other insn j → Before m.encoded.bytes.items m.row other j
+    least : (other : List ℕ) (j : ℕ) → Codes other insn j → Before m.coding.bytes m.row other j
     least other j (true, x, c) = l other j c
     least other j (false, x, c) = k.code.least other j c
 
-by_other : (insn : View) (m : Made) → exchanges (turned insn) ≡ true → IsMadeBack insn m → ((other : List ℕ) (j : ℕ) → OrderedCodes other insn j → Before m.encoded.bytes.items m.row other j) → IsAnswer insn m
+by_other : (insn : View) (m : RowCoding) → exchanges (turned insn) ≡ true → IsMadeBack insn m → ((other : List ℕ) (j : ℕ) → OrderedCodes other insn j → Before m.coding.bytes m.row other j) → IsAnswer insn m
 by_other insn m h k l = record {
   code = record { codes = (true, h, k.code.codes); least = λ other j c. least other j c };
   fields = (true, h, k.fields);
@@ -157,11 +198,11 @@ by_other insn m h k l = record {
   held = k.held;
 }
   where
-    least : (other : List ℕ) (j : ℕ) → Codes other insn j → Before m.encoded.bytes.items m.row other j
+    least : (other : List ℕ) (j : ℕ) → Codes other insn j → Before m.coding.bytes m.row other j
     least other j (true, x, c) = k.code.least other j c
     least other j (false, x, c) = l other j c
 
-pub no_own : (insn : View) (made : Option Made) → exchanges (turned insn) ≡ true → HasNoOrderedCode insn → MakesBack insn made → Answers insn made
+pub no_own : (insn : View) (made : Option RowCoding) → exchanges (turned insn) ≡ true → HasNoOrderedCode insn → MakesBack insn made → Answers insn made
 no_own insn None h n k = λ bytes i c. none bytes i c
   where
     none : (bytes : List ℕ) (i : ℕ) → Codes bytes insn i → ⊥
@@ -169,16 +210,16 @@ no_own insn None h n k = λ bytes i c. none bytes i c
     none bytes i (false, x, c) = n bytes i c
 no_own insn (Some m) h n k = by_other insn m h k (λ other j c. absurd (n other j c))
 
-pub no_other : (insn : View) (m : Made) → exchanges insn ≡ false → IsMade insn m → HasNoOrderedCode (turned insn) → IsAnswer insn m
+pub no_other : (insn : View) (m : RowCoding) → exchanges insn ≡ false → IsMade insn m → HasNoOrderedCode (turned insn) → IsAnswer insn m
 no_other insn m e k n = by_own insn m e k (λ other j c. absurd (n other j c))
 
-pub first_of : (insn : View) (a b : Made) → exchanges insn ≡ false → is_before a b ≡ true → IsMade insn a → IsMadeBack insn b → IsAnswer insn a
+pub first_of : (insn : View) (a b : RowCoding) → exchanges insn ≡ false → is_earlier a b ≡ true → IsMade insn a → IsMadeBack insn b → IsAnswer insn a
 first_of insn a b e t k l = by_own insn a e k (λ other j c.
-    before_all a.encoded.bytes.items b.encoded.bytes.items other a.row b.row j (before_is a.encoded.bytes.items b.encoded.bytes.items a.row b.row t) (l.code.least other j c))
+    before_all a.coding.bytes b.coding.bytes other a.row b.row j (before_is a.coding.bytes b.coding.bytes a.row b.row t) (l.code.least other j c))
 
-pub second_of : (insn : View) (a b : Made) → exchanges (turned insn) ≡ true → is_before a b ≡ false → IsMade insn a → IsMadeBack insn b → IsAnswer insn b
+pub second_of : (insn : View) (a b : RowCoding) → exchanges (turned insn) ≡ true → is_earlier a b ≡ false → IsMade insn a → IsMadeBack insn b → IsAnswer insn b
 second_of insn a b h t k l = by_other insn b h l (λ other j c.
-    before_all b.encoded.bytes.items a.encoded.bytes.items other b.row a.row j (before_not a.encoded.bytes.items b.encoded.bytes.items a.row b.row t) (k.code.least other j c))
+    before_all b.coding.bytes a.coding.bytes other b.row a.row j (before_not a.coding.bytes b.coding.bytes a.row b.row t) (k.code.least other j c))
 
 -- FIELDS OF THE OTHER ORDER
 
@@ -213,24 +254,23 @@ held_turned : (at : ℕ) (here : Position) (i : Immediate) (d : Option ℕ) → 
 held_turned at here i None = refl
 held_turned at here i (Some v) = refl
 
-pub made_turned : (insn : View) (m n : Made) → n.row ≡ m.row → n.encoded.bytes.items ≡ m.encoded.bytes.items → n.encoded.displacement ≡ turned_field m.encoded.displacement → n.encoded.immediate ≡ turned_field m.encoded.immediate
-    → IsMade (turned insn) m → IsMadeBack insn n
-made_turned insn m n e f g h k = record {
-  code = subst (λ (x : ℕ). OrderedAt x n.encoded.bytes.items (turned insn)) (sym e) (subst (λ (x : List ℕ). OrderedAt m.row x (turned insn)) (sym f) k.code);
-  fields = λ v w a b. (rw (f, g, h, filled_turned m.encoded.displacement v m.encoded.bytes.items, filled_turned m.encoded.immediate w (filled m.encoded.displacement v m.encoded.bytes.items))
-      (k.fields v w (sym (holds_turned m.encoded.displacement v) ∙ ap (λ (x : Option Field). field_holds x v) (sym g) ∙ a) (sym (holds_turned m.encoded.immediate w) ∙ ap (λ (x : Option Field). field_holds x w) (sym h) ∙ b)));
+pub made_turned : (insn : View) (m : RowCoding) → IsMade (turned insn) m → IsMadeBack insn (turned_coding m)
+made_turned insn m k = record {
+  code = k.code;
+  fields = λ v w a b. rw (filled_turned m.coding.displacement v m.coding.bytes, filled_turned m.coding.immediate w (filled m.coding.displacement v m.coding.bytes))
+      (k.fields v w (sym (holds_turned m.coding.displacement v) ∙ a) (sym (holds_turned m.coding.immediate w) ∙ b));
   notes = record {
     row = k.notes.row;
     r = k.notes.r;
     p = k.notes.p;
     here = turned_position k.notes.here;
     there = turned_position k.notes.there;
-    means = subst (λ (x : List ℕ). OrderedRow x (turned insn) k.notes.row k.notes.r k.notes.p) (sym f) k.notes.means;
-    moved = g ∙ ap turned_field k.notes.moved ∙ moved_turned _ k.notes.here k.notes.p.place ∙ ap (λ (x : List ℕ). moved_field (length x - immediate_length k.notes.r.immediate - 4) (turned_position k.notes.here) k.notes.p.place) (sym f);
-    held = h ∙ ap turned_field k.notes.held ∙ held_turned _ k.notes.there k.notes.r.immediate k.notes.p.held ∙ ap (λ (x : List ℕ). held_field (length x - immediate_length k.notes.r.immediate) (turned_position k.notes.there) k.notes.r.immediate k.notes.p.held) (sym f);
+    means = k.notes.means;
+    moved = ap turned_field k.notes.moved ∙ moved_turned _ k.notes.here k.notes.p.place;
+    held = ap turned_field k.notes.held ∙ held_turned _ k.notes.there k.notes.r.immediate k.notes.p.held;
   };
-  moved = subst (λ (x : Option Field). FieldAt in_memory insn x) (sym g) (at_turned in_memory insn m.encoded.displacement k.moved);
-  held = subst (λ (x : Option Field). FieldAt holds_number insn x) (sym h) (at_turned holds_number insn m.encoded.immediate k.held);
+  moved = at_turned in_memory insn m.coding.displacement k.moved;
+  held = at_turned holds_number insn m.coding.immediate k.held;
 }
 
 -- WHEN THE ORDERS COUNT
@@ -243,11 +283,3 @@ as_named name insn b h e = rw h e
 
 pub back_named : (name : Mnemonic) (insn : View) (b : Bool) → (name.0 == XCHG) ≡ true → (is_register insn.second && is_accumulator insn.first) ≡ b → exchanges (turned (named name insn)) ≡ b
 back_named name insn b h e = rw h e
-
--- WHAT IS ANSWERED
-
-pub meant_answers : (name : Mnemonic) (insn : View) (made : Option Made) → name.0 ≡ name_meant insn → Answers (named name insn) made → Answers (meant insn) made
-meant_answers name insn made e k = subst (λ (v : View). Answers v made) (meant_is name insn e) k
-
-pub coded_some : (insn : View) (m : Made) → IsAnswer insn m → HasCode insn
-coded_some insn m k = (m.encoded.bytes.items, m.row, k.code.codes)

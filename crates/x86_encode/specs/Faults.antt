@@ -5,7 +5,6 @@ use Rattle.x86_insn.specs.declared.amounts.Values.{Values}
 use Rattle.x86_table.specs.declared.forms.Row.{Row}
 use Rattle.x86_table.specs.declared.forms.Immediate.{Immediate}
 use Rattle.x86_table.specs.declared.forms.Pattern.{Pattern}
-use Rattle.x86_encode.specs.declared.encoded.Encoded.{Encoded}
 use Rattle.x86_encode.specs.declared.encoded.EncodeFault.{EncodeFault}
 use Rattle.x86_encode.specs.declared.encoded.EncodeFault.TheVariants as fault
 use Rattle.x86_table.specs.declared.forms.Immediate.TheVariants as immediate
@@ -14,6 +13,7 @@ use Rattle.x86_insn.specs.Views.{View, view_of}
 use Rattle.x86_table.specs.Reads.{is_known}
 use Rattle.x86_encode.specs.Codes.{meant}
 use Rattle.x86_encode.specs.Exchanges.{HasNoCode, HasCode}
+use Rattle.x86_encode.specs.Filling.{Coding}
 use Rattle.x86_table.specs.declared.mnemonics.TheConstants.{MOVABS}
 
 -- the instruction with these values in place of its own
@@ -42,7 +42,7 @@ Causes insn values fault.NoSuchForm = (held moved : Option ℕ) → HasNoCode (w
 Causes insn values fault.OutOfRange = HasCodeAs (is_known values.immediate) insn
 
 -- the same of an answer
-abbrev pub HasCause : Insn → Values → Result Encoded EncodeFault → Type 0
+abbrev pub HasCause : Insn → Values → Result Coding EncodeFault → Type 0
 HasCause insn values (Ok made) = Unit {0}
 HasCause insn values (Err cause) = Causes insn values cause
 

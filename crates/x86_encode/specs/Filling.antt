@@ -9,7 +9,6 @@ use Rattle.x86_table.specs.declared.forms.Pattern.{Pattern}
 use Rattle.x86_encode.specs.declared.encoded.Field.{Field}
 use Rattle.x86_encode.specs.declared.encoded.FieldKind.{FieldKind}
 use Rattle.x86_encode.specs.declared.encoded.Position.{Position}
-use Rattle.x86_encode.specs.declared.encoded.Encoded.{Encoded}
 use Rattle.x86_insn.specs.declared.insns.Base.TheVariants as base
 use Rattle.x86_table.specs.declared.forms.Immediate.TheVariants as immediate
 use Rattle.x86_encode.specs.declared.encoded.FieldKind.TheVariants as kind
@@ -92,11 +91,17 @@ pub record ReadsAs (bytes : List ℕ) (insn : View) (first second third : Seen) 
   pub reads : ReadsRow bytes (meaning r p) row r p
   pub shows : Shows r p insn.name.0 insn.size insn.«prefix» first second third
 
+-- bytes, with the fields of the values that are not known now
+pub record Coding : Type 0 where
+  pub bytes : List ℕ
+  pub displacement : Option Field
+  pub immediate : Option Field
+
 -- with any values that the fields hold, the bytes read as the instruction with these values
-abbrev pub FieldsFill : View → Encoded → Type 0
+abbrev pub FieldsFill : View → Coding → Type 0
 FieldsFill insn made = (v w : ℕ) → field_holds made.displacement v ≡ true → field_holds made.immediate w ≡ true
-    → ReadsAs (filled made.immediate w (filled made.displacement v made.bytes.items)) insn
-    (valued (length made.bytes.items) v w insn.first) (valued (length made.bytes.items) v w insn.second) (valued (length made.bytes.items) v w insn.third)
+    → ReadsAs (filled made.immediate w (filled made.displacement v made.bytes)) insn
+    (valued (length made.bytes) v w insn.first) (valued (length made.bytes) v w insn.second) (valued (length made.bytes) v w insn.third)
 
 -- THE FIELDS OF A ROW
 
@@ -168,12 +173,12 @@ FieldAt test insn None = Unit {0}
 FieldAt test insn (Some f) = test (operand_in insn f.position) ≡ true
 
 -- the fields are those of a row and of fields by which the bytes mean the instruction, where they end and whose they are
-pub record Noted (insn : View) (made : Encoded) : Type 0 where
+pub record Noted (insn : View) (made : Coding) : Type 0 where
   pub row : ℕ
   pub r : Row
   pub p : Fields
   pub here : Position
   pub there : Position
-  pub means : OrderedRow made.bytes.items insn row r p
-  pub moved : made.displacement ≡ moved_field (length made.bytes.items - immediate_length r.immediate - 4) here p.place
-  pub held : made.immediate ≡ held_field (length made.bytes.items - immediate_length r.immediate) there r.immediate p.held
+  pub means : OrderedRow made.bytes insn row r p
+  pub moved : made.displacement ≡ moved_field (length made.bytes - immediate_length r.immediate - 4) here p.place
+  pub held : made.immediate ≡ held_field (length made.bytes - immediate_length r.immediate) there r.immediate p.held

@@ -4,7 +4,9 @@ pub mod Exchanges
 pub mod Building
 pub mod Keys
 pub mod Filling
+pub mod Encoding
 pub mod Answers
 pub mod Faults
+pub mod EncodingLaws
 pub mod Readings
 pub mod WorkedCodes

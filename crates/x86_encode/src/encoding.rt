@@ -4,7 +4,8 @@ ghost use Rattle.std.specs.Prelude.{◌≡◌, ◌==◌, ◌&&◌, true};
 ghost use Rattle.x86_insn.specs.Views.{view_of};
 ghost use Rattle.x86_encode.specs.Answers.{Encodes, Fills, Notes, Placed};
 ghost use Rattle.x86_encode.specs.Codes.{is_quad, is_wide, name_meant, meant};
-ghost use Rattle.x86_encode.specs.Faults.{Coded, HasForm, Causes, HasCause};
+ghost use Rattle.x86_encode.specs.Encoding.{is_coded, is_form, fault_of, encoding_of, answered, EncodesAs};
+ghost use Rattle.x86_encode.specs.Faults.{HasCause};
 
 use crate::building::laid_out;
 use crate::encoded::{EncodeFault, Encoded};
@@ -47,7 +48,7 @@ fn name_meant(insn: &Insn, values: &Values) -> Mnemonic
 
 /// Whether some bytes mean the instruction with these values.
 fn has_code(insn: &Insn, values: &Values) -> bool
-    ensures { Coded result (meant (view_of insn.now values.now)) }
+    ensures { result ≡ is_coded (meant (view_of insn.now values.now)) }
 {
     match made_of(name_meant(insn, values), insn, values) {
         None => false,
@@ -57,7 +58,7 @@ fn has_code(insn: &Insn, values: &Values) -> bool
 
 /// Whether some bytes mean the instruction with any values: these two are as good as all.
 fn has_form(insn: &Insn) -> bool
-    ensures { HasForm result insn.now }
+    ensures { result ≡ is_form (view_of insn.now) }
 {
     let small = Values {
         immediate: Some(1),
@@ -75,9 +76,10 @@ fn has_form(insn: &Insn) -> bool
 }
 
 /// Why no bytes mean the instruction.
+#[tactic(auto, unfolding(crate::specs::Encoding::fault_of))]
 #[inline(never)]
 fn fault_of(insn: &Insn, values: &Values) -> EncodeFault
-    ensures { Causes insn.now values.now result }
+    ensures { result ≡ fault_of (view_of insn.now) values.now }
 {
     if !has_form(insn) {
         return EncodeFault::NoSuchForm;
@@ -103,11 +105,7 @@ fn fault_of(insn: &Insn, values: &Values) -> EncodeFault
 fn encode_exchanged(name: Mnemonic, insn: &Insn, values: &Values) -> Result<Encoded, EncodeFault>
     requires name { name.0 ≡ name_meant (view_of insn.now values.now) }
     requires xchg { (name.0 == XCHG) ≡ true }
-    ensures code { Encodes (meant (view_of insn.now values.now)) result }
-    ensures fields { Fills (meant (view_of insn.now values.now)) result }
-    ensures positions { Placed (meant (view_of insn.now values.now)) result }
-    ensures notes { Notes (meant (view_of insn.now values.now)) result }
-    ensures cause { HasCause insn.now values.now result }
+    ensures { EncodesAs result (encoding_of (view_of insn.now) values.now) }
 {
     match exchanged(name, insn, values) {
         None => Err(fault_of(insn, values)),
@@ -117,11 +115,12 @@ fn encode_exchanged(name: Mnemonic, insn: &Insn, values: &Values) -> Result<Enco
 
 /// The shortest bytes that mean the instruction.
 pub fn encode(insn: &Insn, values: &Values) -> Result<Encoded, EncodeFault>
-    ensures code { Encodes (meant (view_of insn.now values.now)) result }
-    ensures fields { Fills (meant (view_of insn.now values.now)) result }
-    ensures positions { Placed (meant (view_of insn.now values.now)) result }
-    ensures notes { Notes (meant (view_of insn.now values.now)) result }
-    ensures cause { HasCause insn.now values.now result }
+    ensures value { EncodesAs result (encoding_of (view_of insn.now) values.now) }
+    ensures code { Encodes (meant (view_of insn.now values.now)) (answered result) }
+    ensures fields { Fills (meant (view_of insn.now values.now)) (answered result) }
+    ensures positions { Placed (meant (view_of insn.now values.now)) (answered result) }
+    ensures notes { Notes (meant (view_of insn.now values.now)) (answered result) }
+    ensures cause { HasCause insn.now values.now (answered result) }
 {
     let name = name_meant(insn, values);
     if name.0 == XCHG {

@@ -1,19 +1,27 @@
 //! What holds of all bytes that mean an instruction.
 
+ghost use Rattle.x86_encode.specs.EncodingLaws.{EncodingsCode, EncodingsFill, EncodingsNote, EncodingsPlace, EncodingsCause};
 ghost use Rattle.x86_encode.specs.WorkedCodes.{WorkedCodes};
 ghost use Rattle.x86_encode.specs.Readings.{CodesRead, ReadingsCode, ExactReadingsCode, ExchangesAsRead};
 
 /// Bytes mean an instruction of which all values are known just where they read as it, an immediate
-/// modulo the operand size.
+/// modulo the operand size. The operands of `xchg` are exchanged just where they are when its bytes
+/// are read.
 pub fn codes_are_readings()
     ensures read { CodesRead }
     ensures mean { ReadingsCode }
     ensures exact { ExactReadingsCode }
+    ensures exchanges { ExchangesAsRead }
 {}
 
-/// The operands of `xchg` are exchanged just where they are when its bytes are read.
-pub fn exchanges_as_read()
-    ensures { ExchangesAsRead }
+/// The encoding gives the least bytes that mean the instruction, with their fields, or why there are
+/// none.
+pub fn encodings_are_codes()
+    ensures code { EncodingsCode }
+    ensures fields { EncodingsFill }
+    ensures notes { EncodingsNote }
+    ensures positions { EncodingsPlace }
+    ensures cause { EncodingsCause }
 {}
 
 /// The shortest bytes of instructions that were worked out by hand.

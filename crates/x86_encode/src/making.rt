@@ -1,10 +1,10 @@
 //! The shortest bytes of an instruction, with their fields, in either order of its operands.
 
-ghost use Rattle.std.specs.Prelude.{◌≡◌, ◌==◌, false, true};
+ghost use Rattle.std.specs.Prelude.{◌≡◌, ◌==◌, Some, false, option_map, true};
 ghost use Rattle.x86_insn.specs.Views.{seen_at, view_of};
 ghost use Rattle.x86_table.specs.Reads.{is_register, is_accumulator};
-ghost use Rattle.x86_encode.specs.Answers.{IsMade, Makes, MakesBack, Answers, turned_position, turned_field, is_before};
 ghost use Rattle.x86_encode.specs.Codes.{named};
+ghost use Rattle.x86_encode.specs.Encoding.{ordered_coding, turned_position, turned_field, turned_coding, is_earlier, coding_of, made_at, MakesAs};
 ghost use Rattle.x86_encode.specs.Keys.{Best};
 ghost use Rattle.x86_encode.specs.Exchanges.{turned, exchanges, at_most};
 
@@ -26,8 +26,8 @@ pub struct Made {
 /// The bytes of what was found for an instruction of this name, with their fields.
 pub fn encoded_of(name: Mnemonic, found: &Found, insn: &Insn, values: &Values) -> Encoded
     requires { Best (named name (view_of insn.now values.now)) found.now }
-    ensures { IsMade (named name (view_of insn.now values.now))
-        (record { row = found.now.row; encoded = result }) }
+    ensures { MakesAs (Some (record { row = found.now.row; encoded = result }))
+        (ordered_coding (named name (view_of insn.now values.now))) }
 {
     fields_have_bytes();
     let row = &rows()[found.row];
@@ -53,7 +53,7 @@ pub fn encoded_of(name: Mnemonic, found: &Found, insn: &Insn, values: &Values) -
 
 /// What is made of the operands in the row's order.
 fn made_here(name: Mnemonic, insn: &Insn, values: &Values) -> Option<Made>
-    ensures { Makes (named name (view_of insn.now values.now)) result }
+    ensures { MakesAs result (ordered_coding (named name (view_of insn.now values.now))) }
 {
     let laid = laid_out(insn, values);
     let mut found: Option<Found> = None;
@@ -95,7 +95,8 @@ fn turned_field(field: Option<Field>) -> Option<Field>
 
 /// What is made of the operands in the other order.
 fn made_back(name: Mnemonic, insn: &Insn, values: &Values) -> Option<Made>
-    ensures { MakesBack (named name (view_of insn.now values.now)) result }
+    ensures { let other = turned (named name (view_of insn.now values.now)) in
+        MakesAs result (option_map turned_coding (ordered_coding other)) }
 {
     let other = Insn {
         name: insn.name,
@@ -143,8 +144,8 @@ fn at_most(one: &[u8], other: &[u8]) -> bool
 }
 
 /// Whether the one comes before the other.
-fn is_before(one: &Made, other: &Made) -> bool
-    ensures { result ≡ is_before one.now other.now }
+fn is_earlier(one: &Made, other: &Made) -> bool
+    ensures { result ≡ is_earlier (made_at one.now) (made_at other.now) }
 {
     let (length, own) = (one.encoded.bytes.len(), other.encoded.bytes.len());
     length < own
@@ -178,7 +179,7 @@ fn is_accumulator(slot: Slot, insn: &Insn, values: &Values) -> bool
 fn made_either(name: Mnemonic, insn: &Insn, values: &Values) -> Option<Made>
     requires own { exchanges (named name (view_of insn.now values.now)) ≡ false }
     requires other { exchanges (turned (named name (view_of insn.now values.now))) ≡ true }
-    ensures { Answers (named name (view_of insn.now values.now)) result }
+    ensures { MakesAs result (coding_of (named name (view_of insn.now values.now))) }
 {
     let back = made_back(name, insn, values);
     match made_here(name, insn, values) {
@@ -186,7 +187,7 @@ fn made_either(name: Mnemonic, insn: &Insn, values: &Values) -> Option<Made>
         Some(one) => match back {
             None => Some(one),
             Some(two) => {
-                if is_before(&one, &two) {
+                if is_earlier(&one, &two) {
                     Some(one)
                 } else {
                     Some(two)
@@ -199,7 +200,7 @@ fn made_either(name: Mnemonic, insn: &Insn, values: &Values) -> Option<Made>
 /// What is made of the operands of `xchg`, which shows the accumulator first.
 pub fn exchanged(name: Mnemonic, insn: &Insn, values: &Values) -> Option<Made>
     requires { (name.0 == XCHG) ≡ true }
-    ensures { Answers (named name (view_of insn.now values.now)) result }
+    ensures { MakesAs result (coding_of (named name (view_of insn.now values.now))) }
 {
     let own = is_register(insn.first, insn, values) && is_accumulator(insn.second, insn, values);
     let other = is_register(insn.second, insn, values) && is_accumulator(insn.first, insn, values);
@@ -218,7 +219,7 @@ pub fn exchanged(name: Mnemonic, insn: &Insn, values: &Values) -> Option<Made>
 
 /// What is made of the instruction.
 pub fn made_of(name: Mnemonic, insn: &Insn, values: &Values) -> Option<Made>
-    ensures { Answers (named name (view_of insn.now values.now)) result }
+    ensures { MakesAs result (coding_of (named name (view_of insn.now values.now))) }
 {
     if name.0 == XCHG {
         exchanged(name, insn, values)

@@ -1,9 +1,8 @@
 use Rattle.x86_insn.specs.Views.{view_of}
 use Rattle.x86_table.specs.Fields.{fields_of}
 use Rattle.x86_encode.specs.Codes.{named}
-use Rattle.x86_encode.proofs.Search.{best_within, best_row, taking_fits, taking_code}
-use Rattle.x86_encode.proofs.Filled.{taking_fills, taking_notes}
-use Rattle.x86_encode.proofs.Positions.{moved_placed, held_placed}
+use Rattle.x86_encode.proofs.Coded.{taking_made}
+use Rattle.x86_encode.proofs.Search.{best_within, best_row, taking_fits}
 use Rattle.x86_encode.proofs.making.encoded_of.Goals as goal
 
 pub bounds-rows-found : goal.bounds-rows-found
@@ -17,10 +16,4 @@ bytes_of-requires c =
 pub returns : goal.returns
 returns c =
     let t = best_row (named c.args.name (view_of c.args.insn.now c.args.values.now)) c.args.found.now c.rows.result.now _ c.rows.ensures c.requires in
-    record {
-      code = taking_code (named c.args.name (view_of c.args.insn.now c.args.values.now)) c.args.found.now _ c.bytes_of.result.items t c.bytes_of.ensures;
-      fields = taking_fills (named c.args.name (view_of c.args.insn.now c.args.values.now)) c.args.found.now _ c.bytes_of.result.items _ _ c.displacement_field.result c.immediate_field.result t c.bytes_of.ensures c.displacement_field.ensures c.immediate_field.ensures;
-      notes = taking_notes (named c.args.name (view_of c.args.insn.now c.args.values.now)) c.args.found.now _ _ _ _ t c.bytes_of.ensures c.displacement_field.ensures c.immediate_field.ensures;
-      moved = moved_placed _ (named c.args.name (view_of c.args.insn.now c.args.values.now)) c.args.found.now _ c.displacement_field.result t c.displacement_field.ensures;
-      held = held_placed _ (named c.args.name (view_of c.args.insn.now c.args.values.now)) c.args.found.now _ c.immediate_field.result t c.immediate_field.ensures;
-    }
+    taking_made (named c.args.name (view_of c.args.insn.now c.args.values.now)) c.args.found.now _ c.bytes_of.result.items c.displacement_field.result c.immediate_field.result t c.bytes_of.ensures c.displacement_field.ensures c.immediate_field.ensures

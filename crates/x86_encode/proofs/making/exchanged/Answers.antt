@@ -1,18 +1,25 @@
-use Rattle.std.proofs.Common.{rules, ◌≡◌, ◌&&◌, true, false}
+use Rattle.std.proofs.Common.{rules, ◌≡◌, ◌&&◌, ◌∙◌, true, false}
 use Rattle.x86_insn.specs.Views.{view_of}
 use Rattle.x86_table.specs.Reads.{is_register, is_accumulator}
 use Rattle.x86_encode.specs.Codes.{named}
-use Rattle.x86_encode.proofs.Turning.{back, plain, as_named, back_named}
+use Rattle.x86_encode.proofs.Coded.{coding_plain, coding_back, coding_none}
+use Rattle.x86_encode.proofs.Turning.{as_named, back_named}
 use Rattle.x86_encode.proofs.making.exchanged.Goals as goal
 
 pub returns-then-other : goal.returns-then-other
 returns-then-other c =
     let own : (is_register (view_of c.args.insn.now c.args.values.now).first && is_accumulator (view_of c.args.insn.now c.args.values.now).second) ≡ true = search rules in
     let other : (is_register (view_of c.args.insn.now c.args.values.now).second && is_accumulator (view_of c.args.insn.now c.args.values.now).first) ≡ true = search rules in
-    back (named c.args.name (view_of c.args.insn.now c.args.values.now)) c.made_back.result (as_named c.args.name (view_of c.args.insn.now c.args.values.now) true c.requires own) (back_named c.args.name (view_of c.args.insn.now c.args.values.now) true c.requires other) c.made_back.ensures
+    coding_back (named c.args.name (view_of c.args.insn.now c.args.values.now)) (as_named c.args.name (view_of c.args.insn.now c.args.values.now) true c.requires own) (back_named c.args.name (view_of c.args.insn.now c.args.values.now) true c.requires other) ∙ c.made_back.ensures
+
+pub returns-else-other : goal.returns-else-other
+returns-else-other c =
+    let own : (is_register (view_of c.args.insn.now c.args.values.now).first && is_accumulator (view_of c.args.insn.now c.args.values.now).second) ≡ true = search rules in
+    let other : (is_register (view_of c.args.insn.now c.args.values.now).second && is_accumulator (view_of c.args.insn.now c.args.values.now).first) ≡ false = search rules in
+    coding_none (named c.args.name (view_of c.args.insn.now c.args.values.now)) (as_named c.args.name (view_of c.args.insn.now c.args.values.now) true c.requires own) (back_named c.args.name (view_of c.args.insn.now c.args.values.now) false c.requires other)
 
 pub returns-else-other-2 : goal.returns-else-other-2
 returns-else-other-2 c =
     let own : (is_register (view_of c.args.insn.now c.args.values.now).first && is_accumulator (view_of c.args.insn.now c.args.values.now).second) ≡ false = search rules in
     let other : (is_register (view_of c.args.insn.now c.args.values.now).second && is_accumulator (view_of c.args.insn.now c.args.values.now).first) ≡ false = search rules in
-    plain (named c.args.name (view_of c.args.insn.now c.args.values.now)) c.made_here.result (as_named c.args.name (view_of c.args.insn.now c.args.values.now) false c.requires own) (back_named c.args.name (view_of c.args.insn.now c.args.values.now) false c.requires other) c.made_here.ensures
+    coding_plain (named c.args.name (view_of c.args.insn.now c.args.values.now)) (as_named c.args.name (view_of c.args.insn.now c.args.values.now) false c.requires own) (back_named c.args.name (view_of c.args.insn.now c.args.values.now) false c.requires other) ∙ c.made_here.ensures

@@ -1,20 +1,21 @@
-use Rattle.std.proofs.Common.{◌∙◌, sym, subst}
+use Rattle.std.proofs.Common.{◌∙◌, option_map, sym, subst}
 use Rattle.x86_insn.specs.Views.{view_of}
-use Rattle.x86_encode.specs.Answers.{Makes, MakesBack}
 use Rattle.x86_encode.specs.Codes.{named}
-use Rattle.x86_encode.proofs.Turning.{no_own, no_other, first_of, second_of}
+use Rattle.x86_encode.specs.Encoding.{ordered_coding, turned_coding, MakesAs}
+use Rattle.x86_encode.specs.Exchanges.{turned}
+use Rattle.x86_encode.proofs.Coded.{either_none, either_one, either_two}
 use Rattle.x86_encode.proofs.making.made_either.Goals as goal
 
 pub returns-in-None : goal.returns-in-None
-returns-in-None c = no_own (named c.args.name (view_of c.args.insn.now c.args.values.now)) c.made_back-back.result c.requires.other (subst (λ m. Makes (named c.args.name (view_of c.args.insn.now c.args.values.now)) m) c.in-None.is c.made_here.ensures) c.made_back-back.ensures
+returns-in-None c = either_none (named c.args.name (view_of c.args.insn.now c.args.values.now)) c.made_back-back.result c.requires.own c.requires.other (subst (λ m. MakesAs m (ordered_coding (named c.args.name (view_of c.args.insn.now c.args.values.now)))) c.in-None.is c.made_here.ensures) c.made_back-back.ensures
 
 pub returns-in-None-back : goal.returns-in-None-back
-returns-in-None-back c = no_other (named c.args.name (view_of c.args.insn.now c.args.values.now)) c.in-Some.one c.requires.own (subst (λ m. Makes (named c.args.name (view_of c.args.insn.now c.args.values.now)) m) c.in-Some.is c.made_here.ensures) (subst (λ m. MakesBack (named c.args.name (view_of c.args.insn.now c.args.values.now)) m) c.in-None-back.is c.made_back-back.ensures)
+returns-in-None-back c = either_one (named c.args.name (view_of c.args.insn.now c.args.values.now)) c.in-Some.one c.requires.own c.requires.other (subst (λ m. MakesAs m (ordered_coding (named c.args.name (view_of c.args.insn.now c.args.values.now)))) c.in-Some.is c.made_here.ensures) (subst (λ m. MakesAs m (option_map turned_coding (ordered_coding (turned (named c.args.name (view_of c.args.insn.now c.args.values.now)))))) c.in-None-back.is c.made_back-back.ensures)
 
-pub returns-then-is_before : goal.returns-then-is_before
-returns-then-is_before c = first_of (named c.args.name (view_of c.args.insn.now c.args.values.now)) c.in-Some.one c.in-Some-back.two c.requires.own (sym c.is_before.ensures ∙ c.if-is_before.true)
-    (subst (λ m. Makes (named c.args.name (view_of c.args.insn.now c.args.values.now)) m) c.in-Some.is c.made_here.ensures) (subst (λ m. MakesBack (named c.args.name (view_of c.args.insn.now c.args.values.now)) m) c.in-Some-back.is c.made_back-back.ensures)
+pub returns-then-is_earlier : goal.returns-then-is_earlier
+returns-then-is_earlier c = either_two (named c.args.name (view_of c.args.insn.now c.args.values.now)) c.in-Some.one c.in-Some-back.two _ (sym c.is_earlier.ensures ∙ c.if-is_earlier.true) c.requires.own c.requires.other
+    (subst (λ m. MakesAs m (ordered_coding (named c.args.name (view_of c.args.insn.now c.args.values.now)))) c.in-Some.is c.made_here.ensures) (subst (λ m. MakesAs m (option_map turned_coding (ordered_coding (turned (named c.args.name (view_of c.args.insn.now c.args.values.now)))))) c.in-Some-back.is c.made_back-back.ensures)
 
-pub returns-else-is_before : goal.returns-else-is_before
-returns-else-is_before c = second_of (named c.args.name (view_of c.args.insn.now c.args.values.now)) c.in-Some.one c.in-Some-back.two c.requires.other (sym c.is_before.ensures ∙ c.if-is_before.false)
-    (subst (λ m. Makes (named c.args.name (view_of c.args.insn.now c.args.values.now)) m) c.in-Some.is c.made_here.ensures) (subst (λ m. MakesBack (named c.args.name (view_of c.args.insn.now c.args.values.now)) m) c.in-Some-back.is c.made_back-back.ensures)
+pub returns-else-is_earlier : goal.returns-else-is_earlier
+returns-else-is_earlier c = either_two (named c.args.name (view_of c.args.insn.now c.args.values.now)) c.in-Some.one c.in-Some-back.two _ (sym c.is_earlier.ensures ∙ c.if-is_earlier.false) c.requires.own c.requires.other
+    (subst (λ m. MakesAs m (ordered_coding (named c.args.name (view_of c.args.insn.now c.args.values.now)))) c.in-Some.is c.made_here.ensures) (subst (λ m. MakesAs m (option_map turned_coding (ordered_coding (turned (named c.args.name (view_of c.args.insn.now c.args.values.now)))))) c.in-Some-back.is c.made_back-back.ensures)
