@@ -21,6 +21,7 @@ pub mod Turning
 pub mod Shortest
 pub mod Coded
 pub mod Encodings
+pub mod Bare
 pub mod Comparing
 pub mod Orders
 pub mod ReadBack

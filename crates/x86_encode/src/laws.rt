@@ -1,6 +1,6 @@
 //! What holds of all bytes that mean an instruction.
 
-ghost use Rattle.x86_encode.specs.EncodingLaws.{EncodingsCode, EncodingsFill, EncodingsNote, EncodingsPlace, EncodingsCause};
+ghost use Rattle.x86_encode.specs.EncodingLaws.{EncodingsCode, EncodingsFill, EncodingsNote, EncodingsPlace, EncodingsCause, BareRowsCode};
 ghost use Rattle.x86_encode.specs.WorkedCodes.{WorkedCodes};
 ghost use Rattle.x86_encode.specs.Readings.{CodesRead, ReadingsCode, ExactReadingsCode, ExchangesAsRead};
 
@@ -15,13 +15,14 @@ pub fn codes_are_readings()
 {}
 
 /// The encoding gives the least bytes that mean the instruction, with their fields, or why there are
-/// none.
+/// none. Of an instruction without operands it is the bytes of its one row.
 pub fn encodings_are_codes()
     ensures code { EncodingsCode }
     ensures fields { EncodingsFill }
     ensures notes { EncodingsNote }
     ensures positions { EncodingsPlace }
     ensures cause { EncodingsCause }
+    ensures bare { BareRowsCode }
 {}
 
 /// The shortest bytes of instructions that were worked out by hand.

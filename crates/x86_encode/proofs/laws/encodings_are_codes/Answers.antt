@@ -1,3 +1,4 @@
+use Rattle.x86_encode.proofs.Bare.{bare_encoding}
 use Rattle.x86_encode.proofs.Encodings.{encodes, fills, notes, placed, has_cause}
 use Rattle.x86_encode.proofs.laws.encodings_are_codes.Goals as goal
 
@@ -15,3 +16,6 @@ returns-clause-positions c = placed
 
 pub returns-clause-cause : goal.returns-clause-cause
 returns-clause-cause c = has_cause
+
+pub returns-clause-bare : goal.returns-clause-bare
+returns-clause-bare c = bare_encoding
