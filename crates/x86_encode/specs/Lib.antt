@@ -10,3 +10,4 @@ pub mod Faults
 pub mod EncodingLaws
 pub mod Readings
 pub mod WorkedCodes
+pub mod WorkedEncodings

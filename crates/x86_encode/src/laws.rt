@@ -2,6 +2,7 @@
 
 ghost use Rattle.x86_encode.specs.EncodingLaws.{EncodingsCode, EncodingsFill, EncodingsNote, EncodingsPlace, EncodingsCause, BareRowsCode};
 ghost use Rattle.x86_encode.specs.WorkedCodes.{WorkedCodes};
+ghost use Rattle.x86_encode.specs.WorkedEncodings.{WorkedEncodings};
 ghost use Rattle.x86_encode.specs.Readings.{CodesRead, ReadingsCode, ExactReadingsCode, ExchangesAsRead};
 
 /// Bytes mean an instruction of which all values are known just where they read as it, an immediate
@@ -25,7 +26,8 @@ pub fn encodings_are_codes()
     ensures bare { BareRowsCode }
 {}
 
-/// The shortest bytes of instructions that were worked out by hand.
+/// The shortest bytes of instructions that were worked out by hand, and the encodings of some.
 pub fn worked_codes()
-    ensures { WorkedCodes }
+    ensures codes { WorkedCodes }
+    ensures encodings { WorkedEncodings }
 {}

@@ -3,12 +3,13 @@ use Rattle.x86_table.specs.Bytes.{bytes_of, rex_bits, rex_byte}
 use Rattle.x86_table.specs.Fits.{fits, fields_fit}
 use Rattle.x86_table.specs.Rows.{the_rows}
 use Rattle.x86_encode.specs.Building.{pick, without_rex, built, shows, takes}
+use Rattle.x86_encode.specs.Encoding.{shortest_row, coding_by, fault_of, encoding_of}
 use Rattle.x86_encode.proofs.Worked.{worked_code, worked_exchanged, worked_either, worked_none}
 use Rattle.x86_encode.proofs.laws.worked_codes.Goals as goal
 
-pub returns : goal.returns
+pub returns-clause-codes : goal.returns-clause-codes
 unfolding the_rows bytes_of rex_bits rex_byte fits fields_fit pick without_rex built shows takes
-returns c = record {
+returns-clause-codes c = record {
   mov = worked_code 186 _ _ refl refl refl refl;
   mov_quad = worked_code 190 _ _ refl refl refl refl;
   movabs = worked_code 191 _ _ refl refl refl refl;
@@ -39,4 +40,16 @@ returns c = record {
   wide = worked_none _ refl refl;
   mixed = worked_none _ refl refl;
   lock_register = worked_none _ refl refl;
+}
+
+pub returns-clause-encodings : goal.returns-clause-encodings
+unfolding the_rows bytes_of rex_bits rex_byte fits fields_fit pick without_rex built shows takes shortest_row coding_by fault_of encoding_of
+returns-clause-encodings c = record {
+  mov = refl;
+  lea = refl;
+  call = refl;
+  xchg = refl;
+  mixed = refl;
+  wide = refl;
+  unknown = refl;
 }
