@@ -1,7 +1,6 @@
 -- Instructions without operands: the table has one row for each name and size.
-use Rattle.std.proofs.Common.{◌≡◌, ◌-◌, ◌==◌, ◌&&◌, ◌||◌, ◌∷◌, ◌∙◌, if◌then◌else◌, Bool, List, None, Option, Some, [], ap, eq-eqb, false, length, not, option_map, refl, slice_get, subst, suc, sym, true, zero, ℕ, Ok}
+use Rattle.std.proofs.Common.{◌≡◌, ◌==◌, ◌&&◌, ◌∷◌, ◌∙◌, if◌then◌else◌, Bool, List, None, Option, Some, [], ap, eq-eqb, false, not, option_map, refl, slice_get, subst, suc, sym, true, zero, ℕ, Ok}
 use Rattle.std.proofs.lemmas.Bool.{and_from, and_parts, and_right, both_ways, eqb-true, not-true}
-use Rattle.x86_insn.specs.declared.insns.Mnemonic.{Mnemonic}
 use Rattle.x86_insn.specs.declared.insns.Prefix.{Prefix}
 use Rattle.x86_insn.specs.declared.insns.Prefix.TheVariants as prefix
 use Rattle.x86_insn.specs.declared.amounts.Values.{Values}
@@ -13,24 +12,23 @@ use Rattle.x86_table.specs.declared.forms.Immediate.TheVariants as immediate
 use Rattle.x86_table.specs.declared.forms.Pattern.TheVariants as pattern
 use Rattle.x86_table.specs.declared.forms.Shape.TheVariants as shape
 use Rattle.x86_insn.specs.Views.{Seen, absent, View}
-use Rattle.x86_table.specs.Bytes.{bytes_of, has_rex, rex_bits, rex_byte}
+use Rattle.x86_table.specs.Bytes.{bytes_of, rex_bits, rex_byte}
 use Rattle.x86_table.specs.Fields.{Fields}
 use Rattle.x86_table.specs.Fits.{fields_fit, fits}
 use Rattle.x86_table.specs.Reads.{shown}
 use Rattle.x86_table.specs.Rows.{the_rows}
 use Rattle.x86_table.specs.declared.mnemonics.TheConstants.{MOV, MOVABS}
-use Rattle.x86_encode.specs.Building.{is_held, is_low, is_reg, is_rm, chosen, pick, low_of, reg_of, rm_operand, held_in, segment_of, place_of, wants, wants_one, without_rex, built, same_operand, shows, takes}
-use Rattle.x86_encode.specs.Codes.{named, name_meant, meant, normal}
-use Rattle.x86_encode.specs.Exchanges.{exchanges, turned}
+use Rattle.x86_encode.specs.Building.{is_held, is_low, is_reg, is_rm, chosen, pick, low_of, reg_of, rm_operand, held_in, wants_one, without_rex, built, same_operand, shows, takes}
+use Rattle.x86_encode.specs.Codes.{named, meant, normal}
 use Rattle.x86_encode.specs.Filling.{Coding}
-use Rattle.x86_encode.specs.Keys.{sorts, has_bit, admits, key_of}
+use Rattle.x86_encode.specs.Keys.{sorts, has_bit, admits}
 use Rattle.x86_encode.specs.Encoding.{RowAt, RowCoding, coding_by, coding_of, coding_at, encoding_by, encoding_of, ordered_coding, shortest_row}
 use Rattle.x86_encode.specs.EncodingLaws.{is_absent, is_bare, no_fields, IsBareAs}
 use Rattle.x86_encode.proofs.Best.{some_is}
 use Rattle.x86_encode.proofs.Coded.{coding_plain}
 use Rattle.x86_encode.proofs.Complete.{taken}
 use Rattle.x86_encode.proofs.Keyed.{admitted}
-use Rattle.x86_encode.proofs.Shortest.{IsLeast, Least, found_at, least_row}
+use Rattle.x86_encode.proofs.Shortest.{Least, found_at, least_row}
 
 -- THE TABLE
 
@@ -80,7 +78,8 @@ bare_fit_at i r h = bare_fit_in the_rows i r bare_fit h
 
 -- ONE ROW
 
-not_like : (r : Row) (rows : List Row) (j : ℕ) (s : Row) → none_like r rows ≡ true → slice_get rows j ≡ Some s → same_head r s ≡ true → is_bare s ≡ true → ⊥
+not_like : (r : Row) (rows : List Row) (j : ℕ) (s : Row) → none_like r rows ≡ true → slice_get rows j ≡ Some s → same_head r s ≡ true
+    → is_bare s ≡ true → ⊥
 not_like r [] j s a h e b = cc
 not_like r (x ∷ rows) zero s a h e b =
     let k : not (same_head r s && is_bare s) ≡ true = subst (λ (y : Row). not (same_head r y && is_bare y) ≡ true) (some_is h) (and_parts (not (same_head r x && is_bare x)) (none_like r rows) a).0 in
@@ -96,7 +95,8 @@ turned_head r s h =
     let p = and_parts (r.name.0 == s.name.0) (r.size == s.size) h in
     and_from _ _ (eq-eqb _ _ (sym (eqb-true r.name.0 s.name.0 p.0))) (eq-eqb _ _ (sym (eqb-true r.size s.size p.1)))
 
-one_row : (rows : List Row) (i j : ℕ) (r s : Row) → all_apart rows ≡ true → slice_get rows i ≡ Some r → slice_get rows j ≡ Some s → is_bare r ≡ true → is_bare s ≡ true → same_head r s ≡ true → r ≡ s
+one_row : (rows : List Row) (i j : ℕ) (r s : Row) → all_apart rows ≡ true → slice_get rows i ≡ Some r → slice_get rows j ≡ Some s
+    → is_bare r ≡ true → is_bare s ≡ true → same_head r s ≡ true → r ≡ s
 one_row [] i j r s a e f b d h = cc
 one_row (x ∷ rows) zero zero r s a e f b d h = some_is (sym e ∙ f)
 one_row (x ∷ rows) zero (suc j) r s a e f b d h =
@@ -189,7 +189,8 @@ built_bare : (r : Row) → reg_of r.shape absent ≡ 0 → built r (bare_view r)
 unfolding built
 built_bare r h = rw (core_bare r h, wants_absent r, and_right (rex_bits r no_fields == 0) false refl) refl
 
-same_absent : (i : Immediate) (rex : Bool) (len : ℕ) (p : Fields) (q : Pattern) → is_absent q ≡ true → same_operand (normal i q absent) (shown rex len p q) ≡ true
+same_absent : (i : Immediate) (rex : Bool) (len : ℕ) (p : Fields) (q : Pattern) → is_absent q ≡ true
+    → same_operand (normal i q absent) (shown rex len p q) ≡ true
 same_absent i rex len p q h = rw (normal_absent i q, shown_absent rex len p q h) refl
 
 -- the row takes it
@@ -201,10 +202,11 @@ takes_bare r b h =
     let p = and_parts (is_absent r.first) (is_absent r.second && is_absent r.third) b in
     let q = and_parts (is_absent r.second) (is_absent r.third) p.1 in
     rw e (and_from _ _ k.1 (and_from _ _ (eq-eqb r.name.0 r.name.0 refl) (and_from _ _ (eq-eqb r.size r.size refl) (and_from _ _ (same_absent r.immediate _ _ no_fields r.first p.0)
-        (and_from _ _ (same_absent r.immediate _ _ no_fields r.second q.0) (same_absent r.immediate _ _ no_fields r.third q.1))))))
+    (and_from _ _ (same_absent r.immediate _ _ no_fields r.second q.0) (same_absent r.immediate _ _ no_fields r.third q.1))))))
 
 -- a row that takes it has no operands
-bare_by : (b : Bool) (s : Row) → bare_fits b s ≡ true → (has_bit (sorts s.shape s.first) 0 && (has_bit (sorts s.shape s.second) 0 && has_bit (sorts s.shape s.third) 0)) ≡ true → b ≡ true
+bare_by : (b : Bool) (s : Row) → bare_fits b s ≡ true
+    → (has_bit (sorts s.shape s.first) 0 && (has_bit (sorts s.shape s.second) 0 && has_bit (sorts s.shape s.third) 0)) ≡ true → b ≡ true
 bare_by true s h k = refl
 bare_by false s h k = absurd (both_ways _ (not-true _ h) k)
 
@@ -223,7 +225,8 @@ takes_only r s j f t =
 
 -- THE ENCODING
 
-row_by : (i : ℕ) (r : Row) (o : Option RowAt) → slice_get the_rows i ≡ Some r → is_bare r ≡ true → Least (bare_view r) 0 the_rows o → (n : ℕ) × (o ≡ Some (record { row = n; r = r }))
+row_by : (i : ℕ) (r : Row) (o : Option RowAt) → slice_get the_rows i ≡ Some r → is_bare r ≡ true → Least (bare_view r) 0 the_rows o
+    → (n : ℕ) × (o ≡ Some (record { row = n; r = r }))
 row_by i r None e b k = absurd (k i r e (takes_bare r b (subst (λ (t : Bool). bare_fits t r ≡ true) b (bare_fit_at i r e))))
 row_by i r (Some y) e b k =
     let f = found_at (bare_view r) y k in
@@ -238,7 +241,8 @@ coding_bare : (r : Row) → reg_of r.shape absent ≡ 0 → coding_by (bare_view
 unfolding coding_by bare_coding
 coding_bare r h = rw (built_bare r h) refl
 
-made_bare : (i : ℕ) (r : Row) → slice_get the_rows i ≡ Some r → is_bare r ≡ true → (n : ℕ) × (ordered_coding (bare_view r) ≡ Some (record { row = n; coding = bare_coding r }))
+made_bare : (i : ℕ) (r : Row) → slice_get the_rows i ≡ Some r → is_bare r ≡ true
+    → (n : ℕ) × (ordered_coding (bare_view r) ≡ Some (record { row = n; coding = bare_coding r }))
 made_bare i r e b =
     let w = row_by i r (shortest_row (bare_view r)) e b (least_row (bare_view r)) in
     let h : reg_of r.shape absent ≡ 0 = eqb-true _ _ (and_parts (reg_of r.shape absent == 0) (fits r no_fields) (subst (λ (t : Bool). bare_fits t r ≡ true) b (bare_fit_at i r e))).0 in
@@ -247,7 +251,8 @@ made_bare i r e b =
 abbrev view_with : ℕ → ℕ → Prefix → Seen → Seen → Seen → View
 view_with name size word first second third = record { name = record { 0 = name }; size = size; «prefix» = word; first = first; second = second; third = third }
 
-view_with_is : (a b c d : ℕ) (p q : Prefix) (x y z u v w : Seen) → a ≡ b → c ≡ d → p ≡ q → x ≡ u → y ≡ v → z ≡ w → view_with a c p x y z ≡ view_with b d q u v w
+view_with_is : (a b c d : ℕ) (p q : Prefix) (x y z u v w : Seen) → a ≡ b → c ≡ d → p ≡ q → x ≡ u → y ≡ v → z ≡ w
+    → view_with a c p x y z ≡ view_with b d q u v w
 view_with_is a b c d p q x y z u v w e f g h i j = rw (e, f, g, h, i, j) refl
 
 view_is : (r : Row) (insn : View) → IsBareAs r insn → insn ≡ bare_view r
@@ -258,7 +263,8 @@ meant_bare r =
     let h : ((r.name.0 == MOV) && ((r.size == 64) && false)) ≡ false = and_right (r.name.0 == MOV) ((r.size == 64) && false) (and_right (r.size == 64) false refl) in
     ap (λ (b : Bool). named (record { 0 = if b then MOVABS else r.name.0 }) (bare_view r)) h
 
-pub bare_encoding : (shape : Values → View) (values : Values) (i : ℕ) (r : Row) → slice_get the_rows i ≡ Some r → is_bare r ≡ true → IsBareAs r (shape values)
+pub bare_encoding : (shape : Values → View) (values : Values) (i : ℕ) (r : Row) → slice_get the_rows i ≡ Some r → is_bare r ≡ true
+    → IsBareAs r (shape values)
     → encoding_of shape values ≡ Ok (record { bytes = bytes_of r no_fields; displacement = None; immediate = None })
 unfolding encoding_of bare_coding
 bare_encoding shape values i r e b h =

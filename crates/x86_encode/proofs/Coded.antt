@@ -1,5 +1,5 @@
 -- What the encoding makes of an instruction: in the row's order, in the other one, and of both.
-use Rattle.std.proofs.Common.{◌≡◌, ◌-◌, ◌∙◌, if◌then◌else◌, Bool, List, None, Option, Some, ap, false, length, option_map, refl, subst, sym, true, ℕ}
+use Rattle.std.proofs.Common.{◌≡◌, ◌-◌, ◌∙◌, if◌then◌else◌, Bool, List, None, Option, Some, ap, false, option_map, refl, subst, sym, true, ℕ}
 use Rattle.x86_table.specs.declared.forms.Row.{Row}
 use Rattle.x86_table.specs.declared.parts.Parts.{Parts}
 use Rattle.x86_table.specs.declared.parts.Place.{Place}
@@ -7,12 +7,11 @@ use Rattle.x86_table.specs.declared.parts.Place.TheVariants as place
 use Rattle.x86_encode.specs.declared.searching.Found.{Found}
 use Rattle.x86_encode.specs.declared.making.Made.{Made}
 use Rattle.x86_encode.specs.declared.encoded.Field.{Field}
-use Rattle.x86_encode.specs.declared.encoded.Position.{Position}
-use Rattle.x86_insn.specs.Views.{Seen, View}
+use Rattle.x86_insn.specs.Views.{View}
 use Rattle.x86_table.specs.Bytes.{bytes_of}
 use Rattle.x86_table.specs.Fields.{Location, nowhere, direct, from_rip, bare, based, Fields, located, fields_of}
 use Rattle.x86_table.specs.Rows.{the_rows}
-use Rattle.x86_encode.specs.Building.{built, takes}
+use Rattle.x86_encode.specs.Building.{built}
 use Rattle.x86_encode.specs.Codes.{HasNoOrderedCode}
 use Rattle.x86_encode.specs.Exchanges.{turned, exchanges}
 use Rattle.x86_encode.specs.Filling.{Coding, moved_field, held_field, in_memory, holds_number}
@@ -112,11 +111,13 @@ back_if insn (Some m) k = made_turned insn m k
 back_makes : (insn : View) → MakesBack insn (option_map turned_coding (ordered_coding (turned insn)))
 back_makes insn = back_if insn (ordered_coding (turned insn)) (ordered_makes (turned insn))
 
-of_two : (insn : View) (a b : RowCoding) (t : Bool) → is_earlier a b ≡ t → exchanges insn ≡ false → exchanges (turned insn) ≡ true → IsMade insn a → IsMadeBack insn b → IsAnswer insn (if t then a else b)
+of_two : (insn : View) (a b : RowCoding) (t : Bool) → is_earlier a b ≡ t → exchanges insn ≡ false → exchanges (turned insn) ≡ true
+    → IsMade insn a → IsMadeBack insn b → IsAnswer insn (if t then a else b)
 of_two insn a b true t e h k l = first_of insn a b e t k l
 of_two insn a b false t e h k l = second_of insn a b h t k l
 
-of_either : (insn : View) (o p : Option RowCoding) → exchanges insn ≡ false → exchanges (turned insn) ≡ true → Makes insn o → MakesBack insn p → Answers insn (earlier o p)
+of_either : (insn : View) (o p : Option RowCoding) → exchanges insn ≡ false → exchanges (turned insn) ≡ true → Makes insn o → MakesBack insn p
+    → Answers insn (earlier o p)
 of_either insn None p e h k l = no_own insn p h k l
 of_either insn (Some a) None e h k l = no_other insn a e k l
 of_either insn (Some a) (Some b) e h k l = of_two insn a b (is_earlier a b) refl e h k l
@@ -126,7 +127,8 @@ earlier_none : (o : Option RowCoding) → earlier o None ≡ o
 earlier_none None = refl
 earlier_none (Some a) = refl
 
-by_orders : (insn : View) (a b : Bool) → exchanges insn ≡ a → exchanges (turned insn) ≡ b → Answers insn (earlier (own_coding a insn) (other_coding b insn))
+by_orders : (insn : View) (a b : Bool) → exchanges insn ≡ a → exchanges (turned insn) ≡ b
+    → Answers insn (earlier (own_coding a insn) (other_coding b insn))
 by_orders insn true true e h = back insn _ e h (back_makes insn)
 by_orders insn true false e h = never insn e h
 by_orders insn false true e h = of_either insn _ _ e h (ordered_makes insn) (back_makes insn)
@@ -148,7 +150,8 @@ coding_is : (a b : List ℕ) (c d e f : Option Field) → a ≡ b → c ≡ d �
 coding_is a b c d e f x y z = rw (x, y, z) refl
 
 -- the coding of the row that the search finds
-pub taking_made : (insn : View) (x : Found) (r : Row) (bytes : List ℕ) (moved held : Option Field) → Taking insn x r → bytes ≡ bytes_of r (fields_of x.parts)
+pub taking_made : (insn : View) (x : Found) (r : Row) (bytes : List ℕ) (moved held : Option Field) → Taking insn x r
+    → bytes ≡ bytes_of r (fields_of x.parts)
     → moved ≡ moved_field (x.length - immediate_length r.immediate - 4) (position_of in_memory insn) (located x.parts.displacement x.parts.place)
     → held ≡ held_field (x.length - immediate_length r.immediate) (position_of holds_number insn) r.immediate x.parts.immediate
     → ordered_coding insn ≡ Some (record { row = x.row; coding = record { bytes = bytes; displacement = moved; immediate = held } })
@@ -171,7 +174,8 @@ pub coding_plain : (insn : View) → exchanges insn ≡ false → exchanges (tur
 coding_plain insn e h = rw (e, h) (earlier_none (ordered_coding insn))
 
 -- in both
-pub coding_back : (insn : View) → exchanges insn ≡ true → exchanges (turned insn) ≡ true → coding_of insn ≡ option_map turned_coding (ordered_coding (turned insn))
+pub coding_back : (insn : View) → exchanges insn ≡ true → exchanges (turned insn) ≡ true
+    → coding_of insn ≡ option_map turned_coding (ordered_coding (turned insn))
 coding_back insn e h = rw (e, h) refl
 
 -- in this one alone
@@ -179,21 +183,26 @@ pub coding_none : (insn : View) → exchanges insn ≡ true → exchanges (turne
 coding_none insn e h = rw (e, h) refl
 
 -- in the other one alone
-pub coding_either : (insn : View) (one two : Option Made) → exchanges insn ≡ false → exchanges (turned insn) ≡ true → MakesAs one (ordered_coding insn) → MakesAs two (option_map turned_coding (ordered_coding (turned insn)))
+pub coding_either : (insn : View) (one two : Option Made) → exchanges insn ≡ false → exchanges (turned insn) ≡ true
+    → MakesAs one (ordered_coding insn) → MakesAs two (option_map turned_coding (ordered_coding (turned insn)))
     → coding_of insn ≡ earlier (option_map made_at one) (option_map made_at two)
 coding_either insn one two e h k l = rw (e, h, k, l) refl
 
-pub either_none : (insn : View) (two : Option Made) → exchanges insn ≡ false → exchanges (turned insn) ≡ true → MakesAs None (ordered_coding insn) → MakesAs two (option_map turned_coding (ordered_coding (turned insn))) → MakesAs two (coding_of insn)
+pub either_none : (insn : View) (two : Option Made) → exchanges insn ≡ false → exchanges (turned insn) ≡ true
+    → MakesAs None (ordered_coding insn) → MakesAs two (option_map turned_coding (ordered_coding (turned insn))) → MakesAs two (coding_of insn)
 either_none insn two e h k l = coding_either insn None two e h k l
 
-pub either_one : (insn : View) (a : Made) → exchanges insn ≡ false → exchanges (turned insn) ≡ true → MakesAs (Some a) (ordered_coding insn) → MakesAs None (option_map turned_coding (ordered_coding (turned insn))) → MakesAs (Some a) (coding_of insn)
+pub either_one : (insn : View) (a : Made) → exchanges insn ≡ false → exchanges (turned insn) ≡ true → MakesAs (Some a) (ordered_coding insn)
+    → MakesAs None (option_map turned_coding (ordered_coding (turned insn))) → MakesAs (Some a) (coding_of insn)
 either_one insn a e h k l = coding_either insn (Some a) None e h k l
 
-pub either_two : (insn : View) (a b : Made) (t : Bool) → is_earlier (made_at a) (made_at b) ≡ t → exchanges insn ≡ false → exchanges (turned insn) ≡ true → MakesAs (Some a) (ordered_coding insn)
+pub either_two : (insn : View) (a b : Made) (t : Bool) → is_earlier (made_at a) (made_at b) ≡ t → exchanges insn ≡ false
+    → exchanges (turned insn) ≡ true → MakesAs (Some a) (ordered_coding insn)
     → MakesAs (Some b) (option_map turned_coding (ordered_coding (turned insn))) → coding_of insn ≡ Some (if t then made_at a else made_at b)
 either_two insn a b t q e h k l = coding_either insn (Some a) (Some b) e h k l ∙ ap (λ (x : Bool). Some (if x then made_at a else made_at b)) q
 
 -- the coding of the other order
-pub back_is : (o : Option RowCoding) (m : Made) (bytes : List ℕ) (moved held : Option Field) → o ≡ Some (made_at m) → bytes ≡ m.encoded.bytes.items → moved ≡ turned_field m.encoded.displacement → held ≡ turned_field m.encoded.immediate
+pub back_is : (o : Option RowCoding) (m : Made) (bytes : List ℕ) (moved held : Option Field) → o ≡ Some (made_at m)
+    → bytes ≡ m.encoded.bytes.items → moved ≡ turned_field m.encoded.displacement → held ≡ turned_field m.encoded.immediate
     → option_map turned_coding o ≡ Some (record { row = m.row; coding = record { bytes = bytes; displacement = moved; immediate = held } })
 back_is o m bytes moved held e f g h = rw (e, f, g, h) refl

@@ -1,5 +1,5 @@
 -- The encoding of an instruction gives the least bytes that mean it, their fields, and why there are none.
-use Rattle.std.proofs.Common.{◌≡◌, ◌^◌, ◌||◌, ◌∙◌, Bool, List, None, Option, Some, ap, false, is_some, refl, subst, sym, true, ℕ, Result, Ok, Err}
+use Rattle.std.proofs.Common.{◌≡◌, ◌^◌, ◌||◌, ◌∙◌, Bool, None, Option, Some, ap, false, is_some, refl, subst, sym, true, ℕ, Result}
 use Rattle.x86_insn.specs.declared.insns.Mnemonic.{Mnemonic}
 use Rattle.x86_insn.specs.declared.insns.Insn.{Insn}
 use Rattle.x86_insn.specs.declared.amounts.Values.{Values}
@@ -8,7 +8,6 @@ use Rattle.x86_insn.specs.Views.{View, view_of}
 use Rattle.x86_table.specs.Reads.{is_known}
 use Rattle.x86_encode.specs.Answers.{Encodes, Fills, Notes, Placed}
 use Rattle.x86_encode.specs.Codes.{named, name_meant, meant}
-use Rattle.x86_encode.specs.Exchanges.{HasNoCode, HasCode}
 use Rattle.x86_encode.specs.Encoding.{RowCoding, coding_of, is_coded, is_coded_with, is_form, unknown_fault, value_fault, fault_by, fault_of, encoding_by, encoding_of}
 use Rattle.x86_encode.specs.Faults.{with_values, Coded, HasForm, Causes, HasCause}
 use Rattle.x86_encode.specs.Filling.{Coding}
@@ -19,7 +18,8 @@ use Rattle.x86_encode.proofs.Turning.{Answers}
 
 -- WHAT IT GIVES
 
-encodes_by : (shape : Values → View) (values : Values) (insn : View) (o : Option RowCoding) → Answers insn o → Encodes insn (encoding_by shape values o)
+encodes_by : (shape : Values → View) (values : Values) (insn : View) (o : Option RowCoding) → Answers insn o
+    → Encodes insn (encoding_by shape values o)
 encodes_by shape values insn None k = k
 encodes_by shape values insn (Some m) k = (m.row, k.code)
 
@@ -63,18 +63,21 @@ is_coded_so insn = coded_by insn (coding_of insn) (coding_answers insn)
 coded_so : (insn : Insn) (held : Option ℕ) → Coded (is_coded_with (view_of insn) held) (with_values insn held (Some 0))
 coded_so insn held = is_coded_so (with_values insn held (Some 0))
 
-either_form : (insn : Insn) (a b : Bool) → Coded a (with_values insn (Some 1) (Some 0)) → Coded b (with_values insn (Some (2 ^ 63)) (Some 0)) → HasForm (a || b) insn
+either_form : (insn : Insn) (a b : Bool) → Coded a (with_values insn (Some 1) (Some 0)) → Coded b (with_values insn (Some (2 ^ 63)) (Some 0))
+    → HasForm (a || b) insn
 either_form insn true b h k = (Some 1, Some 0, refl, h)
 either_form insn false b h k = form_by b insn k h
 
 form_so : (insn : Insn) → HasForm (is_form (view_of insn)) insn
 form_so insn = either_form insn (is_coded_with (view_of insn) (Some 1)) (is_coded_with (view_of insn) (Some (2 ^ 63))) (coded_so insn (Some 1)) (coded_so insn (Some (2 ^ 63)))
 
-unknown_cause : (insn : Insn) (values : Values) (b : Bool) → values.immediate ≡ None → HasForm true insn → Coded b (with_values insn None (Some 0)) → Causes insn values (unknown_fault b)
+unknown_cause : (insn : Insn) (values : Values) (b : Bool) → values.immediate ≡ None → HasForm true insn
+    → Coded b (with_values insn None (Some 0)) → Causes insn values (unknown_fault b)
 unknown_cause insn values true e f k = (None, Some 0, sym (ap is_known e), k)
 unknown_cause insn values false e f k = (e, (f, none_unknown insn k))
 
-value_cause : (insn : Insn) (values : Values) (held : Option ℕ) → values.immediate ≡ held → HasForm true insn → Causes insn values (value_fault (view_of insn) held)
+value_cause : (insn : Insn) (values : Values) (held : Option ℕ) → values.immediate ≡ held → HasForm true insn
+    → Causes insn values (value_fault (view_of insn) held)
 value_cause insn values None e f = unknown_cause insn values (is_coded_with (view_of insn) None) e f (coded_so insn None)
 value_cause insn values (Some v) e f = (f.0, f.1, f.2 ∙ sym (ap is_known e), f.3)
 
@@ -97,27 +100,32 @@ has_cause insn values = has_cause_by insn values (coding_of (meant (view_of insn
 -- THE PROGRAM'S ANSWER
 
 -- what is made of the instruction by the name that is meant is its encoding
-pub encoding_is : (shape : Values → View) (values : Values) (name : Mnemonic) (o : Option RowCoding) → name.0 ≡ name_meant (shape values) → coding_of (named name (shape values)) ≡ o
+pub encoding_is : (shape : Values → View) (values : Values) (name : Mnemonic) (o : Option RowCoding) → name.0 ≡ name_meant (shape values)
+    → coding_of (named name (shape values)) ≡ o
     → encoding_of shape values ≡ encoding_by shape values o
 unfolding encoding_of
 encoding_is shape values name o e h = ap (λ (v : View). encoding_by shape values (coding_of v)) (sym (meant_is name (shape values) e)) ∙ ap (λ (x : Option RowCoding). encoding_by shape values x) h
 
 -- whether some bytes mean it
-pub is_coded_by : (name : Mnemonic) (insn : View) (o : Option RowCoding) → name.0 ≡ name_meant insn → coding_of (named name insn) ≡ o → is_coded (meant insn) ≡ is_some o
+pub is_coded_by : (name : Mnemonic) (insn : View) (o : Option RowCoding) → name.0 ≡ name_meant insn → coding_of (named name insn) ≡ o
+    → is_coded (meant insn) ≡ is_some o
 is_coded_by name insn o e h = ap (λ (v : View). is_some (coding_of v)) (sym (meant_is name insn e)) ∙ ap (λ (x : Option RowCoding). is_some x) h
 
--- its clauses
-pub answer_encodes : (insn : Insn) (values : Values) (answer : Result Coding EncodeFault) → encoding_of (view_of insn) values ≡ answer → Encodes (meant (view_of insn values)) answer
-answer_encodes insn values answer e = subst (λ (a : Result Coding EncodeFault). Encodes (meant (view_of insn values)) a) e (encodes (view_of insn) values)
+-- what is so of an answer
+pub record Answered (insn : Insn) (values : Values) (answer : Result Coding EncodeFault) : Type 0 where
+  pub code : Encodes (meant (view_of insn values)) answer
+  pub fields : Fills (meant (view_of insn values)) answer
+  pub positions : Placed (meant (view_of insn values)) answer
+  pub notes : Notes (meant (view_of insn values)) answer
+  pub cause : HasCause insn values answer
 
-pub answer_fills : (insn : Insn) (values : Values) (answer : Result Coding EncodeFault) → encoding_of (view_of insn) values ≡ answer → Fills (meant (view_of insn values)) answer
-answer_fills insn values answer e = subst (λ (a : Result Coding EncodeFault). Fills (meant (view_of insn values)) a) e (fills (view_of insn) values)
-
-pub answer_notes : (insn : Insn) (values : Values) (answer : Result Coding EncodeFault) → encoding_of (view_of insn) values ≡ answer → Notes (meant (view_of insn values)) answer
-answer_notes insn values answer e = subst (λ (a : Result Coding EncodeFault). Notes (meant (view_of insn values)) a) e (notes (view_of insn) values)
-
-pub answer_placed : (insn : Insn) (values : Values) (answer : Result Coding EncodeFault) → encoding_of (view_of insn) values ≡ answer → Placed (meant (view_of insn values)) answer
-answer_placed insn values answer e = subst (λ (a : Result Coding EncodeFault). Placed (meant (view_of insn values)) a) e (placed (view_of insn) values)
-
-pub answer_cause : (insn : Insn) (values : Values) (answer : Result Coding EncodeFault) → encoding_of (view_of insn) values ≡ answer → HasCause insn values answer
-answer_cause insn values answer e = subst (λ (a : Result Coding EncodeFault). HasCause insn values a) e (has_cause insn values)
+-- it is so of the encoding
+pub answered_so : (insn : Insn) (values : Values) (answer : Result Coding EncodeFault) → encoding_of (view_of insn) values ≡ answer
+    → Answered insn values answer
+answered_so insn values answer e = subst (λ (a : Result Coding EncodeFault). Answered insn values a) e (record {
+  code = encodes (view_of insn) values;
+  fields = fills (view_of insn) values;
+  positions = placed (view_of insn) values;
+  notes = notes (view_of insn) values;
+  cause = has_cause insn values;
+})

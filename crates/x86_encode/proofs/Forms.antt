@@ -13,7 +13,7 @@ use Rattle.x86_insn.specs.Views.{immediate as shown_immediate, View, seen_at, vi
 use Rattle.x86_table.specs.Fits.{immediate_fits}
 use Rattle.x86_encode.specs.Codes.{last_of, reduced, is_quad, is_wide, named, name_meant, meant}
 use Rattle.x86_encode.specs.Exchanges.{HasNoCode, HasCode}
-use Rattle.x86_encode.specs.Faults.{with_values, Coded, HasCodeAs, HasForm, is_value, is_full, kinds_fit}
+use Rattle.x86_encode.specs.Faults.{with_values, Coded, HasForm, is_value, is_full, kinds_fit}
 use Rattle.x86_encode.proofs.Nearest.{values_by}
 use Rattle.x86_encode.proofs.Orders.{any_zero, any_value}
 use Rattle.x86_encode.proofs.Roles.{or_rest}
@@ -198,11 +198,3 @@ none_unknown insn none moved bytes i c =
 pub form_by : (b : Bool) (insn : Insn) → Coded b (with_values insn (Some (2 ^ 63)) (Some 0)) → HasNoCode (with_values insn (Some 1) (Some 0)) → HasForm b insn
 form_by true insn h none = (Some (2 ^ 63), Some 0, refl, h)
 form_by false insn h none = no_form insn none h
-
-pub form_true : (b : Bool) (insn : Insn) → b ≡ true → HasForm b insn → HasCodeAs true insn
-form_true true insn e h = h
-form_true false insn e h = cc
-
-pub code_false : (b : Bool) (insn : View) → b ≡ false → Coded b insn → HasNoCode insn
-code_false true insn e h = cc
-code_false false insn e h = h

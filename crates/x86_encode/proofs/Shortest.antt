@@ -21,7 +21,8 @@ pub record IsLeast (insn : View) (i : ℕ) (rows : List Row) (x : RowAt) : Type 
   pub row_is : x.row ≡ i + place
   pub found : slice_get rows place ≡ Some x.r
   pub taken : takes x.r insn ≡ true
-  pub least : (j : ℕ) (s : Row) → slice_get rows j ≡ Some s → takes s insn ≡ true → (size_by insn x.r < size_by insn s) ⊎ ((size_by insn x.r ≡ size_by insn s) × (x.row < suc (i + j)))
+  pub least : (j : ℕ) (s : Row) → slice_get rows j ≡ Some s → takes s insn ≡ true
+      → (size_by insn x.r < size_by insn s) ⊎ ((size_by insn x.r ≡ size_by insn s) × (x.row < suc (i + j)))
 
 -- the same where no row may take it
 abbrev pub Least : View → ℕ → List Row → Option RowAt → Type 0
@@ -29,7 +30,8 @@ Least insn i rows None = (j : ℕ) (s : Row) → slice_get rows j ≡ Some s →
 Least insn i rows (Some x) = IsLeast insn i rows x
 
 -- a fact of all rows that take the instruction, by the first and the others
-ahead : (P : ℕ → Row → Type 0) (r : Row) (rows : List Row) → P 0 r → ((j : ℕ) (s : Row) → slice_get rows j ≡ Some s → P (suc j) s) → (j : ℕ) (s : Row) → slice_get (r ∷ rows) j ≡ Some s → P j s
+ahead : (P : ℕ → Row → Type 0) (r : Row) (rows : List Row) → P 0 r → ((j : ℕ) (s : Row) → slice_get rows j ≡ Some s → P (suc j) s)
+    → (j : ℕ) (s : Row) → slice_get (r ∷ rows) j ≡ Some s → P j s
 ahead P r rows here rest zero s e = subst (P 0) (some_is e) here
 ahead P r rows here rest (suc j) s e = rest j s e
 
@@ -37,7 +39,8 @@ none_next : (insn : View) (i : ℕ) (r : Row) (rows : List Row) → takes r insn
 none_next insn i r rows f k = ahead (λ j s. takes s insn ≡ true → ⊥) r rows (λ t. both_ways (takes r insn) f t) k
 
 -- what is least of the others is least, if the first row does not take the instruction or has more bytes
-kept_next : (insn : View) (i : ℕ) (r : Row) (rows : List Row) (x : RowAt) → (takes r insn ≡ true → size_by insn x.r < size_by insn r) → IsLeast insn (suc i) rows x → IsLeast insn i (r ∷ rows) x
+kept_next : (insn : View) (i : ℕ) (r : Row) (rows : List Row) (x : RowAt) → (takes r insn ≡ true → size_by insn x.r < size_by insn r)
+    → IsLeast insn (suc i) rows x → IsLeast insn i (r ∷ rows) x
 kept_next insn i r rows x more k = record {
   place = suc k.place;
   row_is = (let e = k.row_is in omega arith);
@@ -51,7 +54,8 @@ kept_next insn i r rows x more k = record {
 }
 
 -- the first row is, if it takes the instruction and none of the others has fewer bytes
-first_next : (insn : View) (i : ℕ) (r : Row) (rows : List Row) → takes r insn ≡ true → ((j : ℕ) (s : Row) → slice_get rows j ≡ Some s → takes s insn ≡ true → size_by insn r < suc (size_by insn s))
+first_next : (insn : View) (i : ℕ) (r : Row) (rows : List Row) → takes r insn ≡ true
+    → ((j : ℕ) (s : Row) → slice_get rows j ≡ Some s → takes s insn ≡ true → size_by insn r < suc (size_by insn s))
     → IsLeast insn i (r ∷ rows) (record { row = i; r = r })
 first_next insn i r rows t more = record {
   place = 0;
@@ -66,7 +70,8 @@ first_next insn i r rows t more = record {
       ]);
 }
 
-both_next : (insn : View) (i : ℕ) (r : Row) (rows : List Row) (x : RowAt) (q : Bool) → nat_lt (size_by insn x.r) (size_by insn r) ≡ q → takes r insn ≡ true → IsLeast insn (suc i) rows x
+both_next : (insn : View) (i : ℕ) (r : Row) (rows : List Row) (x : RowAt) (q : Bool) → nat_lt (size_by insn x.r) (size_by insn r) ≡ q
+    → takes r insn ≡ true → IsLeast insn (suc i) rows x
     → IsLeast insn i (r ∷ rows) (if q then x else (record { row = i; r = r }))
 both_next insn i r rows x true e t k = kept_next insn i r rows x (λ u. ltb-true (size_by insn x.r) (size_by insn r) e) k
 both_next insn i r rows x false e t k = let l = ltb-false (size_by insn x.r) (size_by insn r) e in
@@ -124,7 +129,8 @@ one_row a b i j xs ys e f (inr l) (inl m) = (let g = l.0 in absurd (omega arith)
 one_row a b i j xs ys e f (inr (g, inl l)) (inr m) = (let h = m.1 in absurd (omega arith))
 one_row a b i j xs ys e f (inr (g, inr l)) (inr m) = sym l.0
 
-same_row : (insn : View) (x : Found) (r : Row) (o : Option RowAt) → Taking insn x r → Least insn 0 the_rows o → o ≡ Some (record { row = x.row; r = r })
+same_row : (insn : View) (x : Found) (r : Row) (o : Option RowAt) → Taking insn x r → Least insn 0 the_rows o
+    → o ≡ Some (record { row = x.row; r = r })
 same_row insn x r None t k = absurd (k x.row r t.found t.taken)
 same_row insn x r (Some y) t k =
     let e : y.row ≡ x.row = one_row (size_by insn r) (size_by insn y.r) x.row y.row (bytes_of r (built r insn)) (bytes_of y.r (built y.r insn)) refl refl
@@ -147,7 +153,8 @@ none_row insn h = same_none insn (shortest_row insn) h (least_row insn)
 -- THE ROW OF THE ENCODING IS THE BEST
 
 -- no bytes of another row come before
-before_code : (insn : View) (x : RowAt) → IsLeast insn 0 the_rows x → (other : List ℕ) (j : ℕ) (s : Row) → slice_get the_rows j ≡ Some s → OrderedCodes other insn j → takes s insn ≡ true
+before_code : (insn : View) (x : RowAt) → IsLeast insn 0 the_rows x → (other : List ℕ) (j : ℕ) (s : Row) → slice_get the_rows j ≡ Some s
+    → OrderedCodes other insn j → takes s insn ≡ true
     → Before (bytes_of x.r (built x.r insn)) x.row other j
 before_code insn x k other j s f c t =
     let z = rest_longer j s insn f (shaped_at j s f) other c in
@@ -162,17 +169,21 @@ before_code insn x k other j s f c t =
       ])
     ]
   where
-    longer : (bytes_of s (built s insn) ≡ other) ⊎ (length (bytes_of s (built s insn)) < length other) → (size_by insn x.r < size_by insn s) ⊎ ((size_by insn x.r ≡ size_by insn s) × (x.row < suc (0 + j))) → length (bytes_of x.r (built x.r insn)) < suc (length other)
+    longer : (bytes_of s (built s insn) ≡ other) ⊎ (length (bytes_of s (built s insn)) < length other)
+        → (size_by insn x.r < size_by insn s) ⊎ ((size_by insn x.r ≡ size_by insn s) × (x.row < suc (0 + j)))
+        → length (bytes_of x.r (built x.r insn)) < suc (length other)
     longer (inl e) (inl m) = (let q : length (bytes_of s (built s insn)) ≡ length other = ap (λ (y : List ℕ). length y) e in omega arith)
     longer (inl e) (inr m) = (let q : length (bytes_of s (built s insn)) ≡ length other = ap (λ (y : List ℕ). length y) e in let n = m.0 in omega arith)
     longer (inr l) (inl m) = omega arith
     longer (inr l) (inr m) = (let n = m.0 in omega arith)
 
-    shorter_than : (bytes_of s (built s insn) ≡ other) ⊎ (length (bytes_of s (built s insn)) < length other) → size_by insn x.r < size_by insn s → length (bytes_of x.r (built x.r insn)) < length other
+    shorter_than : (bytes_of s (built s insn) ≡ other) ⊎ (length (bytes_of s (built s insn)) < length other) → size_by insn x.r < size_by insn s
+        → length (bytes_of x.r (built x.r insn)) < length other
     shorter_than (inl e) m = (let q : length (bytes_of s (built s insn)) ≡ length other = ap (λ (y : List ℕ). length y) e in omega arith)
     shorter_than (inr l) m = omega arith
 
-pub least_before : (insn : View) (x : RowAt) → IsLeast insn 0 the_rows x → (other : List ℕ) (j : ℕ) → OrderedCodes other insn j → Before (bytes_of x.r (built x.r insn)) x.row other j
+pub least_before : (insn : View) (x : RowAt) → IsLeast insn 0 the_rows x → (other : List ℕ) (j : ℕ) → OrderedCodes other insn j
+    → Before (bytes_of x.r (built x.r insn)) x.row other j
 least_before insn x k other j (s, p, c) = elim (cases_Bool (takes s insn)) [
   | inl t ↦ before_code insn x k other j s c.found (s, p, c) t
   | inr f ↦ absurd (misses j s insn c.found (shaped_at j s c.found) f other (s, p, c))

@@ -1,5 +1,5 @@
 -- Codes of an instruction by those in the row's order.
-use Rattle.std.proofs.Common.{◌≡◌, ◌-◌, ◌==◌, ◌&&◌, ◌||◌, ◌∷◌, ◌∙◌, Bool, List, None, Option, Some, [], ap, arith, eq-eqb, false, inl, inr, length, nat_lt, refl, subst, sym, true, ℕ}
+use Rattle.std.proofs.Common.{◌≡◌, ◌==◌, ◌&&◌, ◌||◌, ◌∷◌, ◌∙◌, Bool, List, None, Option, Some, [], ap, arith, eq-eqb, false, inl, inr, length, nat_lt, refl, sym, true, ℕ}
 use Rattle.std.proofs.lemmas.Bool.{cases_order, eqb-true, both_ways, ltb-true, and_parts, or_cases, ltb-false}
 use Rattle.x86_insn.specs.declared.insns.Mnemonic.{Mnemonic}
 use Rattle.x86_table.specs.declared.forms.Immediate.{Immediate}
@@ -10,12 +10,10 @@ use Rattle.x86_insn.specs.Views.{Seen, View}
 use Rattle.x86_table.specs.Fields.{Location, nowhere, direct, from_rip, bare, based}
 use Rattle.x86_table.specs.Reads.{is_register, is_accumulator}
 use Rattle.x86_encode.specs.Answers.{InOrder}
-use Rattle.x86_encode.specs.Codes.{OrderedRow, OrderedCodes, AtMost, Before, HasNoOrderedCode, named, name_meant, meant}
+use Rattle.x86_encode.specs.Codes.{OrderedCodes, AtMost, Before, HasNoOrderedCode, named}
 use Rattle.x86_encode.specs.Encoding.{RowCoding, turned_position, turned_field, turned_coding, is_earlier}
-use Rattle.x86_encode.specs.Exchanges.{turned, exchanges, CodeAt, Codes, HasNoCode, OrderedAt, HasCode, at_most}
+use Rattle.x86_encode.specs.Exchanges.{turned, exchanges, CodeAt, Codes, HasNoCode, OrderedAt, at_most}
 use Rattle.x86_encode.specs.Filling.{FieldsFill, field_holds, filled, moved_field, held_field, in_memory, holds_number, operand_in, FieldAt, Noted}
-use Rattle.x86_encode.specs.Keys.{immediate_length}
-use Rattle.x86_encode.proofs.Search.{meant_is}
 use Rattle.x86_table.specs.declared.mnemonics.TheConstants.{XCHG}
 
 -- WHAT IS MADE

@@ -7,7 +7,8 @@ use Rattle.x86_encode.specs.Exchanges.{IsCode, HasNoCode}
 use Rattle.x86_encode.proofs.Coded.{coding_answers}
 use Rattle.x86_encode.proofs.Turning.{IsAnswer, Answers}
 
-pub worked_code : (insn : View) (row : ℕ) (bytes : List ℕ) (moved held : Option Field) → coding_of insn ≡ Some (record { row = row; coding = record { bytes = bytes; displacement = moved; immediate = held } }) → IsCode bytes insn
+pub worked_code : (insn : View) (row : ℕ) (bytes : List ℕ) (moved held : Option Field)
+    → coding_of insn ≡ Some (record { row = row; coding = record { bytes = bytes; displacement = moved; immediate = held } }) → IsCode bytes insn
 worked_code insn row bytes moved held e =
     let k : IsAnswer insn (record { row = row; coding = record { bytes = bytes; displacement = moved; immediate = held } }) = subst (λ (o : Option RowCoding). Answers insn o) e (coding_answers insn) in (row, k.code)
 

@@ -110,17 +110,17 @@ earlier None b = b
 earlier (Some a) None = Some a
 earlier (Some a) (Some b) = Some (if is_earlier a b then a else b)
 
--- that of the operands as they are shown, where they are not exchanged
+-- that of this order of the operands, unless `xchg` shows them in the other one
 abbrev pub own_coding : Bool → View → Option RowCoding
 own_coding true insn = None
 own_coding false insn = ordered_coding insn
 
--- that of the other order, where that is exchanged
+-- that of the other order, if `xchg` shows the operands in this one then
 abbrev pub other_coding : Bool → View → Option RowCoding
 other_coding true insn = option_map turned_coding (ordered_coding (turned insn))
 other_coding false insn = None
 
--- what is made of an instruction, the operands of `xchg` in either order in which they are shown so
+-- what is made of an instruction: of `xchg` the earlier of what the two orders give
 abbrev pub coding_of : View → Option RowCoding
 coding_of insn = earlier (own_coding (exchanges insn) insn) (other_coding (exchanges (turned insn)) insn)
 

@@ -16,4 +16,5 @@ bytes_of-requires c =
 pub returns : goal.returns
 returns c =
     let t = best_row (named c.args.name (view_of c.args.insn.now c.args.values.now)) c.args.found.now c.rows.result.now _ c.rows.ensures c.requires in
-    taking_made (named c.args.name (view_of c.args.insn.now c.args.values.now)) c.args.found.now _ c.bytes_of.result.items c.displacement_field.result c.immediate_field.result t c.bytes_of.ensures c.displacement_field.ensures c.immediate_field.ensures
+    taking_made (named c.args.name (view_of c.args.insn.now c.args.values.now)) c.args.found.now _ c.bytes_of.result.items
+    c.displacement_field.result c.immediate_field.result t c.bytes_of.ensures c.displacement_field.ensures c.immediate_field.ensures
