@@ -3,6 +3,7 @@ use Rattle.std.proofs.Common.{◌≡◌, ℕ, ◌+◌, ◌^◌, ◌<◌, ◌==�
 use Rattle.std.proofs.lemmas.Bool.{eqb-true}
 use Rattle.std.proofs.lemmas.List.Sums.{sum_by-cons}
 use Rattle.std.proofs.lemmas.List.{append-nil}
+use Rattle.std.proofs.lemmas.List.Elements.{All-head}
 use Rattle.std.specs.List.{list_all}
 use Rattle.asm_expr.specs.declared.faults.ExprCause.{ExprCause}
 use Rattle.asm_expr.specs.declared.forms.Term.{Term}
@@ -14,7 +15,7 @@ use Rattle.asm_expr.specs.Settled.{spot_by, spot_of, counted_in, stretch_sum, ca
 use Rattle.asm_expr.specs.Linear.{form_by, linear, binary_form}
 use Rattle.asm_expr.proofs.SettledLemmas.{stays, none_cancel}
 use Rattle.x86_insn.specs.Amounts.{named_tree}
-use Rattle.att_operands.specs.Values.{CountAlike}
+use Rattle.att_operands.specs.Values.{IsFitting, CountAlike}
 
 -- the term before others, unless a number stands for it
 abbrev kept_one : Option ℕ → Term → List Term → List Term
@@ -154,4 +155,5 @@ pub bare_counts : (bytes : List ℕ) → CountAlike (named_tree bytes 0) (name (
 unfolding linear binary_form ok_form
 bare_counts bytes known fits =
     let own = known.meant (Plain bytes) in
-    ap ok_form (bare_form known.told own (known.told own) (fits.numbers own) (fits.forms own))
+    let fitting = All-head (λ written. IsFitting (known.told (known.meant written))) (Plain bytes) [] fits in
+    ap ok_form (bare_form known.told own (known.told own) fitting.number fitting.made)

@@ -1,5 +1,5 @@
 -- The values of operands as they are written: an expression, and a suffix as `@PLT` behind a name that begins it.
-use Rattle.std.specs.Prelude.{◌≡◌, ℕ, ◌+◌, ◌^◌, ◌<◌, ◌==◌, Bool, true, false, not, List, ◌++◌, take, drop, Option, Some, None, Result, Ok, Err, slice_get, if◌then◌else◌, codes}
+use Rattle.std.specs.Prelude.{◌≡◌, ℕ, ◌+◌, ◌^◌, ◌<◌, ◌==◌, Bool, true, false, not, All, List, ◌++◌, take, drop, Option, Some, None, Result, Ok, Err, slice_get, if◌then◌else◌, codes}
 use Rattle.std.specs.Str.{bytes_eq, str_eq_ignore_ascii_case}
 use Rattle.asm_base.specs.declared.refusals.Refusal.{Refusal}
 use Rattle.asm_base.specs.Refusals.{Fails}
@@ -11,7 +11,7 @@ use Rattle.asm_expr.specs.declared.faults.ExprCause.TheVariants as cause
 use Rattle.expr_texts.specs.Leaves.{is_numeric_label}
 use Rattle.asm_expr.specs.Trees.{Tree, number, tree_of}
 use Rattle.asm_expr.specs.Forms.{Form}
-use Rattle.asm_expr.specs.Knowledge.{constant, form, Knowledge}
+use Rattle.asm_expr.specs.Knowledge.{Told, constant, form, Knowledge}
 use Rattle.asm_expr.specs.Linear.{linear}
 use Rattle.asm_expr.specs.NamesOf.{names_of}
 use Rattle.expr_texts.specs.Reading.{ReadTree, reading_of}
@@ -37,14 +37,18 @@ GivesSo Is (Ok value) (Ok due) = Is value due
 GivesSo Is (Ok value) (Err fault) = ⊥
 GivesSo Is (Err refusal) due = Fails refusal due
 
--- the numbers that are known of symbols, and the constants of their forms, are below 2^64
-pub record KnowsFitting (known : Knowledge) : Type 0 where
-  pub numbers : (own n : ℕ) → known.told own ≡ constant n → n < 2 ^ 64
-  pub forms : (own : ℕ) (made : Form) → known.told own ≡ form made → made.constant < 2 ^ 64
+-- a number, and the constant of a form, is below 2^64
+pub record IsFitting (told : Told) : Type 0 where
+  pub number : (n : ℕ) → told ≡ constant n → n < 2 ^ 64
+  pub made : (made : Form) → told ≡ form made → made.constant < 2 ^ 64
+
+-- so is what is known of each name of the tree
+abbrev pub KnowsFitting : Knowledge → Tree → Type 0
+KnowsFitting known tree = All (λ written. IsFitting (known.told (known.meant written))) (names_of tree)
 
 -- the trees count the same, whatever is known
 abbrev pub CountAlike : Tree → Tree → Type 0
-CountAlike one other = (known : Knowledge) → KnowsFitting known → linear known one ≡ linear known other
+CountAlike one other = (known : Knowledge) → KnowsFitting known one → linear known one ≡ linear known other
 
 -- the trees count the same, and have the same names in the same order
 pub record IsLike (one other : Tree) : Type 0 where
