@@ -28,6 +28,10 @@ pub enum PlaceCause {
     UnknownDirective,
     /// An operand has not its form, is missing, or is one too many.
     BadOperand,
+    /// The instruction has no form with these operands.
+    NoSuchForm,
+    /// Nothing fixes the size of the operation.
+    UnknownOperandSize,
     /// A number is outside its range.
     OutOfRange,
     /// A section is used against its flags or its type.

@@ -24,7 +24,8 @@ use Rattle.asm_base.specs.Refusals.{◌>>=◌}
 use Rattle.asm_operands.specs.LayerFaults.{of_sections}
 use Rattle.asm_operands.specs.Operands.{is_name, is_dot, names_symbol, begins_with_dot, is_label}
 use Rattle.asm_values.specs.State.{Placed, with_table, unless_dot, put_bytes_into}
-use Rattle.asm_place.specs.Placing.{place_code, place_instruction, place_body, place_label, place_labelled, has_wide_label, place_tokens}
+use Rattle.asm_place.specs.Coding.{place_coded, place_instruction}
+use Rattle.asm_place.specs.Placing.{place_body, place_label, place_labelled, has_wide_label, place_tokens}
 use Rattle.asm_place.specs.Sources.{pos_at, located, place, place_all}
 use Rattle.asm_place.specs.Instructions.{behind_labels, instruction_written, instruction_of, run_end, next_item, next_offset, with_more, IsContinued, Grows, IsWithin, AreWithin, IsPut, StandsAt}
 use Rattle.asm_place.proofs.GrowthLemmas.{get_set, All-there, run_keeps, run_added}
@@ -83,7 +84,7 @@ unfolding instruction_written place_body place_instruction
 name_puts stand pos first before placed coded written is =
     let parts = name_test (is_name first) (begins_with_dot first.bytes) (bare_instruction first.bytes) coded written in
     put_last pos before.current coded.bytes (stand first.bytes coded parts.2) before placed
-    (ap (λ found. place_code pos (option_map (λ coded. coded.bytes) found) [] before) (sym parts.2)
+    (ap (λ found. place_coded pos (option_map (λ coded. coded.bytes) found) (first ∷ []) before) (sym parts.2)
     ∙ (sym (body_test (names_symbol first) (is_name first) (begins_with_dot first.bytes) _ _ _ parts.0 parts.1) ∙ is))
 
 -- a statement that is placed names no symbol by `.`,

@@ -1,5 +1,7 @@
 -- The proofs of this crate.
 pub mod TokenLists
+pub mod NamedForms
+pub mod AmountTrees
 pub mod GrowthLemmas
 pub mod BareLemmas
 pub mod LabelLemmas

@@ -1,10 +1,10 @@
 -- Placing only adds to sections, and none of its faults is one of reading a file.
 use Rattle.std.proofs.Common.{◌≡◌, ℕ, Bool, true, false, cond, List, [], ◌∷◌, ◌++◌, length, Option, None, Some, Result, Ok, Err, refl, slice_get}
-use Rattle.std.specs.Prelude.{◌&&◌, ◌^◌, nat_lt, not, drop, codes, unwrap_or}
+use Rattle.std.specs.Prelude.{◌&&◌, ◌+◌, ◌^◌, nat_lt, not, drop, slice_range, codes, unwrap_or}
 use Rattle.std.specs.List.{list_any, list_all, count_by}
 use Rattle.std.proofs.lemmas.Result.{IfOk-at_ok, IfErr-at_err}
 use Rattle.asm_operands.specs.declared.place_faults.PlaceCause.{PlaceCause}
-use Rattle.asm_operands.specs.declared.place_faults.PlaceCause.TheVariants.{BadExpression, NumberTooWide, ExpressionTooDeep, DivisionByZero, ValueNotKnown, NotASumOfSymbols, UnknownMnemonic, UnknownDirective, BadOperand, OutOfRange, BadSection, SymbolAlreadyDefined, BadSymbolUse}
+use Rattle.asm_operands.specs.declared.place_faults.PlaceCause.TheVariants.{BadExpression, NumberTooWide, ExpressionTooDeep, DivisionByZero, ValueNotKnown, NotASumOfSymbols, UnknownMnemonic, UnknownDirective, BadOperand, NoSuchForm, UnknownOperandSize, OutOfRange, BadSection, SymbolAlreadyDefined, BadSymbolUse}
 use Rattle.asm_base.specs.declared.notes.Noted.{Noted}
 use Rattle.asm_base.specs.declared.positions.Pos.{Pos}
 use Rattle.asm_base.specs.Tokens.{SpelledToken}
@@ -20,7 +20,8 @@ use Rattle.asm_frags.specs.declared.faults.FragCause.TheVariants as frag
 use Rattle.asm_frags.specs.SectionOf.{new_section, is_alike, section_number}
 use Rattle.asm_frags.specs.PlainBytes.{is_zero}
 use Rattle.asm_frags.specs.Contents.{is_known_zeros}
-use Rattle.asm_frags.specs.Fields.{data_role}
+use Rattle.asm_frags.specs.declared.roles.FieldRole.{FieldRole}
+use Rattle.asm_frags.specs.Fields.{width, data_role}
 use Rattle.asm_frags.specs.Writing.{LooseSection, new_item, takes_zeros_alone, with_item, with_bytes, with_field, bytes_put, field_put, item_put}
 use Rattle.asm_frags.specs.Sections.{section_flags, entered_there, entered_by, with_section_or_fault, put_into_there}
 use Rattle.asm_symbols.specs.declared.entries.Definition.TheVariants.{Label, Space, Common}
@@ -53,8 +54,16 @@ use Rattle.asm_place.specs.Commons.{bss, with_space, with_common, is_said_local,
 use Rattle.asm_words.specs.Spaces.{space_size, space_of, units_of, unit_size, log_of}
 use Rattle.asm_place.specs.Idents.{items_in, comment_bytes, comment_header, place_ident, place_file, one_string, file_name}
 use Rattle.asm_values.specs.Data.{put_data, place_data, place_strings, with_named, place_zero, place_skip, place_fill}
-use Rattle.asm_place.specs.Placing.{bare, initial_number, place_by, place_found, place_directive, place_code, place_instruction, place_body, place_label, place_tokens, place_labelled, has_wide_label}
+use Rattle.asm_place.specs.Placing.{bare, initial_number, place_by, place_found, place_directive, place_body, place_label, place_tokens, place_labelled, has_wide_label}
 use Rattle.asm_uses.specs.Labels.{label_symbol}
+use Rattle.asm_expr.specs.Trees.{Tree}
+use Rattle.x86_encode.specs.Encoding.{encoding_of}
+use Rattle.att_operands.specs.declared.faults.OperandCause.{OperandCause}
+use Rattle.att_insns.specs.InsnTexts.{InsnText}
+use Rattle.att_insns.specs.Reading.{insn_of}
+use Rattle.asm_place.specs.declared.codes.InsnForms.{InsnForms}
+use Rattle.asm_place.specs.declared.codes.CodeField.{CodeField}
+use Rattle.asm_place.specs.Coding.{InsnShape, shape_in, forms_of, values_in, of_operands, of_code, fields_of, put_rest, put_code, keeps_place, put_insn, place_insn, place_read, lone_code, place_coded, place_instruction}
 use Rattle.asm_place.specs.Sources.{pos_at, located, place, place_all}
 use Rattle.asm_place.specs.declared.place_faults.FaultAt.{FaultAt}
 use Rattle.asm_place.specs.Faults.{is_file_too_large, is_too_large, statement_fault}
@@ -86,12 +95,12 @@ bytes_steps pos number bytes placed =
     (λ section. either (takes_zeros_alone section && not (list_all is_zero bytes)) (refused _) (made (with_bytes pos bytes section) (bytes_added pos bytes section)))
     number placed
 
-field_steps : (pos : Pos) (number : ℕ) (size : FieldSize) (form : Form) (placed : Placed) → Steps placed (put_field_into pos number size form placed)
+field_steps : (pos : Pos) (number : ℕ) (size : FieldSize) (role : FieldRole) (form : Form) (placed : Placed) → Steps placed (put_field_into pos number size role form placed)
 unfolding put_field_into
-field_steps pos number size form placed =
-    put_steps (field_put pos number size data_role form)
+field_steps pos number size role form placed =
+    put_steps (field_put pos number size role form)
     (λ section. either (takes_zeros_alone section) (refused _)
-    (made (with_field pos number size data_role form section) (field_added pos number size data_role form section))) number placed
+    (made (with_field pos number size role form section) (field_added pos number size role form section))) number placed
 
 push_steps : (pos : Pos) (number : ℕ) (item : Content) (placed : Placed) → Steps placed (push_into pos number item placed)
 unfolding push_into
@@ -155,7 +164,7 @@ popped_steps placed = back_steps _ placed
 -- data and space
 form_steps : (pos : Pos) (size : FieldSize) (terms : List Term) (form : Form) (placed : Placed) → Steps placed (put_by terms pos size form placed)
 form_steps pos size [] form placed = bytes_steps pos placed.current _ placed
-form_steps pos size (term ∷ terms) form placed = field_steps pos placed.current size form placed
+form_steps pos size (term ∷ terms) form placed = field_steps pos placed.current size data_role form placed
 
 forms_steps : (pos : Pos) (size : FieldSize) (forms : List Form) (placed : Placed) → Steps placed (put_forms pos size forms placed)
 unfolding put_forms all_steps
@@ -359,14 +368,43 @@ unfolding place_directive
 directive_steps pos name tokens placed = found_steps _ pos tokens placed
 
 -- instructions
-code_steps : (pos : Pos) (code : Option (List ℕ)) (operands : List SpelledToken) (placed : Placed) → Steps placed (place_code pos code operands placed)
-code_steps pos None operands placed = refused _
-code_steps pos (Some bytes) [] placed = bytes_steps pos placed.current bytes placed
-code_steps pos (Some bytes) (token ∷ rest) placed = refused _
+rest_steps : (pos : Pos) (bytes : List ℕ) (placed : Placed) → Steps placed (put_rest pos bytes placed)
+rest_steps pos [] placed = made placed (still placed)
+rest_steps pos (byte ∷ bytes) placed = bytes_steps pos placed.current (byte ∷ bytes) placed
 
-instruction_steps : (pos : Pos) (name : List ℕ) (operands : List SpelledToken) (placed : Placed) → Steps placed (place_instruction pos name operands placed)
+put_code_steps : (pos : Pos) (bytes : List ℕ) (from : ℕ) (fields : List CodeField) (placed : Placed) → Steps placed (put_code pos bytes from fields placed)
+unfolding put_code
+put_code_steps pos bytes from [] placed = rest_steps pos (drop from bytes) placed
+put_code_steps pos bytes from (field ∷ fields) placed =
+    grown placed (grown placed (rest_steps pos (slice_range bytes from field.at) placed)
+    (λ put. field_steps pos put.current field.size field.role field.form put))
+    (λ held. put_code_steps pos bytes (field.at + width field.size) fields held)
+
+put_insn_steps : (pos : Pos) (shape : InsnShape) (forms : InsnForms) (placed : Placed) → Steps placed (put_insn pos shape forms placed)
+unfolding put_insn
+put_insn_steps pos shape forms placed =
+    after (of_code (encoding_of shape.view (values_in forms))) (λ coding. put_code_steps pos coding.bytes 0 (fields_of shape forms coding) placed)
+
+insn_steps : (pos : Pos) (shape : InsnShape) (own moved : Tree) (placed : Placed) → Steps placed (place_insn pos shape own moved placed)
+unfolding place_insn
+insn_steps pos shape own moved placed =
+    let named = with_names pos (own ∷ moved ∷ []) placed in
+    after (forms_of (known_here named) own moved)
+    (λ forms. grown placed (put_insn_steps pos shape forms named)
+    (λ put. after (end_naming pos (naming_of (own ∷ moved ∷ []) placed.table) (here named) (keeps_place (known_here named).place forms) put.table)
+    (λ table. made (with_table put table) (still put))))
+
+read_steps : (pos : Pos) (read : Result InsnText OperandCause) (placed : Placed) → Steps placed (place_read pos read placed)
+read_steps pos read placed =
+    after (of_operands read) (λ text. insn_steps pos (shape_in text) text.immediate.tree text.displacement.tree placed)
+
+coded_steps : (pos : Pos) (code : Option (List ℕ)) (tokens : List SpelledToken) (placed : Placed) → Steps placed (place_coded pos code tokens placed)
+coded_steps pos None tokens placed = read_steps pos (insn_of tokens) placed
+coded_steps pos (Some bytes) tokens placed = bytes_steps pos placed.current bytes placed
+
+instruction_steps : (pos : Pos) (tokens : List SpelledToken) (placed : Placed) → Steps placed (place_instruction pos tokens placed)
 unfolding place_instruction
-instruction_steps pos name operands placed = code_steps pos _ operands placed
+instruction_steps pos tokens placed = coded_steps pos (lone_code tokens) tokens placed
 
 -- statements
 body_steps : (pos : Pos) (first : SpelledToken) (rest : List SpelledToken) (placed : Placed) → Steps placed (place_body pos first rest placed)
@@ -374,7 +412,7 @@ unfolding place_body
 body_steps pos first rest placed =
     either (names_symbol first && is_assignment rest) (assignment_steps pos first (drop 1 rest) placed)
     (either (not (is_name first)) (refused UnknownMnemonic)
-    (either (begins_with_dot first.bytes) (directive_steps pos first.bytes rest placed) (instruction_steps pos first.bytes rest placed)))
+    (either (begins_with_dot first.bytes) (directive_steps pos first.bytes rest placed) (instruction_steps pos (first ∷ rest) placed)))
 
 label_steps : (pos : Pos) (token : SpelledToken) (placed : Placed) → Steps placed (place_label pos token placed)
 unfolding place_label
@@ -429,6 +467,8 @@ not_of_reading NotASumOfSymbols = refl
 not_of_reading UnknownMnemonic = refl
 not_of_reading UnknownDirective = refl
 not_of_reading BadOperand = refl
+not_of_reading NoSuchForm = refl
+not_of_reading UnknownOperandSize = refl
 not_of_reading OutOfRange = refl
 not_of_reading BadSection = refl
 not_of_reading SymbolAlreadyDefined = refl

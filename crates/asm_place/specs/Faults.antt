@@ -5,7 +5,7 @@ use Rattle.asm_base.specs.declared.faults.StatementFault.TheVariants as statemen
 use Rattle.asm_base.specs.declared.faults.Fault.{Fault}
 use Rattle.asm_base.specs.declared.faults.Fault.TheVariants.{Statement, End, Scfi}
 use Rattle.asm_operands.specs.declared.place_faults.PlaceCause.{PlaceCause}
-use Rattle.asm_operands.specs.declared.place_faults.PlaceCause.TheVariants.{BadExpression, NumberTooWide, ExpressionTooDeep, DivisionByZero, ValueNotKnown, NotASumOfSymbols, UnknownMnemonic, UnknownDirective, BadOperand, OutOfRange, BadSection, SymbolAlreadyDefined, BadSymbolUse}
+use Rattle.asm_operands.specs.declared.place_faults.PlaceCause.TheVariants.{BadExpression, NumberTooWide, ExpressionTooDeep, DivisionByZero, ValueNotKnown, NotASumOfSymbols, UnknownMnemonic, UnknownDirective, BadOperand, NoSuchForm, UnknownOperandSize, OutOfRange, BadSection, SymbolAlreadyDefined, BadSymbolUse}
 
 -- the fault of the statement that placing answers
 abbrev pub statement_fault : PlaceCause → StatementFault
@@ -18,6 +18,8 @@ statement_fault NotASumOfSymbols = statement.NotASumOfSymbols
 statement_fault UnknownMnemonic = statement.UnknownMnemonic
 statement_fault UnknownDirective = statement.UnknownDirective
 statement_fault BadOperand = statement.BadOperand
+statement_fault NoSuchForm = statement.NoSuchForm
+statement_fault UnknownOperandSize = statement.UnknownOperandSize
 statement_fault OutOfRange = statement.OutOfRange
 statement_fault BadSection = statement.BadSection
 statement_fault SymbolAlreadyDefined = statement.SymbolAlreadyDefined

@@ -6,6 +6,8 @@ pub mod BareNames
 pub mod Commons
 pub mod SpaceWordsIn
 pub mod Idents
+pub mod Coding
+pub mod Amounts
 pub mod Placing
 pub mod Sources
 pub mod Instructions

@@ -13,9 +13,8 @@ use Rattle.asm_words.specs.declared.directives.Directive.TheVariants as directiv
 use Rattle.asm_words.specs.declared.directives.InitialSection.{InitialSection}
 use Rattle.asm_words.specs.declared.directives.InitialSection.TheVariants.{Text, Data, Bss}
 use Rattle.asm_base.specs.Refusals.{◌>>=◌}
-use Rattle.x86_lookup.specs.BareInstructions.{bare_code}
 use Rattle.asm_uses.specs.Tables.{changed_by}
-use Rattle.asm_values.specs.State.{Placed, with_table, unless_dot, here, put_bytes}
+use Rattle.asm_values.specs.State.{Placed, with_table, unless_dot, here}
 use Rattle.asm_operands.specs.Operands.{is_name, is_dot, names_symbol, is_assignment, begins_with_dot, is_number, is_label}
 use Rattle.asm_place.specs.SectionChanges.{with_current, place_section, place_pushed, popped}
 use Rattle.asm_place.specs.SymbolWords.{place_said, place_type}
@@ -23,6 +22,7 @@ use Rattle.asm_values.specs.Sizes.{place_size}
 use Rattle.asm_values.specs.Assignments.{place_set, place_assignment}
 use Rattle.asm_place.specs.Commons.{place_comm, place_lcomm}
 use Rattle.asm_place.specs.Idents.{place_ident, place_file}
+use Rattle.asm_place.specs.Coding.{place_instruction}
 use Rattle.asm_words.specs.Directives.{directive_of}
 use Rattle.asm_uses.specs.Labels.{label_symbol}
 use Rattle.asm_values.specs.Data.{place_data, place_strings, place_zero, place_skip, place_fill}
@@ -68,23 +68,13 @@ place_found (Some found) pos tokens placed = place_by found pos tokens placed
 unfoldable pub place_directive : Pos → List ℕ → List SpelledToken → Placed → Result Placed PlaceCause
 place_directive pos name tokens placed = place_found (directive_of name) pos tokens placed
 
--- the bytes of an instruction, which takes no operands
-abbrev pub place_code : Pos → Option (List ℕ) → List SpelledToken → Placed → Result Placed PlaceCause
-place_code pos None operands placed = Err UnknownMnemonic
-place_code pos (Some bytes) [] placed = put_bytes pos bytes placed
-place_code pos (Some bytes) (token ∷ rest) placed = Err BadOperand
-
--- an instruction by its mnemonic
-unfoldable pub place_instruction : Pos → List ℕ → List SpelledToken → Placed → Result Placed PlaceCause
-place_instruction pos name operands placed = place_code pos (bare_code name) operands placed
-
 -- what stands behind the labels: an assignment, a directive or an instruction
 unfoldable pub place_body : Pos → SpelledToken → List SpelledToken → Placed → Result Placed PlaceCause
 place_body pos first rest placed =
     if names_symbol first && is_assignment rest then place_assignment pos first (drop 1 rest) placed
     else (if not (is_name first) then Err UnknownMnemonic
     else (if begins_with_dot first.bytes then place_directive pos first.bytes rest placed
-    else place_instruction pos first.bytes rest placed))
+    else place_instruction pos (first ∷ rest) placed))
 
 -- a label, by its token
 unfoldable pub place_label : Pos → SpelledToken → Placed → Result Placed PlaceCause

@@ -46,7 +46,7 @@ pub fn placing_is_not_reading()
         → place_all statements before ≡ Err stop → is_file_too_large stop.fault ≡ false }
 {}
 
-/// Where a statement is an instruction, its bytes are put last in the current section, and nothing else.
+/// Where a statement is an instruction without operands, its bytes are put last in the current section, and nothing else.
 pub fn instruction_stands()
     ensures { (pos : Pos) (tokens : List SpelledToken) (before placed : Placed) (coded : Coded)
         → instruction_written (behind_labels tokens) ≡ Some coded
@@ -56,7 +56,7 @@ pub fn instruction_stands()
     bare_codes_read();
 }
 
-/// The bytes of an instruction stand in what all statements place, where those before it end.
+/// The bytes of an instruction without operands stand in what all statements place, where those before it end.
 pub fn instruction_items()
     ensures { (front : List TokenStatement) (s : TokenStatement) (later : List TokenStatement)
         (before placed whole : Placed) (coded : Coded)

@@ -1,8 +1,12 @@
 //! Placing statements: what each adds to the sections, the symbols and the notes of a source.
 #![tactic(auto)]
 
+mod amount_forms;
+mod code_putting;
+mod codes;
 mod commons;
 mod idents;
+mod instructions;
 mod laws;
 mod place_faults;
 mod placing;

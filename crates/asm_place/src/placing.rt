@@ -1,8 +1,8 @@
 //! Placing one statement: its labels, and the assignment, directive or instruction behind them.
 
-ghost use Rattle.std.specs.Prelude.{◌≡◌, map, Ok};
+ghost use Rattle.std.specs.Prelude.{◌≡◌, ◌∷◌, map, Ok};
 ghost use Rattle.asm_base.specs.Tokens.{spelled};
-ghost use Rattle.asm_place.specs.Placing.{initial_number, is_too_wide, has_wide_label, bare, place_by, place_directive, place_instruction, place_body, place_label, place_unlabelled, place_labelled, place_tokens};
+ghost use Rattle.asm_place.specs.Placing.{initial_number, is_too_wide, has_wide_label, bare, place_by, place_directive, place_body, place_label, place_unlabelled, place_labelled, place_tokens};
 ghost use Rattle.asm_base.specs.Refusals.{Gives};
 ghost use Rattle.asm_values.specs.Answers.{KeepsNotes};
 ghost use Rattle.asm_place.specs.SectionChanges.{with_current};
@@ -10,6 +10,7 @@ ghost use Rattle.asm_values.specs.PlacedBy.{placed_by, PlacesBy};
 
 use crate::commons::{place_comm, place_lcomm};
 use crate::idents::{place_file, place_ident};
+use crate::instructions::place_instruction;
 use crate::section_changes::{place_popped, place_pushed, place_section, set_current};
 use crate::symbol_words::{place_said, place_type};
 use asm_base::{Pos, Token};
@@ -21,7 +22,6 @@ use asm_symbols::Definition;
 use asm_values::Assembler;
 use asm_words::{Directive, InitialSection, directive_of};
 use expr_texts::decimal_number;
-use x86_lookup::bare_code;
 
 /// The number of a section that is there from the beginning.
 fn initial_number(initial: InitialSection) -> u32
@@ -122,37 +122,16 @@ fn place_directive(
     }
 }
 
-/// An instruction by its name, which takes no operands.
-#[tactic(auto, unfolding(crate::specs::Placing::place_instruction))]
-fn place_instruction(
-    assembler: &mut Assembler,
-    pos: Pos,
-    name: &[u8],
-    operands: &[Token],
-) -> Result<(), PlaceFault>
-    ensures placed { PlacesBy (place_instruction pos name.now (map spelled operands.now))
-        assembler.old assembler.new result }
-    ensures kept { assembler.new.notes ≡ assembler.old.notes }
-{
-    match bare_code(name) {
-        None => Err(PlaceFault::Fault(PlaceCause::UnknownMnemonic)),
-        Some(bytes) => {
-            if !operands.is_empty() {
-                return Err(PlaceFault::Fault(PlaceCause::BadOperand));
-            }
-            assembler.put_bytes(pos, bytes)
-        }
-    }
-}
-
 /// What stands behind the labels: an assignment, a directive or an instruction.
 #[tactic(auto, unfolding(crate::specs::Placing::place_body))]
 fn place_body(
     assembler: &mut Assembler,
     pos: Pos,
+    tokens: &[Token],
     first: &Token,
     rest: &[Token],
 ) -> Result<(), PlaceFault>
+    requires { tokens.now ≡ first.now ∷ rest.now }
     ensures placed { PlacesBy (place_body pos (spelled first.now) (map spelled rest.now))
         assembler.old assembler.new result }
     ensures kept { KeepsNotes result assembler.old.notes assembler.new.notes }
@@ -164,7 +143,7 @@ fn place_body(
     } else if begins_with_dot(first.bytes) {
         place_directive(assembler, pos, first.bytes, rest)
     } else {
-        place_instruction(assembler, pos, first.bytes, rest)
+        place_instruction(assembler, pos, tokens)
     }
 }
 
@@ -189,7 +168,7 @@ fn place_unlabelled(assembler: &mut Assembler, pos: Pos, tokens: &[Token]) -> Re
 {
     match tokens.split_first() {
         None => Ok(()),
-        Some((first, rest)) => place_body(assembler, pos, first, rest),
+        Some((first, rest)) => place_body(assembler, pos, tokens, first, rest),
     }
 }
 

@@ -29,6 +29,8 @@ fn statement_fault(fault: PlaceCause) -> StatementFault
         PlaceCause::UnknownMnemonic => StatementFault::UnknownMnemonic,
         PlaceCause::UnknownDirective => StatementFault::UnknownDirective,
         PlaceCause::BadOperand => StatementFault::BadOperand,
+        PlaceCause::NoSuchForm => StatementFault::NoSuchForm,
+        PlaceCause::UnknownOperandSize => StatementFault::UnknownOperandSize,
         PlaceCause::OutOfRange => StatementFault::OutOfRange,
         PlaceCause::BadSection => StatementFault::BadSection,
         PlaceCause::SymbolAlreadyDefined => StatementFault::SymbolAlreadyDefined,

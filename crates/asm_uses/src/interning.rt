@@ -24,7 +24,7 @@ impl SymbolUses {
     /// Each name of an expression has a symbol from now on, whatever room there is. Answers whether
     /// each `Nb` means a label that came before.
     #[tactic(auto, unfolding(crate::specs::Tables::with_tree, crate::specs::Tables::is_meant))]
-    fn intern_tree(&mut self, pos: Pos, expr: &Expr) -> Result<bool, NoMemory>
+    pub fn intern_tree(&mut self, pos: Pos, expr: &Expr) -> Result<bool, NoMemory>
         ensures ok { OnOk result (self.new ≡ with_tree pos (tree_of expr.now) self.old) }
         ensures meant { IfOk result (λ meant.
             meant ≡ is_meant self.old.symbols.counts (tree_of expr.now)) }

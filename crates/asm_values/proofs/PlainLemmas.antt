@@ -25,7 +25,7 @@ use Rattle.asm_uses.specs.declared.sums.Operand.TheVariants.{Number, Symbol, Her
 use Rattle.asm_uses.specs.declared.sums.Added.{Added}
 use Rattle.asm_uses.specs.declared.sums.Added.TheVariants.{Nothing, Plus, Minus}
 use Rattle.asm_uses.specs.Places.{known_at, uses_place, here_name}
-use Rattle.asm_uses.specs.PlainSums.{plain_form, StandsElsewhere, AddsElsewhere, NamesElsewhere, IsPlain}
+use Rattle.asm_uses.specs.PlainSums.{plain_form, IsElsewhere, StandsElsewhere, AddsElsewhere, NamesElsewhere, IsPlain}
 use Rattle.asm_operands.specs.declared.sums.Sum.{Sum}
 use Rattle.asm_operands.specs.Sums.{sum_tree}
 use Rattle.asm_operands.specs.Expressions.{form_in}
@@ -156,3 +156,8 @@ module _ (map : SymbolMap) (known : Knowledge) (named : SymbolSum) (is : NamesEl
 
   pub plain_free : uses_place known.place (plain_form (told map) found) ≡ false
   plain_free = plain.free known is.first is.second
+
+-- the symbol of a text is not the place
+pub text_elsewhere : (map : SymbolMap) (spot : Spot) (text : List ℕ) (index : ℕ) → index_of (naming.Plain text) (names map.symbols) ≡ Some index
+    → IsElsewhere map (known_at map spot) index
+text_elsewhere map spot text index is = symbol_elsewhere map spot (written.Plain text) (Symbol index) is

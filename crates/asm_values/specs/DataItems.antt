@@ -6,15 +6,15 @@ use Rattle.asm_base.specs.declared.positions.Pos.{Pos}
 use Rattle.asm_expr.specs.declared.forms.Term.{Term}
 use Rattle.asm_expr.specs.Forms.{Form}
 use Rattle.asm_frags.specs.declared.fields.FieldSize.{FieldSize}
-use Rattle.asm_frags.specs.Fields.{fits, low_bytes}
+use Rattle.asm_frags.specs.Fields.{fits, data_role, low_bytes}
 use Rattle.asm_operands.specs.declared.place_faults.PlaceCause.{PlaceCause}
 use Rattle.asm_operands.specs.Results.{all_steps}
 use Rattle.asm_values.specs.State.{Placed, put_bytes, put_field}
 
--- bytes for a form without symbols, and a field for another
+-- bytes for a form without symbols, and a field of data for another
 abbrev pub put_by : List Term → Pos → FieldSize → Form → Placed → Result Placed PlaceCause
 put_by [] pos size form placed = put_bytes pos (low_bytes size form.constant) placed
-put_by (term ∷ terms) pos size form placed = put_field pos size form placed
+put_by (term ∷ terms) pos size form placed = put_field pos size data_role form placed
 
 -- a form more in the current section
 abbrev pub put_form : Pos → FieldSize → Form → Placed → Result Placed PlaceCause

@@ -11,7 +11,7 @@ use Rattle.asm_frags.specs.declared.contents.Content.{Content}
 use Rattle.asm_frags.specs.declared.faults.FragCause.{FragCause}
 use Rattle.asm_frags.specs.declared.fields.FieldSize.{FieldSize}
 use Rattle.asm_frags.specs.Sections.{first_sections, put_into}
-use Rattle.asm_frags.specs.Fields.{data_role}
+use Rattle.asm_frags.specs.declared.roles.FieldRole.{FieldRole}
 use Rattle.asm_frags.specs.Writing.{LooseSection, new_item, bytes_put, field_put, item_put}
 use Rattle.asm_symbols.specs.declared.entries.Spot.{Spot}
 use Rattle.asm_values.specs.declared.stacks.Entered.{Entered}
@@ -77,9 +77,9 @@ put_section put number placed =
 unfoldable pub put_bytes_into : Pos → ℕ → List ℕ → Placed → Result Placed PlaceCause
 put_bytes_into pos number bytes placed = put_section (bytes_put pos bytes) number placed
 
--- a field of data last in the section of this number
-unfoldable pub put_field_into : Pos → ℕ → FieldSize → Form → Placed → Result Placed PlaceCause
-put_field_into pos number size form placed = put_section (field_put pos number size data_role form) number placed
+-- a field last in the section of this number
+unfoldable pub put_field_into : Pos → ℕ → FieldSize → FieldRole → Form → Placed → Result Placed PlaceCause
+put_field_into pos number size role form placed = put_section (field_put pos number size role form) number placed
 
 -- an item last in the section of this number
 unfoldable pub push_into : Pos → ℕ → Content → Placed → Result Placed PlaceCause
@@ -89,9 +89,9 @@ push_into pos number content placed = put_section (item_put (new_item pos conten
 abbrev pub put_bytes : Pos → List ℕ → Placed → Result Placed PlaceCause
 put_bytes pos bytes placed = put_bytes_into pos placed.current bytes placed
 
--- a field of data last in the current section
-abbrev pub put_field : Pos → FieldSize → Form → Placed → Result Placed PlaceCause
-put_field pos size form placed = put_field_into pos placed.current size form placed
+-- a field last in the current section
+abbrev pub put_field : Pos → FieldSize → FieldRole → Form → Placed → Result Placed PlaceCause
+put_field pos size role form placed = put_field_into pos placed.current size role form placed
 
 -- an item last in the current section
 abbrev pub push_item : Pos → Content → Placed → Result Placed PlaceCause

@@ -175,18 +175,19 @@ impl Assembler {
 
     /// Puts a field last in the current section. `BadSection` comes where there is no section too.
     #[tactic(auto, unfolding(crate::specs::State::put_field_into))]
-    pub(crate) fn put_field(
+    pub fn put_field(
         &mut self,
         pos: Pos,
         size: FieldSize,
+        role: FieldRole,
         form: Linear,
     ) -> Result<(), PlaceFault>
-        ensures placed { PlacesBy (put_field pos size form) self.old self.new result }
+        ensures placed { PlacesBy (put_field pos size role form) self.old self.new result }
         ensures kept { self.new.notes ≡ self.old.notes }
     {
         if (self.current as usize) < self.sections.len() {
             self.sections
-                .push_field(self.current, pos, size, FieldRole::data(), form)
+                .push_field(self.current, pos, size, role, form)
                 .map_err(FragFault::raise)
         } else {
             Err(PlaceFault::Fault(PlaceCause::BadSection))

@@ -8,7 +8,7 @@ use crate::assemblers::Assembler;
 use crate::constant_data::{constant_data, lone_constant};
 use asm_base::{Pos, Token};
 use asm_expr::Linear;
-use asm_frags::FieldSize;
+use asm_frags::{FieldRole, FieldSize};
 use asm_operands::{FewSums, Operands, PlaceFault, expressions, few_sums, is_name};
 use asm_uses::{Naming, View, forms, one_uses_place};
 
@@ -48,7 +48,7 @@ impl Assembler {
         if form.terms().is_empty() {
             self.put_constant(pos, size, form.constant())
         } else {
-            self.put_field(pos, size, form)
+            self.put_field(pos, size, FieldRole::data(), form)
         }
     }
 

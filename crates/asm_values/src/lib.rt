@@ -8,6 +8,7 @@ mod constant_operands;
 mod data_items;
 mod few_sums;
 mod known_operands;
+mod laws;
 mod long_sums;
 mod sizes;
 mod spaces;
@@ -16,4 +17,5 @@ mod texts;
 
 pub use assemblers::{Assembler, Placed};
 pub use known_operands::KnownOperands;
+pub use laws::texts_are_no_place;
 pub use stacks::Entered;

@@ -1,0 +1,41 @@
+-- The amounts of an instruction's values, and the trees that they stand for.
+use Rattle.std.specs.Prelude.{◌∷◌, [], List, Result, Ok, Err}
+use Rattle.asm_base.specs.declared.refusals.Refusal.{Refusal}
+use Rattle.asm_base.specs.declared.refusals.Refusal.TheVariants.{Fault, NoMemory}
+use Rattle.asm_base.specs.declared.positions.Pos.{Pos}
+use Rattle.asm_expr.specs.declared.trees.Written.TheVariants.{Plain}
+use Rattle.asm_expr.specs.Knowledge.{Knowledge}
+use Rattle.asm_expr.specs.Trees.{Tree}
+use Rattle.asm_operands.specs.declared.place_faults.PlaceCause.{PlaceCause}
+use Rattle.asm_values.specs.State.{Placed, with_names, known_here}
+use Rattle.x86_insn.specs.declared.amounts.Amount.{Amount}
+use Rattle.x86_insn.specs.declared.amounts.Amount.TheVariants as amount
+use Rattle.x86_insn.specs.declared.insns.Insn.{Insn}
+use Rattle.x86_insn.specs.Amounts.{amount_tree}
+use Rattle.att_operands.specs.Values.{IsFitting}
+use Rattle.asm_place.specs.Coding.{shape_of, place_insn}
+
+-- the trees of the amounts of an instruction's values, the immediate's first
+abbrev pub trees_of : Insn → List Tree
+trees_of insn = amount_tree insn.immediate.amount ∷ amount_tree insn.displacement.amount ∷ []
+
+-- the instruction by the trees of its amounts
+abbrev pub place_amounts : Pos → Insn → Placed → Result Placed PlaceCause
+place_amounts pos insn placed = place_insn pos (shape_of insn) (amount_tree insn.immediate.amount) (amount_tree insn.displacement.amount) placed
+
+-- what is known of the name of an amount is below 2^64
+abbrev pub AmountFits : Knowledge → Amount → Type 0
+AmountFits known (amount.Number value) = Unit {0}
+AmountFits known (amount.Name bytes more) = IsFitting (known.told (known.meant (Plain bytes.now)))
+AmountFits known (amount.Tree boxed) = Unit {0}
+
+-- so is what is known of the names of both amounts
+pub record InsnFits (known : Knowledge) (insn : Insn) : Type 0 where
+  pub immediate : AmountFits known insn.immediate.amount
+  pub displacement : AmountFits known insn.displacement.amount
+
+-- so it is where the names of the instruction have symbols, unless the call wanted memory
+abbrev pub FitsThere : {T : Type 0} → Result T (Refusal PlaceCause) → Pos → Insn → Placed → Type 0
+FitsThere (Ok done) pos insn placed = InsnFits (known_here (with_names pos (trees_of insn) placed)) insn
+FitsThere (Err (Fault cause)) pos insn placed = InsnFits (known_here (with_names pos (trees_of insn) placed)) insn
+FitsThere (Err NoMemory) pos insn placed = Unit {0}

@@ -1,0 +1,145 @@
+//! Instructions as sections hold them: the forms of their values, the fields over their bytes, and faults.
+
+ghost use Rattle.std.specs.Prelude.{◌≡◌, ◌<◌, ◌^◌, IfOk};
+ghost use Rattle.x86_insn.specs.Knowing.{if_known};
+ghost use Rattle.asm_expr.specs.Linear.{value_of};
+ghost use Rattle.asm_place.specs.Coding.{operand_fault, code_fault, field_size, held_kind, said_suffix, from_own_place, held_form, code_field};
+
+use asm_base::NoMemory;
+use asm_expr::{Linear, plus_times, symbol_form};
+use asm_frags::{FieldKind as HeldKind, FieldRole, FieldSize, Suffix as SaidSuffix, own_place};
+use asm_operands::PlaceCause;
+use att_operands::OperandCause;
+use std::alloc::Global;
+use x86_encode::{EncodeFault, Field, FieldKind};
+use x86_insn::Suffix;
+
+/// The forms of an instruction's values where it stands.
+#[derive(Drop)]
+pub(crate) struct InsnForms {
+    pub(crate) immediate: Linear,
+    pub(crate) displacement: Linear,
+}
+
+/// A field over the bytes of an instruction: how many of them stand before it, and what it holds.
+#[derive(Drop)]
+pub(crate) struct CodeField {
+    pub(crate) at: u8,
+    pub(crate) size: FieldSize,
+    pub(crate) role: FieldRole,
+    pub(crate) form: Linear,
+}
+
+/// A fault of the operands, as one of the statement.
+pub(crate) fn operand_fault(cause: OperandCause) -> PlaceCause
+    ensures { result ≡ operand_fault cause }
+{
+    match cause {
+        OperandCause::UnknownMnemonic => PlaceCause::UnknownMnemonic,
+        OperandCause::BadExpression => PlaceCause::BadExpression,
+        OperandCause::NumberTooWide => PlaceCause::NumberTooWide,
+        OperandCause::ExpressionTooDeep => PlaceCause::ExpressionTooDeep,
+        OperandCause::BadOperand => PlaceCause::BadOperand,
+        OperandCause::UnknownOperandSize => PlaceCause::UnknownOperandSize,
+    }
+}
+
+/// Why there are no bytes, as a fault of the statement.
+pub(crate) fn code_fault(cause: EncodeFault) -> PlaceCause
+    ensures { result ≡ code_fault cause }
+{
+    match cause {
+        EncodeFault::ValueNotKnown => PlaceCause::ValueNotKnown,
+        EncodeFault::NoSuchForm => PlaceCause::NoSuchForm,
+        EncodeFault::OutOfRange => PlaceCause::OutOfRange,
+    }
+}
+
+/// The size of a field of so many bytes.
+pub(crate) fn field_size(bytes: u8) -> FieldSize
+    ensures { result ≡ field_size bytes }
+{
+    match bytes {
+        1 => FieldSize::One,
+        2 => FieldSize::Two,
+        8 => FieldSize::Eight,
+        _ => FieldSize::Four,
+    }
+}
+
+/// The kind of a field of an instruction, as sections have it.
+pub(crate) fn held_kind(kind: FieldKind) -> HeldKind
+    ensures { result ≡ held_kind kind }
+{
+    match kind {
+        FieldKind::Plain => HeldKind::Plain,
+        FieldKind::Signed => HeldKind::Signed,
+        FieldKind::Address => HeldKind::Address,
+        FieldKind::Branch => HeldKind::Branch,
+    }
+}
+
+/// What is said behind the symbol, as sections have it.
+pub(crate) fn said_suffix(suffix: Option<Suffix>) -> SaidSuffix
+    ensures { result ≡ said_suffix suffix }
+{
+    match suffix {
+        None => SaidSuffix::Absent,
+        Some(Suffix::Plt) => SaidSuffix::Plt,
+        Some(Suffix::GotPcRel) => SaidSuffix::GotPcRel,
+        Some(Suffix::GotTpOff) => SaidSuffix::GotTpOff,
+        Some(Suffix::TpOff) => SaidSuffix::TpOff,
+    }
+}
+
+/// A form less the place of the field that holds it.
+pub(crate) fn from_own_place(alloc: Global, form: Linear) -> Result<Linear, NoMemory>
+    ensures { IfOk result (λ made. made ≡ from_own_place form) }
+{
+    Ok(plus_times(form, u64::MAX, &symbol_form(alloc, own_place())?)?)
+}
+
+/// The form that a field of this kind holds: that of a distance is less the place of the field.
+pub(crate) fn held_form(alloc: Global, kind: FieldKind, form: Linear) -> Result<Linear, NoMemory>
+    ensures { IfOk result (λ made. made ≡ held_form kind form) }
+{
+    match kind {
+        FieldKind::Plain | FieldKind::Signed => Ok(form),
+        FieldKind::Address | FieldKind::Branch => from_own_place(alloc, form),
+    }
+}
+
+/// The field, in an instruction of so many bytes, that holds this form with this suffix.
+pub(crate) fn code_field(
+    alloc: Global,
+    bytes: usize,
+    field: Field,
+    suffix: Option<Suffix>,
+    form: Linear,
+) -> Result<CodeField, NoMemory>
+    requires { bytes < 2 ^ 8 }
+    ensures { IfOk result (λ made. made ≡ code_field bytes field suffix form) }
+{
+    let end = field.at as usize + field.size as usize;
+    Ok(CodeField {
+        at: field.at,
+        size: field_size(field.size),
+        role: FieldRole {
+            kind: held_kind(field.kind),
+            suffix: said_suffix(suffix),
+            behind: bytes.saturating_sub(end) as u8,
+        },
+        form: held_form(alloc, field.kind, form)?,
+    })
+}
+
+/// The value of a form, if no symbols are left in it.
+pub(crate) fn known(form: &Linear) -> Option<u64>
+    ensures { result ≡ if_known (value_of form.now) }
+{
+    if form.terms().is_empty() {
+        Some(form.constant())
+    } else {
+        None
+    }
+}

@@ -1,0 +1,145 @@
+//! Placing instructions: the names of their values become symbols, and their bytes and the fields over
+//! these are put.
+
+ghost use Rattle.std.specs.Prelude.{◌≡◌, ◌∷◌, [], map, option_map};
+ghost use Rattle.asm_base.specs.Tokens.{spelled};
+ghost use Rattle.att_insns.specs.Reading.{insn_of};
+ghost use Rattle.att_insns.specs.InsnTexts.{InsnText, IsInsnOf};
+ghost use Rattle.asm_values.specs.State.{with_names};
+ghost use Rattle.asm_values.specs.PlacedBy.{placed_by, PlacesBy};
+ghost use Rattle.asm_uses.specs.Tables.{naming_of};
+ghost use Rattle.x86_insn.specs.Amounts.{amount_tree};
+ghost use Rattle.asm_expr.specs.Trees.{number};
+ghost use Rattle.asm_place.specs.Coding.{shape_of, insn_of_trees, place_insn, place_text, place_read, lone_code, place_instruction};
+ghost use Rattle.asm_place.specs.Amounts.{trees_of, place_amounts, FitsThere};
+
+use crate::amount_forms::{PlacedForm, amount_form, amounts_fit, intern_amounts};
+use crate::code_putting::put_insn;
+use crate::codes::{InsnForms, operand_fault};
+use asm_base::{Pos, Token};
+use asm_expr::constant_form;
+use asm_operands::PlaceFault;
+use asm_uses::Naming;
+use asm_values::Assembler;
+use att_insns::read_insn;
+use att_operands::OperandFault;
+use x86_insn::{Amount, Insn};
+use x86_lookup::bare_code;
+
+/// An instruction whose names have symbols.
+fn place_interned(
+    assembler: &mut Assembler,
+    pos: Pos,
+    insn: &Insn,
+    naming: Naming,
+) -> Result<(), PlaceFault>
+    ensures placed { PlacesBy (insn_of_trees pos (shape_of insn.now) naming
+        (amount_tree insn.now.immediate.amount) (amount_tree insn.now.displacement.amount))
+        assembler.old assembler.new result }
+    ensures kept { assembler.new.notes ≡ assembler.old.notes }
+{
+    let spot = assembler.here();
+    let one = amount_form(assembler, &insn.immediate.amount)?;
+    let other = amount_form(assembler, &insn.displacement.amount)?;
+    let keeps = one.keeps || other.keeps;
+    let forms = InsnForms {
+        immediate: one.form,
+        displacement: other.form,
+    };
+    put_insn(assembler, pos, insn, &forms)?;
+    assembler.table.end_naming(pos, naming, spot, keeps)
+}
+
+/// An instruction with names.
+#[inline(never)]
+#[tactic(auto, unfolding(crate::specs::Coding::place_insn))]
+fn place_named(assembler: &mut Assembler, pos: Pos, insn: &Insn) -> Result<(), PlaceFault>
+    ensures placed { PlacesBy (place_amounts pos insn.now) assembler.old assembler.new result }
+    ensures fits { FitsThere result pos insn.now (placed_by assembler.old) }
+    ensures kept { assembler.new.notes ≡ assembler.old.notes }
+{
+    let naming = intern_amounts(&mut assembler.table, pos, insn)?;
+    amounts_fit(assembler, insn);
+    place_interned(assembler, pos, insn, naming)
+}
+
+/// An instruction whose values are numbers.
+#[tactic(auto, unfolding(crate::specs::Coding::place_insn, asm_expr::specs::Linear::linear, asm_operands::specs::Expressions::form_in, asm_uses::specs::Tables::with_trees, asm_uses::specs::Tables::with_tree, asm_uses::specs::Tables::are_meant, asm_uses::specs::Tables::is_meant, asm_uses::specs::Places::name_here))]
+fn place_numbers(
+    assembler: &mut Assembler,
+    pos: Pos,
+    insn: &Insn,
+    immediate: u64,
+    displacement: u64,
+) -> Result<(), PlaceFault>
+    ensures placed { PlacesBy (place_insn pos (shape_of insn.now) (number immediate) (number displacement))
+        assembler.old assembler.new result }
+    ensures kept { assembler.new.notes ≡ assembler.old.notes }
+{
+    let naming = Naming {
+        before: assembler.table.symbols().len(),
+        meant: true,
+    };
+    let forms = InsnForms {
+        immediate: constant_form(assembler.alloc, immediate),
+        displacement: constant_form(assembler.alloc, displacement),
+    };
+    put_insn(assembler, pos, insn, &forms)?;
+    assembler.table.allow(naming)
+}
+
+/// An instruction by its amounts.
+fn place_insn(assembler: &mut Assembler, pos: Pos, insn: &Insn) -> Result<(), PlaceFault>
+    ensures placed { PlacesBy (place_amounts pos insn.now) assembler.old assembler.new result }
+    ensures fits { FitsThere result pos insn.now (placed_by assembler.old) }
+    ensures kept { assembler.new.notes ≡ assembler.old.notes }
+{
+    match (&insn.immediate.amount, &insn.displacement.amount) {
+        (Amount::Number(own), Amount::Number(moved)) => {
+            place_numbers(assembler, pos, insn, *own, *moved)
+        }
+        _ => place_named(assembler, pos, insn),
+    }
+}
+
+/// Any instruction.
+#[inline(never)]
+#[tactic(auto, using(crate::proofs::AmountTrees::read_placed))]
+fn place_any(assembler: &mut Assembler, pos: Pos, tokens: &[Token]) -> Result<(), PlaceFault>
+    ensures placed { PlacesBy (place_read pos (insn_of (map spelled tokens.now)))
+        assembler.old assembler.new result }
+    ensures kept { assembler.new.notes ≡ assembler.old.notes }
+{
+    match read_insn(assembler.alloc, tokens) {
+        Ok(insn) => place_insn(assembler, pos, &insn),
+        Err(OperandFault::Fault(cause)) => Err(PlaceFault::Fault(operand_fault(cause))),
+        Err(OperandFault::NoMemory) => Err(PlaceFault::NoMemory),
+    }
+}
+
+/// The bytes of an instruction that stands alone, if its mnemonic has a row without operands.
+fn lone_code(tokens: &[Token]) -> Option<&'static [u8]>
+    ensures { option_map (λ bytes. bytes.now) result ≡ lone_code (map spelled tokens.now) }
+{
+    match tokens {
+        [name] => bare_code(name.bytes),
+        _ => None,
+    }
+}
+
+/// A statement that is an instruction.
+#[tactic(auto, unfolding(crate::specs::Coding::place_instruction))]
+pub(crate) fn place_instruction(
+    assembler: &mut Assembler,
+    pos: Pos,
+    tokens: &[Token],
+) -> Result<(), PlaceFault>
+    ensures placed { PlacesBy (place_instruction pos (map spelled tokens.now))
+        assembler.old assembler.new result }
+    ensures kept { assembler.new.notes ≡ assembler.old.notes }
+{
+    match lone_code(tokens) {
+        Some(bytes) => assembler.put_bytes(pos, bytes),
+        None => place_any(assembler, pos, tokens),
+    }
+}
