@@ -11,6 +11,7 @@ import ctypes
 import itertools
 import os
 import pathlib
+import re
 import shutil
 import subprocess
 import tempfile
@@ -18,6 +19,7 @@ from collections.abc import Callable, Iterator
 from dataclasses import dataclass
 
 BUILT = pathlib.Path(__file__).resolve().parent.parent / "build" / "as"
+PROGRAMS = pathlib.Path(__file__).resolve().parent / "programs.c"
 ENVIRONMENT = {**os.environ, "LC_ALL": "C"}
 MIB = 1 << 20
 MEMORY = pathlib.Path("/dev/shm")  # where Linux keeps files in memory
@@ -70,6 +72,13 @@ def data() -> Iterator[str]:
                f"\t.zero {1 + (number & 15)}\n", f'\t.string "text {number}"\n', f"\t.int -{number}\n")[form & 7]
         if number < 64:
             yield f"\t{next(sections)}\n"
+
+
+def code() -> Iterator[str]:
+    """The instructions that gcc makes of `programs.c` at -O2, one a line, without the direct jumps. Their labels `.L1` are undefined symbols `L1`."""
+    made = subprocess.run(["gcc", "-O2", "-S", "-o", "-", str(PROGRAMS)], capture_output=True, text=True, env=ENVIRONMENT, check=True).stdout
+    lines = [line for line in made.splitlines(keepends=True) if re.match(r"\t[a-z]", line) and not re.match(r"\tj\w+\t[^*]", line)]
+    return itertools.cycle(re.sub(r"(?<![\w.])\.L", "L", line) for line in lines)
 
 
 def symbols() -> Iterator[str]:
@@ -137,7 +146,7 @@ SOURCES_OF_TEXT: list[Callable[[], Iterator[str]]] = [nops, byte_lists, expressi
 SIZES_IN_MIB = [1, 4, 16]
 SIZES_IN_LINES = [10_000, 100_000, 1_000_000]
 SOURCES_OF_LINES: list[tuple[Callable[[], Iterator[str]], list[int]]] = [
-    (data, SIZES_IN_LINES), (relocations, SIZES_IN_LINES), (distances, [100_000]), (fills, [100_000]), (sections, [60_000]),
+    (code, SIZES_IN_LINES), (data, SIZES_IN_LINES), (relocations, SIZES_IN_LINES), (distances, [100_000]), (fills, [100_000]), (sections, [60_000]),
     (chain, [20_000]), (chain_back, [20_000]), (sums, [10_000]), (space, [16]),
 ]
 
@@ -247,10 +256,13 @@ def main() -> None:
     chosen = {name: case for name, case in cases.items() if options.only in name}
     if options.runs < 1 or not chosen or not BUILT.exists():
         parser.error(f"build/as is built first, N is at least 1, and WORD stands in one of: {', '.join(cases)}")
+    without_gcc = [name for name, (source, _) in chosen.items() if source is code and not shutil.which("gcc")]
+    for name in without_gcc:
+        del chosen[name]
     gnu, version = find_gnu()
     print(f"{version}\nleast of {options.runs} processor times, memory in MiB\n", flush=True)
     ctypes.CDLL(None).prctl(36, 1, 0, 0, 0)  # PR_SET_CHILD_SUBREAPER: orphans become children of this process
-    rows, reasons = [], []
+    rows, reasons = [], [f"{name} is left out: no gcc on PATH" for name in without_gcc]
     for name, (source, least) in chosen.items():
         # `space` writes 8 GiB.
         with tempfile.TemporaryDirectory(dir=None if source is space else memory_folder()) as folder:
