@@ -1,0 +1,27 @@
+#!/usr/bin/env bash
+# Functions that gcc compiles to instructions without direct jumps, assembled by the built program: linked in three ways with a main, they print what gcc's own
+# build of them prints. Left out of gcc's text are alignments and what unwinding needs, which are no directives here.
+set -eu
+as=$(realpath "${1:-build/as}")
+functions=$(realpath "$(dirname "$0")")/functions.c
+work=$(mktemp -d)
+trap 'rm -rf "$work"' EXIT
+cd "$work"
+how=(-O2 -fPIC -ftls-model=initial-exec)
+
+gcc "${how[@]}" -DNO_MAIN -S -o whole.s "$functions"
+grep -Ev '^\s*\.(p2align|align|cfi_[a-z_]+)\b' whole.s >functions.s
+"$as" -o functions.o functions.s
+echo "ok   $(grep -Ec '^\s+[a-z]' functions.s) instructions of $(grep -c '@function' functions.s) functions are assembled"
+gcc "${how[@]}" -o due "$functions"
+./due >due.txt
+gcc "${how[@]}" -DONLY_MAIN -c -o main.o "$functions"
+for way in -no-pie -pie; do
+    gcc "$way" -o said main.o functions.o
+    ./said | cmp - due.txt
+    echo "ok   gcc $way: $(wc -l <due.txt) lines"
+done
+gcc -shared -o libfunctions.so functions.o
+gcc -o said main.o ./libfunctions.so
+./said | cmp - due.txt
+echo 'ok   gcc -shared: the same'
