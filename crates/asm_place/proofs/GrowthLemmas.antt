@@ -10,13 +10,14 @@ use Rattle.asm_frags.specs.declared.fields.Field.{Field}
 use Rattle.asm_frags.specs.declared.fields.FieldSize.{FieldSize}
 use Rattle.asm_frags.specs.declared.roles.FieldRole.{FieldRole}
 use Rattle.asm_frags.specs.Fields.{width}
-use Rattle.asm_frags.specs.PlainBytes.{field_end}
+use Rattle.asm_frags.specs.PlainBytes.{field_end, FieldsStand}
 use Rattle.asm_frags.specs.declared.flags.SectionFlags.{SectionFlags}
 use Rattle.asm_frags.specs.SectionOf.{new_section}
 use Rattle.asm_frags.specs.Sections.{section_flags, first_sections}
 use Rattle.asm_frags.specs.Writing.{LooseItem, LooseSection, ends_in_run, new_item, item_behind, with_item, with_run, with_bytes, with_field}
 use Rattle.asm_values.specs.State.{nothing_placed}
 use Rattle.asm_place.specs.Instructions.{with_more, IsContinued, Grows, IsWithin, AreWithin}
+use Rattle.asm_place.proofs.FieldOrder.{stand_more, stand_both, stand_last}
 
 -- two numbers are one or not
 pub same_or_not : (i j : ℕ) → (j ≡ i) ⊎ (j ≢ i)
@@ -156,6 +157,7 @@ adds_section before new no_fields no_items = record {
   grows = record { kept = λ number section there. subst (IsContinued section) (sym (get_append before (new ∷ []) number section there)) (continued_not section) };
   within = λ all. All-push IsWithin before new all (record {
     fields = subst (All (λ (field : Field). field_end field ≤ length new.bytes)) (sym no_fields) (All-nil _);
+    apart = subst (FieldsStand new.bytes 0) (sym no_fields) tt;
     items = subst (All (λ (item : LooseItem). item.offset ≤ length new.bytes)) (sym no_items) (All-nil _);
   });
 }
@@ -173,6 +175,7 @@ item_added item section = record {
   };
   within = λ within. record {
     fields = within.fields;
+    apart = within.apart;
     items = All-push (λ (item : LooseItem). item.offset ≤ length section.bytes) section.items (item_behind (length section.bytes) item) within.items (omega arith);
   };
 }
@@ -192,8 +195,9 @@ run_keeps tells pos section same = told_by tells (ends_in_run section.items) sec
 
 -- more bytes, and fields over them
 more_added : (section : LooseSection) (bytes : List ℕ) (fields : List Field) → All (λ field. length section.bytes ≤ field.offset) fields
-    → All (λ field. field_end field ≤ length (section.bytes ++ bytes)) fields → IsAdded section (with_more section bytes fields [])
-more_added section bytes fields behind over =
+    → All (λ field. field_end field ≤ length (section.bytes ++ bytes)) fields → ((at : ℕ) → at ≤ length section.bytes → FieldsStand (section.bytes ++ bytes) at fields)
+    → IsAdded section (with_more section bytes fields [])
+more_added section bytes fields behind over apart =
     let longer = length-append section.bytes bytes in
     record {
       continued = record { bytes = bytes; fields = fields; items = []; there = refl; fields_behind = behind; items_behind = All-nil _ };
@@ -201,6 +205,8 @@ more_added section bytes fields behind over =
         fields = All-append (λ (field : Field). field_end field ≤ length (section.bytes ++ bytes)) section.fields fields
             (All-weaker (λ (field : Field). field_end field ≤ length section.bytes) (λ (field : Field). field_end field ≤ length (section.bytes ++ bytes))
             (λ field ends. omega (arith, longer, ends)) section.fields within.fields) over;
+        apart = stand_both (section.bytes ++ bytes) 0 (length section.bytes) section.fields fields (omega arith) within.fields
+            (stand_more section.bytes bytes 0 section.fields within.apart) apart;
         items = subst (All (λ (item : LooseItem). item.offset ≤ length (section.bytes ++ bytes))) (sym (append-nil section.items))
             (All-weaker (λ (item : LooseItem). item.offset ≤ length section.bytes) (λ (item : LooseItem). item.offset ≤ length (section.bytes ++ bytes))
             (λ item stands. omega (arith, longer, stands)) section.items within.items);
@@ -223,7 +229,7 @@ bytes_are_more pos more section =
 pub bytes_added : (pos : Pos) (more : List ℕ) (section : LooseSection) → IsAdded section (with_bytes pos more section)
 bytes_added pos more section =
     added_on section (with_run pos section) _ (run_added pos section)
-    (subst (IsAdded (with_run pos section)) (bytes_are_more pos more section) (more_added (with_run pos section) more [] (All-nil _) (All-nil _)))
+    (subst (IsAdded (with_run pos section)) (bytes_are_more pos more section) (more_added (with_run pos section) more [] (All-nil _) (All-nil _) (λ at before. tt)))
 
 -- a field over zeros
 abbrev field_of : Pos → ℕ → FieldSize → FieldRole → Form → LooseSection → Field
@@ -246,12 +252,14 @@ field_added pos number size role form section =
     (more_added run zeros (field_of pos number size role form section ∷ [])
     (All-cons (λ (field : Field). length run.bytes ≤ field.offset) _ [] (omega (arith, same)) (All-nil _))
     (All-cons (λ (field : Field). field_end field ≤ length (run.bytes ++ zeros)) _ []
-    (omega (arith, same, length-append run.bytes zeros, length-replicate {A = ℕ} (width size) 0)) (All-nil _))))
+    (omega (arith, same, length-append run.bytes zeros, length-replicate {A = ℕ} (width size) 0)) (All-nil _))
+    (stand_last run.bytes (field_of pos number size role form section) (sym same))))
 
 -- a new section has neither fields nor items, and so have the first ones
 new_within : (name : List ℕ) (flags : SectionFlags) (kind entry_size : ℕ) → IsWithin (new_section name flags kind entry_size)
 new_within name flags kind entry_size = record {
   fields = All-nil (λ (field : Field). field_end field ≤ 0);
+  apart = tt;
   items = All-nil (λ (item : LooseItem). item.offset ≤ 0);
 }
 

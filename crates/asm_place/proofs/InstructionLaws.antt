@@ -93,12 +93,12 @@ dot_ok true made placed is = err-ok _ placed is
 dot_ok false made placed is = same_Ok made placed is
 
 -- and the numbers of its labels are not too wide
-wide_ok : (wide : Bool) (answer : Result Placed PlaceCause) (placed : Placed) → cond wide (Err NumberTooWide) answer ≡ Ok placed → answer ≡ Ok placed
+pub wide_ok : (wide : Bool) (answer : Result Placed PlaceCause) (placed : Placed) → cond wide (Err NumberTooWide) answer ≡ Ok placed → answer ≡ Ok placed
 wide_ok true answer placed is = err-ok _ placed is
 wide_ok false answer placed is = is
 
 -- a label changes neither the sections nor which is the current one
-label_keeps : (pos : Pos) (token : SpelledToken) (before placed : Placed) → place_label pos token before ≡ Ok placed → (placed.sections ≡ before.sections) × (placed.current ≡ before.current)
+pub label_keeps : (pos : Pos) (token : SpelledToken) (before placed : Placed) → place_label pos token before ≡ Ok placed → (placed.sections ≡ before.sections) × (placed.current ≡ before.current)
 unfolding place_label
 label_keeps pos token before placed is =
     both_ok _ _ placed is (λ table made is_placed.
@@ -138,7 +138,7 @@ instruction_put stand pos tokens before placed coded written is =
     labelled_put stand pos tokens before placed coded written (wide_ok (has_wide_label tokens) (place_labelled pos tokens before) placed is)
 
 -- what a statement adds, where the others before and behind it are placed too
-located_ok : (pos : Pos) (notes : List Noted) (answer : Result Placed PlaceCause) (next : Placed) → located pos notes answer ≡ Ok next → answer ≡ Ok next
+pub located_ok : (pos : Pos) (notes : List Noted) (answer : Result Placed PlaceCause) (next : Placed) → located pos notes answer ≡ Ok next → answer ≡ Ok next
 located_ok pos notes (Ok more) next is = ap Ok (same_Ok more next is)
 located_ok pos notes (Err fault) next is = err-ok _ next is
 
@@ -148,13 +148,13 @@ statement_put stand s before next coded written is =
     instruction_put stand (pos_at s.file s.line) s.tokens before next coded written
     (located_ok (pos_at s.file s.line) before.notes (place_tokens (pos_at s.file s.line) s.tokens before) next is)
 
-first_placed : {C : Type 0} (s : TokenStatement) (later : List TokenStatement) (placed whole : Placed) → place_all (s ∷ later) placed ≡ Ok whole
+pub first_placed : {C : Type 0} (s : TokenStatement) (later : List TokenStatement) (placed whole : Placed) → place_all (s ∷ later) placed ≡ Ok whole
     → ((next : Placed) → place s placed ≡ Ok next → place_all later next ≡ Ok whole → C) → C
 unfolding place_all
 first_placed s later placed whole is go = both_ok (place s placed) (place_all later) whole is go
 
 -- how many items stand before bytes that are put last
-run_items : (test : Bool) (pos : Pos) (section : LooseSection)
+pub run_items : (test : Bool) (pos : Pos) (section : LooseSection)
     → length (cond test section (with_item (new_item pos Run) section)).items ≡ cond test (length section.items) (length section.items + 1)
 run_items true pos section = refl
 run_items false pos section = length-append section.items _

@@ -2,6 +2,7 @@
 pub mod TokenLists
 pub mod NamedForms
 pub mod AmountTrees
+pub mod FieldOrder
 pub mod GrowthLemmas
 pub mod BareLemmas
 pub mod LabelLemmas
@@ -9,3 +10,6 @@ pub mod Walks
 pub mod PlacingLaws
 pub mod StatementSplits
 pub mod InstructionLaws
+pub mod CodeParts
+pub mod CodingFields
+pub mod CodeLaws

@@ -11,3 +11,4 @@ pub mod Amounts
 pub mod Placing
 pub mod Sources
 pub mod Instructions
+pub mod CodePlaces

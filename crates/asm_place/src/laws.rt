@@ -7,12 +7,15 @@ ghost use Rattle.asm_lines.specs.NextStatements.{TokenStatement};
 ghost use Rattle.x86_lookup.specs.BareInstructions.{Coded};
 ghost use Rattle.asm_values.specs.State.{Placed, nothing_placed};
 ghost use Rattle.asm_place.specs.Placing.{place_tokens};
-ghost use Rattle.asm_place.specs.Sources.{place, place_all};
+ghost use Rattle.asm_place.specs.Sources.{pos_at, place, place_all};
 ghost use Rattle.asm_lines.specs.Placing.{placed_in_order};
 ghost use Rattle.asm_place.specs.declared.place_faults.FaultAt.{FaultAt};
 ghost use Rattle.asm_place.specs.Faults.{is_file_too_large};
+ghost use Rattle.att_insns.specs.InsnTexts.{InsnText};
+ghost use Rattle.asm_place.specs.CodePlaces.{insn_written, insn_in, IsInsnPut, InsnStands};
 ghost use Rattle.asm_place.specs.Instructions.{behind_labels, instruction_written, instruction_of, next_item, next_offset, Grows, AreWithin, IsPut, StandsAt};
 
+use x86_encode::encodings_are_codes;
 use x86_lookup::bare_codes_read;
 
 /// Placing only adds bytes, fields and items, behind those that are there.
@@ -67,4 +70,26 @@ pub fn instruction_items()
         coded.bytes }
 {
     bare_codes_read();
+}
+
+/// Where a statement is an instruction with operands, the bytes and fields of its encoding are put last
+/// in the current section, and nothing else.
+pub fn encoding_stands()
+    ensures { (pos : Pos) (tokens : List SpelledToken) (before placed : Placed) (text : InsnText)
+        → insn_written (behind_labels tokens) ≡ Some text
+        → place_tokens pos tokens before ≡ Ok placed → IsInsnPut pos tokens text before placed }
+{
+    encodings_are_codes();
+}
+
+/// The bytes and fields of its encoding stand in what all statements place, where those before it end.
+pub fn encoding_items()
+    ensures { (front : List TokenStatement) (s : TokenStatement) (later : List TokenStatement)
+        (before placed whole : Placed) (text : InsnText)
+        → AreWithin before.sections
+        → place_all front before ≡ Ok placed → place_all (front ++ s ∷ later) before ≡ Ok whole
+        → insn_in s ≡ Some text
+        → InsnStands whole.sections (pos_at s.file s.line) s.tokens text placed }
+{
+    encodings_are_codes();
 }
