@@ -1,25 +1,20 @@
 -- Where the bytes and fields of instructions with operands stand.
-use Rattle.std.proofs.Common.{◌≡◌, ℕ, ◌+◌, ◌≤◌, Bool, true, false, cond, List, [], ◌∷◌, ◌++◌, All, map, length, take, drop, replicate, Option, None, Some, Result, Ok, Err, refl, sym, ap, ◌∙◌, subst, slice_get, arith, append_assoc, length-append, length-drop}
+use Rattle.std.proofs.Common.{◌≡◌, ℕ, ◌+◌, ◌≤◌, Bool, true, false, cond, List, [], ◌∷◌, ◌++◌, All, map, length, take, drop, Option, None, Some, Result, Ok, Err, refl, sym, ap, ◌∙◌, subst, slice_get, arith, append_assoc, length-append, length-drop}
 use Rattle.std.specs.Prelude.{◌&&◌, not, slice_range}
 use Rattle.std.specs.Option.{option_map_or}
 use Rattle.std.proofs.Math.Seq.{take-append_seam, drop-append_seam}
-use Rattle.std.proofs.lemmas.List.Elements.{All-weaker}
 use Rattle.std.proofs.lemmas.Option.{none-some, same_Some}
 use Rattle.asm_base.specs.Refusals.{◌>>=◌}
 use Rattle.asm_base.specs.Tokens.{SpelledToken}
 use Rattle.asm_base.specs.declared.positions.Pos.{Pos}
-use Rattle.asm_expr.specs.Trees.{Tree}
 use Rattle.asm_lines.specs.NextStatements.{TokenStatement}
 use Rattle.asm_frags.specs.declared.fields.Field.{Field}
 use Rattle.asm_frags.specs.Fields.{width}
-use Rattle.asm_frags.specs.PlainBytes.{field_end}
 use Rattle.asm_frags.specs.Writing.{LooseItem, LooseSection, ends_in_run, with_run}
 use Rattle.asm_operands.specs.declared.place_faults.PlaceCause.{PlaceCause}
-use Rattle.asm_operands.specs.declared.place_faults.PlaceCause.TheVariants.{UnknownMnemonic}
 use Rattle.asm_operands.specs.Operands.{is_name, names_symbol, is_assignment, is_label, begins_with_dot}
 use Rattle.asm_uses.specs.Places.{end_naming}
 use Rattle.asm_uses.specs.Tables.{Table, naming_of}
-use Rattle.asm_uses.specs.declared.tables.Naming.{Naming}
 use Rattle.asm_values.specs.State.{Placed, with_table, with_names, here, known_here}
 use Rattle.att_operands.specs.declared.faults.OperandCause.{OperandCause}
 use Rattle.att_insns.specs.InsnTexts.{InsnText}
@@ -30,17 +25,17 @@ use Rattle.x86_encode.specs.EncodingLaws.{EncodingsNote}
 use Rattle.x86_encode.specs.Filling.{Coding}
 use Rattle.asm_place.specs.declared.codes.InsnForms.{InsnForms}
 use Rattle.asm_place.specs.declared.codes.CodeField.{CodeField}
-use Rattle.asm_place.specs.Coding.{InsnShape, shape_in, forms_of, values_in, of_operands, of_code, fields_of, put_code, keeps_place, put_insn, put_named, place_insn, place_text, place_read, lone_code, place_coded, place_instruction}
+use Rattle.asm_place.specs.Coding.{InsnShape, shape_in, forms_of, values_in, of_code, fields_of, put_code, keeps_place, put_insn, place_insn, place_text, place_read, lone_code, place_coded, place_instruction}
 use Rattle.asm_place.specs.Placing.{place_body, place_label, place_unlabelled, place_labelled, has_wide_label, place_tokens}
 use Rattle.asm_place.specs.Sources.{pos_at, place, place_all}
-use Rattle.asm_place.specs.Instructions.{behind_labels, run_end, next_item, next_offset, with_more, IsContinued, Grows, IsWithin, AreWithin}
-use Rattle.asm_place.specs.CodePlaces.{text_read, insn_written, insn_in, labelled, known_in, IsCoded, code_fields, with_held, zeros_in, blanked, AreApart, field_in, with_code, IsCodePut, IsInsnPut, CodeStandsAt, InsnStands}
+use Rattle.asm_place.specs.Instructions.{behind_labels, run_end, with_more, IsContinued, Grows, IsWithin, AreWithin}
+use Rattle.asm_place.specs.CodePlaces.{text_read, insn_written, insn_in, labelled, known_in, code_fields, with_held, zeros_in, blanked, AreApart, field_in, with_code, IsCodePut, IsInsnPut, CodeStandsAt, InsnStands}
 use Rattle.asm_place.proofs.GrowthLemmas.{get_set, All-there, run_keeps, run_added}
 use Rattle.asm_place.proofs.PlacingLaws.{all_grow, all_within}
 use Rattle.asm_place.proofs.StatementSplits.{err-ok, same_Ok, both_ok, all_split}
 use Rattle.asm_place.proofs.InstructionLaws.{wide_ok, label_keeps, located_ok, first_placed, run_items}
 use Rattle.asm_place.proofs.FieldOrder.{zeros_long}
-use Rattle.asm_place.proofs.CodeParts.{Becomes, apart_inside, slice_long, code_none, set_same, apart_before, code_put}
+use Rattle.asm_place.proofs.CodeParts.{apart_inside, slice_long, code_none, set_same, apart_before, code_put}
 use Rattle.asm_place.proofs.CodingFields.{coding_apart}
 
 -- THE LABELS
@@ -53,13 +48,16 @@ two_steps (Err fault) f g more same = refl
 label_splits : (test : Bool) (pos : Pos) (first second : SpelledToken) (rest : List SpelledToken) (placed : Placed)
     → ((labels : Placed) → place_labelled pos rest labels ≡ (labelled pos rest labels >>= place_unlabelled pos (behind_labels rest)))
     → cond test (place_label pos first placed >>= (λ labels. place_labelled pos rest labels)) (place_body pos first (second ∷ rest) placed)
-    ≡ (cond test (place_label pos first placed >>= (λ labels. labelled pos rest labels)) (Ok placed) >>= place_unlabelled pos (cond test (behind_labels rest) (first ∷ second ∷ rest)))
+    ≡ (cond test (place_label pos first placed >>= (λ labels. labelled pos rest labels)) (Ok placed) >>= place_unlabelled pos
+    (cond test (behind_labels rest) (first ∷ second ∷ rest)))
 unfolding place_unlabelled
 label_splits true pos first second rest placed again =
-    two_steps (place_label pos first placed) (λ labels. place_labelled pos rest labels) (λ labels. labelled pos rest labels) (place_unlabelled pos (behind_labels rest)) again
+    two_steps (place_label pos first placed) (λ labels. place_labelled pos rest labels) (λ labels. labelled pos rest labels)
+    (place_unlabelled pos (behind_labels rest)) again
 label_splits false pos first second rest placed again = refl
 
-labels_split : (pos : Pos) (tokens : List SpelledToken) (placed : Placed) → place_labelled pos tokens placed ≡ (labelled pos tokens placed >>= place_unlabelled pos (behind_labels tokens))
+labels_split : (pos : Pos) (tokens : List SpelledToken) (placed : Placed)
+    → place_labelled pos tokens placed ≡ (labelled pos tokens placed >>= place_unlabelled pos (behind_labels tokens))
 unfolding place_labelled labelled behind_labels place_unlabelled
 labels_split pos [] placed = refl
 labels_split pos (first ∷ []) placed = refl
@@ -68,7 +66,8 @@ labels_split pos (first ∷ second ∷ rest) placed = label_splits (is_label fir
 -- labels change neither the sections nor which is the current one
 labels_keep_by : (test : Bool) (pos : Pos) (first : SpelledToken) (rest : List SpelledToken) (before labels : Placed)
     → ((one : Placed) → labelled pos rest one ≡ Ok labels → (labels.sections ≡ one.sections) × (labels.current ≡ one.current))
-    → cond test (place_label pos first before >>= (λ one. labelled pos rest one)) (Ok before) ≡ Ok labels → (labels.sections ≡ before.sections) × (labels.current ≡ before.current)
+    → cond test (place_label pos first before >>= (λ one. labelled pos rest one)) (Ok before) ≡ Ok labels
+    → (labels.sections ≡ before.sections) × (labels.current ≡ before.current)
 labels_keep_by true pos first rest before labels again is =
     both_ok _ _ labels is (λ one one_is later.
     let keeps = label_keeps pos first before one one_is in
@@ -78,11 +77,15 @@ labels_keep_by false pos first rest before labels again is =
     let same = same_Ok before labels is in
     (ap (λ (p : Placed). p.sections) (sym same), ap (λ (p : Placed). p.current) (sym same))
 
-labels_keep : (pos : Pos) (tokens : List SpelledToken) (before labels : Placed) → labelled pos tokens before ≡ Ok labels → (labels.sections ≡ before.sections) × (labels.current ≡ before.current)
+labels_keep : (pos : Pos) (tokens : List SpelledToken) (before labels : Placed) → labelled pos tokens before ≡ Ok labels
+    → (labels.sections ≡ before.sections) × (labels.current ≡ before.current)
 unfolding labelled
-labels_keep pos [] before labels is = let same = same_Ok before labels is in (ap (λ (p : Placed). p.sections) (sym same), ap (λ (p : Placed). p.current) (sym same))
-labels_keep pos (first ∷ []) before labels is = let same = same_Ok before labels is in (ap (λ (p : Placed). p.sections) (sym same), ap (λ (p : Placed). p.current) (sym same))
-labels_keep pos (first ∷ second ∷ rest) before labels is = labels_keep_by (is_label first second) pos first rest before labels (λ one. labels_keep pos rest one labels) is
+labels_keep pos [] before labels is =
+    let same = same_Ok before labels is in (ap (λ (p : Placed). p.sections) (sym same), ap (λ (p : Placed). p.current) (sym same))
+labels_keep pos (first ∷ []) before labels is =
+    let same = same_Ok before labels is in (ap (λ (p : Placed). p.sections) (sym same), ap (λ (p : Placed). p.current) (sym same))
+labels_keep pos (first ∷ second ∷ rest) before labels is =
+    labels_keep_by (is_label first second) pos first rest before labels (λ one. labels_keep pos rest one labels) is
 
 -- THE INSTRUCTION
 
@@ -94,7 +97,8 @@ body_test false true true written text assignment unnamed directive instruction 
 body_test false true false written text assignment unnamed directive instruction is = (is, refl)
 body_test false false dotted written text assignment unnamed directive instruction is = absurd (none-some text is)
 
-read_is : (pos : Pos) (lone : Option (List ℕ)) (read : Result InsnText OperandCause) (text : InsnText) (placed : Placed) (tokens : List SpelledToken) → insn_of tokens ≡ read
+read_is : (pos : Pos) (lone : Option (List ℕ)) (read : Result InsnText OperandCause) (text : InsnText) (placed : Placed) (tokens : List SpelledToken)
+    → insn_of tokens ≡ read
     → text_read lone read ≡ Some text → place_coded pos lone tokens placed ≡ place_text pos text placed
 read_is pos (Some bytes) read text placed tokens of is = absurd (none-some text is)
 read_is pos None (Ok found) text placed tokens of is =
@@ -110,10 +114,12 @@ body_is : (pos : Pos) (first : SpelledToken) (rest : List SpelledToken) (text : 
 unfolding insn_written place_body place_instruction
 body_is pos first rest text placed is =
     let tokens = first ∷ rest in
-    let parts = body_test (names_symbol first && is_assignment rest) (is_name first) (begins_with_dot first.bytes) (text_read (lone_code tokens) (insn_of tokens)) text _ _ _ _ is in
+    let parts = body_test (names_symbol first && is_assignment rest) (is_name first) (begins_with_dot first.bytes)
+    (text_read (lone_code tokens) (insn_of tokens)) text _ _ _ _ is in
     parts.1 ∙ read_is pos (lone_code tokens) (insn_of tokens) text placed tokens refl parts.0
 
-unlabelled_is : (pos : Pos) (tokens : List SpelledToken) (text : InsnText) (placed : Placed) → insn_written tokens ≡ Some text → place_unlabelled pos tokens placed ≡ place_text pos text placed
+unlabelled_is : (pos : Pos) (tokens : List SpelledToken) (text : InsnText) (placed : Placed) → insn_written tokens ≡ Some text
+    → place_unlabelled pos tokens placed ≡ place_text pos text placed
 unfolding place_unlabelled
 unlabelled_is pos [] text placed is = no_tokens text is
 unlabelled_is pos (first ∷ rest) text placed is = body_is pos first rest text placed is
@@ -129,7 +135,8 @@ pub record IsPutCode (pos : Pos) (shape : InsnShape) (forms : InsnForms) (before
   pub coding : encoding_of shape.view (values_in forms) ≡ Ok made
   pub put : IsCodePut before.sections placed.sections before.current pos made.bytes (fields_of shape forms made)
 
-section_put : (pos : Pos) (bytes : List ℕ) (fields : List CodeField) (before placed : Placed) (found : Option LooseSection) → AreApart 1 (length bytes) fields → slice_get before.sections before.current ≡ found
+section_put : (pos : Pos) (bytes : List ℕ) (fields : List CodeField) (before placed : Placed) (found : Option LooseSection) → AreApart 1 (length bytes) fields
+    → slice_get before.sections before.current ≡ found
     → put_code pos bytes 0 fields before ≡ Ok placed → IsCodePut before.sections placed.sections before.current pos bytes fields
 section_put pos bytes fields before placed (Some section) apart there is =
     let code = code_put before.sections before.current section there pos bytes fields apart before placed (record {
@@ -139,7 +146,8 @@ section_put pos bytes fields before placed (Some section) apart there is =
     record { apart = apart; section = section; there = there; put = code.sections }
 section_put pos bytes fields before placed None apart there is = code_none pos bytes fields before placed apart there is
 
-insn_put : EncodingsNote → (pos : Pos) (shape : InsnShape) (forms : InsnForms) (before placed : Placed) → put_insn pos shape forms before ≡ Ok placed → IsPutCode pos shape forms before placed
+insn_put : EncodingsNote → (pos : Pos) (shape : InsnShape) (forms : InsnForms) (before placed : Placed) → put_insn pos shape forms before ≡ Ok placed
+    → IsPutCode pos shape forms before placed
 unfolding put_insn
 insn_put notes pos shape forms before placed is =
     both_ok _ _ placed is (λ made made_is put_is.
@@ -147,7 +155,8 @@ insn_put notes pos shape forms before placed is =
     record {
       made = made;
       coding = coding;
-      put = section_put pos made.bytes (fields_of shape forms made) before placed (slice_get before.sections before.current) (coding_apart notes shape forms made coding) refl put_is;
+      put = section_put pos made.bytes (fields_of shape forms made) before placed (slice_get before.sections before.current)
+          (coding_apart notes shape forms made coding) refl put_is;
     })
 
 -- an instruction whose names have symbols
@@ -156,7 +165,8 @@ pub record IsTextPut (pos : Pos) (text : InsnText) (before placed : Placed) : Ty
   pub forms_are : forms_of (known_in pos text before) text.immediate.tree text.displacement.tree ≡ Ok forms
   pub code : IsPutCode pos (shape_in text) forms before placed
 
-table_keeps : (put placed : Placed) (answer : Result Table PlaceCause) → (answer >>= λ table. Ok (with_table put table)) ≡ Ok placed → placed.sections ≡ put.sections
+table_keeps : (put placed : Placed) (answer : Result Table PlaceCause) → (answer >>= λ table. Ok (with_table put table)) ≡ Ok placed
+    → placed.sections ≡ put.sections
 table_keeps put placed (Ok table) is = ap (λ (p : Placed). p.sections) (sym (same_Ok (with_table put table) placed is))
 table_keeps put placed (Err fault) is = err-ok fault placed is
 
@@ -168,23 +178,27 @@ text_put notes pos text before placed is =
     both_ok _ _ placed is (λ forms forms_are named_is.
     both_ok _ _ placed named_is (λ put put_is end_is.
     let code = insn_put notes pos (shape_in text) forms named put put_is in
-    let same = table_keeps put placed (end_naming pos (naming_of trees before.table) (here named) (keeps_place (known_here named).place forms) put.table) end_is in
+    let same = table_keeps put placed (end_naming pos (naming_of trees before.table) (here named)
+    (keeps_place (known_here named).place forms) put.table) end_is in
     record {
       forms = forms;
       forms_are = forms_are;
       code = record {
         made = code.made;
         coding = code.coding;
-        put = subst (λ sections. IsCodePut before.sections sections before.current pos code.made.bytes (fields_of (shape_in text) forms code.made)) (sym same) code.put;
+        put = subst (λ sections. IsCodePut before.sections sections before.current pos code.made.bytes (fields_of (shape_in text) forms code.made))
+            (sym same) code.put;
       };
     }))
 
 -- where the tokens are an instruction with operands, the bytes and the fields of its encoding are put last in the current section
-pub tokens_put : EncodingsNote → (pos : Pos) (tokens : List SpelledToken) (before placed : Placed) (text : InsnText) → insn_written (behind_labels tokens) ≡ Some text
+pub tokens_put : EncodingsNote → (pos : Pos) (tokens : List SpelledToken) (before placed : Placed) (text : InsnText)
+    → insn_written (behind_labels tokens) ≡ Some text
     → place_tokens pos tokens before ≡ Ok placed → IsInsnPut pos tokens text before placed
 unfolding place_tokens
 tokens_put notes pos tokens before placed text written is =
-    both_ok _ _ placed (sym (labels_split pos tokens before) ∙ wide_ok (has_wide_label tokens) (place_labelled pos tokens before) placed is) (λ labels labels_are body_is.
+    both_ok _ _ placed (sym (labels_split pos tokens before) ∙ wide_ok (has_wide_label tokens) (place_labelled pos tokens before) placed is)
+    (λ labels labels_are body_is.
     let keeps = labels_keep pos tokens before labels labels_are in
     let put = text_put notes pos text labels placed (sym (unlabelled_is pos (behind_labels tokens) text labels written) ∙ body_is) in
     let fields = code_fields text put.forms put.code.made in
@@ -204,7 +218,8 @@ statement_put notes s before next text written is =
 -- WHERE IT STANDS
 
 -- how many bytes stand from a place on, whatever the fields hold
-pub held_long : (bytes : List ℕ) (from : ℕ) (fields : List CodeField) → AreApart from (length bytes) fields → from + length (with_held zeros_in bytes from fields) ≡ length bytes
+pub held_long : (bytes : List ℕ) (from : ℕ) (fields : List CodeField) → AreApart from (length bytes) fields
+    → from + length (with_held zeros_in bytes from fields) ≡ length bytes
 held_long bytes from [] apart = let long = length-drop from bytes in omega (arith, long, apart)
 held_long bytes from (field ∷ fields) apart =
     let inside = apart_inside (field.at + width field.size) (length bytes) fields apart.1 in
@@ -217,7 +232,8 @@ held_long bytes from (field ∷ fields) apart =
     omega (arith, first, later, zeros, one, two, apart.0, inside)
 
 -- the bytes and fields that are put last in a section stand there later
-module _ (pos : Pos) (section : LooseSection) (bytes : List ℕ) (fields : List CodeField) (number : ℕ) (apart : AreApart 1 (length bytes) fields) (within : IsWithin section)
+module _ (pos : Pos) (section : LooseSection) (bytes : List ℕ) (fields : List CodeField) (number : ℕ) (apart : AreApart 1 (length bytes) fields)
+    (within : IsWithin section)
     (whole : List LooseSection) (later : IsContinued (with_code pos number bytes fields section) (slice_get whole number)) where
   abbrev begun : LooseSection
   begun = with_run pos section
@@ -242,7 +258,8 @@ module _ (pos : Pos) (section : LooseSection) (bytes : List ℕ) (fields : List 
   items_before =
       subst (λ n. All (λ (item : LooseItem). item.offset ≤ length section.bytes) (take n last.items)) items_so_far
       (subst (All (λ (item : LooseItem). item.offset ≤ length section.bytes)) (sym (take-append_seam begun.items later.items))
-      (subst (λ n. All (λ (item : LooseItem). item.offset ≤ n) begun.items) (run_keeps (λ s. length s.bytes) pos section refl) ((run_added pos section).within within).items))
+      (subst (λ n. All (λ (item : LooseItem). item.offset ≤ n) begun.items) (run_keeps (λ s. length s.bytes) pos section refl)
+      ((run_added pos section).within within).items))
 
   items_behind : All (λ item. length section.bytes + length bytes ≤ item.offset) (drop (run_end section) last.items)
   items_behind =
@@ -269,16 +286,21 @@ module _ (pos : Pos) (section : LooseSection) (bytes : List ℕ) (fields : List 
     items_behind = items_behind;
   }
 
-put_stands : (before next whole : List LooseSection) (number : ℕ) (pos : Pos) (bytes : List ℕ) (fields : List CodeField) → IsCodePut before next number pos bytes fields → AreWithin before → Grows next whole
-    → CodeStandsAt whole number (option_map_or run_end (slice_get before number) 0) (option_map_or (λ section. length section.bytes) (slice_get before number) 0) pos bytes fields
+put_stands : (before next whole : List LooseSection) (number : ℕ) (pos : Pos) (bytes : List ℕ) (fields : List CodeField)
+    → IsCodePut before next number pos bytes fields → AreWithin before → Grows next whole
+    → CodeStandsAt whole number (option_map_or run_end (slice_get before number) 0)
+    (option_map_or (λ section. length section.bytes) (slice_get before number) 0) pos bytes fields
 put_stands before next whole number pos bytes fields put within grows =
     let new = with_code pos number bytes fields put.section in
     let there : slice_get next number ≡ Some new = ap (λ sections. slice_get sections number) put.put ∙ get_set before number put.section new put.there in
-    subst (λ found. CodeStandsAt whole number (option_map_or run_end found 0) (option_map_or (λ (section : LooseSection). length section.bytes) found 0) pos bytes fields) (sym put.there)
-    (code_stands pos put.section bytes fields number put.apart (All-there IsWithin before number put.section put.there within) whole (grows.kept number new there))
+    subst (λ found. CodeStandsAt whole number (option_map_or run_end found 0)
+    (option_map_or (λ (section : LooseSection). length section.bytes) found 0) pos bytes fields) (sym put.there)
+    (code_stands pos put.section bytes fields number put.apart (All-there IsWithin before number put.section put.there within) whole
+    (grows.kept number new there))
 
 -- an instruction with operands stands in the whole
-pub insn_there : EncodingsNote → (front : List TokenStatement) (s : TokenStatement) (later : List TokenStatement) (before placed whole : Placed) (text : InsnText)
+pub insn_there : EncodingsNote
+    → (front : List TokenStatement) (s : TokenStatement) (later : List TokenStatement) (before placed whole : Placed) (text : InsnText)
     → AreWithin before.sections → place_all front before ≡ Ok placed → place_all (front ++ s ∷ later) before ≡ Ok whole → insn_in s ≡ Some text
     → InsnStands whole.sections (pos_at s.file s.line) s.tokens text placed
 insn_there notes front s later before placed whole text within is_front is_whole written =
@@ -287,6 +309,8 @@ insn_there notes front s later before placed whole text within is_front is_whole
     let insn = statement_put notes s placed next text written is_next in
     record {
       coded = insn.coded;
-      stands = put_stands placed.sections next.sections whole.sections placed.current (pos_at s.file s.line) insn.coded.made.bytes (code_fields text insn.coded.forms insn.coded.made)
+      stands =
+          put_stands placed.sections next.sections whole.sections placed.current (pos_at s.file s.line) insn.coded.made.bytes
+          (code_fields text insn.coded.forms insn.coded.made)
           insn.put (all_within front before placed is_front within) (all_grow later next whole is_later);
     })

@@ -1,5 +1,5 @@
 -- The fields of an encoding stand apart, within its bytes and behind the first one.
-use Rattle.std.proofs.Common.{◌≡◌, ℕ, ◌+◌, ◌-◌, ◌≤◌, ◌&&◌, nat_lt, Bool, true, false, cond, List, [], ◌∷◌, length, Option, None, Some, Result, Ok, Err, refl, sym, ap, ◌∙◌, subst, arith}
+use Rattle.std.proofs.Common.{◌≡◌, ℕ, ◌+◌, ◌-◌, ◌≤◌, ◌&&◌, nat_lt, Bool, true, false, cond, List, [], length, Option, None, Some, Ok, refl, sym, ap, ◌∙◌, subst, arith}
 use Rattle.std.proofs.lemmas.Bool.{and_parts}
 use Rattle.std.proofs.lemmas.Option.{none-some, same_Some}
 use Rattle.x86_insn.specs.declared.insns.Index.{Index}
@@ -12,12 +12,10 @@ use Rattle.x86_table.specs.declared.parts.Width.{Width}
 use Rattle.x86_table.specs.declared.parts.Width.TheVariants as of_width
 use Rattle.x86_table.specs.Fields.{Location, nowhere, direct, from_rip, bare, based, Fields}
 use Rattle.x86_table.specs.Fits.{is_nowhere, index_fits, sib_fits, mode_fits, displacement_fits, some_place_fits, rm_fits, place_fits, immediate_fits}
-use Rattle.x86_table.specs.Bytes.{bytes_of}
 use Rattle.x86_encode.specs.declared.encoded.Field.{Field}
 use Rattle.x86_encode.specs.declared.encoded.Position.{Position}
 use Rattle.x86_encode.specs.declared.encoded.FieldKind.{FieldKind}
 use Rattle.x86_encode.specs.declared.encoded.FieldKind.TheVariants as kind
-use Rattle.x86_encode.specs.declared.encoded.EncodeFault.{EncodeFault}
 use Rattle.x86_encode.specs.Answers.{Notes}
 use Rattle.x86_encode.specs.Codes.{meant}
 use Rattle.x86_encode.specs.Encoding.{encoding_of}
@@ -28,11 +26,10 @@ use Rattle.x86_encode.specs.Keys.{place_length, modrm_length, immediate_length, 
 use Rattle.x86_encode.proofs.Fitted.{no_location, fit_of}
 use Rattle.x86_encode.proofs.Length.{length_is}
 use Rattle.x86_insn.specs.Views.{View}
-use Rattle.x86_insn.specs.declared.amounts.Values.{Values}
 use Rattle.asm_frags.specs.Fields.{width}
 use Rattle.asm_place.specs.declared.codes.InsnForms.{InsnForms}
 use Rattle.asm_place.specs.declared.codes.CodeField.{CodeField}
-use Rattle.asm_place.specs.Coding.{InsnShape, field_size, is_branch, code_field, displacement_field, immediate_field, before_fields, fields_of, values_in}
+use Rattle.asm_place.specs.Coding.{InsnShape, field_size, is_branch, displacement_field, immediate_field, before_fields, fields_of, values_in}
 use Rattle.asm_place.specs.CodePlaces.{AreApart}
 
 -- a field of a displacement has 4 bytes, and ModRM, SIB and displacement have at least 5 then
@@ -53,7 +50,8 @@ module _ (at : ℕ) (here : Position) (field : Field) where
       let same = same_Some (record { at = at; size = 4; kind = kind; position = here }) field is in
       record { at_is = ap (λ (f : Field). f.at) (sym same); size_is = ap (λ (f : Field). f.size) (sym same); long = long }
 
-  based_room : (b : ℕ) (i : Index) (s : Bool) (w : Width) (d : Option ℕ) → displacement_fits w d ≡ true → moved_field at here (based b i s w d) ≡ Some field → IsMoved at (place_length (based b i s w d)) field
+  based_room : (b : ℕ) (i : Index) (s : Bool) (w : Width) (d : Option ℕ) → displacement_fits w d ≡ true → moved_field at here (based b i s w d) ≡ Some field
+      → IsMoved at (place_length (based b i s w d)) field
   based_room b i s of_width.Absent None fits is = absurd cc
   based_room b i s of_width.Byte None fits is = absurd cc
   based_room b i true of_width.Long None fits is = moved_is kind.Signed 6 (omega arith) is
@@ -117,7 +115,8 @@ both_apart n k ds bs (Some f) (Some g) some one other =
     let h = one f refl in let j = other g refl in (h.1, (omega (arith, h.0, h.2, j.0), omega (arith, j.0, j.1)))
 
 -- what both fields tell alike, either tells
-pub either_tells : {Y : Type 0} (tells : CodeField → Y) (y : Y) (test : Bool) (one other : CodeField) → tells one ≡ y → tells other ≡ y → tells (cond test one other) ≡ y
+pub either_tells : {Y : Type 0} (tells : CodeField → Y) (y : Y) (test : Bool) (one other : CodeField) → tells one ≡ y → tells other ≡ y
+    → tells (cond test one other) ≡ y
 either_tells tells y true one other a b = a
 either_tells tells y false one other a b = b
 
@@ -125,7 +124,8 @@ long_by : (r : Row) (p : Fields) → 1 + immediate_length r.immediate + modrm_le
 unfolding length_by
 long_by r p = omega arith
 
-noted_apart : (shape : InsnShape) (forms : InsnForms) (insn : View) (made : Coding) → Noted insn made → AreApart 1 (length made.bytes) (fields_of shape forms made)
+noted_apart : (shape : InsnShape) (forms : InsnForms) (insn : View) (made : Coding) → Noted insn made
+    → AreApart 1 (length made.bytes) (fields_of shape forms made)
 noted_apart shape forms insn made noted =
     let r = noted.r in
     let p = noted.p in
@@ -141,7 +141,8 @@ noted_apart shape forms insn made noted =
     (λ f is.
     let h = held_room (n - k) noted.there f r.immediate p.held fit.held (sym noted.held ∙ is) in
     let at : (immediate_field n shape forms f).at ≡ f.at = either_tells (λ c. c.at) f.at (is_branch f.kind) _ _ refl refl in
-    let size : width (immediate_field n shape forms f).size ≡ width (field_size f.size) = either_tells (λ c. width c.size) (width (field_size f.size)) (is_branch f.kind) _ _ refl refl in
+    let size : width (immediate_field n shape forms f).size ≡ width (field_size f.size) = either_tells (λ c. width c.size) (width (field_size f.size))
+    (is_branch f.kind) _ _ refl refl in
     (omega (arith, long, all, at, h.at_is), size ∙ ap (λ s. width (field_size s)) h.size_is ∙ h.sized))
 
 -- the fields of an encoding stand in order and apart, within its bytes and behind the first one

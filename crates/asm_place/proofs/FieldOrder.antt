@@ -28,7 +28,8 @@ stand_more bytes more from [] stand = tt
 stand_more bytes more from (field ∷ fields) stand = (stand.0, blank_more bytes more field stand.1, stand_more bytes more (field_end field) fields stand.2)
 
 -- more fields, which stand behind the others
-pub stand_both : (bytes : List ℕ) (from end : ℕ) (fields more : List Field) → from ≤ end → All (λ field. field_end field ≤ end) fields → FieldsStand bytes from fields
+pub stand_both : (bytes : List ℕ) (from end : ℕ) (fields more : List Field) → from ≤ end → All (λ field. field_end field ≤ end) fields
+    → FieldsStand bytes from fields
     → ((at : ℕ) → at ≤ end → FieldsStand bytes at more) → FieldsStand bytes from (fields ++ more)
 stand_both bytes from end [] more before ends stand later = later from before
 stand_both bytes from end (field ∷ fields) more before ends stand later = (
@@ -51,7 +52,8 @@ zeros_long Four = refl
 zeros_long Eight = refl
 
 -- zeros behind the bytes, from there on
-zeros_behind : (bytes : List ℕ) (size : FieldSize) → slice_range (bytes ++ replicate (width size) 0) (length bytes) (length bytes + width size) ≡ replicate (width size) 0
+zeros_behind : (bytes : List ℕ) (size : FieldSize)
+    → slice_range (bytes ++ replicate (width size) 0) (length bytes) (length bytes + width size) ≡ replicate (width size) 0
 zeros_behind bytes size =
     let behind : length bytes + width size - length bytes ≡ width size = omega arith in
     ap (λ (n : ℕ). take n (drop (length bytes) (bytes ++ replicate (width size) 0))) behind

@@ -48,7 +48,8 @@ insn_in s = insn_written (behind_labels s.tokens)
 unfoldable pub labelled : Pos → List SpelledToken → Placed → Result Placed PlaceCause
 labelled pos [] placed = Ok placed
 labelled pos (token ∷ []) placed = Ok placed
-labelled pos (first ∷ second ∷ rest) placed = if is_label first second then place_label pos first placed >>= (λ labels. labelled pos rest labels) else Ok placed
+labelled pos (first ∷ second ∷ rest) placed =
+    if is_label first second then place_label pos first placed >>= (λ labels. labelled pos rest labels) else Ok placed
 
 -- what is known of values where an instruction stands, once each name in it has a symbol
 abbrev pub known_in : Pos → InsnText → Placed → Knowledge
@@ -68,6 +69,14 @@ abbrev pub code_fields : InsnText → InsnForms → Coding → List CodeField
 code_fields text forms made = fields_of (shape_in text) forms made
 
 -- WHERE IT GOES
+
+-- the forms of an instruction's values, for the layers above
+abbrev pub ValueForms : Type 0
+ValueForms = InsnForms
+
+-- a field over the bytes of an instruction, for the layers above
+abbrev pub FieldInCode : Type 0
+FieldInCode = CodeField
 
 -- the bytes from a place on, with these bytes in the fields
 abbrev pub with_held : (CodeField → List ℕ) → List ℕ → ℕ → List CodeField → List ℕ
