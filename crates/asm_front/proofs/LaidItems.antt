@@ -17,7 +17,7 @@ use Rattle.asm_relax.specs.Settling.{LaidItem, LooseSections, LaidSections, plan
 use Rattle.asm_relax.proofs.SettlingLemmas.{placed_is_settled}
 
 -- what an answer without a fault holds
-unless_is : {A E : Type 0} (fault : Option E) (made answer : A) → unless fault made ≡ Ok answer → answer ≡ made
+pub unless_is : {A E : Type 0} (fault : Option E) (made answer : A) → unless fault made ≡ Ok answer → answer ≡ made
 unless_is None made answer e = cc
 unless_is (Some fault) made answer e = absurd cc
 

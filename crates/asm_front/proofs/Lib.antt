@@ -6,3 +6,10 @@ pub mod AnswerLemmas
 pub mod FaultLaws
 pub mod AnswersReadBack
 mod ObjectSamples
+pub mod CodeValues
+pub mod SmallForms
+pub mod UnknownValues
+pub mod HeldFields
+pub mod CodePieces
+pub mod CodeReads
+pub mod CodesInObject

@@ -42,14 +42,14 @@ use Rattle.asm_front.specs.declared.ending.Ended.{Ended}
 use Rattle.asm_front.specs.declared.ending.NotedObject.{NotedObject}
 use Rattle.asm_front.specs.Assembly.{placed_end, source_placement, assembly_of_lines, assembly_of}
 use Rattle.asm_front.specs.Outcome.{main_file}
-use Rattle.asm_front.specs.ReadsBack.{ReadsAt, file_place, ReadsBack}
+use Rattle.asm_front.specs.ReadsBack.{ReadsAt, file_place, BareReadBack}
 use Rattle.asm_front.proofs.LaidItems.{items_of, layout_is, first_kept, others_kept, beside_kept}
 
 -- the section of an item, as it is laid out
-abbrev kept_section : SymbolMap → LooseSection → SectionOf LaidItem
+abbrev pub kept_section : SymbolMap → LooseSection → SectionOf LaidItem
 kept_section symbols section = placed_section (laid_section (expanded symbols) section)
 
-section_kept : (symbols : SymbolMap) (sections : List LooseSection) (laid : LaidSections) (n : ℕ) (section : LooseSection) → layout_of symbols sections ≡ Ok laid
+pub section_kept : (symbols : SymbolMap) (sections : List LooseSection) (laid : LaidSections) (n : ℕ) (section : LooseSection) → layout_of symbols sections ≡ Ok laid
     → slice_get sections n ≡ Some section → slice_get laid n ≡ Some (kept_section symbols section)
 section_kept symbols sections laid n section e there =
     let substituted = laid_section (expanded symbols) in
@@ -63,7 +63,7 @@ placed_again shift (item ∷ items) =
     ap (λ xs. item_with_address (item.offset + shift) item ∷ xs) (placed_again (shift + size_at item.content (item.offset + shift)) items)
 
 -- a section that is laid out stays as it is
-laid_stays : (symbols : SymbolMap) (section : LooseSection) → placed_section (kept_section symbols section) ≡ kept_section symbols section
+pub laid_stays : (symbols : SymbolMap) (section : LooseSection) → placed_section (kept_section symbols section) ≡ kept_section symbols section
 laid_stays symbols section = ap (λ items. record (kept_section symbols section) { items = items }) (placed_again 0 (items_of section))
 
 -- plain bytes that stand in a section stand in the object at their place
@@ -158,9 +158,9 @@ assembly_is flags source made statements whole laid are all is e =
     finished_is flags.fatal_warnings whole laid made is
     (lines_is flags source made statements whole are all (not_too_large (nat_lt most_bytes (length source)) _ (assembly_of_lines flags main_file source) made e))
 
--- each instruction that was written reads back
-pub reads_back : ReadsOneWay → BareCodesRead → BareCodesStand → (flags : Flags) (source : List ℕ) (made : NotedObject) → assembly_of flags main_file source ≡ Ok made → ReadsBack flags source made.object
-reads_back one_way read stand flags source made e before after s coded placed whole laid are front all is written =
+-- each instruction without operands that was written reads back
+pub bare_read_back : ReadsOneWay → BareCodesRead → BareCodesStand → (flags : Flags) (source : List ℕ) (made : NotedObject) → assembly_of flags main_file source ≡ Ok made → BareReadBack flags source made.object
+bare_read_back one_way read stand flags source made e before after s coded placed whole laid are front all is written =
     let split = map-append in_tokens before (s ∷ after) in
     let whole_is = sym (ap (λ statements. place_all statements (nothing_placed flags.no_warn)) split) ∙ all in
     let holds = instruction_there stand (map in_tokens before) (in_tokens s) (map in_tokens after) (nothing_placed flags.no_warn) placed whole coded

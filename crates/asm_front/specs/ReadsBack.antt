@@ -1,16 +1,29 @@
 -- The bytes of an object at the place of each instruction, read as instructions.
-use Rattle.std.specs.Prelude.{ℕ, ◌+◌, ◌≡◌, List, ◌∷◌, ◌++◌, map, drop, Option, None, Some, Result, Ok, Err, slice_get}
+use Rattle.std.specs.Prelude.{ℕ, ◌+◌, ◌≡◌, ◌==◌, Bool, false, List, ◌∷◌, ◌++◌, map, drop, length, Option, None, Some, unwrap_or, Result, Ok, Err, slice_get}
 use Rattle.std.specs.Option.{option_map_or}
 use Rattle.asm_base.specs.Inputs.{Contents}
+use Rattle.asm_base.specs.declared.positions.Pos.{Pos}
 use Rattle.asm_lines.specs.Statements.{StatementAt, statements_of}
-use Rattle.asm_lines.specs.NextStatements.{in_tokens}
+use Rattle.asm_lines.specs.NextStatements.{TokenStatement, in_tokens}
 use Rattle.asm_symbols.specs.SymbolMap.{SymbolMap}
+use Rattle.asm_frags.specs.declared.fields.Field.{Field}
+use Rattle.asm_frags.specs.Substituting.{substituted_field}
+use Rattle.asm_relax.specs.Expanding.{expanded}
+use Rattle.asm_relax.specs.FieldValues.{held_value}
 use Rattle.asm_relax.specs.Settling.{LaidSections, layout_of}
+use Rattle.elf_file.specs.Sections.{no_bits}
 use Rattle.x86_insn.specs.Views.{View}
-use Rattle.x86_table.specs.Reads.{Reads}
+use Rattle.x86_table.specs.Reads.{meaning, Reads}
+use Rattle.x86_encode.specs.declared.encoded.Field.{Field as CodedField}
+use Rattle.x86_encode.specs.Answers.{InOrder}
+use Rattle.x86_encode.specs.Codes.{meant}
+use Rattle.x86_encode.specs.Filling.{Coding, filled, valued, ReadsAs}
+use Rattle.att_insns.specs.InsnTexts.{InsnText}
 use Rattle.x86_lookup.specs.BareInstructions.{Coded}
 use Rattle.asm_values.specs.State.{Placed, nothing_placed}
-use Rattle.asm_place.specs.Sources.{place_all}
+use Rattle.asm_place.specs.Coding.{view_in, shape_in, values_in, displacement_field, immediate_field}
+use Rattle.asm_place.specs.CodePlaces.{FieldInCode, ValueForms, insn_in, IsCoded, field_in}
+use Rattle.asm_place.specs.Sources.{pos_at, place_all}
 use Rattle.asm_place.specs.Instructions.{instruction_of, next_item, next_offset}
 use Rattle.elf_object.specs.Places.{section_offset, moved}
 use Rattle.asm_front.specs.Ending.{Flags}
@@ -32,14 +45,89 @@ abbrev pub file_place : SymbolMap → LaidSections → ℕ → ℕ → ℕ → �
 file_place symbols sections number item offset =
     section_offset symbols sections number + option_map_or (λ section. moved section.items item offset) (slice_get sections number) 0
 
--- each instruction of the source reads back at its place: that of the next plain bytes of the section that statements put into, where the
--- statements that are handed out before it end
-abbrev pub ReadsBack : Flags → List ℕ → List ℕ → Type 0
-ReadsBack flags source object =
+-- the place in the file of the next plain bytes of the section that statements put into
+abbrev pub next_place : SymbolMap → LaidSections → Placed → ℕ
+next_place symbols laid placed = file_place symbols laid placed.current (next_item placed) (next_offset placed)
+
+-- each instruction of the source without operands reads back at its place, where the statements that are handed out before it end
+abbrev pub BareReadBack : Flags → List ℕ → List ℕ → Type 0
+BareReadBack flags source object =
     (before after : List StatementAt) (s : StatementAt) (coded : Coded) (placed whole : Placed) (laid : LaidSections)
     → statements_of main_file source ≡ Ok (before ++ s ∷ after) → place_all (map in_tokens before) (nothing_placed flags.no_warn) ≡ Ok placed
     → place_all (map in_tokens (before ++ s ∷ after)) (nothing_placed flags.no_warn) ≡ Ok whole → layout_of whole.table.symbols whole.sections ≡ Ok laid
-    → instruction_of (in_tokens s) ≡ Some coded → ReadsAt object (file_place whole.table.symbols laid placed.current (next_item placed) (next_offset placed)) coded.insn
+    → instruction_of (in_tokens s) ≡ Some coded → ReadsAt object (next_place whole.table.symbols laid placed) coded.insn
+
+-- WITH OPERANDS
+
+-- the low bytes of this value stand in a field: its own where the layout has one, and else 0, to which a relocation adds
+abbrev pub final_value : SymbolMap → LaidSections → Field → ℕ
+final_value symbols laid field = unwrap_or (held_value symbols laid (substituted_field (expanded symbols) field)) 0
+
+-- the same of the field of an encoding, if there is one
+abbrev pub value_in : (FieldInCode → ℕ) → (CodedField → FieldInCode) → Option CodedField → ℕ
+value_in value made None = 0
+value_in value made (Some field) = value (made field)
+
+-- the displacement and the immediate of an instruction in the object
+pub record FinalValues : Type 0 where
+  pub displacement : ℕ
+  pub immediate : ℕ
+
+-- these of an encoding, by the value of each of its fields
+abbrev pub final_values : (FieldInCode → ℕ) → InsnText → ValueForms → Coding → FinalValues
+final_values value text forms made = record {
+  displacement = value_in value (displacement_field (length made.bytes) (shape_in text) forms) made.displacement;
+  immediate = value_in value (immediate_field (length made.bytes) (shape_in text) forms) made.immediate;
+}
+
+-- the bytes of an encoding with these values in its fields
+abbrev pub final_code : Coding → FinalValues → List ℕ
+final_code made values = filled made.immediate values.immediate (filled made.displacement values.displacement made.bytes)
+
+-- the bytes read as the instruction with these values in place of those that were not known where it stands
+abbrev pub ReadsWith : Coding → FinalValues → View → Type 0
+ReadsWith made values insn =
+    ReadsAs (final_code made values) insn (valued (length made.bytes) values.displacement values.immediate insn.first)
+    (valued (length made.bytes) values.displacement values.immediate insn.second) (valued (length made.bytes) values.displacement values.immediate insn.third)
+
+-- the bytes from this place on begin with the encoding with its final values, which reads as the instruction with these, in the order in
+-- which `xchg` shows its operands; no other front of them reads as any instruction
+pub record CodeReadsAt (bytes : List ℕ) (at : ℕ) (insn : View) (made : Coding) (values : FinalValues) : Type 0 where
+  pub rest : List ℕ
+  pub stands : drop at bytes ≡ final_code made values ++ rest
+  pub reads : InOrder (ReadsWith made values) insn
+  pub only : (front after : List ℕ) (other : View) → drop at bytes ≡ front ++ after → Reads front other
+      → (other ≡ meaning reads.2.r reads.2.p) × (front ≡ final_code made values)
+
+-- the value of a field of the instruction that is put where these statements end
+abbrev pub value_behind : SymbolMap → LaidSections → Pos → Placed → FieldInCode → ℕ
+value_behind symbols laid pos placed field = final_value symbols laid (field_in pos placed.current (next_item placed) (next_offset placed) field)
+
+-- the statement, put where these end, reads back in the object as the instruction that is meant, by its encoding there
+pub record InsnReadsBack (object : List ℕ) (symbols : SymbolMap) (laid : LaidSections) (s : TokenStatement) (text : InsnText) (placed : Placed) : Type 0 where
+  pub coded : IsCoded (pos_at s.file s.line) s.tokens text placed
+  pub reads : CodeReadsAt object (next_place symbols laid placed) (meant (view_in text (values_in coded.forms))) coded.made
+      (final_values (value_behind symbols laid (pos_at s.file s.line) placed) text coded.forms coded.made)
+
+-- the section of this number has no bytes in the file
+abbrev pub has_no_bits : LaidSections → ℕ → Bool
+has_no_bits laid number = option_map_or (λ section. section.kind == no_bits) (slice_get laid number) false
+
+-- each instruction of the source with operands reads back at its place, where its section has bytes in the file
+abbrev pub CodesReadBack : Flags → List ℕ → List ℕ → Type 0
+CodesReadBack flags source object =
+    (before after : List StatementAt) (s : StatementAt) (text : InsnText) (placed whole : Placed) (laid : LaidSections)
+    → statements_of main_file source ≡ Ok (before ++ s ∷ after) → place_all (map in_tokens before) (nothing_placed flags.no_warn) ≡ Ok placed
+    → place_all (map in_tokens (before ++ s ∷ after)) (nothing_placed flags.no_warn) ≡ Ok whole → layout_of whole.table.symbols whole.sections ≡ Ok laid
+    → insn_in (in_tokens s) ≡ Some text → has_no_bits laid placed.current ≡ false
+    → InsnReadsBack object whole.table.symbols laid (in_tokens s) text placed
+
+-- each instruction of the source reads back in the object
+pub record ReadsBack (flags : Flags) (source object : List ℕ) : Type 0 where
+  pub bare : BareReadBack flags source object
+  pub coded : CodesReadBack flags source object
+
+-- ANSWERS
 
 -- where the source is told, its object reads back as the source
 abbrev pub AnswerReadsBack : Flags → Option (List ℕ) → Result Assembled AsmFault → Type 0

@@ -12,6 +12,7 @@ ghost use Rattle.asm_front.specs.Assembly.{assembly_of, assembly_of_lines};
 ghost use Rattle.asm_front.specs.Outcome.{main_file};
 ghost use Rattle.asm_front.specs.ReadsBack.{ReadsBack};
 
+use x86_encode::encodings_are_codes;
 use x86_lookup::bare_codes_read;
 use x86_table::read_one_way;
 
@@ -24,12 +25,13 @@ pub fn never_too_large()
         → is_file_too_large fault ≡ false }
 {}
 
-/// Each instruction of a source stands in the object, where the statements before it end, as bytes that read as it and as
-/// no other instruction.
+/// Each instruction of a source stands in the object, where the statements before it end, as bytes that read as it, with the
+/// values that its fields have there, and as no other instruction.
 pub fn written_reads_back()
     ensures { (flags : Flags) (source : List ℕ) (made : NotedObject)
         → assembly_of flags main_file source ≡ Ok made → ReadsBack flags source made.object }
 {
     read_one_way();
     bare_codes_read();
+    encodings_are_codes();
 }

@@ -1,5 +1,6 @@
-use Rattle.asm_front.proofs.ObjectReads.{reads_back}
+use Rattle.asm_front.proofs.CodesInObject.{reads_back}
 use Rattle.asm_front.proofs.laws.written_reads_back.Goals as goal
 
 pub returns : goal.returns
-returns c = reads_back c.read_one_way.ensures c.bare_codes_read.ensures.read c.bare_codes_read.ensures.stand
+returns c =
+    reads_back c.read_one_way.ensures c.bare_codes_read.ensures.read c.bare_codes_read.ensures.stand c.encodings_are_codes.ensures.fields c.encodings_are_codes.ensures.notes
