@@ -1,9 +1,11 @@
 -- Where the bytes and fields of instructions with operands stand.
 use Rattle.std.proofs.Common.{◌≡◌, ℕ, ◌+◌, ◌≤◌, Bool, true, false, cond, List, [], ◌∷◌, ◌++◌, All, map, length, take, drop, Option, None, Some, Result, Ok, Err, refl, sym, ap, ◌∙◌, subst, slice_get, arith, append_assoc, length-append, length-drop}
-use Rattle.std.specs.Prelude.{◌&&◌, not, slice_range}
+use Rattle.std.specs.Prelude.{◌&&◌, ◌||◌, not, is_some, option_map, slice_range}
 use Rattle.std.specs.Option.{option_map_or}
 use Rattle.std.proofs.Math.Seq.{take-append_seam, drop-append_seam}
+use Rattle.std.proofs.lemmas.Bool.{false≢true}
 use Rattle.std.proofs.lemmas.Option.{none-some, same_Some}
+use Rattle.x86_lookup.specs.BareInstructions.{Coded, bare_instruction}
 use Rattle.asm_base.specs.Refusals.{◌>>=◌}
 use Rattle.asm_base.specs.Tokens.{SpelledToken}
 use Rattle.asm_base.specs.declared.positions.Pos.{Pos}
@@ -28,8 +30,8 @@ use Rattle.asm_place.specs.declared.codes.CodeField.{CodeField}
 use Rattle.asm_place.specs.Coding.{InsnShape, shape_in, forms_of, values_in, of_code, fields_of, put_code, keeps_place, put_insn, place_insn, place_text, place_read, lone_code, place_coded, place_instruction}
 use Rattle.asm_place.specs.Placing.{place_body, place_label, place_unlabelled, place_labelled, has_wide_label, place_tokens}
 use Rattle.asm_place.specs.Sources.{pos_at, place, place_all}
-use Rattle.asm_place.specs.Instructions.{behind_labels, run_end, with_more, IsContinued, Grows, IsWithin, AreWithin}
-use Rattle.asm_place.specs.CodePlaces.{text_read, insn_written, insn_in, labelled, known_in, code_fields, with_held, zeros_in, blanked, AreApart, field_in, with_code, IsCodePut, IsInsnPut, CodeStandsAt, InsnStands}
+use Rattle.asm_place.specs.Instructions.{behind_labels, instruction_written, run_end, with_more, IsContinued, Grows, IsWithin, AreWithin}
+use Rattle.asm_place.specs.CodePlaces.{text_read, insn_written, is_instruction, BeginsAsInstruction, insn_in, labelled, known_in, code_fields, with_held, zeros_in, blanked, AreApart, field_in, with_code, IsCodePut, IsInsnPut, CodeStandsAt, InsnStands}
 use Rattle.asm_place.proofs.GrowthLemmas.{get_set, All-there, run_keeps, run_added}
 use Rattle.asm_place.proofs.PlacingLaws.{all_grow, all_within}
 use Rattle.asm_place.proofs.StatementSplits.{err-ok, same_Ok, both_ok, all_split}
@@ -123,6 +125,79 @@ unlabelled_is : (pos : Pos) (tokens : List SpelledToken) (text : InsnText) (plac
 unfolding place_unlabelled
 unlabelled_is pos [] text placed is = no_tokens text is
 unlabelled_is pos (first ∷ rest) text placed is = body_is pos first rest text placed is
+
+-- EACH INSTRUCTION
+
+-- what is placed is read
+read_told : (found : Option Coded) (read : Result InsnText OperandCause) (pos : Pos) (tokens : List SpelledToken) (placed next : Placed) → insn_of tokens ≡ read
+    → place_coded pos (option_map (λ coded. coded.bytes) found) tokens placed ≡ Ok next
+    → (is_some found || is_some (text_read (option_map (λ coded. coded.bytes) found) read)) ≡ true
+read_told (Some coded) read pos tokens placed next are is = refl
+read_told None (Ok text) pos tokens placed next are is = refl
+read_told None (Err fault) pos tokens placed next are is = err-ok _ next (sym (ap (λ r. place_read pos r placed) are) ∙ is)
+
+told_test : (assigns named dotted : Bool)
+    (assignment unnamed directive instruction : Result Placed PlaceCause) → assigns ≡ false → named ≡ true → dotted ≡ false
+    → cond assigns assignment (cond (not named) unnamed (cond dotted directive instruction)) ≡ instruction
+told_test true named dotted assignment unnamed directive instruction a n d = absurd (false≢true (sym a))
+told_test false false dotted assignment unnamed directive instruction a n d = absurd (false≢true n)
+told_test false true true assignment unnamed directive instruction a n d = absurd (false≢true (sym d))
+told_test false true false assignment unnamed directive instruction a n d = refl
+
+name_told : {X : Type 0} (named dotted : Bool) (found : Option X) → named ≡ true → dotted ≡ false → cond (named && not dotted) found None ≡ found
+name_told false dotted found n d = absurd (false≢true n)
+name_told true true found n d = absurd (false≢true (sym d))
+name_told true false found n d = refl
+
+bare_told : (first : SpelledToken) → is_name first ≡ true → begins_with_dot first.bytes ≡ false → instruction_written
+    (first ∷ []) ≡ bare_instruction first.bytes
+unfolding instruction_written
+bare_told first n d = name_told (is_name first) (begins_with_dot first.bytes) (bare_instruction first.bytes) n d
+
+assigns_not : (assigns : Bool) (found : Option InsnText) → assigns ≡ false → cond assigns None found ≡ found
+assigns_not true found a = absurd (false≢true (sym a))
+assigns_not false found a = refl
+
+text_told : (first : SpelledToken) (rest : List SpelledToken) → BeginsAsInstruction first rest
+    → insn_written (first ∷ rest) ≡ text_read (lone_code (first ∷ rest)) (insn_of (first ∷ rest))
+unfolding insn_written
+text_told first rest begins =
+    assigns_not (names_symbol first && is_assignment rest) _ begins.no_assignment ∙ name_told (is_name first)
+    (begins_with_dot first.bytes) _ begins.name begins.no_directive
+
+some_right : (one other : Bool) → other ≡ true → (one || other) ≡ true
+some_right true other is = refl
+some_right false other is = is
+
+instruction_told : (pos : Pos) (first : SpelledToken) (rest : List SpelledToken) (placed next : Placed) → BeginsAsInstruction first rest
+    → place_coded pos (lone_code (first ∷ rest)) (first ∷ rest) placed ≡ Ok next → is_instruction (first ∷ rest) ≡ true
+instruction_told pos first [] placed next begins is =
+    ap (λ o. is_some o || is_some (insn_written (first ∷ []))) (bare_told first begins.name begins.no_directive)
+    ∙ (ap (λ o. is_some (bare_instruction first.bytes) || is_some o) (text_told first [] begins)
+    ∙ read_told (bare_instruction first.bytes) (insn_of (first ∷ [])) pos (first ∷ []) placed next refl is)
+instruction_told pos first (second ∷ rest) placed next begins is =
+    some_right (is_some (instruction_written (first ∷ second ∷ rest))) (is_some (insn_written (first ∷ second ∷ rest)))
+    (ap is_some (text_told first (second ∷ rest) begins) ∙ read_told None (insn_of (first ∷ second ∷ rest)) pos (first ∷ second ∷ rest) placed next refl is)
+
+body_told : (pos : Pos) (first : SpelledToken) (rest : List SpelledToken) (placed next : Placed) → BeginsAsInstruction first rest
+    → place_unlabelled pos (first ∷ rest) placed ≡ Ok next → is_instruction (first ∷ rest) ≡ true
+unfolding place_unlabelled place_body place_instruction
+body_told pos first rest placed next begins is =
+    instruction_told pos first rest placed next begins
+    (sym (told_test (names_symbol first && is_assignment rest) (is_name first)
+    (begins_with_dot first.bytes) _ _ _ _ begins.no_assignment begins.name begins.no_directive) ∙ is)
+
+-- a statement that is placed as an instruction is one without operands, or one with some
+pub tokens_told : (pos : Pos) (tokens : List SpelledToken) (first : SpelledToken) (rest : List SpelledToken)
+    (before placed : Placed) → behind_labels tokens ≡ first ∷ rest
+    → BeginsAsInstruction first rest → place_tokens pos tokens before ≡ Ok placed → is_instruction (behind_labels tokens) ≡ true
+unfolding place_tokens
+tokens_told pos tokens first rest before placed are begins is =
+    both_ok (labelled pos tokens before) (place_unlabelled pos (behind_labels tokens)) placed
+    (sym (labels_split pos tokens before) ∙ wide_ok (has_wide_label tokens) (place_labelled pos tokens before) placed is) (λ labels labels_are body_is.
+    ap is_instruction are ∙ body_told pos first rest labels placed begins (sym (ap (λ ts. place_unlabelled pos ts labels) are) ∙ body_is))
+
+-- THE BYTES
 
 -- bytes that an instruction has are those of its encoding
 code_is : (answer : Result Coding EncodeFault) (made : Coding) → of_code answer ≡ Ok made → answer ≡ Ok made

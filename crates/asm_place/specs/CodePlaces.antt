@@ -1,5 +1,5 @@
 -- Statements that are instructions with operands, and where their bytes and fields go.
-use Rattle.std.specs.Prelude.{◌≡◌, ℕ, ◌+◌, ◌≤◌, ◌&&◌, ◌++◌, not, List, [], ◌∷◌, All, map, replicate, if◌then◌else◌, Option, None, Some, Result, Ok, Err, length, take, drop, slice_get, slice_set, slice_range}
+use Rattle.std.specs.Prelude.{◌≡◌, ℕ, ◌+◌, ◌≤◌, ◌&&◌, ◌||◌, ◌++◌, not, Bool, true, false, is_some, List, [], ◌∷◌, All, map, replicate, if◌then◌else◌, Option, None, Some, Result, Ok, Err, length, take, drop, slice_get, slice_set, slice_range}
 use Rattle.asm_base.specs.Refusals.{◌>>=◌}
 use Rattle.asm_base.specs.Tokens.{SpelledToken}
 use Rattle.asm_base.specs.declared.positions.Pos.{Pos}
@@ -21,7 +21,7 @@ use Rattle.asm_place.specs.declared.codes.InsnForms.{InsnForms}
 use Rattle.asm_place.specs.declared.codes.CodeField.{CodeField}
 use Rattle.asm_place.specs.Coding.{view_in, shape_in, forms_of, values_in, fields_of, lone_code}
 use Rattle.asm_place.specs.Placing.{place_label}
-use Rattle.asm_place.specs.Instructions.{behind_labels, next_item, next_offset}
+use Rattle.asm_place.specs.Instructions.{behind_labels, instruction_written, next_item, next_offset}
 
 -- THE INSTRUCTION
 
@@ -41,6 +41,16 @@ insn_written (first ∷ rest) =
 -- the instruction that the statement is, if it is one with operands
 abbrev pub insn_in : TokenStatement → Option InsnText
 insn_in s = insn_written (behind_labels s.tokens)
+
+-- the tokens write an instruction, without operands or with some
+abbrev pub is_instruction : List SpelledToken → Bool
+is_instruction tokens = is_some (instruction_written tokens) || is_some (insn_written tokens)
+
+-- the tokens begin with a name that no dot begins, and are no assignment
+pub record BeginsAsInstruction (first : SpelledToken) (rest : List SpelledToken) : Type 0 where
+  pub name : is_name first ≡ true
+  pub no_directive : begins_with_dot first.bytes ≡ false
+  pub no_assignment : (names_symbol first && is_assignment rest) ≡ false
 
 -- WHAT IT IS MADE OF
 

@@ -1,6 +1,6 @@
 //! What holds of all that is placed.
 
-ghost use Rattle.std.specs.Prelude.{◌≡◌, ◌∷◌, ◌++◌, Bool, List, Some, Ok, Err, false};
+ghost use Rattle.std.specs.Prelude.{◌≡◌, ◌∷◌, ◌++◌, Bool, List, Some, Ok, Err, true, false};
 ghost use Rattle.asm_base.specs.declared.positions.Pos.{Pos};
 ghost use Rattle.asm_base.specs.Tokens.{SpelledToken};
 ghost use Rattle.asm_lines.specs.NextStatements.{TokenStatement};
@@ -12,7 +12,7 @@ ghost use Rattle.asm_lines.specs.Placing.{placed_in_order};
 ghost use Rattle.asm_place.specs.declared.place_faults.FaultAt.{FaultAt};
 ghost use Rattle.asm_place.specs.Faults.{is_file_too_large};
 ghost use Rattle.att_insns.specs.InsnTexts.{InsnText};
-ghost use Rattle.asm_place.specs.CodePlaces.{insn_written, insn_in, IsInsnPut, InsnStands};
+ghost use Rattle.asm_place.specs.CodePlaces.{insn_written, insn_in, is_instruction, BeginsAsInstruction, IsInsnPut, InsnStands};
 ghost use Rattle.asm_place.specs.Instructions.{behind_labels, instruction_written, instruction_of, next_item, next_offset, Grows, AreWithin, IsPut, StandsAt};
 
 use x86_encode::encodings_are_codes;
@@ -73,9 +73,15 @@ pub fn instruction_items()
 }
 
 /// Where a statement is an instruction with operands, the bytes and fields of its encoding are put last
-/// in the current section, and nothing else.
+/// in the current section, and nothing else. What is placed as an instruction is one without operands,
+/// or one with some.
 pub fn encoding_stands()
-    ensures { (pos : Pos) (tokens : List SpelledToken) (before placed : Placed) (text : InsnText)
+    ensures told { (pos : Pos) (tokens : List SpelledToken) (first : SpelledToken)
+        (rest : List SpelledToken) (before placed : Placed)
+        → behind_labels tokens ≡ first ∷ rest → BeginsAsInstruction first rest
+        → place_tokens pos tokens before ≡ Ok placed
+        → is_instruction (behind_labels tokens) ≡ true }
+    ensures put { (pos : Pos) (tokens : List SpelledToken) (before placed : Placed) (text : InsnText)
         → insn_written (behind_labels tokens) ≡ Some text
         → place_tokens pos tokens before ≡ Ok placed → IsInsnPut pos tokens text before placed }
 {
