@@ -137,15 +137,18 @@ module _ (symbols : SymbolMap) (sections : List LooseSection) (laid : LaidSectio
   abbrev pub Holds : FieldInCode → Type 0
   Holds field = holds field.role.kind field.size (final_value symbols laid (place field)) ≡ true
 
-  fields_hold : (earlier : List Field) (fields : List FieldInCode) → section.fields ≡ earlier ++ (map place fields ++ stands.others) → All Holds fields
+  fields_hold : (earlier : List Field) (fields : List FieldInCode) → section.fields ≡ earlier ++ (map place fields ++ stands.fields_there.others)
+      → All Holds fields
   fields_hold earlier [] there = All-nil Holds
   fields_hold earlier (field ∷ fields) there =
       All-cons Holds field fields
-      (field_held symbols sections laid n (length earlier) kept (place field) is found (field_got earlier (map place fields ++ stands.others) field there))
-      (fields_hold (earlier ++ place field ∷ []) fields (there ∙ sym (append_assoc earlier (place field ∷ []) (map place fields ++ stands.others))))
+      (field_held symbols sections laid n (length earlier) kept (place field) is found
+      (field_got earlier (map place fields ++ stands.fields_there.others) field there))
+      (fields_hold (earlier ++ place field ∷ []) fields
+      (there ∙ sym (append_assoc earlier (place field ∷ []) (map place fields ++ stands.fields_there.others))))
 
   pub all_hold : All Holds all
-  all_hold = fields_hold stands.earlier all stands.fields_are
+  all_hold = fields_hold stands.fields_there.earlier all stands.fields_there.there
 
   later_fields : (from : ℕ) (fields : List FieldInCode) → AreApart from (length code) fields → All (λ field. offset + from ≤ field.offset) (map place fields)
   later_fields from [] apart = All-nil _
@@ -154,27 +157,28 @@ module _ (symbols : SymbolMap) (sections : List LooseSection) (laid : LaidSectio
       (later_fields from fields (apart_before (field.at + width field.size) from (length code) fields (omega (arith, apart.0)) apart.1))
 
   -- the fields of the section stand beside what stands between two fields of the instruction
-  beside : (from to : ℕ) (earlier : List Field) (fields : List FieldInCode) → section.fields ≡ earlier ++ (map place fields ++ stands.others)
+  beside : (from to : ℕ) (earlier : List Field) (fields : List FieldInCode) → section.fields ≡ earlier ++ (map place fields ++ stands.fields_there.others)
       → All (λ field. field_end field ≤ from) earlier → All (λ field. to ≤ field.offset) (map place fields) → to ≤ offset + length code
       → All (IsBeside from to) section.fields
   beside from to earlier fields are ends begin within =
       subst (All (IsBeside from to)) (sym are)
-      (All-append (IsBeside from to) earlier (map place fields ++ stands.others)
+      (All-append (IsBeside from to) earlier (map place fields ++ stands.fields_there.others)
       (All-weaker (λ (f : Field). field_end f ≤ from) (IsBeside from to) (λ f e. inl e) earlier ends)
-      (All-append (IsBeside from to) (map place fields) stands.others
+      (All-append (IsBeside from to) (map place fields) stands.fields_there.others
       (All-weaker (λ (f : Field). to ≤ f.offset) (IsBeside from to) (λ f b. inr b) (map place fields) begin)
       (All-weaker (λ (f : Field). offset + length code ≤ f.offset) (IsBeside from to)
-      (λ f b. inr (omega (arith, b, within))) stands.others stands.fields_behind)))
+      (λ f b. inr (omega (arith, b, within))) stands.fields_there.others stands.fields_there.behind)))
 
   -- what stands from a place of the instruction on
   from_there : (from : ℕ) (fields : List FieldInCode) (front : List ℕ) (earlier : List Field) → AreApart from (length code) fields
       → length front ≡ offset + from
-      → section.bytes ≡ front ++ (with_held zeros_in code from fields ++ stands.rest) → section.fields ≡ earlier ++ (map place fields ++ stands.others)
+      → section.bytes ≡ front ++ (with_held zeros_in code from fields ++ stands.bytes_there.rest)
+      → section.fields ≡ earlier ++ (map place fields ++ stands.fields_there.others)
       → All (λ field. field_end field ≤ offset + from) earlier → PieceAt image (file_at (offset + from)) (with_held valued code from fields)
   from_there from [] front earlier apart long there are ends =
       let rest = drop from code in
       let count = length-drop from code in
-      plain_there front stands.rest rest (offset + from) (omega arith) (omega (arith, count, apart)) long there
+      plain_there front stands.bytes_there.rest rest (offset + from) (omega arith) (omega (arith, count, apart)) long there
       (beside (offset + from) (offset + from + length rest) earlier [] are ends (All-nil _) (omega (arith, count, apart)))
   from_there from (field ∷ fields) front earlier apart long there are ends =
       let next = field.at + width field.size in
@@ -186,24 +190,25 @@ module _ (symbols : SymbolMap) (sections : List LooseSection) (laid : LaidSectio
       let zeros : List ℕ = zeros_in field in
       let size : length zeros ≡ width field.size = zeros_long field.size in
       let value_size : length (valued field) ≡ width field.size = low_length field.size (final_value symbols laid (place field)) in
-      let split : section.bytes ≡ front ++ (slice ++ ((zeros ++ later) ++ stands.rest)) = there ∙ ap (λ (xs : List ℕ). front ++ xs)
-      (append_assoc slice (zeros ++ later) stands.rest) in
+      let split : section.bytes ≡ front ++ (slice ++ ((zeros ++ later) ++ stands.bytes_there.rest)) = there ∙ ap (λ (xs : List ℕ). front ++ xs)
+      (append_assoc slice (zeros ++ later) stands.bytes_there.rest) in
       let stop : offset + from + length slice ≡ offset + field.at = omega (arith, count, apart.0) in
       let first : PieceAt image (file_at (offset + from)) slice =
-      plain_there front ((zeros ++ later) ++ stands.rest) slice (offset + from) (omega arith) (omega (arith, stop, inside)) long split
+      plain_there front ((zeros ++ later) ++ stands.bytes_there.rest) slice (offset + from) (omega arith) (omega (arith, stop, inside)) long split
       (beside (offset + from) (offset + from + length slice) earlier (field ∷ fields) are ends
       (subst (λ k. All (λ (f : Field). k ≤ f.offset) (map place (field ∷ fields))) (sym stop) (later_fields field.at (field ∷ fields) (omega arith, apart.1)))
       (omega (arith, stop, inside))) in
-      let second : PieceAt image (file_at (offset + field.at)) (valued field) = field_there earlier (map place fields ++ stands.others) field inside are in
+      let second : PieceAt image (file_at (offset + field.at)) (valued field) = field_there earlier
+      (map place fields ++ stands.fields_there.others) field inside are in
       let front_long : length (front ++ (slice ++ zeros)) ≡ offset + next =
       (let one = length-append front (slice ++ zeros) in let two = length-append slice zeros in omega (arith, one, two, long, stop, size)) in
-      let front_there : section.bytes ≡ (front ++ (slice ++ zeros)) ++ (later ++ stands.rest) =
-      split ∙ ap (λ (xs : List ℕ). front ++ (slice ++ xs)) (append_assoc zeros later stands.rest)
-      ∙ ap (λ (xs : List ℕ). front ++ xs) (sym (append_assoc slice zeros (later ++ stands.rest))) ∙ sym
-      (append_assoc front (slice ++ zeros) (later ++ stands.rest)) in
+      let front_there : section.bytes ≡ (front ++ (slice ++ zeros)) ++ (later ++ stands.bytes_there.rest) =
+      split ∙ ap (λ (xs : List ℕ). front ++ (slice ++ xs)) (append_assoc zeros later stands.bytes_there.rest)
+      ∙ ap (λ (xs : List ℕ). front ++ xs) (sym (append_assoc slice zeros (later ++ stands.bytes_there.rest))) ∙ sym
+      (append_assoc front (slice ++ zeros) (later ++ stands.bytes_there.rest)) in
       let third : PieceAt image (file_at (offset + next)) tail =
       from_there next fields (front ++ (slice ++ zeros)) (earlier ++ place field ∷ []) apart.1 front_long front_there
-      (are ∙ sym (append_assoc earlier (place field ∷ []) (map place fields ++ stands.others)))
+      (are ∙ sym (append_assoc earlier (place field ∷ []) (map place fields ++ stands.fields_there.others)))
       (All-append (λ (f : Field). field_end f ≤ offset + next) earlier (place field ∷ [])
       (All-weaker (λ (f : Field). field_end f ≤ offset + from) (λ (f : Field). field_end f ≤ offset + next) (λ f e. omega (arith, e, apart.0)) earlier ends)
       (All-cons (λ (f : Field). field_end f ≤ offset + next) (place field) [] (omega arith) (All-nil _))) in
@@ -220,6 +225,6 @@ module _ (symbols : SymbolMap) (sections : List LooseSection) (laid : LaidSectio
       let place_is : file_at (offset + 0) ≡ file_place symbols laid n item offset =
       ap file_at start ∙ ap (λ f. section_offset symbols laid n + option_map_or (λ (s : SectionOf LaidItem). moved s.items item offset) f 0) (sym found) in
       subst (λ k. PieceAt image k (with_held valued code 0 all)) place_is
-      (from_there 0 all stands.front stands.earlier (apart_before 1 0 (length code) all (omega arith) stands.apart)
-      (stands.long ∙ sym start) stands.there stands.fields_are
-      (subst (λ k. All (λ (f : Field). field_end f ≤ k) stands.earlier) (sym start) stands.fields_before))
+      (from_there 0 all stands.bytes_there.front stands.fields_there.earlier (apart_before 1 0 (length code) all (omega arith) stands.apart)
+      (stands.bytes_there.long ∙ sym start) stands.bytes_there.there stands.fields_there.there
+      (subst (λ k. All (λ (f : Field). field_end f ≤ k) stands.fields_there.earlier) (sym start) stands.fields_there.before))

@@ -129,7 +129,8 @@ unlabelled_is pos (first ∷ rest) text placed is = body_is pos first rest text 
 -- EACH INSTRUCTION
 
 -- what is placed is read
-read_told : (found : Option Coded) (read : Result InsnText OperandCause) (pos : Pos) (tokens : List SpelledToken) (placed next : Placed) → insn_of tokens ≡ read
+read_told : (found : Option Coded) (read : Result InsnText OperandCause) (pos : Pos) (tokens : List SpelledToken) (placed next : Placed)
+    → insn_of tokens ≡ read
     → place_coded pos (option_map (λ coded. coded.bytes) found) tokens placed ≡ Ok next
     → (is_some found || is_some (text_read (option_map (λ coded. coded.bytes) found) read)) ≡ true
 read_told (Some coded) read pos tokens placed next are is = refl
@@ -347,16 +348,15 @@ module _ (pos : Pos) (section : LooseSection) (bytes : List ℕ) (fields : List 
     apart = apart;
     section = last;
     found = later.there;
-    front = section.bytes;
-    rest = later.bytes;
-    long = refl;
-    there = append_assoc section.bytes (blanked bytes fields) later.bytes;
-    earlier = section.fields;
-    others = later.fields;
-    fields_are = ap (λ n. (section.fields ++ map (field_in pos number n (length section.bytes)) fields) ++ later.fields) items_so_far
-        ∙ append_assoc section.fields (map (field_in pos number (run_end section) (length section.bytes)) fields) later.fields;
-    fields_before = within.fields;
-    fields_behind = subst (λ n. All (λ (field : Field). n ≤ field.offset) later.fields) ends later.fields_behind;
+    bytes_there = record { front = section.bytes; rest = later.bytes; long = refl; there = append_assoc section.bytes (blanked bytes fields) later.bytes };
+    fields_there = record {
+      earlier = section.fields;
+      others = later.fields;
+      there = ap (λ n. (section.fields ++ map (field_in pos number n (length section.bytes)) fields) ++ later.fields) items_so_far
+          ∙ append_assoc section.fields (map (field_in pos number (run_end section) (length section.bytes)) fields) later.fields;
+      before = within.fields;
+      behind = subst (λ n. All (λ (field : Field). n ≤ field.offset) later.fields) ends later.fields_behind;
+    };
     items_before = items_before;
     items_behind = items_behind;
   }

@@ -130,21 +130,29 @@ pub record IsInsnPut (pos : Pos) (tokens : List SpelledToken) (text : InsnText) 
   pub coded : IsCoded pos tokens text before
   pub put : IsCodePut before.sections placed.sections before.current pos coded.made.bytes (code_fields text coded.forms coded.made)
 
--- these bytes, with zeros in these fields, stand at this offset of the section of this number; the fields are among the section's, and all
--- others stand beside the bytes; so many items stand before them, and all other items behind them
+-- these bytes stand at this offset of the section's
+pub record BytesAt (all : List ℕ) (offset : ℕ) (bytes : List ℕ) : Type 0 where
+  pub front : List ℕ
+  pub rest : List ℕ
+  pub long : length front ≡ offset
+  pub there : all ≡ front ++ (bytes ++ rest)
+
+-- these fields are among the section's, and all others stand before the one offset or behind the other
+pub record FieldsAmong (all : List Field) (from to : ℕ) (fields : List Field) : Type 0 where
+  pub earlier : List Field
+  pub others : List Field
+  pub there : all ≡ earlier ++ (fields ++ others)
+  pub before : All (λ field. field_end field ≤ from) earlier
+  pub behind : All (λ field. to ≤ field.offset) others
+
+-- these bytes, with zeros in these fields, stand at this offset of the section of this number, with the fields over them and no others; so
+-- many items stand before them, and all other items behind them
 pub record CodeStandsAt (sections : List LooseSection) (number item offset : ℕ) (pos : Pos) (bytes : List ℕ) (fields : List CodeField) : Type 0 where
   pub apart : AreApart 1 (length bytes) fields
   pub section : LooseSection
   pub found : slice_get sections number ≡ Some section
-  pub front : List ℕ
-  pub rest : List ℕ
-  pub long : length front ≡ offset
-  pub there : section.bytes ≡ front ++ (blanked bytes fields ++ rest)
-  pub earlier : List Field
-  pub others : List Field
-  pub fields_are : section.fields ≡ earlier ++ (map (field_in pos number item offset) fields ++ others)
-  pub fields_before : All (λ field. field_end field ≤ offset) earlier
-  pub fields_behind : All (λ field. offset + length bytes ≤ field.offset) others
+  pub bytes_there : BytesAt section.bytes offset (blanked bytes fields)
+  pub fields_there : FieldsAmong section.fields offset (offset + length bytes) (map (field_in pos number item offset) fields)
   pub items_before : All (λ item. item.offset ≤ offset) (take item section.items)
   pub items_behind : All (λ item. offset + length bytes ≤ item.offset) (drop item section.items)
 
