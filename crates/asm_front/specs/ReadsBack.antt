@@ -49,7 +49,7 @@ file_place symbols sections number item offset =
 abbrev pub next_place : SymbolMap → LaidSections → Placed → ℕ
 next_place symbols laid placed = file_place symbols laid placed.current (next_item placed) (next_offset placed)
 
--- each instruction of the source without operands reads back at its place, where the statements that are handed out before it end
+-- each instruction of the source without operands and prefix reads back at its place, where the statements that are handed out before it end
 abbrev pub BareReadBack : Flags → List ℕ → List ℕ → Type 0
 BareReadBack flags source object =
     (before after : List StatementAt) (s : StatementAt) (coded : Coded) (placed whole : Placed) (laid : LaidSections)
@@ -57,18 +57,19 @@ BareReadBack flags source object =
     → place_all (map in_tokens (before ++ s ∷ after)) (nothing_placed flags.no_warn) ≡ Ok whole → layout_of whole.table.symbols whole.sections ≡ Ok laid
     → instruction_of (in_tokens s) ≡ Some coded → ReadsAt object (next_place whole.table.symbols laid placed) coded.insn
 
--- WITH OPERANDS
+-- WITH OPERANDS OR A PREFIX
 
--- the low bytes of this value stand in a field: its own where the layout has one, and else 0, to which a relocation adds
+-- the low bytes of this value stand in a field: its own where its symbols cancel, and else 0, in whose place the linker puts a value
 abbrev pub final_value : SymbolMap → LaidSections → Field → ℕ
 final_value symbols laid field = unwrap_or (held_value symbols laid (substituted_field (expanded symbols) field)) 0
 
--- the same of the field of an encoding, if there is one
+-- the same of the field of an encoding, and 0 where there is none
 abbrev pub value_in : (FieldInCode → ℕ) → (CodedField → FieldInCode) → Option CodedField → ℕ
 value_in value made None = 0
 value_in value made (Some field) = value (made field)
 
--- the displacement and the immediate of an instruction in the object
+-- the values in the two fields over the bytes of an instruction, 0 where there is no such field: that of the displacement, and that of the
+-- immediate or of the distance of a branch
 pub record FinalValues : Type 0 where
   pub displacement : ℕ
   pub immediate : ℕ
@@ -84,14 +85,14 @@ final_values value text forms made = record {
 abbrev pub final_code : Coding → FinalValues → List ℕ
 final_code made values = filled made.immediate values.immediate (filled made.displacement values.displacement made.bytes)
 
--- the bytes read as the instruction with these values in place of those that were not known where it stands
+-- the bytes read as the instruction with these values in place of those that were not known where it stands, its operands in the row's order
 abbrev pub ReadsWith : Coding → FinalValues → View → Type 0
 ReadsWith made values insn =
     ReadsAs (final_code made values) insn (valued (length made.bytes) values.displacement values.immediate insn.first)
     (valued (length made.bytes) values.displacement values.immediate insn.second) (valued (length made.bytes) values.displacement values.immediate insn.third)
 
--- the bytes from this place on begin with the encoding with its final values, which reads as the instruction with these, in the order in
--- which `xchg` shows its operands; no other front of them reads as any instruction
+-- the bytes from this place on begin with the encoding with its final values, which reads as the instruction with these (the operands of
+-- `xchg` in the row's order, which reading exchanges where the accumulator stands second); no other front of them reads as any instruction
 pub record CodeReadsAt (bytes : List ℕ) (at : ℕ) (insn : View) (made : Coding) (values : FinalValues) : Type 0 where
   pub rest : List ℕ
   pub stands : drop at bytes ≡ final_code made values ++ rest
@@ -113,7 +114,7 @@ pub record InsnReadsBack (object : List ℕ) (symbols : SymbolMap) (laid : LaidS
 abbrev pub has_no_bits : LaidSections → ℕ → Bool
 has_no_bits laid number = option_map_or (λ section. section.kind == no_bits) (slice_get laid number) false
 
--- each instruction of the source with operands reads back at its place, where its section has bytes in the file
+-- each instruction of the source with operands or a prefix reads back at its place, where its section has bytes in the file
 abbrev pub CodesReadBack : Flags → List ℕ → List ℕ → Type 0
 CodesReadBack flags source object =
     (before after : List StatementAt) (s : StatementAt) (text : InsnText) (placed whole : Placed) (laid : LaidSections)
@@ -122,7 +123,7 @@ CodesReadBack flags source object =
     → insn_in (in_tokens s) ≡ Some text → has_no_bits laid placed.current ≡ false
     → InsnReadsBack object whole.table.symbols laid (in_tokens s) text placed
 
--- each instruction of the source reads back in the object
+-- each instruction of the source reads back in the object, where its section has bytes in the file
 pub record ReadsBack (flags : Flags) (source object : List ℕ) : Type 0 where
   pub bare : BareReadBack flags source object
   pub coded : CodesReadBack flags source object

@@ -1,4 +1,4 @@
--- Statements that are instructions with operands, and where their bytes and fields go.
+-- Statements that are instructions with operands or a prefix, and where their bytes and fields go.
 use Rattle.std.specs.Prelude.{◌≡◌, ℕ, ◌+◌, ◌≤◌, ◌&&◌, ◌||◌, ◌++◌, not, Bool, true, false, is_some, List, [], ◌∷◌, All, map, replicate, if◌then◌else◌, Option, None, Some, Result, Ok, Err, length, take, drop, slice_get, slice_set, slice_range}
 use Rattle.asm_base.specs.Refusals.{◌>>=◌}
 use Rattle.asm_base.specs.Tokens.{SpelledToken}
@@ -31,14 +31,14 @@ text_read (Some bytes) read = None
 text_read None (Ok text) = Some text
 text_read None (Err fault) = None
 
--- the instruction that the tokens write, which begins with a name that no dot begins, and is no assignment
+-- the instruction that the tokens write: they begin with a name that no dot begins, are no assignment, and no mnemonic alone that has a row
 unfoldable pub insn_written : List SpelledToken → Option InsnText
 insn_written [] = None
 insn_written (first ∷ rest) =
     if names_symbol first && is_assignment rest then None
     else (if is_name first && not (begins_with_dot first.bytes) then text_read (lone_code (first ∷ rest)) (insn_of (first ∷ rest)) else None)
 
--- the instruction that the statement is, if it is one with operands
+-- the instruction that the statement is, if it is one with operands or a prefix
 abbrev pub insn_in : TokenStatement → Option InsnText
 insn_in s = insn_written (behind_labels s.tokens)
 

@@ -17,14 +17,14 @@ behind_labels [] = []
 behind_labels (token ∷ []) = token ∷ []
 behind_labels (first ∷ second ∷ rest) = if is_label first second then behind_labels rest else (first ∷ second ∷ rest)
 
--- the instruction without operands that the tokens write, with its bytes: one name that no dot begins, and nothing behind it
+-- the instruction without operands and prefix that the tokens write, with its bytes: one name that no dot begins, and nothing behind it
 unfoldable pub instruction_written : List SpelledToken → Option Coded
 instruction_written [] = None
 instruction_written (name ∷ []) =
     if is_name name && not (begins_with_dot name.bytes) then bare_instruction name.bytes else None
 instruction_written (name ∷ operand ∷ rest) = None
 
--- the instruction without operands that the statement is, with its bytes, if it is one
+-- the instruction without operands and prefix that the statement is, with its bytes, if it is one
 abbrev pub instruction_of : TokenStatement → Option Coded
 instruction_of s = instruction_written (behind_labels s.tokens)
 

@@ -6,7 +6,7 @@ use Rattle.asm_front.specs.ReadsBack.{ReadsBack}
 use Rattle.asm_run.specs.Words.{Invocation}
 use Rattle.asm_run.specs.Outcome.{Outcome, usage, missing, refused, object, flags_by, file_outcome}
 
--- in an object each instruction's place reads as the instruction of the source, and as no other
+-- in an object the place of each instruction in a section with bytes in the file reads as the instruction of the source, and as no other
 abbrev pub OutcomeReadsBack : Flags → List ℕ → Outcome → Type 0
 OutcomeReadsBack flags source usage = Unit {0}
 OutcomeReadsBack flags source missing = Unit {0}
