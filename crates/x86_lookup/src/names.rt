@@ -113,6 +113,7 @@ pub(crate) fn slot_at(slots: &[u16], hash: u64) -> Option<u16>
 }
 
 /// Whether the mnemonic has the text, in either case: most texts are in lower case.
+#[inline(always)]
 #[tactic(auto, using(crate::proofs::NameLookups::same_text))]
 fn has_text(text: &[u8], named: &Named) -> bool
     ensures { result ≡ has_text text.now named.now }
@@ -122,6 +123,7 @@ fn has_text(text: &[u8], named: &Named) -> bool
 }
 
 /// The mnemonic at the index, if it has the text.
+#[inline(always)]
 pub(crate) fn name_at(names: &'static [Named], text: &[u8], index: u16) -> Option<&'static Named>
     ensures { let due = name_at names.now text.now (Some index) in
         option_map (λ named. named.now) result ≡ due }
@@ -133,6 +135,7 @@ pub(crate) fn name_at(names: &'static [Named], text: &[u8], index: u16) -> Optio
 }
 
 /// The mnemonic of the text, at its index.
+#[inline(always)]
 fn name_by(names: &'static [Named], slots: &[u16], text: &[u8]) -> Option<&'static Named>
     ensures { option_map (λ named. named.now) result ≡ name_by names.now slots.now text.now }
 {
@@ -154,6 +157,7 @@ pub fn shown_as(names: &'static [Named], name: &Mnemonic, size: u8) -> Option<&'
 }
 
 /// The mnemonic of AT&T syntax with this text, in either case, if there is one.
+#[inline(always)]
 #[tactic(auto, using(crate::proofs::NameLookups::att_found))]
 pub fn att_name(text: &[u8]) -> Option<&'static Named>
     ensures { option_map (λ named. named.now) result ≡ find (has_text text.now) the_att_names }
