@@ -1,7 +1,7 @@
 -- One look finds the register that the list of names has.
 use Rattle.std.proofs.Common.{◌≡◌, ◌<◌, ℕ, zero, suc, ◌==◌, ◌&&◌, List, [], ◌∷◌, Bool, true, false, not, nat_lt, eq-eqb, subst, cond, Option, Some, None, option_map, map, get_or, slice_get, refl, sym, ap, ◌∙◌, arith, inl, inr}
 use Rattle.std.proofs.lemmas.Bool.{and_parts, eqb-true, ltb-true, cases_Bool}
-use Rattle.std.proofs.lemmas.Str.Ascii.{lowercase_is}
+use Rattle.std.proofs.lemmas.Str.Ascii.{lowercase_is, lowercase-lowercase}
 use Rattle.std.specs.Cmp.{both_ways}
 use Rattle.std.specs.List.{find, list_all}
 use Rattle.std.specs.Char.{to_ascii_lowercase}
@@ -159,3 +159,33 @@ named_is text (name ∷ names) bytes all =
 pub register_found : (text : List ℕ) → ((i : ℕ) → get_or text i 0 < 256) → held_by (key_of text) ≡ register_of text
 unfolding register_of
 register_found text fits = held_is (key_of text) ∙ named_is text register_names (lower_bytes text fits) all_short
+
+text_bytes : (text : List ℕ) → ((i : ℕ) → get_or text i 0 < 256) → AreBytes text
+text_bytes [] fits = tt
+text_bytes (byte ∷ bytes) fits = (fits 0, text_bytes bytes (λ i. fits (suc i)))
+
+lower_twice : (text : List ℕ) → str_to_ascii_lowercase (str_to_ascii_lowercase text) ≡ str_to_ascii_lowercase text
+lower_twice [] = refl
+lower_twice (byte ∷ bytes) = let first = lowercase-lowercase byte in let rest = lower_twice bytes in cc
+
+-- a text whose own number is that of a name is in lower case
+lower_already : (text : List ℕ) (named : NamedRegister) (names : List RegisterName) → AreBytes text → list_all is_short names ≡ true
+    → named_by (number_of text) names ≡ Some named → str_to_ascii_lowercase text ≡ text
+lower_already text named [] bytes all some = cc
+lower_already text named (name ∷ names) bytes all some =
+    let parts = and_parts (is_short name) (list_all is_short names) all in
+    let own = and_parts (not (key_of name.text == 0)) (list_all (λ byte. nat_lt byte 256) (str_to_ascii_lowercase name.text)) parts.0 in
+    let numbered : key_of name.text ≡ 0 → ⊥ = (λ none. absurd (let zero : (key_of name.text == 0) ≡ true = rw none refl in let bad : not true ≡ true = rw zero at own.0 in cc)) in
+    elim (cases_Bool (key_of name.text == number_of text)) [
+      | inl t ↦ (
+          let same : text ≡ str_to_ascii_lowercase name.text =
+          one_text text (str_to_ascii_lowercase name.text) bytes (are_bytes (str_to_ascii_lowercase name.text) own.1) numbered (sym (eqb-true (key_of name.text) (number_of text) t)) in
+          ap str_to_ascii_lowercase same ∙ lower_twice name.text ∙ sym same)
+      | inr f ↦ lower_already text named names bytes parts.1 (rw f at some)
+    ]
+
+-- what is held by the own number of a text is what the text names
+pub own_found : (text : List ℕ) (named : NamedRegister) → ((i : ℕ) → get_or text i 0 < 256) → held_by (number_of text) ≡ Some named → Some named ≡ register_of text
+own_found text named fits found =
+    let low = lower_already text named register_names (text_bytes text fits) all_short (sym (held_is (number_of text)) ∙ found) in
+    sym found ∙ ap (λ (t : List ℕ). held_by (number_of t)) (sym low) ∙ register_found text fits

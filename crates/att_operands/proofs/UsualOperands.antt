@@ -4,7 +4,6 @@ use Rattle.std.proofs.lemmas.Bool.{eqb-true, cases_Bool, both_ways}
 use Rattle.asm_base.specs.Tokens.{SpelledToken}
 use Rattle.asm_expr.specs.declared.faults.ExprCause.{ExprCause}
 use Rattle.expr_texts.specs.Reading.{ReadTree, reading_of}
-use Rattle.x86_insn.specs.declared.amounts.Amount.{Amount}
 use Rattle.x86_insn.specs.declared.insns.Address.{Address}
 use Rattle.x86_insn.specs.declared.amounts.Value.{Value}
 use Rattle.att_operands.specs.declared.faults.OperandCause.{OperandCause}
@@ -14,8 +13,8 @@ use Rattle.att_operands.specs.Marks.{mark_by, mark_at, ends_by, ends_at, begins_
 use Rattle.att_operands.specs.Addresses.{register_by, address_at}
 use Rattle.att_operands.specs.Values.{GivesSo, IsValueOf, ReadText, ValueText, suffix_at, as_value, value_with, value_at, begun_at}
 use Rattle.att_operands.specs.Amounts.{IsAmountRead, FindsRead}
-use Rattle.att_operands.specs.Usual.{found_memory, memory_of}
-use Rattle.att_operands.specs.OperandTexts.{memory, ReadPart, part, no_displacement, addressed, displaced, displaced_by, opens_address, memory_at, named_place, place_at, immediate_by, other_by, operand_by, ended, operand_at, IsPartRead}
+use Rattle.att_operands.specs.Usual.{found_memory, memory_of, immediate_of}
+use Rattle.att_operands.specs.OperandTexts.{immediate, memory, ReadPart, part, no_displacement, addressed, displaced, displaced_by, opens_address, memory_at, named_place, place_at, immediate_by, other_by, ended, operand_at, IsPartRead}
 
 quiet_suffix : (tokens : List SpelledToken) (at : ℕ) → (mark_at tokens (at + 1) == 64) ≡ false → suffix_at tokens at ≡ None
 quiet_suffix tokens at quiet = rw quiet refl
@@ -100,3 +99,33 @@ bare_memory_is tokens at place opens finds ends held is_none =
     ∙ (rw ends refl) in
     subst (λ (r : Result ReadPart OperandCause). GivesSo IsPartRead (Ok (found_memory place held)) r) (sym is)
     (record { operand = record { address = refl; value = is_none }; next = refl })
+
+ended_quiet : (found : Option SpelledToken) → ends_by found ≡ true → (mark_by found == 64) ≡ false
+unfolding ends_by mark_by
+ended_quiet None ends = refl
+ended_quiet (Some token) ends = let same = eqb-true (mark_by (Some token)) 44 ends in rw same refl
+
+immediate_is : (tokens : List SpelledToken) (at : ℕ) (found : ReadAmount) (read : Result ReadTree ExprCause) → mark_at tokens at ≡ 36 → ends_at tokens (at + 2) ≡ true → found.next ≡ at + 2
+    → reading_of tokens (at + 1) ≡ read → GivesSo IsAmountRead (Ok found) read → GivesSo IsPartRead (Ok (immediate_of found)) (operand_at false tokens at)
+unfolding operand_at
+immediate_is tokens at found (Err cause) mark ends next reads given = absurd given
+immediate_is tokens at found (Ok due) mark ends next reads given =
+    let same = given.next in
+    let signed : (mark_at tokens at == 36) ≡ true = rw mark refl in
+    let two : (at + 1) + 1 ≡ at + 2 = omega arith in
+    let quiet = ended_quiet (slice_get tokens ((at + 1) + 1)) (ap (ends_at tokens) two ∙ ends) in
+    let value = plain_value tokens (at + 1) (Ok due) quiet reads in
+    let here : due.next + 0 ≡ at + 2 = omega arith in
+    let behind : ends_at tokens (due.next + 0) ≡ true = ap (ends_at tokens) here ∙ ends in
+    let text : ValueText = record { tree = due.tree; suffix = None } in
+    let is : operand_at false tokens at ≡ Ok (part (immediate text) (due.next + 0)) =
+    ap (λ (b : Bool). ended tokens (cond b (immediate_by (value_at tokens (at + 1))) (other_by false tokens at))) signed
+    ∙ ap (λ (r : Result ReadText OperandCause). ended tokens (immediate_by r)) value
+    ∙ (rw behind refl) in
+    subst (λ (r : Result ReadPart OperandCause). GivesSo IsPartRead (Ok (immediate_of found)) r) (sym is)
+    (record { operand = record { amount = given.amount; suffix = refl }; next = omega arith })
+
+-- an immediate of one token
+pub whole_immediate_is : (tokens : List SpelledToken) (at : ℕ) (found : ReadAmount) → mark_at tokens at ≡ 36 → ends_at tokens (at + 2) ≡ true → found.next ≡ at + 2
+    → FindsRead tokens (at + 1) (Some found) → GivesSo IsPartRead (Ok (immediate_of found)) (operand_at false tokens at)
+whole_immediate_is tokens at found mark ends next given = immediate_is tokens at found (reading_of tokens (at + 1)) mark ends next refl given

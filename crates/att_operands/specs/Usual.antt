@@ -3,7 +3,8 @@ use Rattle.std.specs.Prelude.{None}
 use Rattle.x86_insn.specs.declared.amounts.Amount.{Amount}
 use Rattle.x86_insn.specs.declared.amounts.Value.{Value}
 use Rattle.att_operands.specs.declared.addresses.ReadAddress.{ReadAddress}
-use Rattle.att_operands.specs.declared.operands.ReadOperand.TheVariants.{Memory}
+use Rattle.att_operands.specs.declared.values.ReadAmount.{ReadAmount}
+use Rattle.att_operands.specs.declared.operands.ReadOperand.TheVariants.{Immediate, Memory}
 use Rattle.att_operands.specs.declared.operands.FoundOperand.{FoundOperand}
 
 -- memory at an address without a segment
@@ -13,3 +14,7 @@ found_memory place held = record { operand = Memory (record { segment = None; ba
 -- the same with a displacement of this amount
 abbrev pub memory_of : ReadAddress → Amount → FoundOperand
 memory_of place amount = found_memory place (record { amount = amount; suffix = None })
+
+-- the immediate of this amount, and the place behind it
+abbrev pub immediate_of : ReadAmount → FoundOperand
+immediate_of found = record { operand = Immediate (record { amount = found.amount; suffix = None }); next = found.next }

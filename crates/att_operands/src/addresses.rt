@@ -218,6 +218,7 @@ fn unbased_at(tokens: &[Token], at: usize) -> Option<ReadAddress>
 }
 
 /// The address behind the `(` before this place.
+#[inline(always)]
 #[tactic(auto, unfolding(crate::specs::Addresses::address_at))]
 pub(crate) fn address_at(tokens: &[Token], at: usize) -> Option<ReadAddress>
     ensures value { result ≡ address_at (map spelled tokens.now) at }

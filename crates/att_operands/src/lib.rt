@@ -21,4 +21,4 @@ pub use marks::mark_at;
 pub use operands::{FoundOperand, ReadOperand, read_operand};
 pub use prefixes::prefix_named;
 pub use registers::{NamedRegister, register_named};
-pub use usual::{bare_memory, displaced_memory, whole_register};
+pub use usual::{bare_memory, displaced_memory, whole_immediate, whole_register};

@@ -34,6 +34,32 @@ pub fn whole_register(tokens: &[Token], at: usize) -> Option<Reg>
     }
 }
 
+/// The immediate of one token that is the whole operand at this place.
+#[inline(always)]
+pub fn whole_immediate<'a>(tokens: &[Token<'a>], at: usize) -> Option<FoundOperand<'a>>
+    ensures value { IfSome result (λ found.
+        GivesSo IsPartRead (Ok found) (operand_at false (map spelled tokens.now) at)) }
+    ensures within { IfSome result (λ found. found.next ≤ length tokens.now) }
+{
+    if mark_at(tokens, at) != b'$' {
+        return None;
+    }
+    if tokens.len() - at < 2 {
+        return None;
+    }
+    if !ends_at(tokens, at + 2) {
+        return None;
+    }
+    let found = sum_amount(tokens, at + 1, at + 2)?;
+    Some(FoundOperand {
+        operand: ReadOperand::Immediate(Value {
+            amount: found.amount,
+            suffix: None,
+        }),
+        next: found.next,
+    })
+}
+
 /// The memory at an address alone that is the whole operand at this place.
 #[inline(always)]
 #[tactic(auto, using(crate::proofs::UsualOperands::bare_memory_is))]
