@@ -10,7 +10,7 @@ ghost use Rattle.att_insns.specs.Reading.{Makes, Puts, operands_at, with_all};
 use asm_base::Token;
 use att_operands::{
     FoundOperand, OperandCause, OperandFault, ReadOperand, bare_memory, displaced_memory,
-    read_operand, whole_register,
+    read_operand, whole_immediate, whole_register,
 };
 use std::alloc::Global;
 use x86_insn::{Insn, Reg, Slot};
@@ -94,7 +94,7 @@ fn put_any<'a>(
 }
 
 /// The same of an operand that is no branch, with a short way for memory.
-#[inline(never)]
+#[inline(always)]
 fn put_memory<'a>(
     alloc: Global,
     tokens: &[Token<'a>],
@@ -120,7 +120,28 @@ fn put_memory<'a>(
     }
 }
 
-/// The same, with a short way for registers.
+/// The same, with a short way for immediates.
+#[inline(never)]
+fn put_usual<'a>(
+    alloc: Global,
+    tokens: &[Token<'a>],
+    at: usize,
+    insn: &mut Insn<'a>,
+) -> Result<usize, OperandFault>
+    ensures value { (due : InsnText) → IsInsnOf insn.old due
+        → Puts insn.new result due (operand_at false (map spelled tokens.now) at) }
+    ensures within { IfOk result (λ next. next ≤ length tokens.now) }
+{
+    match whole_immediate(tokens, at) {
+        Some(FoundOperand { operand, next }) => {
+            put(insn, operand);
+            Ok(next)
+        }
+        None => put_memory(alloc, tokens, at, insn),
+    }
+}
+
+/// The same of any operand, with a short way for registers.
 #[inline(always)]
 fn put_operand<'a>(
     alloc: Global,
@@ -141,7 +162,7 @@ fn put_operand<'a>(
             put_register(insn, reg);
             Ok(at + 2)
         }
-        None => put_memory(alloc, tokens, at, insn),
+        None => put_usual(alloc, tokens, at, insn),
     }
 }
 

@@ -77,13 +77,21 @@ fn first_taking(rows: &'static [Row], slots: Slots) -> Option<&'static Row>
     rows.iter().find(|row| takes_all(row, slots))
 }
 
+/// Whether the row has this size, if it takes such operands: the size is seen sooner.
+#[inline(always)]
+fn row_agrees(row: &Row, slots: Slots, size: u8) -> bool
+    ensures { result
+        ≡ not (takes_all slots.0 slots.1 slots.2 row.now) || (row.now.size == size) }
+{
+    row.size == size || !takes_all(row, slots)
+}
+
 /// Whether all rows that take such operands have this size.
 fn all_agree(rows: &[Row], slots: Slots, size: u8) -> bool
     ensures { result ≡ list_all
         (λ row. not (takes_all slots.0 slots.1 slots.2 row) || (row.size == size)) rows.now }
 {
-    rows.iter()
-        .all(|row| !takes_all(row, slots) || row.size == size)
+    rows.iter().all(|row| row_agrees(row, slots, size))
 }
 
 /// The first row of the name that takes such operands.
