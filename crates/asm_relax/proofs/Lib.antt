@@ -11,4 +11,3 @@ pub mod FirstLemmas
 pub mod SettlingLemmas
 pub mod LawLemmas
 pub mod StretchLemmas
-pub mod OneRanking

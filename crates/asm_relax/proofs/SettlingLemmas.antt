@@ -8,7 +8,7 @@ use Rattle.asm_frags.specs.declared.items.Frag.{Frag}
 use Rattle.asm_frags.specs.Contents.{size_at}
 use Rattle.asm_frags.specs.SectionOf.{SectionOf}
 use Rattle.asm_frags.specs.Addresses.{item_with_address}
-use Rattle.asm_relax.specs.Ranks.{Ranks, greatest, numbers_at, levels_taken, IsLayout}
+use Rattle.level_ranks.specs.Ranks.{Ranks, greatest, numbers_at, levels_taken, IsLayout}
 use Rattle.asm_relax.specs.Layout.{top, size_with, all_items, tops, lowest_levels, laid_from, laid_out, levels_needed}
 use Rattle.asm_relax.specs.Placing.{placed_from, placed_section}
 use Rattle.asm_relax.specs.Settling.{LaidSections, settled_sections, IsLaidOut}

@@ -3,7 +3,6 @@ pub mod Expanding
 pub mod Expansions
 pub mod FoundForms
 pub mod Final
-pub mod Ranks
 pub mod Layout
 pub mod Placing
 pub mod FieldValues

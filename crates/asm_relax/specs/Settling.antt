@@ -8,7 +8,7 @@ use Rattle.asm_frags.specs.Writing.{LooseSection}
 use Rattle.asm_frags.specs.Substituting.{laid_sections}
 use Rattle.asm_relax.specs.declared.faults.LayoutFault.{LayoutFault}
 use Rattle.asm_relax.specs.Expanding.{expanded}
-use Rattle.asm_relax.specs.Ranks.{IsLayout}
+use Rattle.level_ranks.specs.Ranks.{IsLayout}
 use Rattle.asm_relax.specs.Layout.{tops, levels_needed, lowest_levels, laid_out}
 use Rattle.asm_relax.specs.RangeChecks.{first_fault}
 

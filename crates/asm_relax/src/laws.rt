@@ -10,7 +10,6 @@ ghost use Rattle.asm_relax.specs.Expanding.{replacement, with_replaced, names_as
 ghost use Rattle.asm_relax.specs.FieldValues.{DistancesLead};
 ghost use Rattle.asm_relax.specs.Final.{shift_in};
 ghost use Rattle.asm_relax.specs.Layout.{laid_from, shift_with, laid_out, without_addresses, IsInRow};
-ghost use Rattle.asm_relax.specs.Ranks.{Ranks, IsRanking};
 ghost use Rattle.asm_relax.specs.Placing.{placed_from, placed_section, shift_of};
 ghost use Rattle.asm_relax.specs.Settling.{LaidItem, LaidSections, settled_sections};
 
@@ -61,12 +60,6 @@ pub fn stretches_keep_distance()
         → shift_with levels (length (before ++ more)) 0 (before ++ more) + (extent_of before).bytes
         ≡ shift_with levels (length before) 0 (before ++ more)
         + (extent_of (before ++ more)).bytes }
-{}
-
-/// There is only one ranking: which items grow, and in which rounds, follows from what they need.
-pub fn one_ranking()
-    ensures { (need : List ℕ → List ℕ) (tops : List ℕ) (one other : Ranks)
-        → IsRanking need tops one → IsRanking need tops other → one ≡ other }
 {}
 
 /// Where no form leads back to its symbol, an expanded form names no assigned symbol, and is the

@@ -18,7 +18,7 @@ pub use field_values::{FieldView, counted, held_value, is_suffixed, look_beside}
 pub use finals::{FinalView, end_value, final_form, laid_value};
 pub use laws::{
     all_else_is_kept, distances_lead_to_labels, expansions_are_exact, items_stand_in_row,
-    one_ranking, settled_is_placed, sizes_add_up, stretches_keep_distance,
+    settled_is_placed, sizes_add_up, stretches_keep_distance,
 };
 pub use places::{address_in, address_of, section_size};
 pub use planning::{Plan, Settled};

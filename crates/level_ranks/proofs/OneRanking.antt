@@ -2,7 +2,7 @@
 use Rattle.std.proofs.Common.{◌≡◌, ℕ, zero, suc, ◌+◌, ◌<◌, nat_lt, Bool, true, false, cond, List, [], ◌∷◌, Option, Some, None, length, map, get_or, refl, sym, ap, ◌∙◌, subst, arith}
 use Rattle.std.specs.Prelude.{count_by, fold}
 use Rattle.std.proofs.lemmas.Bool.Decides.{nat_tests}
-use Rattle.asm_relax.specs.Ranks.{Ranks, is_taken_before, levels_below, numbers_at, Holds, Misses, IsNumber, IsRanking}
+use Rattle.level_ranks.specs.Ranks.{Ranks, is_taken_before, levels_below, numbers_at, Holds, Misses, IsNumber, IsRanking}
 
 abbrev number_of : Ranks → ℕ → ℕ → Option ℕ
 number_of ranks item level = get_or (numbers_at ranks item) level None
