@@ -7,3 +7,4 @@ pub mod LevelNumbers
 pub mod RunNumbers
 pub mod RunLayout
 pub mod LayoutLemmas
+pub mod SomeRanking

@@ -1,4 +1,4 @@
--- What all rounds keep: how many levels there are, that none falls and none is above its top, and that few of them raise a level.
+-- What all rounds keep: how many levels there are, and that none falls or is above its top; and that few raise a level.
 use Rattle.std.proofs.Common.{◌≡◌, ℕ, zero, suc, ◌+◌, ◌-◌, ◌<◌, ◌≤◌, Bool, true, false, nat_lt, List, length, get_or, sum, refl, sym, ap, ◌∙◌, subst, arith}
 use Rattle.std.specs.List.{All}
 use Rattle.std.proofs.lemmas.Bool.Decides.{nat_tests}

@@ -10,6 +10,17 @@ pub fn one_ranking()
         → IsRanking need tops one → IsRanking need tops other → one ≡ other }
 {}
 
+/// There is a ranking, whatever items need.
+pub fn some_ranking()
+    ensures { (need : List ℕ → List ℕ) (tops : List ℕ) → (ranks : Ranks) × IsRanking need tops ranks }
+{}
+
+/// A layout takes at most one round more than there are levels above the lowest, whatever items need.
+pub fn layouts_take_few_rounds()
+    ensures { (need : List ℕ → List ℕ) (tops levels : List ℕ) (rounds : ℕ)
+        → IsLayout need tops levels rounds → rounds ≤ 1 + sum tops }
+{}
+
 /// A round takes each level up to what is needed, and leaves it where that is no higher.
 pub fn raised_by_index()
     ensures length { (levels needs : List ℕ) → length (raised levels needs) ≡ length levels }
