@@ -1,0 +1,8 @@
+-- Lemmas, a file for each subject.
+pub mod LimitLemmas
+pub mod TopLemmas
+pub mod Powers
+pub mod RowLemmas
+pub mod ShiftLemmas
+pub mod RowOrder
+pub mod LookLemmas

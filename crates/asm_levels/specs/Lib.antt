@@ -1,0 +1,7 @@
+-- The definitions that contracts cite, in reading order.
+pub mod Distances
+pub mod Sizes
+pub mod Shifts
+pub mod Needs
+pub mod Standing
+pub mod Plans

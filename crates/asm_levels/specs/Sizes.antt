@@ -1,0 +1,50 @@
+-- The sizes of rows, in bytes.
+use Rattle.std.specs.Prelude.{ℕ, zero, suc, ◌+◌, ◌-◌, ◌%◌, ◌^◌, nat_le, Bool, List, [], ◌∷◌, slice_index, sum_by, if◌then◌else◌}
+use Rattle.asm_levels.specs.declared.rows.RowSize.{RowSize}
+use Rattle.asm_levels.specs.declared.rows.RowSize.TheVariants.{Fixed, Align, Org, Jump, Leb128, Advance, End}
+use Rattle.asm_levels.specs.declared.rows.Row.{Row}
+
+-- the number of bytes from an address up to the next multiple of the alignment (GNU as manual, ".p2align")
+abbrev pub padding : ℕ → ℕ → ℕ
+padding alignment address = (alignment - address % alignment) % alignment
+
+-- so many bytes, or none where they are more than the most
+abbrev pub unless_above : ℕ → ℕ → ℕ
+unless_above most bytes = if nat_le bytes most then bytes else 0
+
+-- the near form of a jump: an opcode of one byte, or of two with a condition, and a distance of four
+abbrev pub near_size : Bool → ℕ
+near_size conditional = if conditional then 6 else 5
+
+-- level 0 is the short form of a jump: an opcode and a distance of one byte each
+abbrev pub jump_size : Bool → ℕ → ℕ
+jump_size conditional zero = 2
+jump_size conditional (suc level) = near_size conditional
+
+-- nothing, one byte with the distance in it, and one byte before 1, 2 and 4 that hold it (DWARF 5, section 6.4.2.1)
+abbrev pub advance_size : ℕ → ℕ
+advance_size level = slice_index (0 ∷ 1 ∷ 2 ∷ 3 ∷ 5 ∷ []) level
+
+-- the size of a row of this level at this address, by the shifts of the rows up to it
+unfoldable pub size_at : List ℕ → RowSize → ℕ → ℕ → ℕ
+size_at shifts (Fixed bytes) level address = bytes
+size_at shifts (Align log most) level address = unless_above most (padding (2 ^ log) address)
+size_at shifts (Org from ahead behind) level address = (slice_index shifts from + ahead) - (address + behind)
+size_at shifts (Jump conditional distance) level address = jump_size conditional level
+size_at shifts (Leb128 signed distance) level address = level + 1
+size_at shifts (Advance distance) level address = advance_size level
+size_at shifts End level address = 0
+
+-- the most bytes of a row, at any level and address; those of an `.org` past the row that it counts from
+unfoldable pub most_bytes : RowSize → ℕ
+most_bytes (Fixed bytes) = bytes
+most_bytes (Align log most) = 2 ^ log
+most_bytes (Org from ahead behind) = ahead
+most_bytes (Jump conditional distance) = 6
+most_bytes (Leb128 signed distance) = 10
+most_bytes (Advance distance) = 5
+most_bytes End = 0
+
+-- the most bytes of all rows
+abbrev pub most_in : List Row → ℕ
+most_in rows = sum_by (λ row. most_bytes row.size) rows

@@ -1,0 +1,19 @@
+//! Items of several levels: the sizes that jumps, LEB128 numbers and advances settle to while addresses change.
+#![tactic(auto)]
+
+mod distances;
+mod laws;
+mod needs;
+mod plans;
+mod rounds;
+mod rows;
+mod settling;
+mod shifts;
+
+pub use distances::{Distance, RowTerm, RowTerms};
+pub use laws::{
+    advances_hold_their_distance, few_rows_have_few_bytes, groups_hold_their_number,
+    needs_stay_within_tops, rows_stand_in_row, short_jumps_hold_a_signed_byte,
+};
+pub use plans::RowPlan;
+pub use rows::{Row, RowSize};

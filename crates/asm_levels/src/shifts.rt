@@ -1,0 +1,110 @@
+//! The sizes of rows, and how far these move the rows behind them.
+
+ghost use Rattle.std.specs.Prelude.{◌≡◌, ◌+◌, ◌^◌, ◌<◌, ◌≤◌, All, length, slice_index, take};
+ghost use Rattle.asm_levels.specs.Sizes as spec;
+ghost use Rattle.asm_levels.specs.Shifts as shift_spec;
+ghost use Rattle.asm_levels.specs.Standing.{AlignStands, OrgStands, AllStand};
+
+use crate::rows::{Row, RowSize};
+
+/// The number of bytes from an address up to the next multiple of 2^log, or 0 where that is more than the most.
+fn padding_within(log: u8, most: u64, address: u64) -> u64
+    requires { log ≤ 30 }
+    ensures size { result ≡ spec.unless_above most (spec.padding (2 ^ log) address) }
+    ensures within { result ≤ 2 ^ 30 }
+{
+    let alignment = 1u64 << log;
+    let bytes = (alignment - address % alignment) % alignment;
+    if bytes <= most { bytes } else { 0 }
+}
+
+fn jump_bytes(conditional: bool, level: u8) -> u64
+    ensures size { result ≡ spec.jump_size conditional level }
+    ensures within { result ≤ 6 }
+{
+    if level == 0 {
+        2
+    } else if conditional {
+        6
+    } else {
+        5
+    }
+}
+
+fn advance_bytes(level: u8) -> u64
+    ensures size { result ≡ spec.advance_size level }
+    ensures within { result ≤ 5 }
+{
+    if level < 4 {
+        u64::from(level)
+    } else if level == 4 {
+        5
+    } else {
+        0
+    }
+}
+
+/// The size in bytes of a row of this level at this address, by the shifts of the rows up to it.
+#[tactic(auto, unfolding(crate::specs::Sizes::size_at, crate::specs::Sizes::most_bytes))]
+fn size_at(done: &[u64], size: &RowSize, level: u8, address: u64) -> u64
+    requires align { AlignStands size.now }
+    requires org { OrgStands (length done.now) size.now }
+    requires level { level ≤ 9 }
+    requires most { spec.most_bytes size.now < 2 ^ 62 }
+    requires done { All (λ shift. shift < 2 ^ 62) done.now }
+    ensures size { result ≡ spec.size_at done.now size.now level address }
+    ensures within { result < 2 ^ 63 }
+{
+    match *size {
+        RowSize::Fixed(bytes) => bytes,
+        RowSize::Align { log, most } => padding_within(log, most, address),
+        RowSize::Org {
+            from,
+            ahead,
+            behind,
+        } => {
+            (done[from as usize] + ahead)
+                .saturating_sub(address)
+                .saturating_sub(behind)
+        }
+        RowSize::Jump { conditional, .. } => jump_bytes(conditional, level),
+        RowSize::Leb128 { .. } => u64::from(level) + 1,
+        RowSize::Advance { .. } => advance_bytes(level),
+        RowSize::End => 0,
+    }
+}
+
+/// How far the row behind this one is moved, which has this level and is moved so far itself.
+#[tactic(auto, unfolding(crate::specs::Shifts::shift_behind))]
+fn shift_behind(done: &[u64], row: &Row, level: u8, shift: u64) -> u64
+    requires align { AlignStands row.now.size }
+    requires org { OrgStands (length done.now) row.now.size }
+    requires offset { row.now.offset ≤ 2 ^ 33 }
+    requires level { level ≤ 9 }
+    requires most { spec.most_bytes row.now.size < 2 ^ 62 }
+    requires done { All (λ shift. shift < 2 ^ 62) done.now }
+    requires shift { shift < 2 ^ 62 }
+    ensures { result ≡ shift_spec.shift_behind done.now row.now level shift }
+{
+    match row.size {
+        RowSize::End => 0,
+        _ => shift + size_at(done, &row.size, level, row.offset + shift),
+    }
+}
+
+/// Writes how far each row is moved where the rows have these levels.
+pub(crate) fn place(rows: &[Row], levels: &[u8], shifts: &mut [u64])
+    requires stand { AllStand rows.now }
+    requires bytes { spec.most_in rows.now < 2 ^ 62 }
+    requires levels { All (λ level. level ≤ 9) levels.now }
+    requires as_many_levels { length levels.now ≡ length rows.now }
+    requires as_many_shifts { length shifts.old ≡ length rows.now }
+    ensures shifts { shifts.new ≡ shift_spec.shifts_of rows.now levels.now }
+    ensures within { All (λ shift. shift < 2 ^ 62) shifts.new }
+{
+    let mut shift = 0u64;
+    for (index, row) in rows.iter().enumerate() {
+        shifts[index] = shift;
+        shift = shift_behind(&shifts[..index + 1], row, levels[index], shift);
+    }
+}
