@@ -6,3 +6,6 @@ pub mod RowLemmas
 pub mod ShiftLemmas
 pub mod RowOrder
 pub mod LookLemmas
+pub mod ResizingLemmas
+pub mod SizedLemmas
+pub mod EndLemmas

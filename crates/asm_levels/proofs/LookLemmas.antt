@@ -1,12 +1,13 @@
 -- A round, as far as the rows before an index.
-use Rattle.std.proofs.Common.{◌≡◌, ℕ, ◌+◌, ◌<◌, ◌≤◌, max, Bool, true, false, cond, List, inl, inr, length, get_or, take, set, refl, ap, sym, ◌∙◌, subst, arith}
+use Rattle.std.proofs.Common.{◌≡◌, ◌⊎◌, ℕ, ◌+◌, ◌<◌, ◌≤◌, nat_lt, max, Bool, true, false, cond, List, inl, inr, length, get_or, take, set, refl, ap, sym, ◌∙◌, subst, arith}
 use Rattle.std.specs.List.{All}
 use Rattle.std.proofs.lemmas.Bool.{cases_eq, cases_lt, lt-ltb, le-ltb}
-use Rattle.std.proofs.lemmas.List.{get_or-set_same, get_or-set_other, get_or-map}
+use Rattle.std.proofs.lemmas.List.{get_or-set_same, get_or-set_other, get_or-map, length-set}
 use Rattle.std.proofs.lemmas.List.Sums.{sum_by_more, sum_by-take-le}
 use Rattle.level_ranks.specs.Rounds.{after, IsAfterRounds}
 use Rattle.asm_levels.specs.declared.rows.RowSize.{RowSize}
 use Rattle.asm_levels.specs.declared.rows.Row.{Row}
+use Rattle.asm_levels.specs.Resizing.{IsAmong}
 use Rattle.asm_levels.specs.Needs.{needed, levels_needed, top, is_below_top, has_levels, several}
 
 -- the levels before the index are raised, the others stand, and it is known whether one rose
@@ -47,6 +48,45 @@ looked_leave old now needs index level rose is within looked =
       rises = λ rises. (let found = looked.rises rises in (found.0, omega arith, found.2));
       still = looked.still;
     }
+
+pub looked_counted : (old now needs : List ℕ) (index level count : ℕ) → index < length now → level ≡ max (get_or now index 0) (get_or needs index 0)
+    → get_or now index 0 < level → IsLooked old now needs index (nat_lt 0 count) → IsLooked old (set now index level) needs (index + 1) (nat_lt 0 (count + 1))
+looked_counted old now needs index level count inside is above looked =
+    subst (λ (rose : Bool). IsLooked old (set now index level) needs (index + 1) rose) (sym (lt-ltb 0 (count + 1) (omega arith)))
+    (looked_take old now needs index level (nat_lt 0 count) inside is above looked)
+
+-- the rows before this index whose levels are others stand in the list, if it has room for so many
+abbrev pub ListedBefore : List ℕ → List ℕ → ℕ → List ℕ → ℕ → Type 0
+ListedBefore old now count list before = count ≤ length list → (index : ℕ) → index < before → (get_or now index 0 ≡ get_or old index 0) ⊎ IsAmong index count list
+
+pub listed_more : (old now : List ℕ) (count index level : ℕ) (list : List ℕ) → ListedBefore old now count list index
+    → ListedBefore old (set now index level) (count + 1) (set list count index) (index + 1)
+listed_more old now count index level list listed room at before =
+    let long : length (set list count index) ≡ length list = length-set list count index in
+    elim (cases_eq at index) [
+      | inl same ↦ inr (count, omega arith, get_or-set_same list count index 0 (omega arith) ∙ sym same)
+      | inr other ↦ elim (listed (omega arith) at (omega arith)) [
+        | inl still ↦ inl (get_or-set_other now index at level 0 other ∙ still)
+        | inr among ↦ inr (among.0, (let less = among.1 in omega arith), get_or-set_other list count among.0 index 0 (let less = among.1 in omega arith) ∙ among.2)
+      ]
+    ]
+
+pub listed_same : (old now : List ℕ) (count index : ℕ) (list : List ℕ) → get_or now index 0 ≡ get_or old index 0 → ListedBefore old now count list index
+    → ListedBefore old now count list (index + 1)
+listed_same old now count index list still listed room at before = elim (cases_eq at index) [
+  | inl same ↦ inl (ap (λ i. get_or now i 0) same ∙ (still ∙ ap (λ i. get_or old i 0) (sym same)))
+  | inr other ↦ listed room at (omega arith)
+]
+
+pub inside_more : (list : List ℕ) (count index : ℕ) → ((at : ℕ) → at < count → at < length list → get_or list at 0 < index)
+    → (at : ℕ) → at < count + 1 → at < length (set list count index) → get_or (set list count index) at 0 < index + 1
+inside_more list count index inside at less room =
+    let long : length (set list count index) ≡ length list = length-set list count index in
+    elim (cases_eq at count) [
+      | inl same ↦ (let here : get_or (set list count index) count 0 ≡ index = get_or-set_same list count index 0 (omega arith) in
+          let there : get_or (set list count index) at 0 ≡ get_or (set list count index) count 0 = ap (λ i. get_or (set list count index) i 0) same in omega arith)
+      | inr other ↦ (let here : get_or (set list count index) at 0 ≡ get_or list at 0 = get_or-set_other list count at index 0 other in let low = inside at (omega arith) (omega arith) in omega arith)
+    ]
 
 -- what the row at an index needs
 pub needs_at : (shifts : List ℕ) (rows : List Row) (index : ℕ) (row : Row) → index < length rows → row ≡ get_or rows index row → get_or (levels_needed shifts rows) index 0 ≡ needed shifts row.size

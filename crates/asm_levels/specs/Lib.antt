@@ -4,4 +4,5 @@ pub mod Sizes
 pub mod Shifts
 pub mod Needs
 pub mod Standing
+pub mod Resizing
 pub mod Plans

@@ -25,15 +25,29 @@ jump_size conditional (suc level) = near_size conditional
 abbrev pub advance_size : ℕ → ℕ
 advance_size level = slice_index (0 ∷ 1 ∷ 2 ∷ 3 ∷ 5 ∷ []) level
 
+-- how far the row is moved that an `.org` counts from, and 0 for other rows
+abbrev pub start_of : List ℕ → RowSize → ℕ
+start_of shifts (Fixed bytes) = 0
+start_of shifts (Align log most) = 0
+start_of shifts (Org from ahead behind) = slice_index shifts from
+start_of shifts (Jump conditional distance) = 0
+start_of shifts (Leb128 signed distance) = 0
+start_of shifts (Advance distance) = 0
+start_of shifts End = 0
+
+-- the size of a row of this level at this address, where the row that an `.org` counts from is moved so far
+abbrev pub size_from : ℕ → RowSize → ℕ → ℕ → ℕ
+size_from start (Fixed bytes) level address = bytes
+size_from start (Align log most) level address = unless_above most (padding (2 ^ log) address)
+size_from start (Org from ahead behind) level address = (start + ahead) - (address + behind)
+size_from start (Jump conditional distance) level address = jump_size conditional level
+size_from start (Leb128 signed distance) level address = level + 1
+size_from start (Advance distance) level address = advance_size level
+size_from start End level address = 0
+
 -- the size of a row of this level at this address, by the shifts of the rows up to it
 unfoldable pub size_at : List ℕ → RowSize → ℕ → ℕ → ℕ
-size_at shifts (Fixed bytes) level address = bytes
-size_at shifts (Align log most) level address = unless_above most (padding (2 ^ log) address)
-size_at shifts (Org from ahead behind) level address = (slice_index shifts from + ahead) - (address + behind)
-size_at shifts (Jump conditional distance) level address = jump_size conditional level
-size_at shifts (Leb128 signed distance) level address = level + 1
-size_at shifts (Advance distance) level address = advance_size level
-size_at shifts End level address = 0
+size_at shifts size level address = size_from (start_of shifts size) size level address
 
 -- the most bytes of a row, at any level and address; those of an `.org` past the row that it counts from
 unfoldable pub most_bytes : RowSize → ℕ

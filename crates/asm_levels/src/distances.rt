@@ -4,6 +4,7 @@ ghost use Rattle.std.specs.Prelude.{◌≡◌, ◌+◌, ◌%◌, ◌^◌, ◌<�
 ghost use Rattle.asm_levels.specs.Distances as spec;
 
 use asm_base::NoMemory;
+use range_table::RangeTable;
 use std::alloc::Global;
 use std::marker::Model;
 
@@ -65,20 +66,20 @@ pub enum Distance {
     },
 }
 
-fn sum_value(shifts: &[u64], number: u64, terms: &[RowTerm]) -> u64
+fn sum_value(shifts: &RangeTable, number: u64, terms: &[RowTerm]) -> u64
     requires { All (λ term. term.row < length shifts.now) terms.now }
     ensures { result ≡ (number + sum_by (spec.times_shift shifts.now) terms.now) % 2 ^ 64 }
 {
     let mut value = number;
     for term in terms {
-        value = value.wrapping_add(term.coefficient.wrapping_mul(shifts[term.row as usize]));
+        value = value.wrapping_add(term.coefficient.wrapping_mul(shifts.get(term.row as usize)));
     }
     value
 }
 
 /// The distance, modulo 2^64, where the rows are moved so far.
 #[tactic(auto, unfolding(crate::specs::Distances::distance_value))]
-pub(crate) fn distance_value(shifts: &[u64], distance: &Distance) -> u64
+pub(crate) fn distance_value(shifts: &RangeTable, distance: &Distance) -> u64
     requires { spec.DistanceStands (length shifts.now) distance.now }
     ensures { result ≡ spec.distance_value shifts.now distance.now }
 {
@@ -89,8 +90,8 @@ pub(crate) fn distance_value(shifts: &[u64], distance: &Distance) -> u64
             behind,
         } => {
             number
-                .wrapping_add(shifts[*ahead as usize])
-                .wrapping_sub(shifts[*behind as usize])
+                .wrapping_add(shifts.get(*ahead as usize))
+                .wrapping_sub(shifts.get(*behind as usize))
         }
         Distance::Sum { number, terms } => sum_value(shifts, *number, terms.as_slice()),
     }

@@ -2,9 +2,11 @@
 #![tactic(auto)]
 
 mod distances;
+mod ends;
 mod laws;
 mod needs;
 mod plans;
+mod resizing;
 mod rounds;
 mod rows;
 mod settling;

@@ -6,6 +6,7 @@ ghost use Rattle.asm_levels.specs.Standing.{NamesRows};
 
 use crate::distances::distance_value;
 use crate::rows::RowSize;
+use range_table::RangeTable;
 
 /// Where an unsigned number takes another group of 7 bits.
 static UNSIGNED_LIMITS: [u64; 9] = [
@@ -111,7 +112,7 @@ fn advance_level(distance: u64) -> u8
 
 /// The least level that holds the row's distance where the rows are moved so far.
 #[tactic(auto, unfolding(crate::specs::Needs::needed))]
-pub(crate) fn needed(shifts: &[u64], size: &RowSize) -> u8
+pub(crate) fn needed(shifts: &RangeTable, size: &RowSize) -> u8
     requires { NamesRows (length shifts.now) size.now }
     ensures { result ≡ spec.needed shifts.now size.now }
 {

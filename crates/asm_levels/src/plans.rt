@@ -1,29 +1,48 @@
 //! Plans of rows: making one takes all memory, and settling it none.
 
+use crate::ends::{dependents_of, ends_of};
+use crate::resizing::EndedRows;
 use crate::rows::Row;
 use crate::settling;
 use asm_base::{NoMemory, Steps};
+use range_table::RangeTable;
 use std::alloc::Global;
 use std::marker::Model;
 use std::sync::ledger::Ledger;
+
+/// One row in so many is few: where more rise in a round, all rows are placed anew.
+const FEW: usize = 16;
 
 /// The rows of all sections, with room for their levels and shifts.
 #[derive(Drop)]
 pub struct RowPlan {
     rows: Vec<Row>,
     levels: Vec<u8>,
-    shifts: Vec<u64>,
+    shifts: RangeTable,
+    /// The size that each row has where it stands, in bytes.
+    sizes: Vec<u64>,
+    /// For each row the index behind the last one that its size moves.
+    ends: Vec<u32>,
+    /// The rows whose size depends on their address.
+    dependents: Vec<u32>,
+    /// Room for the rows whose levels rise in a round, where these are few.
+    risen: Vec<u32>,
 }
 
 impl Model for RowPlan {
+    ghost use Rattle.std.specs.Prelude.{◌≡◌, vec_len};
     ghost use Rattle.asm_levels.specs.Plans.{PlanOf, IsPlan};
+    ghost use Rattle.asm_levels.specs.Resizing.{AreEnds, AreDependents};
 
     ghost Value = { PlanOf };
 
     ghost view = { λ plan.
-        record { rows = plan.rows.items; levels = plan.levels.items; shifts = plan.shifts.items } };
+        record { rows = plan.rows.items; levels = plan.levels.items; shifts = plan.shifts } };
 
-    ghost invariant = { λ plan. IsPlan plan.rows.items plan.levels.items plan.shifts.items };
+    ghost invariant = { λ plan. IsPlan plan.rows.items plan.levels.items plan.shifts
+        × AreEnds plan.rows.items plan.ends.items
+        × AreDependents plan.rows.items plan.dependents.items
+        × (vec_len plan.sizes ≡ vec_len plan.rows) };
 }
 
 impl RowPlan {
@@ -43,11 +62,19 @@ impl RowPlan {
         ensures levels { IfOk result (λ plan. All (λ level. level ≡ 0) plan.levels) }
     {
         let levels = vec![in alloc; 0u8; rows.len()]?;
-        let shifts = vec![in alloc; 0u64; rows.len()]?;
+        let shifts = RangeTable::new(alloc, rows.len())?;
+        let sizes = vec![in alloc; 0u64; rows.len()]?;
+        let ends = ends_of(alloc, &rows)?;
+        let dependents = dependents_of(alloc, &rows)?;
+        let risen = vec![in alloc; 0u32; rows.len() / FEW]?;
         Ok(RowPlan {
             rows,
             levels,
             shifts,
+            sizes,
+            ends,
+            dependents,
+            risen,
         })
     }
 
@@ -67,7 +94,19 @@ impl RowPlan {
         ensures at_least { steps.old + several self.old.rows ≤ steps.new }
         ensures kept { self.new.rows ≡ self.old.rows }
     {
-        settling::settle(&self.rows, &mut self.levels, &mut self.shifts, steps)
+        let all = EndedRows {
+            rows: &self.rows,
+            ends: &self.ends,
+        };
+        settling::settle(
+            all,
+            &self.dependents,
+            &mut self.levels,
+            &mut self.sizes,
+            &mut self.shifts,
+            &mut self.risen,
+            steps,
+        )
     }
 
     /// The level of the row of this index.
@@ -84,7 +123,7 @@ impl RowPlan {
         ensures shift { result ≡ slice_index self.now.shifts row }
         ensures within { result < 2 ^ 62 }
     {
-        self.shifts[row]
+        self.shifts.get(row)
     }
 
     /// The rows.

@@ -5,53 +5,62 @@ ghost use Rattle.level_ranks.specs.Ranks.{IsLayout};
 ghost use Rattle.asm_levels.specs.Sizes.{most_in};
 ghost use Rattle.asm_levels.specs.Shifts.{shifts_of};
 ghost use Rattle.asm_levels.specs.Needs.{need, tops, several};
+ghost use Rattle.asm_levels.specs.Resizing.{AreEnds, AreDependents};
 ghost use Rattle.asm_levels.specs.Standing.{AllStand};
 
+use crate::resizing::{EndedRows, move_rows, place_anew};
 use crate::rounds::look;
-use crate::rows::Row;
-use crate::shifts::place;
 use asm_base::Steps;
 use level_ranks::{
     levels_hold, levels_stay_within, one_round_more, rounds_are_few, rounds_reach_the_layout,
 };
+use range_table::RangeTable;
 use std::sync::ledger::Ledger;
 
 /// Raises the levels, round by round, until each holds its distance. Answers the number of rounds.
 pub(crate) fn settle<L: Ledger>(
-    rows: &[Row],
+    all: EndedRows,
+    dependents: &[u32],
     levels: &mut [u8],
-    shifts: &mut [u64],
+    sizes: &mut [u64],
+    shifts: &mut RangeTable,
+    risen: &mut [u32],
     steps: &mut Steps<L>,
 ) -> u64
-    requires stand { AllStand rows.now }
-    requires bytes { most_in rows.now < 2 ^ 62 }
-    requires few { length rows.now < 2 ^ 32 }
-    requires as_many_levels { length levels.old ≡ length rows.now }
-    requires as_many_shifts { length shifts.old ≡ length rows.now }
+    requires stand { AllStand all.rows.now }
+    requires bytes { most_in all.rows.now < 2 ^ 62 }
+    requires few { length all.rows.now < 2 ^ 32 }
+    requires as_many_levels { length levels.old ≡ length all.rows.now }
+    requires as_many_shifts { length shifts.old ≡ length all.rows.now }
+    requires as_many_sizes { length sizes.old ≡ length all.rows.now }
+    requires ends { AreEnds all.rows.now all.ends.now }
+    requires dependents { AreDependents all.rows.now dependents.now }
     requires lowest { All (λ level. level ≡ 0) levels.old }
-    ensures layout { IsLayout (need rows.now) (tops rows.now) levels.new result }
-    ensures shifts { shifts.new ≡ shifts_of rows.now levels.new }
+    ensures layout { IsLayout (need all.entry.rows.now) (tops all.entry.rows.now) levels.new result }
+    ensures shifts { shifts.new ≡ shifts_of all.entry.rows.now levels.new }
     ensures small { All (λ shift. shift < 2 ^ 62) shifts.new }
-    ensures holds { (index : ℕ) → index < length rows.now
-        → slice_index (need rows.now levels.new) index ≤ slice_index levels.new index }
-    ensures highest { (index : ℕ) → index < length rows.now
-        → slice_index levels.new index ≤ slice_index (tops rows.now) index }
-    ensures rounds { result ≤ 1 + sum (tops rows.now) }
-    ensures at_most { steps.new ≤ steps.old + result * several rows.now }
-    ensures at_least { steps.old + several rows.now ≤ steps.new }
+    ensures as_many { length shifts.new ≡ length all.entry.rows.now }
+    ensures holds { (index : ℕ) → index < length all.entry.rows.now
+        → slice_index (need all.entry.rows.now levels.new) index ≤ slice_index levels.new index }
+    ensures highest { (index : ℕ) → index < length all.entry.rows.now
+        → slice_index levels.new index ≤ slice_index (tops all.entry.rows.now) index }
+    ensures rounds { result ≤ 1 + sum (tops all.entry.rows.now) }
+    ensures at_most { steps.new ≤ steps.old + result * several all.entry.rows.now }
+    ensures at_least { steps.old + several all.entry.rows.now ≤ steps.new }
 {
     one_round_more();
     levels_stay_within();
     rounds_are_few();
     rounds_reach_the_layout();
     levels_hold();
+    place_anew(all.rows, levels, sizes, shifts);
     let mut rounds = 0u64;
     loop {
-        place(rows, levels, shifts);
-        let rose = look(rows, shifts, levels, steps);
+        let count = look(all.rows, shifts, levels, risen, steps);
         rounds += 1;
-        if !rose {
+        if count == 0 {
             return rounds;
         }
+        move_rows(all, dependents, levels, risen, count, sizes, shifts);
     }
 }

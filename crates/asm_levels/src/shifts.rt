@@ -44,8 +44,47 @@ fn advance_bytes(level: u8) -> u64
     }
 }
 
+/// How far the row is moved that an `.org` counts from, and 0 for other rows.
+fn start_of(done: &[u64], size: &RowSize) -> u64
+    requires { OrgStands (length done.now) size.now }
+    ensures { result ≡ spec.start_of done.now size.now }
+{
+    match size {
+        RowSize::Org { from, .. } => done[*from as usize],
+        RowSize::Fixed(_)
+        | RowSize::Align { .. }
+        | RowSize::Jump { .. }
+        | RowSize::Leb128 { .. }
+        | RowSize::Advance { .. }
+        | RowSize::End => 0,
+    }
+}
+
+/// The size in bytes of a row of this level at this address, where the row that an `.org` counts from is moved so far.
+#[tactic(auto, unfolding(crate::specs::Sizes::most_bytes))]
+pub(crate) fn size_from(start: u64, size: &RowSize, level: u8, address: u64) -> u64
+    requires align { AlignStands size.now }
+    requires start { start < 2 ^ 62 }
+    requires level { level ≤ 9 }
+    requires most { spec.most_bytes size.now < 2 ^ 62 }
+    ensures size { result ≡ spec.size_from start size.now level address }
+    ensures within { result < 2 ^ 63 }
+{
+    match *size {
+        RowSize::Fixed(bytes) => bytes,
+        RowSize::Align { log, most } => padding_within(log, most, address),
+        RowSize::Org { ahead, behind, .. } => (start + ahead)
+            .saturating_sub(address)
+            .saturating_sub(behind),
+        RowSize::Jump { conditional, .. } => jump_bytes(conditional, level),
+        RowSize::Leb128 { .. } => u64::from(level) + 1,
+        RowSize::Advance { .. } => advance_bytes(level),
+        RowSize::End => 0,
+    }
+}
+
 /// The size in bytes of a row of this level at this address, by the shifts of the rows up to it.
-#[tactic(auto, unfolding(crate::specs::Sizes::size_at, crate::specs::Sizes::most_bytes))]
+#[tactic(auto, unfolding(crate::specs::Sizes::size_at))]
 fn size_at(done: &[u64], size: &RowSize, level: u8, address: u64) -> u64
     requires align { AlignStands size.now }
     requires org { OrgStands (length done.now) size.now }
@@ -55,23 +94,7 @@ fn size_at(done: &[u64], size: &RowSize, level: u8, address: u64) -> u64
     ensures size { result ≡ spec.size_at done.now size.now level address }
     ensures within { result < 2 ^ 63 }
 {
-    match *size {
-        RowSize::Fixed(bytes) => bytes,
-        RowSize::Align { log, most } => padding_within(log, most, address),
-        RowSize::Org {
-            from,
-            ahead,
-            behind,
-        } => {
-            (done[from as usize] + ahead)
-                .saturating_sub(address)
-                .saturating_sub(behind)
-        }
-        RowSize::Jump { conditional, .. } => jump_bytes(conditional, level),
-        RowSize::Leb128 { .. } => u64::from(level) + 1,
-        RowSize::Advance { .. } => advance_bytes(level),
-        RowSize::End => 0,
-    }
+    size_from(start_of(done, size), size, level, address)
 }
 
 /// How far the row behind this one is moved, which has this level and is moved so far itself.

@@ -1,16 +1,21 @@
 -- Each round so far raised a level.
-use Rattle.std.proofs.Common.{◌<◌, ◌≤◌, ◌+◌, ◌*◌, ◌-◌, sum}
+use Rattle.std.proofs.Common.{◌≡◌, ◌<◌, ◌≤◌, ◌+◌, ◌*◌, ◌-◌, ℕ, length, sum}
 use Rattle.level_ranks.specs.Rounds.{IsAfterRounds}
+use Rattle.asm_levels.specs.Shifts.{shifts_of}
+use Rattle.asm_levels.specs.Resizing.{AreMoved, HasSize}
 use Rattle.asm_levels.specs.Needs.{need, tops, several}
 use Rattle.asm_levels.proofs.settling.settle.Given as goal
 
 abbrev pub invariant-loop-rounds : goal.invariant-loop-rounds
 invariant-loop-rounds g l = record {
-  after : IsAfterRounds (need l.rows) (tops l.rows) l.fn.levels l.levels l.rounds;
-  at_most : l.steps ≤ l.fn.steps + l.rounds * several l.rows;
+  after : IsAfterRounds (need l.all.rows.now) (tops l.all.rows.now) l.fn.levels l.levels l.rounds;
+  moved : AreMoved l.all.rows.now l.sizes l.shifts;
+  placed : l.shifts ≡ shifts_of l.all.rows.now l.levels;
+  sized : (index : ℕ) → index < length l.all.rows.now → HasSize l.all.rows.now l.levels l.sizes l.shifts index;
+  at_most : l.steps ≤ l.fn.steps + l.rounds * several l.all.rows.now;
   from_start : l.fn.steps ≤ l.steps;
-  at_least : 0 < l.rounds → l.fn.steps + several l.rows ≤ l.steps;
+  at_least : 0 < l.rounds → l.fn.steps + several l.all.rows.now ≤ l.steps;
 }
 
 abbrev pub decreases-loop-rounds : goal.decreases-loop-rounds
-decreases-loop-rounds g l = (1 + sum (tops l.rows)) - l.rounds
+decreases-loop-rounds g l = (1 + sum (tops l.all.rows.now)) - l.rounds

@@ -1,0 +1,67 @@
+//! For each row the index behind the last one that its size moves, and the rows whose size depends on their address.
+
+ghost use Rattle.std.specs.Prelude.{◌≡◌, ◌<◌, ◌≤◌, ◌^◌, ℕ, IfOk, length, slice_index};
+ghost use Rattle.asm_levels.specs.Resizing as spec;
+
+use crate::rows::{Row, RowSize};
+use asm_base::NoMemory;
+use std::alloc::Global;
+
+/// Whether the row is an end mark.
+fn is_end(size: &RowSize) -> bool
+    ensures { result ≡ spec.is_end size.now }
+{
+    matches!(size, RowSize::End)
+}
+
+/// Whether the size of the row depends on its address.
+fn depends_on_address(size: &RowSize) -> bool
+    ensures { result ≡ spec.depends_on_address size.now }
+{
+    matches!(size, RowSize::Align { .. } | RowSize::Org { .. })
+}
+
+/// The index behind the last row that the size of the one at this index moves, where those of the rows behind it are there.
+fn end_at(rows: &[Row], ends: &[u32], index: usize) -> u32
+    requires inside { index < length rows.now }
+    requires few { length rows.now < 2 ^ 32 }
+    requires as_many { length ends.now ≡ length rows.now }
+    requires behind { (at : ℕ) → index < at → at < length rows.now
+        → spec.IsMovedBefore rows.now at (slice_index ends.now at) }
+    ensures { spec.IsMovedBefore rows.now index result }
+{
+    let next = index + 1;
+    if next == rows.len() || is_end(&rows[index].size) {
+        next as u32
+    } else {
+        ends[next]
+    }
+}
+
+/// For each row the index behind the last one that its size moves.
+pub(crate) fn ends_of(alloc: Global, rows: &[Row]) -> Result<Vec<u32>, NoMemory>
+    requires { length rows.now < 2 ^ 32 }
+    ensures { IfOk result (λ ends. spec.AreEnds rows.now ends.items) }
+{
+    let mut ends = vec![in alloc; 0u32; rows.len()]?;
+    let mut left = rows.len();
+    while left > 0 {
+        left -= 1;
+        ends[left] = end_at(rows, &ends, left);
+    }
+    Ok(ends)
+}
+
+/// The rows whose size depends on their address, in order.
+pub(crate) fn dependents_of(alloc: Global, rows: &[Row]) -> Result<Vec<u32>, NoMemory>
+    requires { length rows.now < 2 ^ 32 }
+    ensures { IfOk result (λ list. spec.AreDependents rows.now list.items) }
+{
+    let mut list = Vec::new(alloc);
+    for (index, row) in rows.iter().enumerate() {
+        if depends_on_address(&row.size) {
+            list.push(index as u32)?;
+        }
+    }
+    Ok(list)
+}

@@ -1,0 +1,221 @@
+//! Rows that get another size, and the rows behind them that this moves.
+
+ghost use Rattle.std.specs.Prelude.{◌≡◌, ◌⊎◌, ℕ, ◌+◌, ◌^◌, ◌<◌, ◌≤◌, false, All, length, slice_index, slice_index_or, slice_set};
+ghost use Rattle.asm_levels.specs.declared.rows.Row.{Row};
+ghost use Rattle.asm_levels.specs.Sizes as spec;
+ghost use Rattle.asm_levels.specs.Shifts.{shifts_of};
+ghost use Rattle.asm_levels.specs.Standing.{OrgStands, AllStand};
+ghost use Rattle.asm_levels.specs.Resizing.{depends_on_address, AreMoved, AreEnds, AreDependents, HasSize, IsPlainSized, IsAmong, size_of_level};
+
+use crate::rows::{Row, RowSize};
+use crate::shifts::{place, size_from};
+use range_table::RangeTable;
+
+/// Rows, and for each the index behind the last row that its size moves.
+#[derive(Clone, Copy)]
+pub(crate) struct EndedRows<'a> {
+    pub(crate) rows: &'a [Row],
+    pub(crate) ends: &'a [u32],
+}
+
+/// How far the row is moved that an `.org` counts from, and 0 for other rows.
+fn start_of(shifts: &RangeTable, size: &RowSize) -> u64
+    requires { OrgStands (length shifts.now) size.now }
+    ensures { result ≡ spec.start_of shifts.now size.now }
+{
+    match size {
+        RowSize::Org { from, .. } => shifts.get(*from as usize),
+        RowSize::Fixed(_)
+        | RowSize::Align { .. }
+        | RowSize::Jump { .. }
+        | RowSize::Leb128 { .. }
+        | RowSize::Advance { .. }
+        | RowSize::End => 0,
+    }
+}
+
+/// The size of the row of this index at its level and address, where the rows up to it are moved so far.
+#[tactic(auto, unfolding(crate::specs::Sizes::size_at))]
+fn size_here(rows: &[Row], levels: &[u8], shifts: &RangeTable, index: usize) -> u64
+    requires inside { index < length rows.now }
+    requires stand { AllStand rows.now }
+    requires bytes { spec.most_in rows.now < 2 ^ 62 }
+    requires levels { All (λ level. level ≤ 9) levels.now }
+    requires as_many_levels { length levels.now ≡ length rows.now }
+    requires as_many_shifts { length shifts.now ≡ length rows.now }
+    requires small { (at : ℕ) → at ≤ index → slice_index shifts.now at < 2 ^ 62 }
+    ensures { (default : Row) → result ≡ spec.size_at shifts.now
+        (slice_index_or rows.now index default).size (slice_index levels.now index)
+        ((slice_index_or rows.now index default).offset + slice_index shifts.now index) }
+{
+    let row = &rows[index];
+    let start = start_of(shifts, &row.size);
+    size_from(
+        start,
+        &row.size,
+        levels[index],
+        row.offset + shifts.get(index),
+    )
+}
+
+/// The size of the row of this index, which does not depend on its address, at its level.
+fn size_of_level(rows: &[Row], levels: &[u8], index: usize) -> u64
+    requires inside { index < length rows.now }
+    requires stand { AllStand rows.now }
+    requires bytes { spec.most_in rows.now < 2 ^ 62 }
+    requires levels { All (λ level. level ≤ 9) levels.now }
+    requires as_many_levels { length levels.now ≡ length rows.now }
+    ensures { (default : Row) → result ≡ size_of_level
+        (slice_index_or rows.now index default).size (slice_index levels.now index) }
+{
+    size_from(0, &rows[index].size, levels[index], 0)
+}
+
+/// Gives the row of this index a size, and moves what stands behind it.
+fn resize(all: EndedRows, index: usize, size: u64, sizes: &mut [u64], shifts: &mut RangeTable)
+    requires moved { AreMoved all.rows.now sizes.old shifts.old }
+    requires ends { AreEnds all.rows.now all.ends.now }
+    requires inside { index < length all.rows.now }
+    ensures moved { AreMoved all.entry.rows.now sizes.new shifts.new }
+    ensures sizes { sizes.new ≡ slice_set sizes.old index size }
+    ensures before { (at : ℕ) → at ≤ index → slice_index shifts.new at ≡ slice_index shifts.old at }
+{
+    let old = sizes[index];
+    if size != old {
+        sizes[index] = size;
+        shifts.add(index + 1, all.ends[index] as usize, size.wrapping_sub(old));
+    }
+}
+
+/// Gives each of these rows, whose levels have risen, the size of its level.
+pub(crate) fn resize_risen(
+    all: EndedRows,
+    levels: &[u8],
+    risen: &[u32],
+    sizes: &mut [u64],
+    shifts: &mut RangeTable,
+)
+    requires stand { AllStand all.rows.now }
+    requires bytes { spec.most_in all.rows.now < 2 ^ 62 }
+    requires levels { All (λ level. level ≤ 9) levels.now }
+    requires as_many_levels { length levels.now ≡ length all.rows.now }
+    requires ends { AreEnds all.rows.now all.ends.now }
+    requires moved { AreMoved all.rows.now sizes.old shifts.old }
+    requires inside { All (λ row. row < length all.rows.now) risen.now }
+    requires plain { (index : ℕ) → index < length all.rows.now
+        → IsPlainSized all.rows.now levels.now sizes.old index
+        ⊎ IsAmong index (length risen.now) risen.now }
+    ensures moved { AreMoved all.entry.rows.now sizes.new shifts.new }
+    ensures plain { (index : ℕ) → index < length all.entry.rows.now
+        → IsPlainSized all.entry.rows.now levels.now sizes.new index }
+{
+    for row in risen {
+        let index = *row as usize;
+        resize(
+            all,
+            index,
+            size_of_level(all.rows, levels, index),
+            sizes,
+            shifts,
+        );
+    }
+}
+
+/// Gives each row whose size depends on its address that size, one after the other.
+pub(crate) fn resize_dependents(
+    all: EndedRows,
+    levels: &[u8],
+    dependents: &[u32],
+    sizes: &mut [u64],
+    shifts: &mut RangeTable,
+)
+    requires stand { AllStand all.rows.now }
+    requires bytes { spec.most_in all.rows.now < 2 ^ 62 }
+    requires levels { All (λ level. level ≤ 9) levels.now }
+    requires as_many_levels { length levels.now ≡ length all.rows.now }
+    requires ends { AreEnds all.rows.now all.ends.now }
+    requires dependents { AreDependents all.rows.now dependents.now }
+    requires moved { AreMoved all.rows.now sizes.old shifts.old }
+    requires plain { (index : ℕ) → index < length all.rows.now
+        → IsPlainSized all.rows.now levels.now sizes.old index }
+    ensures moved { AreMoved all.entry.rows.now sizes.new shifts.new }
+    ensures shifts { shifts.new ≡ shifts_of all.entry.rows.now levels.now }
+    ensures sizes { (index : ℕ) → index < length all.entry.rows.now
+        → HasSize all.entry.rows.now levels.now sizes.new shifts.new index }
+{
+    for row in dependents {
+        let index = *row as usize;
+        let size = size_here(all.rows, levels, shifts, index);
+        resize(all, index, size, sizes, shifts);
+    }
+}
+
+/// Notes the size that each row has where it stands.
+fn measure(rows: &[Row], levels: &[u8], shifts: &RangeTable, sizes: &mut [u64])
+    requires stand { AllStand rows.now }
+    requires bytes { spec.most_in rows.now < 2 ^ 62 }
+    requires levels { All (λ level. level ≤ 9) levels.now }
+    requires as_many_levels { length levels.now ≡ length rows.now }
+    requires as_many_shifts { length shifts.now ≡ length rows.now }
+    requires as_many_sizes { length sizes.old ≡ length rows.now }
+    requires small { All (λ shift. shift < 2 ^ 62) shifts.now }
+    ensures sizes { (index : ℕ) → index < length rows.now
+        → HasSize rows.now levels.now sizes.new shifts.now index }
+    ensures as_many { length sizes.new ≡ length rows.now }
+{
+    for index in 0..rows.len() {
+        sizes[index] = size_here(rows, levels, shifts, index);
+    }
+}
+
+/// Places all rows anew.
+pub(crate) fn place_anew(rows: &[Row], levels: &[u8], sizes: &mut [u64], shifts: &mut RangeTable)
+    requires stand { AllStand rows.now }
+    requires bytes { spec.most_in rows.now < 2 ^ 62 }
+    requires levels { All (λ level. level ≤ 9) levels.now }
+    requires as_many_levels { length levels.now ≡ length rows.now }
+    requires as_many_shifts { length shifts.old ≡ length rows.now }
+    requires as_many_sizes { length sizes.old ≡ length rows.now }
+    ensures moved { AreMoved rows.now sizes.new shifts.new }
+    ensures shifts { shifts.new ≡ shifts_of rows.now levels.now }
+    ensures sizes { (index : ℕ) → index < length rows.now
+        → HasSize rows.now levels.now sizes.new shifts.new index }
+{
+    place(rows, levels, sizes);
+    shifts.fill(sizes);
+    measure(rows, levels, shifts, sizes);
+}
+
+/// Moves the rows as their levels ask for. So many of them have risen: those of the list, if it had room for so many.
+pub(crate) fn move_rows(
+    all: EndedRows,
+    dependents: &[u32],
+    levels: &[u8],
+    risen: &[u32],
+    count: usize,
+    sizes: &mut [u64],
+    shifts: &mut RangeTable,
+)
+    requires stand { AllStand all.rows.now }
+    requires bytes { spec.most_in all.rows.now < 2 ^ 62 }
+    requires levels { All (λ level. level ≤ 9) levels.now }
+    requires as_many_levels { length levels.now ≡ length all.rows.now }
+    requires ends { AreEnds all.rows.now all.ends.now }
+    requires dependents { AreDependents all.rows.now dependents.now }
+    requires moved { AreMoved all.rows.now sizes.old shifts.old }
+    requires inside { (at : ℕ) → at < count → at < length risen.now
+        → slice_index risen.now at < length all.rows.now }
+    requires plain { count ≤ length risen.now → (index : ℕ) → index < length all.rows.now
+        → IsPlainSized all.rows.now levels.now sizes.old index ⊎ IsAmong index count risen.now }
+    ensures moved { AreMoved all.entry.rows.now sizes.new shifts.new }
+    ensures shifts { shifts.new ≡ shifts_of all.entry.rows.now levels.now }
+    ensures sizes { (index : ℕ) → index < length all.entry.rows.now
+        → HasSize all.entry.rows.now levels.now sizes.new shifts.new index }
+{
+    if count <= risen.len() {
+        resize_risen(all, levels, &risen[..count], sizes, shifts);
+        resize_dependents(all, levels, dependents, sizes, shifts);
+    } else {
+        place_anew(all.rows, levels, sizes, shifts);
+    }
+}
