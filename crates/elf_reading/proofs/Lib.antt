@@ -4,3 +4,9 @@ mod FileParts
 mod SectionReads
 mod NameReads
 mod NamedReads
+mod ObjectParts
+mod ObjectFit
+mod SymbolReads
+mod LocalReads
+mod TableSearch
+mod RelocationReads

@@ -14,8 +14,8 @@ use Rattle.elf_reading.specs.Limits.{FileFits}
 abbrev pub table_at_end : List ℕ → ℕ → HeaderTable
 table_at_end file count = record { offset = length file - 64 * count; count = count; names = count - 1 }
 
--- e_shoff says where the header table stands, e_shnum how many headers it has, and e_shstrndx which one is that of the names:
--- besides the sections there are the null header and the names
+-- e_shoff says where the header table stands, e_shnum how many headers it has, and e_shstrndx which one is that of the
+-- names: besides the sections there are the null header and the names
 abbrev pub TablesRead : Type 0
 TablesRead = (entries : List SectionEntry) → FileFits entries
     → header_table_of (file_with entries) ≡ Some (table_at_end (file_with entries) (length entries + 2))
@@ -39,7 +39,7 @@ null_fields = record {
 abbrev pub NullHeadersRead : Type 0
 NullHeadersRead = (entries : List SectionEntry) → FileFits entries → section_header_of (file_with entries) 0 ≡ Some null_fields
 
--- what the header says of the section, but for where its name and bytes stand; no section of a relocatable file has an address
+-- what the header says of the section, but for where its name and bytes stand; a relocatable file has no addresses
 pub record Describes (h : SectionHeader) (s : SectionEntry) : Type 0 where
   pub kind : h.kind ≡ s.kind
   pub flags : h.flags ≡ s.flags

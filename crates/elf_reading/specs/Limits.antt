@@ -14,7 +14,7 @@ abbrev pub space_size : Content → ℕ
 space_size (stored bytes) = 0
 space_size (nobits size) = size
 
--- each number fits its Elf64_Word or Elf64_Xword, as the fields of the program's own sections have these widths; just space has type SHT_NOBITS
+-- each number fits its Elf64_Word or Elf64_Xword, as those of the program do; just space has type SHT_NOBITS
 pub record SectionFits (s : SectionEntry) : Type 0 where
   pub kind : s.kind < 2 ^ 32
   pub flags : s.flags < 2 ^ 64
@@ -25,7 +25,8 @@ pub record SectionFits (s : SectionEntry) : Type 0 where
   pub entry_size : s.entry_size < 2 ^ 64
   pub agrees : (s.kind == no_bits) ≡ is_space s.content
 
--- an Elf64_Half counts the headers, the null header and that of the names too; offsets of names are Elf64_Words, and offsets in the file Elf64_Xwords
+-- e_shnum is an Elf64_Half, and counts the null header and that of the names too; sh_name is an Elf64_Word, and
+-- sh_offset an Elf64_Xword
 pub record FileFits (entries : List SectionEntry) : Type 0 where
   pub sections : (index : ℕ) (s : SectionEntry) → slice_get entries index ≡ Some s → SectionFits s
   pub count : length entries + 2 < 2 ^ 16

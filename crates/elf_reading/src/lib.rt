@@ -1,8 +1,15 @@
-//! What a reader finds in the bytes of an object file: laws of written files, in the words of the reader (gABI, chapter 4).
+//! What a reader finds in the bytes of an object file: laws of written files (gABI, chapter 4).
 #![tactic(auto)]
 
 mod files;
+mod relocations;
+mod symbols;
 
 pub use files::{
     named_sections_read, null_headers_read, section_names_read, sections_read, tables_read,
+};
+pub use relocations::{relocation_tables_read, relocations_read};
+pub use symbols::{
+    locals_read, null_symbols_read, sources_read, symbol_tables_found, symbol_tables_read,
+    symbols_read,
 };

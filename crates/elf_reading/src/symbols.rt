@@ -1,0 +1,40 @@
+//! Sections and symbols are read back from the object of them (gABI, chapter 4, "Sections" and "Symbol Table").
+
+ghost use Rattle.elf_reading.specs.SymbolReading.{
+    LocalsRead, NullSymbolsRead, SourcesRead, SymbolTablesFound, SymbolTablesRead,
+    SymbolsRead,
+};
+
+use elf_object::locals_first;
+
+/// The header of each section of the source says what the section is, and leads to just its bytes.
+pub fn sources_read()
+    ensures { SourcesRead }
+{}
+
+/// The headers of the symbol table and of the names of symbols.
+pub fn symbol_tables_read()
+    ensures { SymbolTablesRead }
+{}
+
+/// The symbol table is found by its type, where no section of the source has that type.
+pub fn symbol_tables_found()
+    ensures { SymbolTablesFound }
+{}
+
+/// Each symbol has the binding, type, visibility, section, value and size of its entry, and leads to just its name.
+pub fn symbols_read()
+    ensures { SymbolsRead }
+{}
+
+/// Symbol 0 is all zero.
+pub fn null_symbols_read()
+    ensures { NullSymbolsRead }
+{}
+
+/// Just the symbols below `sh_info` have binding `STB_LOCAL`.
+pub fn locals_read()
+    ensures { LocalsRead }
+{
+    locals_first();
+}
