@@ -9,4 +9,5 @@ mod ObjectFit
 mod SymbolReads
 mod LocalReads
 mod TableSearch
+mod RelocationFit
 mod RelocationReads

@@ -15,7 +15,7 @@ use Rattle.elf_object.specs.Contents.{relocations_of}
 use Rattle.elf_object.specs.Image.{image_of}
 use Rattle.elf_object.specs.Sections.{header_indices}
 use Rattle.elf_object.specs.TableLaws.{LocalsFirst, table_in, info_in}
-use Rattle.elf_reading.specs.ObjectLimits.{symbol_table_header, ObjectFits}
+use Rattle.elf_reading.specs.ObjectLimits.{symbol_table_index, ObjectFits}
 use Rattle.elf_reading.specs.SymbolReading.{symbol_at, null_symbol, ObjectSymbolRead, LocalsRead}
 use Rattle.elf_reading.proofs.NameReads.{both_so}
 use Rattle.elf_reading.proofs.SymbolReads.{table_long, table_read, symbols_read, null_symbols_read}
@@ -90,6 +90,13 @@ entry_bound symbols sections index entry symbol law is same =
 pub same_some : {A : Type 0} (x y : A) → Some x ≡ Some y → x ≡ y
 same_some x y e = cc
 
+-- a symbol that is read has the binding of its entry
+binding_read : (symbols : SymbolMap) (sections : LaidSections) (number : ℕ) (entry : SymbolEntry) (symbol : SymbolRecord) → ObjectSymbolRead symbols sections number entry
+    → symbol_at (image_of symbols sections) (symbol_table_index symbols sections) number ≡ Some symbol → symbol.info / 16 ≡ binding_number entry.binding
+binding_read symbols sections number entry symbol own is =
+    let same : own.symbol ≡ symbol = same_some own.symbol symbol (sym own.found ∙ is) in
+    ap (λ (s : SymbolRecord). s.info / 16) (sym same) ∙ own.binding
+
 pub locals_read : LocalsFirst → LocalsRead
 locals_read law symbols sections zero symbol fits is =
     let same : null_symbol ≡ symbol = same_some null_symbol symbol (sym (null_symbols_read symbols sections fits) ∙ is) in
@@ -104,5 +111,4 @@ locals_read law symbols sections (suc index) symbol fits is =
     let (entry, there) = got table index (omega arith) in
     let one : index + 1 ≡ suc index = omega arith in
     let own = subst (λ n. ObjectSymbolRead symbols sections n entry) one (symbols_read symbols sections index entry fits there) in
-    let same : own.symbol ≡ symbol = same_some own.symbol symbol (sym own.found ∙ is) in
-    entry_bound symbols sections index entry symbol law there (ap (λ (s : SymbolRecord). s.info / 16) (sym same) ∙ own.binding)
+    entry_bound symbols sections index entry symbol law there (binding_read symbols sections (suc index) entry symbol own is)

@@ -12,9 +12,9 @@ use Rattle.elf_file.specs.Reader.{text_from, content_at, name_by, header_name, s
 use Rattle.elf_file.specs.Sections.{SectionEntry, section_names}
 use Rattle.elf_file.specs.StringTable.{is_no_end, ended_name, strings, string_table_of, name_offset_after, name_offsets_after, name_offsets}
 use Rattle.elf_reading.specs.Limits.{FileFits}
-use Rattle.elf_reading.specs.FileReading.{null_fields, SectionNamesRead}
+use Rattle.elf_reading.specs.FileReading.{null_fields, SectionsRead}
 use Rattle.elf_reading.proofs.FileParts.{names_section, offsets}
-use Rattle.elf_reading.proofs.SectionReads.{file_read, null_headers_read, own_header, own_header_read, sections_read, name_in}
+use Rattle.elf_reading.proofs.SectionReads.{own_table, file_read, null_headers_read, own_header, own_header_read, headers_read, name_in}
 
 -- from this offset on, the table begins with the name and a zero byte
 pub record NameAt (table : List ℕ) (offset : ℕ) (name : List ℕ) : Type 0 where
@@ -113,8 +113,9 @@ last_there entries = last_of entries (names_section entries)
 -- the table of the names is read
 pub names_content : (entries : List SectionEntry) → FileFits entries → content_at (file_with entries) (length entries + 1) ≡ Some (string_table_of (all_names entries))
 names_content entries fits =
-    let read = sections_read entries (length entries) (names_section entries) fits (last_there entries) in
-    ap (option_and_then (section_content (file_with entries))) read.found ∙ read.bytes
+    let n = length entries in
+    let last = names_section entries in
+    ap (option_and_then (section_content (file_with entries))) (own_header_read entries n last fits (last_there entries)) ∙ (headers_read entries n last fits (last_there entries)).bytes
 
 -- the name of a section whose header has this offset
 named_by : (entries : List SectionEntry) (h : SectionHeader) (index : ℕ) (name : List ℕ) → FileFits entries → section_header_of (file_with entries) index ≡ Some h
@@ -125,8 +126,9 @@ named_by entries h index name fits found there all =
     ap (option_and_then (header_name file)) found ∙ ap (option_and_then (name_by file h)) (file_read entries fits)
     ∙ ap (option_and_then (λ (table : List ℕ). text_from table h.name)) (names_content entries fits) ∙ text_read (string_table_of (all_names entries)) h.name name there all
 
-pub section_names_read : SectionNamesRead
-section_names_read entries index s fits is all =
+name_read : (entries : List SectionEntry) (index : ℕ) (s : SectionEntry) → FileFits entries → slice_get (with_names entries) index ≡ Some s
+    → list_all is_no_end s.name ≡ true → section_name_of (file_with entries) (index + 1) ≡ Some s.name
+name_read entries index s fits is all =
     let table = string_table_of (all_names entries) in
     let offset = slice_index_or (offsets entries) index 0 in
     let place = body_offset header_end (with_names entries) index in
@@ -135,6 +137,17 @@ section_names_read entries index s fits is all =
     let small : length table < 2 ^ 32 = fits.names in
     let same : (own_header entries index s).name ≡ offset = name_in offset place s (omega arith) in
     named_by entries (own_header entries index s) (index + 1) s.name fits (own_header_read entries index s fits is) (subst (λ n. NameAt table n s.name) (sym same) there) all
+
+pub sections_read : SectionsRead
+sections_read entries index s fits is =
+    let read = headers_read entries index s fits is in
+    record {
+      header = own_header entries index s;
+      found = own_header_read entries index s fits is;
+      describes = read.describes;
+      bytes = read.bytes;
+      name = name_read entries index s fits is;
+    }
 
 -- the null section has no name
 pub null_name_read : (entries : List SectionEntry) → FileFits entries → section_name_of (file_with entries) 0 ≡ Some []

@@ -12,7 +12,7 @@ use Rattle.elf_file.specs.StringTable.{is_no_end}
 use Rattle.elf_reading.specs.FileReading.{NamedSectionsRead}
 use Rattle.elf_reading.proofs.FileParts.{names_section, count_all}
 use Rattle.elf_reading.proofs.SectionReads.{file_read}
-use Rattle.elf_reading.proofs.NameReads.{both_so, section_names_read, null_name_read}
+use Rattle.elf_reading.proofs.NameReads.{both_so, sections_read, null_name_read}
 
 -- a place behind one more element
 one_on : (n m from : ℕ) → cond (nat_lt (1 + n) (suc m)) (Some (from + (1 + n))) None ≡ cond (nat_lt n m) (Some (from + 1 + n)) None
@@ -86,7 +86,7 @@ named_sections_read entries name fits all long =
     let each : (index : ℕ) (s : SectionEntry) → slice_get these index ≡ Some s → p (1 + index) ≡ test s =
     λ index s is.
     let place : 1 + index ≡ index + 1 = omega arith in
-    ap p place ∙ ap (is_same_name name) (section_names_read entries index s fits is (text_names entries (names_section entries) index s all refl is)) in
+    ap p place ∙ ap (is_same_name name) ((sections_read entries index s fits is).name (text_names entries (names_section entries) index s all refl is)) in
     ap (option_and_then (λ (table : HeaderTable). first_named file name table.count)) (file_read entries fits)
     ∙ ap (λ n. find p (range_with_len 0 n)) count
     ∙ ap (λ (b : Bool). cond b (Some 0) (find p (range_with_len 1 (length these)))) null

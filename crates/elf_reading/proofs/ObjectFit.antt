@@ -1,11 +1,11 @@
 -- The numbers of the sections of an object fit.
-use Rattle.std.proofs.Common.{◌≡◌, ℕ, zero, suc, ◌+◌, ◌-◌, ◌^◌, ◌<◌, ◌≤◌, ◌==◌, Bool, true, false, cond, List, [], ◌∷◌, ◌++◌, Option, Some, None, length, map, option_map, refl, sym, ap, ◌∙◌, subst, arith, length-append}
+use Rattle.std.proofs.Common.{◌≡◌, ℕ, zero, suc, ◌+◌, ◌-◌, ◌^◌, ◌<◌, ◌≤◌, ◌==◌, Bool, true, false, cond, List, [], ◌∷◌, ◌++◌, Option, Some, None, length, map, option_map, refl, sym, ap, ◌∙◌, subst, arith, length-append, mod-lt}
 use Rattle.std.proofs.lemmas.List.{length-map}
 use Rattle.std.proofs.lemmas.Option.{slice_get-map}
 use Rattle.std.specs.Prelude.{slice_get, slice_index_or}
 use Rattle.asm_frags.specs.SectionOf.{SectionOf}
 use Rattle.asm_symbols.specs.SymbolMap.{SymbolMap}
-use Rattle.asm_relax.specs.Final.{section_size}
+use Rattle.asm_relax.specs.Final.{section_size, shift_in}
 use Rattle.asm_relax.specs.Settling.{LaidItem, LaidSections}
 use Rattle.elf_file.specs.Image.{file_with}
 use Rattle.elf_file.specs.Sections.{no_bits, Content, stored, nobits, SectionEntry, relocation_section}
@@ -17,8 +17,8 @@ use Rattle.elf_object.specs.Image.{image_of}
 use Rattle.elf_object.specs.Sections.{source_section, relocation_bytes, header_count, entries_from, next_header}
 use Rattle.elf_object.specs.TableLaws.{named_targets, table_in, info_in}
 use Rattle.elf_reading.specs.Limits.{is_space, space_size, SectionFits, FileFits}
-use Rattle.elf_reading.specs.ObjectLimits.{entries_of, symbol_table_header, SourceFits, ObjectFits}
-use Rattle.elf_reading.specs.SymbolReading.{symbols_section, texts_section}
+use Rattle.elf_reading.specs.ObjectLimits.{entries_of, symbol_table_index, SourceFits, ObjectFits, ObjectsAreFiles}
+use Rattle.elf_reading.specs.SymbolReading.{symbol_table_section, symbol_names_section}
 use Rattle.elf_reading.proofs.ObjectParts.{source_entries, entries_are, image_is, sources_long}
 
 space_small : (b : Bool) (size : ℕ) (bytes : List ℕ) → size < 2 ^ 64 → space_size (cond b (nobits size) (stored bytes)) < 2 ^ 64
@@ -29,11 +29,16 @@ space_same : (b : Bool) (size : ℕ) (bytes : List ℕ) → b ≡ is_space (cond
 space_same true size bytes = refl
 space_same false size bytes = refl
 
+-- sh_size is taken modulo 2 ^ 64
+size_small : (section : SectionOf LaidItem) → section_size section < 2 ^ 64
+unfolding section_size
+size_small section = mod-lt (length section.bytes + shift_in section.items (length section.items)) (omega arith)
+
 source_fits : (symbols : SymbolMap) (sections : LaidSections) (section : SectionOf LaidItem) → SourceFits section → SectionFits (source_section symbols sections section)
 source_fits symbols sections section fits = record {
   kind = fits.kind;
   flags = fits.flags;
-  space = space_small (section.kind == no_bits) (section_size section) (section_bytes symbols sections section) fits.size;
+  space = space_small (section.kind == no_bits) (section_size section) (section_bytes symbols sections section) (size_small section);
   link = omega arith;
   info = omega arith;
   alignment = fits.alignment;
@@ -89,7 +94,7 @@ listed_fit : (symbols : SymbolMap) (sections : LaidSections) → ObjectFits symb
 listed_fit symbols sections fits i s is =
     let view = source_section symbols sections in
     mapped view (slice_get sections i) s (sym (slice_get-map view sections i) ∙ is) (λ section there same.
-    subst SectionFits same (source_fits symbols sections section (fits.sources i section there)))
+    subst SectionFits same (source_fits symbols sections section (fits.source_sections i section there)))
 
 -- the symbol table has as many local symbols as sh_info says, the null symbol among them
 pub info_within : (symbols : SymbolMap) (sections : LaidSections) → info_in symbols sections ≤ length (table_in symbols sections) + 1
@@ -113,11 +118,11 @@ two_fit P [] first second each one other (suc (suc i)) s is = absurd cc
 two_fit P (e ∷ these) first second each one other zero s is = each 0 s is
 two_fit P (e ∷ these) first second each one other (suc i) s is = two_fit P these first second (λ j t at. each (suc j) t at) one other i s is
 
-symbols_fit : (symbols : SymbolMap) (sections : LaidSections) → ObjectFits symbols sections → SectionFits (symbols_section symbols sections)
+symbols_fit : (symbols : SymbolMap) (sections : LaidSections) → ObjectFits symbols sections → SectionFits (symbol_table_section symbols sections)
 symbols_fit symbols sections fits =
-    let few = fits.headers in
+    let few = fits.header_count in
     let within : info_in symbols sections ≤ length (table_in symbols sections) + 1 = info_within symbols sections in
-    let low = fits.numbers in
+    let low = fits.symbol_count in
     record {
       kind = omega arith;
       flags = omega arith;
@@ -129,7 +134,7 @@ symbols_fit symbols sections fits =
       agrees = refl;
     }
 
-texts_fit : (symbols : SymbolMap) (sections : LaidSections) → SectionFits (texts_section symbols sections)
+texts_fit : (symbols : SymbolMap) (sections : LaidSections) → SectionFits (symbol_names_section symbols sections)
 texts_fit symbols sections = record {
   kind = omega arith;
   flags = omega arith;
@@ -146,18 +151,21 @@ pub file_fits : (symbols : SymbolMap) (sections : LaidSections) → ObjectFits s
 file_fits symbols sections fits =
     let entries = entries_of symbols sections in
     let own = source_entries symbols sections in
-    let tables = symbol_table_header symbols sections in
-    let tail = symbols_section symbols sections ∷ texts_section symbols sections ∷ [] in
-    let few : tables + 3 < 2 ^ 16 = fits.headers in
+    let tables = symbol_table_index symbols sections in
+    let tail = symbol_table_section symbols sections ∷ symbol_names_section symbols sections ∷ [] in
+    let few : tables + 3 < 2 ^ 16 = fits.header_count in
     let long : 1 + length own ≡ tables = sources_long symbols sections in
     let all : length entries ≡ length own + 2 = ap length (entries_are symbols sections) ∙ length-append own tail in
     record {
       sections = λ i s is.
-          two_fit SectionFits own (symbols_section symbols sections) (texts_section symbols sections)
+          two_fit SectionFits own (symbol_table_section symbols sections) (symbol_names_section symbols sections)
           (each_fits (numbers_of symbols sections (named_targets symbols sections)) tables 1 (map (source_section symbols sections) sections) (relocations_of symbols sections)
           (omega arith) (omega arith) (listed_fit symbols sections fits))
           (symbols_fit symbols sections fits) (texts_fit symbols sections) i s (sym (ap (λ (es : List SectionEntry). slice_get es i) (entries_are symbols sections)) ∙ is);
       count = omega arith;
-      names = fits.names;
-      size = subst (λ (bytes : List ℕ). length bytes < 2 ^ 64) (image_is symbols sections) fits.size;
+      names = fits.section_names_size;
+      size = subst (λ (bytes : List ℕ). length bytes < 2 ^ 64) (image_is symbols sections) fits.file_size;
     }
+
+pub objects_are_files : ObjectsAreFiles
+objects_are_files symbols sections fits = (image_is symbols sections, file_fits symbols sections fits)

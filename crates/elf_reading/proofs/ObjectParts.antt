@@ -17,17 +17,17 @@ use Rattle.elf_object.specs.Image.{before_names, image_with, image_of}
 use Rattle.elf_object.specs.Sections.{source_section, relocation_bytes, with_relocations, header_count, entries_from, header_indices_from, next_header}
 use Rattle.elf_object.specs.TableLaws.{named_targets, table_in, info_in}
 use Rattle.elf_reading.specs.Limits.{is_space, space_size, SectionFits, FileFits}
-use Rattle.elf_reading.specs.ObjectLimits.{entries_of, symbol_table_header, SourceFits, ObjectFits}
-use Rattle.elf_reading.specs.SymbolReading.{header_of, symbols_section, texts_section}
+use Rattle.elf_reading.specs.ObjectLimits.{entries_of, symbol_table_index, SourceFits, ObjectFits}
+use Rattle.elf_reading.specs.SymbolReading.{header_index, symbol_table_section, symbol_names_section}
 use Rattle.elf_reading.proofs.FileParts.{names_section}
 
 -- the sections of the source and of their relocations
 abbrev pub source_entries : SymbolMap → LaidSections → List SectionEntry
 source_entries symbols sections =
-    entries_from (numbers_of symbols sections (named_targets symbols sections)) (symbol_table_header symbols sections) 1 (map (source_section symbols sections) sections) (relocations_of symbols sections)
+    entries_from (numbers_of symbols sections (named_targets symbols sections)) (symbol_table_index symbols sections) 1 (map (source_section symbols sections) sections) (relocations_of symbols sections)
 
 pub entries_are : (symbols : SymbolMap) (sections : LaidSections)
-    → entries_of symbols sections ≡ source_entries symbols sections ++ symbols_section symbols sections ∷ texts_section symbols sections ∷ []
+    → entries_of symbols sections ≡ source_entries symbols sections ++ symbol_table_section symbols sections ∷ symbol_names_section symbols sections ∷ []
 unfolding before_names
 entries_are symbols sections = refl
 
@@ -57,9 +57,9 @@ entries_long numbers tables index (s ∷ list) (own ∷ found) long =
     entries_long numbers tables (index + header_count own) list found (let fewer : length list ≡ length found = cc in fewer) in
     omega arith
 
-pub sources_long : (symbols : SymbolMap) (sections : LaidSections) → 1 + length (source_entries symbols sections) ≡ symbol_table_header symbols sections
+pub sources_long : (symbols : SymbolMap) (sections : LaidSections) → 1 + length (source_entries symbols sections) ≡ symbol_table_index symbols sections
 sources_long symbols sections =
-    entries_long (numbers_of symbols sections (named_targets symbols sections)) (symbol_table_header symbols sections) 1 (map (source_section symbols sections) sections) (relocations_of symbols sections)
+    entries_long (numbers_of symbols sections (named_targets symbols sections)) (symbol_table_index symbols sections) 1 (map (source_section symbols sections) sections) (relocations_of symbols sections)
     (length-map sections (source_section symbols sections) ∙ sym (relocations_long symbols sections 0 sections))
 
 pub get_front : {A : Type 0} (xs ys : List A) (i : ℕ) (x : A) → slice_get xs i ≡ Some x → slice_get (xs ++ ys) i ≡ Some x
@@ -125,17 +125,17 @@ relocations_there symbols all from (t ∷ ts) (suc number) section is =
 -- the place of a section of the source in the file, and of its relocations
 pub record Placed (symbols : SymbolMap) (sections : LaidSections) (number : ℕ) (section : SectionOf LaidItem) (own : List Relocation) : Type 0 where
   pub place : ℕ
-  pub header : place + 1 ≡ header_of symbols sections number
+  pub header : place + 1 ≡ header_index symbols sections number
   pub there : slice_get (with_names (entries_of symbols sections)) place ≡ Some (source_section symbols sections section)
   pub behind : 0 < length own → slice_get (with_names (entries_of symbols sections)) (place + 1)
-      ≡ Some (relocation_section (symbol_table_header symbols sections) (header_of symbols sections number) section.name
+      ≡ Some (relocation_section (symbol_table_index symbols sections) (header_index symbols sections number) section.name
       (relocation_bytes (numbers_of symbols sections (named_targets symbols sections)) own))
 
 in_all : (symbols : SymbolMap) (sections : LaidSections) (place : ℕ) (s : SectionEntry) → slice_get (source_entries symbols sections) place ≡ Some s
     → slice_get (with_names (entries_of symbols sections)) place ≡ Some s
 unfolding with_names
 in_all symbols sections place s is =
-    let tail = symbols_section symbols sections ∷ texts_section symbols sections ∷ [] in
+    let tail = symbol_table_section symbols sections ∷ symbol_names_section symbols sections ∷ [] in
     get_front (entries_of symbols sections) (names_section (entries_of symbols sections) ∷ []) place s
     (ap (λ (es : List SectionEntry). slice_get es place) (entries_are symbols sections) ∙ get_front (source_entries symbols sections) tail place s is)
 
@@ -143,7 +143,7 @@ pub placed : (symbols : SymbolMap) (sections : LaidSections) (number : ℕ) (sec
     → slice_get (relocations_of symbols sections) number ≡ Some own → Placed symbols sections number section own
 placed symbols sections number section own is also =
     let numbers = numbers_of symbols sections (named_targets symbols sections) in
-    let tables = symbol_table_header symbols sections in
+    let tables = symbol_table_index symbols sections in
     let view = source_section symbols sections in
     let got : slice_get (map view sections) number ≡ Some (view section) = slice_get-map view sections number ∙ ap (option_map view) is in
     let at = source_at numbers tables 1 (map view sections) (relocations_of symbols sections) number (view section) own got also in
@@ -157,20 +157,20 @@ placed symbols sections number section own is also =
     }
 
 tail_there : (symbols : SymbolMap) (sections : LaidSections) (place : ℕ) (s : SectionEntry)
-    → slice_get (source_entries symbols sections ++ symbols_section symbols sections ∷ texts_section symbols sections ∷ []) place ≡ Some s
+    → slice_get (source_entries symbols sections ++ symbol_table_section symbols sections ∷ symbol_names_section symbols sections ∷ []) place ≡ Some s
     → slice_get (with_names (entries_of symbols sections)) place ≡ Some s
 unfolding with_names
 tail_there symbols sections place s is =
     get_front (entries_of symbols sections) (names_section (entries_of symbols sections) ∷ []) place s (ap (λ (es : List SectionEntry). slice_get es place) (entries_are symbols sections) ∙ is)
 
-pub symbols_there : (symbols : SymbolMap) (sections : LaidSections) → slice_get (with_names (entries_of symbols sections)) (length (source_entries symbols sections)) ≡ Some (symbols_section symbols sections)
+pub symbols_there : (symbols : SymbolMap) (sections : LaidSections) → slice_get (with_names (entries_of symbols sections)) (length (source_entries symbols sections)) ≡ Some (symbol_table_section symbols sections)
 symbols_there symbols sections =
     let n = length (source_entries symbols sections) in
-    tail_there symbols sections n (symbols_section symbols sections)
-    (get_behind (source_entries symbols sections) (symbols_section symbols sections ∷ texts_section symbols sections ∷ []) 0 n (omega arith))
+    tail_there symbols sections n (symbol_table_section symbols sections)
+    (get_behind (source_entries symbols sections) (symbol_table_section symbols sections ∷ symbol_names_section symbols sections ∷ []) 0 n (omega arith))
 
-pub texts_there : (symbols : SymbolMap) (sections : LaidSections) → slice_get (with_names (entries_of symbols sections)) (length (source_entries symbols sections) + 1) ≡ Some (texts_section symbols sections)
+pub texts_there : (symbols : SymbolMap) (sections : LaidSections) → slice_get (with_names (entries_of symbols sections)) (length (source_entries symbols sections) + 1) ≡ Some (symbol_names_section symbols sections)
 texts_there symbols sections =
     let n = length (source_entries symbols sections) in
-    tail_there symbols sections (n + 1) (texts_section symbols sections)
-    (get_behind (source_entries symbols sections) (symbols_section symbols sections ∷ texts_section symbols sections ∷ []) 1 (n + 1) (omega arith))
+    tail_there symbols sections (n + 1) (symbol_names_section symbols sections)
+    (get_behind (source_entries symbols sections) (symbol_table_section symbols sections ∷ symbol_names_section symbols sections ∷ []) 1 (n + 1) (omega arith))

@@ -20,19 +20,20 @@ use Rattle.elf_object.specs.Image.{image_of}
 use Rattle.elf_object.specs.Relocations.{kind_number, relocation_entry}
 use Rattle.elf_object.specs.Sections.{relocation_bytes}
 use Rattle.elf_object.specs.TableLaws.{named_targets, table_in, IsEntryOf, TargetsStand}
-use Rattle.elf_reading.specs.ObjectLimits.{symbol_table_header, RelocationFits, ObjectFits}
-use Rattle.elf_reading.specs.SymbolReading.{header_of, ObjectSymbolRead}
+use Rattle.elf_reading.specs.ObjectLimits.{symbol_table_index, ObjectFits}
+use Rattle.elf_reading.specs.SymbolReading.{header_index, ObjectSymbolRead}
 use Rattle.elf_reading.specs.RelocationReading.{relocations_section, RelocationTablesRead, relocation_at, IsMeant, RelocationRead, RelocationsRead}
 use Rattle.elf_reading.proofs.FieldReads.{word_read, xword_read, piece_read}
 use Rattle.elf_reading.proofs.FileParts.{behind_front}
 use Rattle.elf_reading.proofs.SectionReads.{got_inside}
 use Rattle.elf_reading.proofs.ObjectParts.{placed}
+use Rattle.elf_reading.proofs.RelocationFit.{RelocationFits, relocations_fit}
 use Rattle.elf_reading.proofs.SymbolReads.{object_section, content_read, symbols_read}
 
 pub relocation_tables_read : RelocationTablesRead
 relocation_tables_read symbols sections number section own fits is also some =
     let at = placed symbols sections number section own is also in
-    object_section symbols sections (at.place + 1) (header_of symbols sections number + 1) (relocations_section symbols sections number section.name own) fits
+    object_section symbols sections (at.place + 1) (header_index symbols sections number + 1) (relocations_section symbols sections number section.name own) fits
     (ap (λ n. n + 1) at.header) (at.behind some)
 
 entry_long : (number : ℕ) (r : Relocation) → length (relocation_entry number r) ≡ 24
@@ -109,7 +110,7 @@ holds_one (y ∷ xs) i x is = omega arith
 pub relocations_read : TargetsStand → RelocationsRead
 relocations_read law symbols sections number index section own r fits is also there =
     let image = image_of symbols sections in
-    let header = header_of symbols sections number + 1 in
+    let header = header_index symbols sections number + 1 in
     let numbers = numbers_of symbols sections (named_targets symbols sections) in
     let bytes = relocation_bytes numbers own in
     let which = target_number numbers r.target in
@@ -117,8 +118,8 @@ relocations_read law symbols sections number index section own r fits is also th
     let target = meant_by symbols sections r.target which (law symbols sections number index own r also there) in
     let some : 0 < which = target.some in
     let inside : which - 1 < length (table_in symbols sections) = got_inside (table_in symbols sections) (which - 1) target.entry target.there in
-    let few : length (table_in symbols sections) + 1 < 2 ^ 32 = fits.numbers in
-    let own_fields = says which r (fits.relocations number index own r also there) (omega arith) in
+    let few : length (table_in symbols sections) + 1 < 2 ^ 32 = fits.symbol_count in
+    let own_fields = says which r (relocations_fit symbols sections 0 sections number index own r also there) (omega arith) in
     let place : 0 + 24 * index ≡ 24 * index = omega arith in
     let stands = subst (λ n. PieceAt bytes n entry) place (entry_there numbers own index r [] bytes there refl) in
     let one : which - 1 + 1 ≡ (relocation_in entry).symbol = (let back : which - 1 + 1 ≡ which = omega arith in back) ∙ sym own_fields.symbol in

@@ -11,7 +11,7 @@ use Rattle.elf_file.specs.Places.{PieceAt, body_offset}
 use Rattle.elf_file.specs.Reader.{piece_at, table_entry, has_file_header, header_table_in, header_table_of, header_in, header_at, section_header_of, section_content}
 use Rattle.elf_file.specs.Sections.{Content, stored, nobits, no_bits, SectionEntry, content_size, file_bytes, section_header}
 use Rattle.elf_reading.specs.Limits.{is_space, space_size, SectionFits, FileFits}
-use Rattle.elf_reading.specs.FileReading.{TablesRead, null_fields, NullHeadersRead, Describes, SectionsRead}
+use Rattle.elf_reading.specs.FileReading.{table_ending, HeaderTablesRead, null_fields, NullHeadersRead, Describes}
 use Rattle.elf_reading.proofs.FieldReads.{half_read, word_read, xword_read, ends_within, piece_read}
 use Rattle.elf_reading.proofs.FileParts.{names_section, bodies, table_place, offsets, headers, file_parts, elf_header_long, section_header_long, count_all, file_long, table_there, header_stands, null_stands, body_stands}
 
@@ -63,8 +63,8 @@ file_read entries fits =
     ap header_table_of (file_parts entries) ∙ table_read place count (bodies entries ++ headers entries) (omega arith) (omega arith) (omega arith)
     ∙ ap Some (same_table place count (count - 1) place (length entries + 2) (length entries + 1) refl (omega arith) (omega arith))
 
-pub tables_read : TablesRead
-tables_read entries fits =
+pub header_tables_read : HeaderTablesRead
+header_tables_read entries fits =
     let place = table_place entries in
     let file = file_with entries in
     let count = length entries + 2 in
@@ -169,8 +169,14 @@ size_fits : (content : Content) (most : ℕ) → length (file_bytes content) ≤
 size_fits (stored bytes) most within small space = omega arith
 size_fits (nobits size) most within small space = space
 
-pub sections_read : SectionsRead
-sections_read entries index s fits is =
+-- what the header says, and the bytes that it leads to
+pub record HeaderRead (file : List ℕ) (h : SectionHeader) (s : SectionEntry) : Type 0 where
+  pub describes : Describes h s
+  pub bytes : section_content file h ≡ Some (file_bytes s.content)
+
+pub headers_read : (entries : List SectionEntry) (index : ℕ) (s : SectionEntry) → FileFits entries → slice_get (with_names entries) index ≡ Some s
+    → HeaderRead (file_with entries) (own_header entries index s) s
+headers_read entries index s fits is =
     let file = file_with entries in
     let name = slice_index_or (offsets entries) index 0 in
     let offset = body_offset header_end (with_names entries) index in
@@ -182,8 +188,6 @@ sections_read entries index s fits is =
     let says = described name offset s own (size_fits s.content (length file) within_file small own.space) in
     let place : (own_header entries index s).offset ≡ offset = offset_in name offset s (omega arith) in
     record {
-      header = own_header entries index s;
-      found = own_header_read entries index s fits is;
       describes = says;
       bytes = content_read file (own_header entries index s) s.content (ap (λ n. n == no_bits) says.kind ∙ own.agrees) says.size
           (subst (λ n. PieceAt file n (file_bytes s.content)) (sym place) there);

@@ -30,12 +30,12 @@ use Rattle.elf_object.specs.Image.{image_of}
 use Rattle.elf_object.specs.Sections.{source_section, header_count, header_indices, header_indices_from, next_header}
 use Rattle.elf_object.specs.TableLaws.{LocalsFirst, table_in, info_in}
 use Rattle.elf_reading.specs.FileReading.{SectionRead}
-use Rattle.elf_reading.specs.ObjectLimits.{entries_of, symbol_table_header, EntryFits, ObjectFits}
-use Rattle.elf_reading.specs.SymbolReading.{header_of, SourcesRead, symbols_section, texts_section, SymbolTablesRead, symbol_at, linked_text, symbol_name_at, SymbolRead, ObjectSymbolRead, SymbolsRead, null_symbol, NullSymbolsRead, LocalsRead}
+use Rattle.elf_reading.specs.ObjectLimits.{entries_of, symbol_table_index, SymbolFits, ObjectFits}
+use Rattle.elf_reading.specs.SymbolReading.{header_index, SourceSectionsRead, symbol_table_section, symbol_names_section, SymbolTablesRead, symbol_at, linked_text, symbol_name_at, SymbolRead, ObjectSymbolRead, SymbolsRead, null_symbol, NullSymbolsRead, LocalsRead}
 use Rattle.elf_reading.proofs.FieldReads.{half_read, word_read, xword_read, piece_read}
 use Rattle.elf_reading.proofs.FileParts.{behind_front}
-use Rattle.elf_reading.proofs.SectionReads.{got_inside, sections_read}
-use Rattle.elf_reading.proofs.NameReads.{both_so, NameAt, name_there, begins_within, text_read}
+use Rattle.elf_reading.proofs.SectionReads.{got_inside}
+use Rattle.elf_reading.proofs.NameReads.{sections_read, both_so, NameAt, name_there, begins_within, text_read}
 use Rattle.elf_reading.proofs.ObjectParts.{source_entries, image_is, sources_long, relocations_there, placed, symbols_there, texts_there}
 use Rattle.elf_reading.proofs.ObjectFit.{next_behind, file_fits}
 
@@ -46,18 +46,18 @@ object_section symbols sections place index s fits same is =
     subst (λ (bytes : List ℕ). SectionRead bytes index s) (sym (image_is symbols sections))
     (subst (λ n. SectionRead (file_with (entries_of symbols sections)) n s) same (sections_read (entries_of symbols sections) place s (file_fits symbols sections fits) is))
 
-pub sources_read : SourcesRead
-sources_read symbols sections number section fits is =
+pub source_sections_read : SourceSectionsRead
+source_sections_read symbols sections number section fits is =
     let own = section_relocations symbols sections (0 + number) section in
     let at = placed symbols sections number section own is (relocations_there symbols sections 0 sections number section is) in
-    object_section symbols sections at.place (header_of symbols sections number) (source_section symbols sections section) fits at.header at.there
+    object_section symbols sections at.place (header_index symbols sections number) (source_section symbols sections section) fits at.header at.there
 
 pub symbol_tables_read : SymbolTablesRead
 symbol_tables_read symbols sections fits =
     let n = length (source_entries symbols sections) in
-    let long : 1 + n ≡ symbol_table_header symbols sections = sources_long symbols sections in (
-      object_section symbols sections n (symbol_table_header symbols sections) (symbols_section symbols sections) fits (omega arith) (symbols_there symbols sections),
-      object_section symbols sections (n + 1) (symbol_table_header symbols sections + 1) (texts_section symbols sections) fits (omega arith) (texts_there symbols sections),
+    let long : 1 + n ≡ symbol_table_index symbols sections = sources_long symbols sections in (
+      object_section symbols sections n (symbol_table_index symbols sections) (symbol_table_section symbols sections) fits (omega arith) (symbols_there symbols sections),
+      object_section symbols sections (n + 1) (symbol_table_index symbols sections + 1) (symbol_names_section symbols sections) fits (omega arith) (texts_there symbols sections),
     )
 
 -- the bytes of a section by the index of its header
@@ -152,7 +152,7 @@ record Says (symbol : SymbolRecord) (headers : List ℕ) (name : ℕ) (s : Symbo
   value : symbol.value ≡ s.value
   size : symbol.size ≡ s.size
 
-says : (headers : List ℕ) (name : ℕ) (s : SymbolEntry) → EntryFits s → name < 2 ^ 32 → section_index_of headers s.section < 2 ^ 16
+says : (headers : List ℕ) (name : ℕ) (s : SymbolEntry) → SymbolFits s → name < 2 ^ 32 → section_index_of headers s.section < 2 ^ 16
     → Says (symbol_in (symbol_bytes headers name s)) headers name s
 unfolding symbol_in half_at word_at xword_at half word xword
 says headers name s fits low few = record {
@@ -193,29 +193,29 @@ index_small symbols sections Undefined fits = omega arith
 index_small symbols sections Absolute fits = omega arith
 index_small symbols sections Common fits = omega arith
 index_small symbols sections (InSection number) fits =
-    let few : symbol_table_header symbols sections + 3 < 2 ^ 16 = fits.headers in
-    let below : slice_index_or (header_indices (relocations_of symbols sections)) number 0 ≤ symbol_table_header symbols sections = index_below 1 (relocations_of symbols sections) number in
+    let few : symbol_table_index symbols sections + 3 < 2 ^ 16 = fits.header_count in
+    let below : slice_index_or (header_indices (relocations_of symbols sections)) number 0 ≤ symbol_table_index symbols sections = index_below 1 (relocations_of symbols sections) number in
     omega arith
 
 -- the bytes of the symbol table
 pub table_read : (symbols : SymbolMap) (sections : LaidSections) → ObjectFits symbols sections
-    → content_at (image_of symbols sections) (symbol_table_header symbols sections) ≡ Some (symbol_table_of (header_indices (relocations_of symbols sections)) (table_in symbols sections))
+    → content_at (image_of symbols sections) (symbol_table_index symbols sections) ≡ Some (symbol_table_of (header_indices (relocations_of symbols sections)) (table_in symbols sections))
 table_read symbols sections fits =
-    content_read (image_of symbols sections) (symbol_table_header symbols sections) (symbols_section symbols sections) (symbol_tables_read symbols sections fits).0
+    content_read (image_of symbols sections) (symbol_table_index symbols sections) (symbol_table_section symbols sections) (symbol_tables_read symbols sections fits).0
 
 -- the name that a symbol's entry leads to
 name_read : (symbols : SymbolMap) (sections : LaidSections) (symbol : SymbolRecord) (name : List ℕ) → ObjectFits symbols sections
     → NameAt (string_table_of (symbol_names (table_in symbols sections))) symbol.name name → list_all is_no_end name ≡ true
-    → symbol_name_at (image_of symbols sections) (symbol_table_header symbols sections) symbol ≡ Some name
+    → symbol_name_at (image_of symbols sections) (symbol_table_index symbols sections) symbol ≡ Some name
 name_read symbols sections symbol name fits there all =
     let image = image_of symbols sections in
-    let at = symbol_table_header symbols sections in
+    let at = symbol_table_index symbols sections in
     let table = string_table_of (symbol_names (table_in symbols sections)) in
     let read = symbol_tables_read symbols sections fits in
     let first = read.0 in
     ap (option_and_then (linked_text image symbol.name)) first.found
     ∙ ap (λ n. option_and_then (λ (bytes : List ℕ). text_from bytes symbol.name) (content_at image n)) first.describes.link
-    ∙ ap (option_and_then (λ (bytes : List ℕ). text_from bytes symbol.name)) (content_read image (at + 1) (texts_section symbols sections) read.1)
+    ∙ ap (option_and_then (λ (bytes : List ℕ). text_from bytes symbol.name)) (content_read image (at + 1) (symbol_names_section symbols sections) read.1)
     ∙ text_read table symbol.name name there all
 
 -- the name of an entry stands among the names
@@ -226,7 +226,7 @@ own_name table index s is = slice_get-map (λ (e : SymbolEntry). e.name) table i
 pub symbols_read : SymbolsRead
 symbols_read symbols sections index entry fits is =
     let image = image_of symbols sections in
-    let at = symbol_table_header symbols sections in
+    let at = symbol_table_index symbols sections in
     let headers = header_indices (relocations_of symbols sections) in
     let table = table_in symbols sections in
     let bytes = symbol_table_of headers table in
@@ -235,8 +235,8 @@ symbols_read symbols sections index entry fits is =
     let symbol = symbol_in (symbol_bytes headers name entry) in
     let there = name_there (symbol_names table) index entry.name (own_name table index entry is) in
     let inside : name < length texts = begins_within texts name entry.name there in
-    let small : length texts < 2 ^ 32 = fits.texts in
-    let own = says headers name entry (fits.values index entry is) (omega arith) (index_small symbols sections entry.section fits) in
+    let small : length texts < 2 ^ 32 = fits.symbol_names_size in
+    let own = says headers name entry (fits.symbol_values index entry is) (omega arith) (index_small symbols sections entry.section fits) in
     let kind = small_type entry.kind in
     record {
       symbol = symbol;

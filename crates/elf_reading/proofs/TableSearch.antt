@@ -18,10 +18,11 @@ use Rattle.elf_object.specs.Sections.{source_section, relocation_bytes, entries_
 use Rattle.elf_object.specs.TableLaws.{named_targets}
 use Rattle.elf_reading.specs.Limits.{FileFits}
 use Rattle.elf_reading.specs.FileReading.{null_fields, SectionRead}
-use Rattle.elf_reading.specs.ObjectLimits.{entries_of, symbol_table_header, ObjectFits}
-use Rattle.elf_reading.specs.SymbolReading.{symbols_section, texts_section, SymbolTablesFound}
+use Rattle.elf_reading.specs.ObjectLimits.{entries_of, symbol_table_index, ObjectFits}
+use Rattle.elf_reading.specs.SymbolReading.{symbol_table_section, symbol_names_section, SymbolTablesFound}
 use Rattle.elf_reading.proofs.FileParts.{names_section, count_all}
-use Rattle.elf_reading.proofs.SectionReads.{own_table, file_read, null_headers_read, sections_read}
+use Rattle.elf_reading.proofs.SectionReads.{own_table, file_read, null_headers_read}
+use Rattle.elf_reading.proofs.NameReads.{sections_read}
 use Rattle.elf_reading.proofs.ObjectParts.{source_entries, entries_are, image_is, sources_long}
 use Rattle.elf_reading.proofs.ObjectFit.{mapped, file_fits}
 use Rattle.elf_reading.proofs.LocalReads.{got, same_some}
@@ -83,15 +84,15 @@ unfolding with_names
 place_of symbols sections index s each is kind =
     let numbers = numbers_of symbols sections (named_targets symbols sections) in
     let last = names_section (entries_of symbols sections) in
-    only_there (source_entries symbols sections) (symbols_section symbols sections) (texts_section symbols sections) last index s
-    (sources_other numbers (symbol_table_header symbols sections) 1 (map (source_section symbols sections) sections) (relocations_of symbols sections) (listed_other symbols sections each))
+    only_there (source_entries symbols sections) (symbol_table_section symbols sections) (symbol_names_section symbols sections) last index s
+    (sources_other numbers (symbol_table_index symbols sections) 1 (map (source_section symbols sections) sections) (relocations_of symbols sections) (listed_other symbols sections each))
     (λ (e : 3 ≡ 2). absurd (omega arith)) (λ (e : 3 ≡ 2). absurd (omega arith))
     (sym (ap (λ (es : List SectionEntry). slice_get (es ++ last ∷ []) index) (entries_are symbols sections)) ∙ is) kind
 
 -- the same in the file of the object
 found_in_file : (symbols : SymbolMap) (sections : LaidSections) (index : ℕ) (header : SectionHeader) → ObjectFits symbols sections
     → ((number : ℕ) (section : SectionOf LaidItem) → slice_get sections number ≡ Some section → section.kind ≢ 2)
-    → section_header_of (file_with (entries_of symbols sections)) index ≡ Some header → header.kind ≡ 2 → index ≡ symbol_table_header symbols sections
+    → section_header_of (file_with (entries_of symbols sections)) index ≡ Some header → header.kind ≡ 2 → index ≡ symbol_table_index symbols sections
 found_in_file symbols sections zero header fits each is kind =
     let same : null_fields ≡ header = same_some null_fields header (sym (null_headers_read (entries_of symbols sections) (file_fits symbols sections fits)) ∙ is) in
     let none : header.kind ≡ 0 = sym (ap (λ (h : SectionHeader). h.kind) same) in
@@ -107,7 +108,7 @@ found_in_file symbols sections (suc index) header fits each is kind =
     let same : read.header ≡ header = same_some read.header header (sym read.found ∙ is) in
     let two : s.kind ≡ 2 = sym read.describes.kind ∙ ap (λ (h : SectionHeader). h.kind) same ∙ kind in
     let place : index ≡ length (source_entries symbols sections) = place_of symbols sections index s each there two in
-    let long : 1 + length (source_entries symbols sections) ≡ symbol_table_header symbols sections = sources_long symbols sections in
+    let long : 1 + length (source_entries symbols sections) ≡ symbol_table_index symbols sections = sources_long symbols sections in
     omega arith
 
 pub symbol_tables_found : SymbolTablesFound

@@ -11,14 +11,14 @@ use Rattle.elf_file.specs.StringTable.{is_no_end}
 use Rattle.elf_reading.specs.Limits.{FileFits}
 
 -- a table of so many headers that ends the file; the last of them is that of the names
-abbrev pub table_at_end : List ℕ → ℕ → HeaderTable
-table_at_end file count = record { offset = length file - 64 * count; count = count; names = count - 1 }
+abbrev pub table_ending : List ℕ → ℕ → HeaderTable
+table_ending file count = record { offset = length file - 64 * count; count = count; names = count - 1 }
 
 -- e_shoff says where the header table stands, e_shnum how many headers it has, and e_shstrndx which one is that of the
 -- names: besides the sections there are the null header and the names
-abbrev pub TablesRead : Type 0
-TablesRead = (entries : List SectionEntry) → FileFits entries
-    → header_table_of (file_with entries) ≡ Some (table_at_end (file_with entries) (length entries + 2))
+abbrev pub HeaderTablesRead : Type 0
+HeaderTablesRead = (entries : List SectionEntry) → FileFits entries
+    → header_table_of (file_with entries) ≡ Some (table_ending (file_with entries) (length entries + 2))
 
 -- the header of no section: all zero
 abbrev pub null_fields : SectionHeader
@@ -50,22 +50,19 @@ pub record Describes (h : SectionHeader) (s : SectionEntry) : Type 0 where
   pub alignment : h.alignment ≡ s.alignment
   pub entry_size : h.entry_size ≡ s.entry_size
 
--- the header of this index describes the section, and its sh_offset and sh_size lead to just the section's bytes
+-- the header of this index describes the section, and leads to just its bytes by sh_offset and sh_size, and to just its
+-- name, if that has no zero byte, by sh_name
 pub record SectionRead (file : List ℕ) (index : ℕ) (s : SectionEntry) : Type 0 where
   pub header : SectionHeader
   pub found : section_header_of file index ≡ Some header
   pub describes : Describes header s
   pub bytes : section_content file header ≡ Some (file_bytes s.content)
+  pub name : list_all is_no_end s.name ≡ true → section_name_of file index ≡ Some s.name
 
 -- so for each section of a file, the names at its end too; the null header stands before them
 abbrev pub SectionsRead : Type 0
 SectionsRead = (entries : List SectionEntry) (index : ℕ) (s : SectionEntry) → FileFits entries → slice_get (with_names entries) index ≡ Some s
     → SectionRead (file_with entries) (index + 1) s
-
--- a name without a zero byte is read back: sh_name is its offset in the section of the names
-abbrev pub SectionNamesRead : Type 0
-SectionNamesRead = (entries : List SectionEntry) (index : ℕ) (s : SectionEntry) → FileFits entries → slice_get (with_names entries) index ≡ Some s
-    → list_all is_no_end s.name ≡ true → section_name_of (file_with entries) (index + 1) ≡ Some s.name
 
 -- a look for a name finds the first section of that name, and none where there is none
 abbrev pub NamedSectionsRead : Type 0

@@ -17,21 +17,21 @@ use Rattle.elf_object.specs.Relocations.{kind_number}
 use Rattle.elf_object.specs.Sections.{relocation_bytes}
 use Rattle.elf_object.specs.TableLaws.{named_targets}
 use Rattle.elf_reading.specs.FileReading.{SectionRead}
-use Rattle.elf_reading.specs.ObjectLimits.{ObjectFits, symbol_table_header}
-use Rattle.elf_reading.specs.SymbolReading.{header_of, ObjectSymbolRead}
+use Rattle.elf_reading.specs.ObjectLimits.{ObjectFits, symbol_table_index}
+use Rattle.elf_reading.specs.SymbolReading.{header_index, ObjectSymbolRead}
 
 -- the relocations of the section of this number and name: sh_info is the index of that section's header, sh_link that
 -- of the symbol table's
 abbrev pub relocations_section : SymbolMap → LaidSections → ℕ → List ℕ → List Relocation → SectionEntry
 relocations_section symbols sections number name own =
-    relocation_section (symbol_table_header symbols sections) (header_of symbols sections number) name
+    relocation_section (symbol_table_index symbols sections) (header_index symbols sections number) name
     (relocation_bytes (numbers_of symbols sections (named_targets symbols sections)) own)
 
 -- behind the header of each section with relocations stands that of its relocations
 abbrev pub RelocationTablesRead : Type 0
 RelocationTablesRead = (symbols : SymbolMap) (sections : LaidSections) (number : ℕ) (section : SectionOf LaidItem) (own : List Relocation) → ObjectFits symbols sections
     → slice_get sections number ≡ Some section → slice_get (relocations_of symbols sections) number ≡ Some own → 0 < length own
-    → SectionRead (image_of symbols sections) (header_of symbols sections number + 1) (relocations_section symbols sections number section.name own)
+    → SectionRead (image_of symbols sections) (header_index symbols sections number + 1) (relocations_section symbols sections number section.name own)
 
 -- the relocation of this index, where the section of relocations has the header of this index
 abbrev pub relocation_at : List ℕ → ℕ → ℕ → Option RelocationRecord
@@ -58,4 +58,4 @@ pub record RelocationRead (symbols : SymbolMap) (sections : LaidSections) (table
 abbrev pub RelocationsRead : Type 0
 RelocationsRead = (symbols : SymbolMap) (sections : LaidSections) (number index : ℕ) (section : SectionOf LaidItem) (own : List Relocation) (r : Relocation)
     → ObjectFits symbols sections → slice_get sections number ≡ Some section → slice_get (relocations_of symbols sections) number ≡ Some own
-    → slice_get own index ≡ Some r → RelocationRead symbols sections (header_of symbols sections number + 1) index r
+    → slice_get own index ≡ Some r → RelocationRead symbols sections (header_index symbols sections number + 1) index r

@@ -15,40 +15,40 @@ use Rattle.elf_object.specs.Image.{image_of}
 use Rattle.elf_object.specs.Sections.{header_indices, source_section}
 use Rattle.elf_object.specs.TableLaws.{info_in, table_in}
 use Rattle.elf_reading.specs.FileReading.{SectionRead}
-use Rattle.elf_reading.specs.ObjectLimits.{ObjectFits, symbol_table_header}
+use Rattle.elf_reading.specs.ObjectLimits.{ObjectFits, symbol_table_index}
 
 -- the index of the header of the section of this number of the source
-abbrev pub header_of : SymbolMap → LaidSections → ℕ → ℕ
-header_of symbols sections number = slice_index_or (header_indices (relocations_of symbols sections)) number 0
+abbrev pub header_index : SymbolMap → LaidSections → ℕ → ℕ
+header_index symbols sections number = slice_index_or (header_indices (relocations_of symbols sections)) number 0
 
 -- the header of each section of the source says what that section is, and leads to its bytes
-abbrev pub SourcesRead : Type 0
-SourcesRead = (symbols : SymbolMap) (sections : LaidSections) (number : ℕ) (section : SectionOf LaidItem) → ObjectFits symbols sections
+abbrev pub SourceSectionsRead : Type 0
+SourceSectionsRead = (symbols : SymbolMap) (sections : LaidSections) (number : ℕ) (section : SectionOf LaidItem) → ObjectFits symbols sections
     → slice_get sections number ≡ Some section
-    → SectionRead (image_of symbols sections) (header_of symbols sections number) (source_section symbols sections section)
+    → SectionRead (image_of symbols sections) (header_index symbols sections number) (source_section symbols sections section)
 
 -- the symbol table: its sh_link is the index of the string table behind it, its sh_info the number of the first symbol
 -- that is not local
-abbrev pub symbols_section : SymbolMap → LaidSections → SectionEntry
-symbols_section symbols sections =
-    symbol_section (symbol_table_header symbols sections + 1) (info_in symbols sections)
+abbrev pub symbol_table_section : SymbolMap → LaidSections → SectionEntry
+symbol_table_section symbols sections =
+    symbol_section (symbol_table_index symbols sections + 1) (info_in symbols sections)
     (symbol_table_of (header_indices (relocations_of symbols sections)) (table_in symbols sections))
 
 -- the string table of the names of symbols
-abbrev pub texts_section : SymbolMap → LaidSections → SectionEntry
-texts_section symbols sections = string_section (codes ".strtab") (string_table_of (symbol_names (table_in symbols sections)))
+abbrev pub symbol_names_section : SymbolMap → LaidSections → SectionEntry
+symbol_names_section symbols sections = string_section (codes ".strtab") (string_table_of (symbol_names (table_in symbols sections)))
 
 -- the header of the symbol table, and that of the names of symbols behind it
 abbrev pub SymbolTablesRead : Type 0
 SymbolTablesRead = (symbols : SymbolMap) (sections : LaidSections) → ObjectFits symbols sections
-    → SectionRead (image_of symbols sections) (symbol_table_header symbols sections) (symbols_section symbols sections)
-    × SectionRead (image_of symbols sections) (symbol_table_header symbols sections + 1) (texts_section symbols sections)
+    → SectionRead (image_of symbols sections) (symbol_table_index symbols sections) (symbol_table_section symbols sections)
+    × SectionRead (image_of symbols sections) (symbol_table_index symbols sections + 1) (symbol_names_section symbols sections)
 
 -- where no section of the source has type SHT_SYMTAB, the one header of that type is that of the symbol table
 abbrev pub SymbolTablesFound : Type 0
 SymbolTablesFound = (symbols : SymbolMap) (sections : LaidSections) (index : ℕ) (header : SectionHeader) → ObjectFits symbols sections
     → ((number : ℕ) (section : SectionOf LaidItem) → slice_get sections number ≡ Some section → section.kind ≢ 2)
-    → section_header_of (image_of symbols sections) index ≡ Some header → header.kind ≡ 2 → index ≡ symbol_table_header symbols sections
+    → section_header_of (image_of symbols sections) index ≡ Some header → header.kind ≡ 2 → index ≡ symbol_table_index symbols sections
 
 -- the symbol of this number, where the symbol table has the header of this index
 abbrev pub symbol_at : List ℕ → ℕ → ℕ → Option SymbolRecord
@@ -77,7 +77,7 @@ pub record SymbolRead (file : List ℕ) (table number : ℕ) (headers : List ℕ
 -- the symbol of this number of the object has all that the entry says
 abbrev pub ObjectSymbolRead : SymbolMap → LaidSections → ℕ → SymbolEntry → Type 0
 ObjectSymbolRead symbols sections number entry =
-    SymbolRead (image_of symbols sections) (symbol_table_header symbols sections) number (header_indices (relocations_of symbols sections)) entry
+    SymbolRead (image_of symbols sections) (symbol_table_index symbols sections) number (header_indices (relocations_of symbols sections)) entry
 
 -- so for each entry of the symbol table; the null symbol stands before them
 abbrev pub SymbolsRead : Type 0
@@ -91,10 +91,10 @@ null_symbol = record { name = 0; info = 0; other = 0; section = 0; value = 0; si
 -- symbol 0 is the null symbol
 abbrev pub NullSymbolsRead : Type 0
 NullSymbolsRead = (symbols : SymbolMap) (sections : LaidSections) → ObjectFits symbols sections
-    → symbol_at (image_of symbols sections) (symbol_table_header symbols sections) 0 ≡ Some null_symbol
+    → symbol_at (image_of symbols sections) (symbol_table_index symbols sections) 0 ≡ Some null_symbol
 
 -- each symbol that is there has binding STB_LOCAL if its number is below sh_info, and another one else
 abbrev pub LocalsRead : Type 0
 LocalsRead = (symbols : SymbolMap) (sections : LaidSections) (number : ℕ) (symbol : SymbolRecord) → ObjectFits symbols sections
-    → symbol_at (image_of symbols sections) (symbol_table_header symbols sections) number ≡ Some symbol
+    → symbol_at (image_of symbols sections) (symbol_table_index symbols sections) number ≡ Some symbol
     → (number < info_in symbols sections → symbol.info / 16 ≡ 0) × (info_in symbols sections ≤ number → symbol.info / 16 ≢ 0)

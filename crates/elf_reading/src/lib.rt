@@ -5,11 +5,9 @@ mod files;
 mod relocations;
 mod symbols;
 
-pub use files::{
-    named_sections_read, null_headers_read, section_names_read, sections_read, tables_read,
-};
+pub use files::{header_tables_read, named_sections_read, null_headers_read, sections_read};
 pub use relocations::{relocation_tables_read, relocations_read};
 pub use symbols::{
-    locals_read, null_symbols_read, sources_read, symbol_tables_found, symbol_tables_read,
-    symbols_read,
+    locals_read, null_symbols_read, objects_are_files, source_sections_read, symbol_tables_found,
+    symbol_tables_read, symbols_read,
 };

@@ -1,15 +1,21 @@
 //! Sections and symbols are read back from the object of them (gABI, chapter 4, "Sections" and "Symbol Table").
 
+ghost use Rattle.elf_reading.specs.ObjectLimits.{ObjectsAreFiles};
 ghost use Rattle.elf_reading.specs.SymbolReading.{
-    LocalsRead, NullSymbolsRead, SourcesRead, SymbolTablesFound, SymbolTablesRead,
+    LocalsRead, NullSymbolsRead, SourceSectionsRead, SymbolTablesFound, SymbolTablesRead,
     SymbolsRead,
 };
 
 use elf_object::locals_first;
 
-/// The header of each section of the source says what the section is, and leads to just its bytes.
-pub fn sources_read()
-    ensures { SourcesRead }
+/// An object whose numbers fit is such a file, so that all laws of files hold of it.
+pub fn objects_are_files()
+    ensures { ObjectsAreFiles }
+{}
+
+/// The header of each section of the source says what the section is, and leads to just its bytes and its name.
+pub fn source_sections_read()
+    ensures { SourceSectionsRead }
 {}
 
 /// The headers of the symbol table and of the names of symbols.
