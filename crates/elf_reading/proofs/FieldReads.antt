@@ -1,6 +1,6 @@
 -- A number that fits its field is read back, and a piece is read where it stands.
 use Rattle.std.proofs.Common.{◌≡◌, ℕ, ◌+◌, ◌^◌, ◌<◌, ◌≤◌, Bool, true, cond, List, ◌++◌, Some, None, length, take, drop, nat_le, ap, ◌∙◌, arith, length-append, mod-eq_of_lt}
-use Rattle.std.proofs.lemmas.Bool.{le-leb}
+use Rattle.std.proofs.lemmas.Bool.{le-leb, lt-leb}
 use Rattle.std.proofs.lemmas.List.{drop_at, take_at}
 use Rattle.byteorder.specs.Endian.{little_bytes, little_number}
 use Rattle.byteorder.specs.Numbers.{little_number-reads_back}
@@ -41,3 +41,7 @@ piece_read bytes at size piece there long =
     let test : nat_le (at + size) (length bytes) ≡ true = le-leb (at + size) (length bytes) (omega arith) in
     ap (λ (b : Bool). cond b (Some (take size (drop at bytes))) None) test
     ∙ ap (λ (xs : List ℕ). Some (take size xs)) (drop_there bytes at piece there) ∙ ap Some (take_at piece there.rest size long)
+
+-- nothing is read where not so many bytes are left
+pub piece_past : (bytes : List ℕ) (at size : ℕ) → length bytes < at + size → piece_at bytes at size ≡ None
+piece_past bytes at size past = ap (λ (b : Bool). cond b (Some (take size (drop at bytes))) None) (lt-leb (at + size) (length bytes) past)

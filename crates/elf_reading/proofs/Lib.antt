@@ -11,3 +11,4 @@ mod LocalReads
 mod TableSearch
 mod RelocationFit
 mod RelocationReads
+mod ObjectSamples

@@ -1,6 +1,6 @@
 -- The local symbols are those below sh_info.
-use Rattle.std.proofs.Common.{◌≡◌, ℕ, zero, suc, ◌+◌, ◌-◌, ◌*◌, ◌/◌, ◌<◌, ◌≤◌, ◌≢◌, ◌&&◌, not, Bool, true, false, cond, List, [], ◌∷◌, Option, Some, None, length, take, drop, nat_le, option_map, option_and_then, refl, sym, ap, ◌∙◌, subst, inl, inr, arith}
-use Rattle.std.proofs.lemmas.Bool.{leb-true, cases_lt}
+use Rattle.std.proofs.Common.{◌≡◌, ℕ, zero, suc, ◌+◌, ◌-◌, ◌*◌, ◌/◌, ◌<◌, ◌≤◌, ◌≢◌, not, Bool, true, false, cond, List, [], ◌∷◌, Option, Some, None, length, take, drop, nat_le, option_map, option_and_then, refl, sym, ap, ◌∙◌, subst, arith}
+use Rattle.std.proofs.lemmas.Bool.{leb-true}
 use Rattle.std.specs.Prelude.{slice_get}
 use Rattle.std.specs.List.{list_all}
 use Rattle.asm_symbols.specs.SymbolMap.{SymbolMap}
@@ -15,7 +15,7 @@ use Rattle.elf_object.specs.Contents.{relocations_of}
 use Rattle.elf_object.specs.Image.{image_of}
 use Rattle.elf_object.specs.Sections.{header_indices}
 use Rattle.elf_object.specs.TableLaws.{LocalsFirst, table_in, info_in}
-use Rattle.elf_reading.specs.ObjectLimits.{symbol_table_index, ObjectFits}
+use Rattle.elf_reading.specs.ObjectLimits.{symbol_table_index}
 use Rattle.elf_reading.specs.SymbolReading.{symbol_at, null_symbol, ObjectSymbolRead, LocalsRead}
 use Rattle.elf_reading.proofs.NameReads.{both_so}
 use Rattle.elf_reading.proofs.SymbolReads.{table_long, table_read, symbols_read, null_symbols_read}
@@ -84,7 +84,7 @@ entry_bound symbols sections index entry symbol law is same =
     let table = table_in symbols sections in (
       λ (low : suc index < info). same ∙ local_number entry.binding (in_front is_local_entry table (info - 1) index entry locals (omega arith) is),
       λ (high : info ≤ suc index) (e : symbol.info / 16 ≡ 0).
-      other_number entry.binding (behind (λ (s : SymbolEntry). not (is_local_entry s)) table (info - 1) index entry others (omega arith) is) (sym same ∙ e),
+          other_number entry.binding (behind (λ (s : SymbolEntry). not (is_local_entry s)) table (info - 1) index entry others (omega arith) is) (sym same ∙ e),
     )
 
 pub same_some : {A : Type 0} (x y : A) → Some x ≡ Some y → x ≡ y

@@ -14,7 +14,7 @@ use Rattle.elf_file.specs.StringTable.{is_no_end, ended_name, strings, string_ta
 use Rattle.elf_reading.specs.Limits.{FileFits}
 use Rattle.elf_reading.specs.FileReading.{null_fields, SectionsRead}
 use Rattle.elf_reading.proofs.FileParts.{names_section, offsets}
-use Rattle.elf_reading.proofs.SectionReads.{own_table, file_read, null_headers_read, own_header, own_header_read, headers_read, name_in}
+use Rattle.elf_reading.proofs.SectionReads.{file_read, null_headers_read, own_header, own_header_read, headers_read, name_in}
 
 -- from this offset on, the table begins with the name and a zero byte
 pub record NameAt (table : List ℕ) (offset : ℕ) (name : List ℕ) : Type 0 where

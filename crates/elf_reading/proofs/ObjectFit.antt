@@ -1,19 +1,17 @@
 -- The numbers of the sections of an object fit.
-use Rattle.std.proofs.Common.{◌≡◌, ℕ, zero, suc, ◌+◌, ◌-◌, ◌^◌, ◌<◌, ◌≤◌, ◌==◌, Bool, true, false, cond, List, [], ◌∷◌, ◌++◌, Option, Some, None, length, map, option_map, refl, sym, ap, ◌∙◌, subst, arith, length-append, mod-lt}
+use Rattle.std.proofs.Common.{◌≡◌, ℕ, zero, suc, ◌+◌, ◌^◌, ◌<◌, ◌≤◌, ◌==◌, Bool, true, false, cond, List, [], ◌∷◌, ◌++◌, Option, Some, None, length, map, option_map, refl, sym, ap, ◌∙◌, subst, arith, length-append, mod-lt}
 use Rattle.std.proofs.lemmas.List.{length-map}
 use Rattle.std.proofs.lemmas.Option.{slice_get-map}
-use Rattle.std.specs.Prelude.{slice_get, slice_index_or}
+use Rattle.std.specs.Prelude.{slice_get}
 use Rattle.asm_frags.specs.SectionOf.{SectionOf}
 use Rattle.asm_symbols.specs.SymbolMap.{SymbolMap}
 use Rattle.asm_relax.specs.Final.{section_size, shift_in}
 use Rattle.asm_relax.specs.Settling.{LaidItem, LaidSections}
-use Rattle.elf_file.specs.Image.{file_with}
-use Rattle.elf_file.specs.Sections.{no_bits, Content, stored, nobits, SectionEntry, relocation_section}
-use Rattle.elf_symbols.specs.Numbers.{NumbersOf, numbers_of, first_section_symbol, first_local, first_other}
-use Rattle.elf_symbols.specs.SymbolTable.{SymbolEntry, file_entry, section_entries, part, listed_all, table_of}
+use Rattle.elf_file.specs.Sections.{no_bits, stored, nobits, SectionEntry, relocation_section}
+use Rattle.elf_symbols.specs.Numbers.{NumbersOf, numbers_of}
+use Rattle.elf_symbols.specs.SymbolTable.{file_entry, section_entries, part, listed_all, table_of}
 use Rattle.elf_object.specs.declared.relocations.Relocation.{Relocation}
 use Rattle.elf_object.specs.Contents.{section_bytes, relocations_of}
-use Rattle.elf_object.specs.Image.{image_of}
 use Rattle.elf_object.specs.Sections.{source_section, relocation_bytes, header_count, entries_from, next_header}
 use Rattle.elf_object.specs.TableLaws.{named_targets, table_in, info_in}
 use Rattle.elf_reading.specs.Limits.{is_space, space_size, SectionFits, FileFits}

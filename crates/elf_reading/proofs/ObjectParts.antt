@@ -1,23 +1,20 @@
 -- The sections of an object, and where each stands among them.
-use Rattle.std.proofs.Common.{◌≡◌, ℕ, zero, suc, ◌+◌, ◌-◌, ◌^◌, ◌<◌, ◌≤◌, ◌==◌, Bool, true, false, cond, List, [], ◌∷◌, ◌++◌, Option, Some, None, length, map, option_map, codes, refl, sym, ap, ◌∙◌, subst, arith, length-append}
+use Rattle.std.proofs.Common.{◌≡◌, ℕ, zero, suc, ◌+◌, ◌<◌, List, [], ◌∷◌, ◌++◌, Some, length, map, option_map, refl, sym, ap, ◌∙◌, subst, arith, length-append}
 use Rattle.std.proofs.lemmas.List.{length-map}
 use Rattle.std.proofs.lemmas.Option.{slice_get-map}
 use Rattle.std.specs.Prelude.{slice_get, slice_index_or}
 use Rattle.asm_frags.specs.SectionOf.{SectionOf}
 use Rattle.asm_symbols.specs.SymbolMap.{SymbolMap}
-use Rattle.asm_relax.specs.Final.{section_size}
 use Rattle.asm_relax.specs.Settling.{LaidItem, LaidSections}
 use Rattle.elf_file.specs.Image.{with_names, file_with}
-use Rattle.elf_file.specs.Sections.{no_bits, Content, stored, nobits, SectionEntry, relocation_section}
-use Rattle.elf_symbols.specs.Numbers.{NumbersOf, numbers_of, first_section_symbol, first_local, first_other}
-use Rattle.elf_symbols.specs.SymbolTable.{SymbolEntry, file_entry, section_entries, part, listed_all, table_of}
+use Rattle.elf_file.specs.Sections.{SectionEntry, relocation_section}
+use Rattle.elf_symbols.specs.Numbers.{NumbersOf, numbers_of}
 use Rattle.elf_object.specs.declared.relocations.Relocation.{Relocation}
-use Rattle.elf_object.specs.Contents.{section_bytes, section_relocations, relocations_from, relocations_of}
+use Rattle.elf_object.specs.Contents.{section_relocations, relocations_from, relocations_of}
 use Rattle.elf_object.specs.Image.{before_names, image_with, image_of}
 use Rattle.elf_object.specs.Sections.{source_section, relocation_bytes, with_relocations, header_count, entries_from, header_indices_from, next_header}
-use Rattle.elf_object.specs.TableLaws.{named_targets, table_in, info_in}
-use Rattle.elf_reading.specs.Limits.{is_space, space_size, SectionFits, FileFits}
-use Rattle.elf_reading.specs.ObjectLimits.{entries_of, symbol_table_index, SourceFits, ObjectFits}
+use Rattle.elf_object.specs.TableLaws.{named_targets}
+use Rattle.elf_reading.specs.ObjectLimits.{entries_of, symbol_table_index}
 use Rattle.elf_reading.specs.SymbolReading.{header_index, symbol_table_section, symbol_names_section}
 use Rattle.elf_reading.proofs.FileParts.{names_section}
 

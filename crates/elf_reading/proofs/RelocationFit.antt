@@ -1,7 +1,7 @@
 -- Offsets and addends of relocations are numbers modulo 2 ^ 64.
 use Rattle.std.proofs.Common.{◌≡◌, ℕ, zero, suc, ◌+◌, ◌-◌, ◌^◌, ◌<◌, ◌&&◌, Bool, true, false, cond, List, [], ◌∷◌, Option, None, Some, ap, ◌∙◌, subst, arith, mod-lt}
 use Rattle.std.proofs.lemmas.Option.{option_and_then_some}
-use Rattle.std.specs.Prelude.{slice_get, option_map, option_and_then, filter_map}
+use Rattle.std.specs.Prelude.{slice_get, option_map, filter_map}
 use Rattle.std.specs.List.{cons_option}
 use Rattle.asm_expr.specs.declared.forms.Term.{Term}
 use Rattle.asm_expr.specs.Forms.{wrapped}
@@ -18,8 +18,8 @@ use Rattle.asm_relax.specs.Settling.{LaidItem, LaidSections}
 use Rattle.elf_object.specs.declared.references.Reference.{Reference}
 use Rattle.elf_object.specs.declared.references.SymbolReference.{SymbolReference}
 use Rattle.elf_object.specs.declared.relocations.Relocation.{Relocation}
-use Rattle.elf_object.specs.Contents.{filed_fields, section_relocations, relocations_from, relocations_of}
-use Rattle.elf_object.specs.Relocations.{reference_found, own_address, reference, direct, relative, pair, is_plus, is_minus, reference_by, final_reference, relocation_with, relocation, kind_for, field_place, field_relocation}
+use Rattle.elf_object.specs.Contents.{filed_fields, section_relocations, relocations_from}
+use Rattle.elf_object.specs.Relocations.{reference_found, own_address, reference, relative, is_plus, is_minus, reference_by, final_reference, relocation_with, relocation, kind_for, field_place, field_relocation}
 use Rattle.elf_reading.proofs.ObjectFit.{mapped}
 
 -- r_offset and r_addend are Elf64_Xwords

@@ -1,9 +1,8 @@
 -- Relocations are read back, and lead to the symbols that they mean.
-use Rattle.std.proofs.Common.{◌≡◌, ℕ, zero, suc, ◌+◌, ◌-◌, ◌*◌, ◌^◌, ◌<◌, ◌≤◌, List, [], ◌∷◌, ◌++◌, Option, Some, None, length, flat_map, option_map, option_and_then, refl, sym, ap, ◌∙◌, subst, arith, append_assoc, length-append}
+use Rattle.std.proofs.Common.{◌≡◌, ℕ, zero, suc, ◌+◌, ◌-◌, ◌*◌, ◌^◌, ◌<◌, List, [], ◌∷◌, ◌++◌, Some, None, length, option_map, option_and_then, refl, sym, ap, ◌∙◌, subst, arith, append_assoc, length-append}
 use Rattle.std.specs.Prelude.{slice_get}
-use Rattle.asm_frags.specs.SectionOf.{SectionOf}
 use Rattle.asm_symbols.specs.SymbolMap.{SymbolMap}
-use Rattle.asm_relax.specs.Settling.{LaidItem, LaidSections}
+use Rattle.asm_relax.specs.Settling.{LaidSections}
 use Rattle.elf_file.specs.declared.reader.RelocationRecord.{RelocationRecord}
 use Rattle.elf_file.specs.Fields.{word, xword, word_at, xword_at}
 use Rattle.elf_file.specs.Places.{PieceAt}
@@ -15,15 +14,13 @@ use Rattle.elf_symbols.specs.SymbolTable.{SymbolEntry, section_entry}
 use Rattle.elf_object.specs.declared.relocations.Relocation.{Relocation}
 use Rattle.elf_object.specs.declared.relocations.RelocationKind.{RelocationKind}
 use Rattle.elf_object.specs.declared.relocations.RelocationKind.TheVariants.{Direct64, Pc32, Plt32, GotPcRel, Direct32, Signed32, Direct16, Pc16, Direct8, Pc8, GotTpOff, TpOff32, Pc64}
-use Rattle.elf_object.specs.Contents.{relocations_of}
 use Rattle.elf_object.specs.Image.{image_of}
 use Rattle.elf_object.specs.Relocations.{kind_number, relocation_entry}
 use Rattle.elf_object.specs.Sections.{relocation_bytes}
 use Rattle.elf_object.specs.TableLaws.{named_targets, table_in, IsEntryOf, TargetsStand}
-use Rattle.elf_reading.specs.ObjectLimits.{symbol_table_index, ObjectFits}
 use Rattle.elf_reading.specs.SymbolReading.{header_index, ObjectSymbolRead}
-use Rattle.elf_reading.specs.RelocationReading.{relocations_section, RelocationTablesRead, relocation_at, IsMeant, RelocationRead, RelocationsRead}
-use Rattle.elf_reading.proofs.FieldReads.{word_read, xword_read, piece_read}
+use Rattle.elf_reading.specs.RelocationReading.{relocations_section, RelocationTablesRead, IsMeant, RelocationsRead, RelocationsEnd}
+use Rattle.elf_reading.proofs.FieldReads.{word_read, xword_read, piece_read, piece_past}
 use Rattle.elf_reading.proofs.FileParts.{behind_front}
 use Rattle.elf_reading.proofs.SectionReads.{got_inside}
 use Rattle.elf_reading.proofs.ObjectParts.{placed}
@@ -136,3 +133,23 @@ relocations_read law symbols sections number index section own r fits is also th
       meant = target.meant;
       symbol = subst (λ n. ObjectSymbolRead symbols sections n target.entry) one (symbols_read symbols sections (which - 1) target.entry fits target.there);
     }
+
+entries_long : (numbers : NumbersOf) (own : List Relocation) → length (relocation_bytes numbers own) ≡ 24 * length own
+entries_long numbers [] = omega arith
+entries_long numbers (t ∷ ts) =
+    let first = relocation_entry (target_number numbers t.target) t in
+    let wide : length first ≡ 24 = entry_long (target_number numbers t.target) t in
+    omega (arith, length-append first (relocation_bytes numbers ts), wide, entries_long numbers ts)
+
+record_past : (bytes : List ℕ) (index : ℕ) → length bytes < 24 * index + 24 → relocation_record bytes index ≡ None
+unfolding relocation_record
+record_past bytes index past = ap (option_map relocation_in) (piece_past bytes (24 * index) 24 past)
+
+pub relocations_end : RelocationsEnd
+relocations_end symbols sections number index section own fits is also some past =
+    let bytes = relocation_bytes (numbers_of symbols sections (named_targets symbols sections)) own in
+    let long : length bytes ≡ 24 * length own = entries_long (numbers_of symbols sections (named_targets symbols sections)) own in
+    ap (option_and_then (λ (xs : List ℕ). relocation_record xs index))
+    (content_read (image_of symbols sections) (header_index symbols sections number + 1) (relocations_section symbols sections number section.name own)
+    (relocation_tables_read symbols sections number section own fits is also some))
+    ∙ record_past bytes index (omega arith)

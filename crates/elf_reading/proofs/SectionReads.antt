@@ -1,6 +1,6 @@
 -- The header table, headers and the bytes of sections are read back.
 use Rattle.std.proofs.Common.{◌≡◌, ℕ, zero, suc, ◌+◌, ◌-◌, ◌*◌, ◌^◌, ◌<◌, ◌≤◌, ◌==◌, ◌&&◌, Bool, true, cond, List, [], ◌∷◌, ◌++◌, Some, None, length, drop, replicate, nat_eq, option_map, option_and_then, refl, sym, ap, ◌∙◌, subst, arith, length-append}
-use Rattle.std.proofs.lemmas.Bool.{le-leb, lt-ltb}
+use Rattle.std.proofs.lemmas.Bool.{le-leb, le-ltb, lt-ltb}
 use Rattle.std.specs.Prelude.{slice_get, slice_index_or}
 use Rattle.std.specs.List.{starts_with}
 use Rattle.elf_file.specs.declared.reader.HeaderTable.{HeaderTable}
@@ -11,7 +11,7 @@ use Rattle.elf_file.specs.Places.{PieceAt, body_offset}
 use Rattle.elf_file.specs.Reader.{piece_at, table_entry, has_file_header, header_table_in, header_table_of, header_in, header_at, section_header_of, section_content}
 use Rattle.elf_file.specs.Sections.{Content, stored, nobits, no_bits, SectionEntry, content_size, file_bytes, section_header}
 use Rattle.elf_reading.specs.Limits.{is_space, space_size, SectionFits, FileFits}
-use Rattle.elf_reading.specs.FileReading.{table_ending, HeaderTablesRead, null_fields, NullHeadersRead, Describes}
+use Rattle.elf_reading.specs.FileReading.{HeaderTablesRead, HeadersEnd, null_fields, NullHeadersRead, Describes}
 use Rattle.elf_reading.proofs.FieldReads.{half_read, word_read, xword_read, ends_within, piece_read}
 use Rattle.elf_reading.proofs.FileParts.{names_section, bodies, table_place, offsets, headers, file_parts, elf_header_long, section_header_long, count_all, file_long, table_there, header_stands, null_stands, body_stands}
 
@@ -82,6 +82,14 @@ header_read entries index entry fits inside stands long =
     ∙ ap (λ (b : Bool). cond b (option_map header_in (table_entry (drop table.offset file) 64 index)) None) (lt-ltb index (length entries + 2) inside)
     ∙ ap (λ (xs : List ℕ). option_map header_in (table_entry xs 64 index)) (table_there entries)
     ∙ ap (option_map header_in) (piece_read (headers entries) (64 * index) 64 entry stands long)
+
+pub headers_end : HeadersEnd
+unfolding section_header_of
+headers_end entries index fits past =
+    let file = file_with entries in
+    let table = own_table entries in
+    ap (option_and_then (header_at file index)) (file_read entries fits)
+    ∙ ap (λ (b : Bool). cond b (option_map header_in (table_entry (drop table.offset file) 64 index)) None) (le-ltb index (length entries + 2) past)
 
 null_in : header_in (replicate 64 0) ≡ null_fields
 unfolding header_in word_at xword_at

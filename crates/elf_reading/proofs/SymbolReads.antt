@@ -1,41 +1,34 @@
 -- Sections and symbols of an object are read back.
-use Rattle.std.proofs.Common.{◌≡◌, ℕ, zero, suc, ◌+◌, ◌-◌, ◌*◌, ◌/◌, ◌%◌, ◌^◌, ◌<◌, ◌≤◌, ◌≢◌, ◌&&◌, not, Bool, true, false, cond, List, [], ◌∷◌, ◌++◌, Option, Some, None, length, map, take, drop, replicate, nat_le, option_map, option_and_then, refl, sym, ap, ◌∙◌, subst, inl, inr, arith, append_assoc, length-append}
-use Rattle.std.proofs.lemmas.Bool.{leb-true, cases_lt}
+use Rattle.std.proofs.Common.{◌≡◌, ℕ, zero, suc, ◌+◌, ◌*◌, ◌/◌, ◌%◌, ◌^◌, ◌<◌, ◌≤◌, true, List, [], ◌∷◌, ◌++◌, Some, None, length, map, replicate, option_map, option_and_then, refl, sym, ap, ◌∙◌, subst, arith, append_assoc, length-append}
 use Rattle.std.proofs.lemmas.List.{length-map}
 use Rattle.std.proofs.lemmas.Option.{slice_get-map}
 use Rattle.std.specs.Prelude.{slice_get, slice_index_or}
 use Rattle.std.specs.List.{list_all}
-use Rattle.asm_frags.specs.SectionOf.{SectionOf}
 use Rattle.asm_symbols.specs.SymbolMap.{SymbolMap}
-use Rattle.asm_symbols.specs.declared.entries.Binding.{Binding}
-use Rattle.asm_symbols.specs.declared.entries.Binding.TheVariants.{Local, Global, Weak}
-use Rattle.asm_relax.specs.Settling.{LaidItem, LaidSections}
-use Rattle.elf_file.specs.declared.reader.SectionHeader.{SectionHeader}
+use Rattle.asm_relax.specs.Settling.{LaidSections}
 use Rattle.elf_file.specs.declared.reader.SymbolRecord.{SymbolRecord}
-use Rattle.elf_file.specs.Fields.{half, word, xword, byte_at, half_at, word_at, xword_at}
+use Rattle.elf_file.specs.Fields.{half, word, xword, half_at, word_at, xword_at}
 use Rattle.elf_file.specs.Image.{with_names, file_with}
 use Rattle.elf_file.specs.Places.{PieceAt}
-use Rattle.elf_file.specs.Reader.{piece_at, table_entry, section_header_of, section_content, content_at, text_from, symbol_in, symbol_record}
+use Rattle.elf_file.specs.Reader.{section_content, content_at, text_from, symbol_in, symbol_record}
 use Rattle.elf_file.specs.Sections.{SectionEntry, file_bytes}
 use Rattle.elf_file.specs.StringTable.{is_no_end, ended_name, string_table_of, name_offsets, name_offsets_after}
 use Rattle.elf_symbols.specs.declared.entries.SymbolType.{SymbolType}
 use Rattle.elf_symbols.specs.declared.entries.SymbolType.TheVariants as type
 use Rattle.elf_symbols.specs.declared.symbol_values.SymbolSection.{SymbolSection}
 use Rattle.elf_symbols.specs.declared.symbol_values.SymbolSection.TheVariants.{Undefined, Absolute, Common, InSection}
-use Rattle.elf_symbols.specs.SymbolValues.{is_local}
-use Rattle.elf_symbols.specs.SymbolTable.{SymbolEntry, binding_number, type_number, visibility_number, section_index_of, symbol_bytes, all_symbol_bytes, is_local_entry, symbol_names, symbol_table_of}
+use Rattle.elf_symbols.specs.SymbolTable.{SymbolEntry, binding_number, type_number, visibility_number, section_index_of, symbol_bytes, all_symbol_bytes, symbol_names, symbol_table_of}
 use Rattle.elf_object.specs.declared.relocations.Relocation.{Relocation}
 use Rattle.elf_object.specs.Contents.{section_relocations, relocations_of}
 use Rattle.elf_object.specs.Image.{image_of}
 use Rattle.elf_object.specs.Sections.{source_section, header_count, header_indices, header_indices_from, next_header}
-use Rattle.elf_object.specs.TableLaws.{LocalsFirst, table_in, info_in}
+use Rattle.elf_object.specs.TableLaws.{table_in}
 use Rattle.elf_reading.specs.FileReading.{SectionRead}
 use Rattle.elf_reading.specs.ObjectLimits.{entries_of, symbol_table_index, SymbolFits, ObjectFits}
-use Rattle.elf_reading.specs.SymbolReading.{header_index, SourceSectionsRead, symbol_table_section, symbol_names_section, SymbolTablesRead, symbol_at, linked_text, symbol_name_at, SymbolRead, ObjectSymbolRead, SymbolsRead, null_symbol, NullSymbolsRead, LocalsRead}
-use Rattle.elf_reading.proofs.FieldReads.{half_read, word_read, xword_read, piece_read}
+use Rattle.elf_reading.specs.SymbolReading.{header_index, SourceSectionsRead, symbol_table_section, symbol_names_section, SymbolTablesRead, linked_text, symbol_name_at, SymbolsRead, null_symbol, NullSymbolsRead, SymbolsEnd}
+use Rattle.elf_reading.proofs.FieldReads.{half_read, word_read, xword_read, piece_read, piece_past}
 use Rattle.elf_reading.proofs.FileParts.{behind_front}
-use Rattle.elf_reading.proofs.SectionReads.{got_inside}
-use Rattle.elf_reading.proofs.NameReads.{sections_read, both_so, NameAt, name_there, begins_within, text_read}
+use Rattle.elf_reading.proofs.NameReads.{sections_read, NameAt, name_there, begins_within, text_read}
 use Rattle.elf_reading.proofs.ObjectParts.{source_entries, image_is, sources_long, relocations_there, placed, symbols_there, texts_there}
 use Rattle.elf_reading.proofs.ObjectFit.{next_behind, file_fits}
 
@@ -255,3 +248,15 @@ pub null_symbols_read : NullSymbolsRead
 null_symbols_read symbols sections fits =
     ap (option_and_then (λ (xs : List ℕ). symbol_record xs 0)) (table_read symbols sections fits)
     ∙ null_record (header_indices (relocations_of symbols sections)) (table_in symbols sections)
+
+record_past : (bytes : List ℕ) (number : ℕ) → length bytes < 24 * number + 24 → symbol_record bytes number ≡ None
+unfolding symbol_record
+record_past bytes number past = ap (option_map symbol_in) (piece_past bytes (24 * number) 24 past)
+
+pub symbols_end : SymbolsEnd
+symbols_end symbols sections number fits past =
+    let headers = header_indices (relocations_of symbols sections) in
+    let table = table_in symbols sections in
+    let long : length (symbol_table_of headers table) ≡ 24 * (length table + 1) = table_long headers table in
+    ap (option_and_then (λ (xs : List ℕ). symbol_record xs number)) (table_read symbols sections fits)
+    ∙ record_past (symbol_table_of headers table) number (omega arith)

@@ -13,7 +13,6 @@ use Rattle.elf_file.specs.Sections.{SectionEntry, relocation_section}
 use Rattle.elf_symbols.specs.Numbers.{NumbersOf, numbers_of}
 use Rattle.elf_object.specs.declared.relocations.Relocation.{Relocation}
 use Rattle.elf_object.specs.Contents.{relocations_of}
-use Rattle.elf_object.specs.Image.{image_of}
 use Rattle.elf_object.specs.Sections.{source_section, relocation_bytes, entries_from}
 use Rattle.elf_object.specs.TableLaws.{named_targets}
 use Rattle.elf_reading.specs.Limits.{FileFits}

@@ -1,5 +1,5 @@
 -- What a reader finds in the bytes of each file of sections (gABI, chapter 4, "ELF Header" and "Sections").
-use Rattle.std.specs.Prelude.{◌≡◌, ℕ, ◌+◌, ◌-◌, ◌*◌, ◌<◌, true, List, length, Some, slice_get, option_map, position}
+use Rattle.std.specs.Prelude.{◌≡◌, ℕ, ◌+◌, ◌-◌, ◌*◌, ◌<◌, ◌≤◌, true, List, length, None, Some, slice_get, option_map, position}
 use Rattle.std.specs.List.{list_all}
 use Rattle.std.specs.Str.{bytes_eq}
 use Rattle.elf_file.specs.declared.reader.HeaderTable.{HeaderTable}
@@ -38,6 +38,10 @@ null_fields = record {
 -- the header at index 0 is that of no section
 abbrev pub NullHeadersRead : Type 0
 NullHeadersRead = (entries : List SectionEntry) → FileFits entries → section_header_of (file_with entries) 0 ≡ Some null_fields
+
+-- there are no other headers
+abbrev pub HeadersEnd : Type 0
+HeadersEnd = (entries : List SectionEntry) (index : ℕ) → FileFits entries → length entries + 2 ≤ index → section_header_of (file_with entries) index ≡ None
 
 -- what the header says of the section, but for where its name and bytes stand; a relocatable file has no addresses
 pub record Describes (h : SectionHeader) (s : SectionEntry) : Type 0 where

@@ -1,5 +1,5 @@
 -- What a reader finds of the relocations of each object (gABI, chapter 4, "Relocation").
-use Rattle.std.specs.Prelude.{◌≡◌, ℕ, ◌+◌, ◌<◌, List, length, Option, Some, slice_get, option_and_then}
+use Rattle.std.specs.Prelude.{◌≡◌, ℕ, ◌+◌, ◌<◌, ◌≤◌, List, length, Option, None, Some, slice_get, option_and_then}
 use Rattle.asm_frags.specs.SectionOf.{SectionOf}
 use Rattle.asm_symbols.specs.SymbolMap.{SymbolMap}
 use Rattle.asm_relax.specs.Settling.{LaidItem, LaidSections}
@@ -59,3 +59,9 @@ abbrev pub RelocationsRead : Type 0
 RelocationsRead = (symbols : SymbolMap) (sections : LaidSections) (number index : ℕ) (section : SectionOf LaidItem) (own : List Relocation) (r : Relocation)
     → ObjectFits symbols sections → slice_get sections number ≡ Some section → slice_get (relocations_of symbols sections) number ≡ Some own
     → slice_get own index ≡ Some r → RelocationRead symbols sections (header_index symbols sections number + 1) index r
+
+-- there are no other relocations of the section
+abbrev pub RelocationsEnd : Type 0
+RelocationsEnd = (symbols : SymbolMap) (sections : LaidSections) (number index : ℕ) (section : SectionOf LaidItem) (own : List Relocation)
+    → ObjectFits symbols sections → slice_get sections number ≡ Some section → slice_get (relocations_of symbols sections) number ≡ Some own
+    → 0 < length own → length own ≤ index → relocation_at (image_of symbols sections) (header_index symbols sections number + 1) index ≡ None

@@ -1,5 +1,5 @@
 -- What a reader finds of the sections and symbols of each object (gABI, chapter 4, "Sections" and "Symbol Table").
-use Rattle.std.specs.Prelude.{◌≡◌, ℕ, ◌+◌, ◌/◌, ◌%◌, ◌<◌, ◌≤◌, ◌≢◌, true, List, Option, Some, codes, slice_get, slice_index_or, option_and_then}
+use Rattle.std.specs.Prelude.{◌≡◌, ℕ, ◌+◌, ◌/◌, ◌%◌, ◌<◌, ◌≤◌, ◌≢◌, true, List, length, Option, None, Some, codes, slice_get, slice_index_or, option_and_then}
 use Rattle.std.specs.List.{list_all}
 use Rattle.asm_frags.specs.SectionOf.{SectionOf}
 use Rattle.asm_symbols.specs.SymbolMap.{SymbolMap}
@@ -92,6 +92,11 @@ null_symbol = record { name = 0; info = 0; other = 0; section = 0; value = 0; si
 abbrev pub NullSymbolsRead : Type 0
 NullSymbolsRead = (symbols : SymbolMap) (sections : LaidSections) → ObjectFits symbols sections
     → symbol_at (image_of symbols sections) (symbol_table_index symbols sections) 0 ≡ Some null_symbol
+
+-- there are no other symbols
+abbrev pub SymbolsEnd : Type 0
+SymbolsEnd = (symbols : SymbolMap) (sections : LaidSections) (number : ℕ) → ObjectFits symbols sections → length (table_in symbols sections) < number
+    → symbol_at (image_of symbols sections) (symbol_table_index symbols sections) number ≡ None
 
 -- each symbol that is there has binding STB_LOCAL if its number is below sh_info, and another one else
 abbrev pub LocalsRead : Type 0

@@ -1,6 +1,6 @@
 //! Relocations are read back from the object of them (gABI, chapter 4, "Relocation").
 
-ghost use Rattle.elf_reading.specs.RelocationReading.{RelocationTablesRead, RelocationsRead};
+ghost use Rattle.elf_reading.specs.RelocationReading.{RelocationTablesRead, RelocationsEnd, RelocationsRead};
 
 use elf_object::targets_stand;
 
@@ -15,3 +15,8 @@ pub fn relocations_read()
 {
     targets_stand();
 }
+
+/// There are no other relocations of a section.
+pub fn relocations_end()
+    ensures { RelocationsEnd }
+{}

@@ -2,8 +2,13 @@
 
 ghost use Rattle.elf_reading.specs.ObjectLimits.{ObjectsAreFiles};
 ghost use Rattle.elf_reading.specs.SymbolReading.{
-    LocalsRead, NullSymbolsRead, SourceSectionsRead, SymbolTablesFound, SymbolTablesRead,
-    SymbolsRead,
+  LocalsRead,
+  NullSymbolsRead,
+  SourceSectionsRead,
+  SymbolTablesFound,
+  SymbolTablesRead,
+  SymbolsEnd,
+  SymbolsRead,
 };
 
 use elf_object::locals_first;
@@ -36,6 +41,11 @@ pub fn symbols_read()
 /// Symbol 0 is all zero.
 pub fn null_symbols_read()
     ensures { NullSymbolsRead }
+{}
+
+/// There are no other symbols.
+pub fn symbols_end()
+    ensures { SymbolsEnd }
 {}
 
 /// Just the symbols below `sh_info` have binding `STB_LOCAL`.
