@@ -16,7 +16,7 @@ use Rattle.elf_object.specs.Image.{image_of}
 use Rattle.elf_object.specs.Sections.{header_indices}
 use Rattle.elf_object.specs.TableLaws.{LocalsFirst, table_in, info_in}
 use Rattle.elf_reading.specs.ObjectLimits.{symbol_table_index}
-use Rattle.elf_reading.specs.SymbolReading.{symbol_at, null_symbol, ObjectSymbolRead, LocalsRead}
+use Rattle.elf_reading.specs.SymbolReading.{read_symbol, null_symbol, ObjectSymbolRead, LocalsRead}
 use Rattle.elf_reading.proofs.NameReads.{both_so}
 use Rattle.elf_reading.proofs.SymbolReads.{table_long, table_read, symbols_read, null_symbols_read}
 
@@ -92,7 +92,7 @@ same_some x y e = cc
 
 -- a symbol that is read has the binding of its entry
 binding_read : (symbols : SymbolMap) (sections : LaidSections) (number : ℕ) (entry : SymbolEntry) (symbol : SymbolRecord) → ObjectSymbolRead symbols sections number entry
-    → symbol_at (image_of symbols sections) (symbol_table_index symbols sections) number ≡ Some symbol → symbol.info / 16 ≡ binding_number entry.binding
+    → read_symbol (image_of symbols sections) (symbol_table_index symbols sections) number ≡ Some symbol → symbol.info / 16 ≡ binding_number entry.binding
 binding_read symbols sections number entry symbol own is =
     let same : own.symbol ≡ symbol = same_some own.symbol symbol (sym own.found ∙ is) in
     ap (λ (s : SymbolRecord). s.info / 16) (sym same) ∙ own.binding

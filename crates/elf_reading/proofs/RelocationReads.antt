@@ -1,6 +1,7 @@
 -- Relocations are read back, and lead to the symbols that they mean.
-use Rattle.std.proofs.Common.{◌≡◌, ℕ, zero, suc, ◌+◌, ◌-◌, ◌*◌, ◌^◌, ◌<◌, List, [], ◌∷◌, ◌++◌, Some, None, length, option_map, option_and_then, refl, sym, ap, ◌∙◌, subst, arith, append_assoc, length-append}
+use Rattle.std.proofs.Common.{◌≡◌, ℕ, zero, suc, ◌+◌, ◌-◌, ◌*◌, ◌^◌, ◌<◌, ◌&&◌, not, Bool, true, false, cond, List, [], ◌∷◌, ◌++◌, Option, Some, None, length, option_map, option_and_then, refl, sym, ap, ◌∙◌, subst, arith, append_assoc, length-append}
 use Rattle.std.specs.Prelude.{slice_get}
+use Rattle.asm_symbols.specs.declared.entries.Symbol.{Symbol}
 use Rattle.asm_symbols.specs.SymbolMap.{SymbolMap}
 use Rattle.asm_relax.specs.Settling.{LaidSections}
 use Rattle.elf_file.specs.declared.reader.RelocationRecord.{RelocationRecord}
@@ -10,7 +11,9 @@ use Rattle.elf_file.specs.Reader.{relocation_in, relocation_record}
 use Rattle.elf_symbols.specs.declared.targets.Target.{Target}
 use Rattle.elf_symbols.specs.declared.targets.Target.TheVariants.{OfSection, OfSymbol}
 use Rattle.elf_symbols.specs.Numbers.{NumbersOf, numbers_of, target_number}
-use Rattle.elf_symbols.specs.SymbolTable.{SymbolEntry, section_entry}
+use Rattle.elf_symbols.specs.SymbolTable.{SymbolEntry, section_entry, text_of, entry_at, needs_naming, listed_if, listed, listed_by}
+use Rattle.elf_symbols.specs.declared.symbol_values.SymbolValue.{SymbolValue}
+use Rattle.elf_symbols.specs.SymbolValues.{symbol_value_of}
 use Rattle.elf_object.specs.declared.relocations.Relocation.{Relocation}
 use Rattle.elf_object.specs.declared.relocations.RelocationKind.{RelocationKind}
 use Rattle.elf_object.specs.declared.relocations.RelocationKind.TheVariants.{Direct64, Pc32, Plt32, GotPcRel, Direct32, Signed32, Direct16, Pc16, Direct8, Pc8, GotTpOff, TpOff32, Pc64}
@@ -89,6 +92,34 @@ says number r fits low = record {
   addend = xword_read r.addend [] fits.addend;
 }
 
+-- the entry of a symbol has its name
+entry_named : (map : SymbolMap) (sections : LaidSections) (mark thread : Bool) (symbol : Symbol) (value : Option SymbolValue) (entry : SymbolEntry)
+    → listed_if map sections mark thread symbol value ≡ Some entry → entry.name ≡ text_of symbol.name
+entry_named map sections mark thread symbol None entry is = absurd cc
+entry_named map sections mark thread symbol (Some there) entry is =
+    kept (needs_naming symbol there && not mark) (entry_at map sections thread symbol there) entry is
+  where
+    kept : (b : Bool) (made got : SymbolEntry) → cond b None (Some made) ≡ Some got → got.name ≡ made.name
+    kept true made got is = absurd cc
+    kept false made got is = let same : made ≡ got = cc in ap (λ (e : SymbolEntry). e.name) (sym same)
+
+listed_named : (map : SymbolMap) (sections : LaidSections) (mark thread : Bool) (symbol : Symbol) (entry : SymbolEntry) → listed map sections mark thread symbol ≡ Some entry
+    → entry.name ≡ text_of symbol.name
+unfolding listed
+listed_named map sections mark thread symbol entry is = entry_named map sections mark thread symbol (symbol_value_of map sections symbol.meaning) entry is
+
+-- an entry that is listed is that of the symbol of its index
+listed_from : (map : SymbolMap) (sections : LaidSections) (marks threads : List Bool) (symbols : List Symbol) (index : ℕ) (entry : SymbolEntry)
+    → slice_get (listed_by map sections marks threads symbols) index ≡ Some (Some entry)
+    → (symbol : Symbol) × (slice_get symbols index ≡ Some symbol) × (entry.name ≡ text_of symbol.name)
+listed_from map sections [] threads symbols index entry is = absurd cc
+listed_from map sections (mark ∷ marks) [] symbols index entry is = absurd cc
+listed_from map sections (mark ∷ marks) (thread ∷ threads) [] index entry is = absurd cc
+listed_from map sections (mark ∷ marks) (thread ∷ threads) (symbol ∷ symbols) zero entry is =
+    let own : listed map sections mark thread symbol ≡ Some entry = cc in
+    (symbol, refl, listed_named map sections mark thread symbol entry own)
+listed_from map sections (mark ∷ marks) (thread ∷ threads) (symbol ∷ symbols) (suc index) entry is = listed_from map sections marks threads symbols index entry is
+
 -- the entry of the number that a relocation has
 record Meant (symbols : SymbolMap) (sections : LaidSections) (target : Target) (number : ℕ) : Type 0 where
   entry : SymbolEntry
@@ -98,7 +129,10 @@ record Meant (symbols : SymbolMap) (sections : LaidSections) (target : Target) (
 
 meant_by : (symbols : SymbolMap) (sections : LaidSections) (target : Target) (number : ℕ) → IsEntryOf symbols sections number target → Meant symbols sections target number
 meant_by symbols sections (OfSection section) number (some, there) = record { entry = section_entry section; meant = refl; some = some; there = there }
-meant_by symbols sections (OfSymbol index) number (entry, listed, some, there) = record { entry = entry; meant = listed; some = some; there = there }
+meant_by symbols sections (OfSymbol index) number (entry, is_listed, some, there) =
+    let named = named_targets symbols sections in
+    let (symbol, got, name) = listed_from symbols sections named.symbols named.thread_locals symbols.symbols index entry is_listed in
+    record { entry = entry; meant = (symbol, got, name, is_listed); some = some; there = there }
 
 holds_one : {A : Type 0} (xs : List A) (i : ℕ) (x : A) → slice_get xs i ≡ Some x → 0 < length xs
 holds_one [] i x is = absurd cc

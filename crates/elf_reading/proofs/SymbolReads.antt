@@ -25,7 +25,7 @@ use Rattle.elf_object.specs.Sections.{source_section, header_count, header_indic
 use Rattle.elf_object.specs.TableLaws.{table_in}
 use Rattle.elf_reading.specs.FileReading.{SectionRead}
 use Rattle.elf_reading.specs.ObjectLimits.{entries_of, symbol_table_index, SymbolFits, ObjectFits}
-use Rattle.elf_reading.specs.SymbolReading.{header_index, SourceSectionsRead, symbol_table_section, symbol_names_section, SymbolTablesRead, linked_text, symbol_name_at, SymbolsRead, null_symbol, NullSymbolsRead, SymbolsEnd}
+use Rattle.elf_reading.specs.SymbolReading.{header_index, SourceSectionsRead, symbol_table_section, symbol_names_section, SymbolTablesRead, linked_text, read_symbol_name, SymbolsRead, null_symbol, NullSymbolsRead, SymbolsEnd}
 use Rattle.elf_reading.proofs.FieldReads.{half_read, word_read, xword_read, piece_read, piece_past}
 use Rattle.elf_reading.proofs.FileParts.{behind_front}
 use Rattle.elf_reading.proofs.NameReads.{sections_read, NameAt, name_there, begins_within, text_read}
@@ -199,7 +199,7 @@ table_read symbols sections fits =
 -- the name that a symbol's entry leads to
 name_read : (symbols : SymbolMap) (sections : LaidSections) (symbol : SymbolRecord) (name : List ℕ) → ObjectFits symbols sections
     → NameAt (string_table_of (symbol_names (table_in symbols sections))) symbol.name name → list_all is_no_end name ≡ true
-    → symbol_name_at (image_of symbols sections) (symbol_table_index symbols sections) symbol ≡ Some name
+    → read_symbol_name (image_of symbols sections) (symbol_table_index symbols sections) symbol ≡ Some name
 name_read symbols sections symbol name fits there all =
     let image = image_of symbols sections in
     let at = symbol_table_index symbols sections in

@@ -51,28 +51,28 @@ SymbolTablesFound = (symbols : SymbolMap) (sections : LaidSections) (index : ℕ
     → section_header_of (image_of symbols sections) index ≡ Some header → header.kind ≡ 2 → index ≡ symbol_table_index symbols sections
 
 -- the symbol of this number, where the symbol table has the header of this index
-abbrev pub symbol_at : List ℕ → ℕ → ℕ → Option SymbolRecord
-symbol_at file table number = option_and_then (λ bytes. symbol_record bytes number) (content_at file table)
+abbrev pub read_symbol : List ℕ → ℕ → ℕ → Option SymbolRecord
+read_symbol file table number = option_and_then (λ bytes. symbol_record bytes number) (content_at file table)
 
 -- the text at this offset of the string table that sh_link names
 abbrev pub linked_text : List ℕ → ℕ → SectionHeader → Option (List ℕ)
 linked_text file offset header = option_and_then (λ bytes. text_from bytes offset) (content_at file header.link)
 
 -- the name of a symbol
-abbrev pub symbol_name_at : List ℕ → ℕ → SymbolRecord → Option (List ℕ)
-symbol_name_at file table symbol = option_and_then (linked_text file symbol.name) (section_header_of file table)
+abbrev pub read_symbol_name : List ℕ → ℕ → SymbolRecord → Option (List ℕ)
+read_symbol_name file table symbol = option_and_then (linked_text file symbol.name) (section_header_of file table)
 
 -- the symbol of this number has all that the entry says; binding and type are the high and the low half of st_info
 pub record SymbolRead (file : List ℕ) (table number : ℕ) (headers : List ℕ) (entry : SymbolEntry) : Type 0 where
   pub symbol : SymbolRecord
-  pub found : symbol_at file table number ≡ Some symbol
+  pub found : read_symbol file table number ≡ Some symbol
   pub binding : symbol.info / 16 ≡ binding_number entry.binding
   pub kind : symbol.info % 16 ≡ type_number entry.kind
   pub visibility : symbol.other ≡ visibility_number entry.visibility
   pub section : symbol.section ≡ section_index_of headers entry.section
   pub value : symbol.value ≡ entry.value
   pub size : symbol.size ≡ entry.size
-  pub name : list_all is_no_end entry.name ≡ true → symbol_name_at file table symbol ≡ Some entry.name
+  pub name : list_all is_no_end entry.name ≡ true → read_symbol_name file table symbol ≡ Some entry.name
 
 -- the symbol of this number of the object has all that the entry says
 abbrev pub ObjectSymbolRead : SymbolMap → LaidSections → ℕ → SymbolEntry → Type 0
@@ -91,15 +91,15 @@ null_symbol = record { name = 0; info = 0; other = 0; section = 0; value = 0; si
 -- symbol 0 is the null symbol
 abbrev pub NullSymbolsRead : Type 0
 NullSymbolsRead = (symbols : SymbolMap) (sections : LaidSections) → ObjectFits symbols sections
-    → symbol_at (image_of symbols sections) (symbol_table_index symbols sections) 0 ≡ Some null_symbol
+    → read_symbol (image_of symbols sections) (symbol_table_index symbols sections) 0 ≡ Some null_symbol
 
 -- there are no other symbols
 abbrev pub SymbolsEnd : Type 0
 SymbolsEnd = (symbols : SymbolMap) (sections : LaidSections) (number : ℕ) → ObjectFits symbols sections → length (table_in symbols sections) < number
-    → symbol_at (image_of symbols sections) (symbol_table_index symbols sections) number ≡ None
+    → read_symbol (image_of symbols sections) (symbol_table_index symbols sections) number ≡ None
 
 -- each symbol that is there has binding STB_LOCAL if its number is below sh_info, and another one else
 abbrev pub LocalsRead : Type 0
 LocalsRead = (symbols : SymbolMap) (sections : LaidSections) (number : ℕ) (symbol : SymbolRecord) → ObjectFits symbols sections
-    → symbol_at (image_of symbols sections) (symbol_table_index symbols sections) number ≡ Some symbol
+    → read_symbol (image_of symbols sections) (symbol_table_index symbols sections) number ≡ Some symbol
     → (number < info_in symbols sections → symbol.info / 16 ≡ 0) × (info_in symbols sections ≤ number → symbol.info / 16 ≢ 0)
