@@ -19,7 +19,7 @@ build/libraries/$(1): crates.txt $(call sources_of,$(1)) $(patsubst %,build/libr
 	@cd crates/$(1) && rt lib >../../build/libraries/$(1).log 2>&1 || { cat ../../build/libraries/$(1).log; exit 1; }
 	@mv build/libraries/$(1).log $$@
 endef
-$(foreach crate,$(filter-out asm_cli asm_rows asm_calls,$(CRATES)),$(eval $(call library,$(crate))))
+$(foreach crate,$(filter-out asm_cli asm_rows asm_calls layout_rows,$(CRATES)),$(eval $(call library,$(crate))))
 
 # Only a proved program is linked. A word that is no command makes it end at once, with status 2.
 build/as: crates.txt $(call sources_of,asm_cli) $(patsubst %,build/libraries/%,$(call stands_on,asm_cli))

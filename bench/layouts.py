@@ -1,0 +1,37 @@
+#!/usr/bin/env python3
+"""Writes a case for layout_rows that is long: what its rows settle to shows the time of settling alone.
+
+  bench/layouts.py jumps 400000      so many jumps to one label: all but the last are near, in two rounds
+  bench/layouts.py cascade 8000      so many jumps, each of which makes the one before it grow: one round more than jumps
+  bench/layouts.py leb128 16000      so many LEB128 differences over jumps that grow: three rounds
+"""
+import sys
+
+
+def jumps(count):
+    yield from ['jmp 9f'] * count
+    yield 'label 9'
+
+
+def cascade(count):
+    """Each jump spans 125 bytes and the next jump, so that it is short until that one is near. The last one is near at once."""
+    for number in range(1, count + 1):
+        yield f'jmp {number % 2}f'
+        if number > 1:
+            yield f'label {(number - 1) % 2}'
+        yield 'bytes 125' if number < count else 'bytes 128'
+    yield f'label {count % 2}'
+
+
+def leb128(count):
+    """Each difference is 127 until the jump in it is near, and 130 then."""
+    for _ in range(count):
+        yield from ['uleb128 2f-1f', 'label 1', 'jmp 3f', 'bytes 125', 'label 2', 'bytes 10', 'label 3']
+
+
+CASES = {'jumps': jumps, 'cascade': cascade, 'leb128': leb128}
+
+if len(sys.argv) != 3 or sys.argv[1] not in CASES or not sys.argv[2].isdigit():
+    sys.exit(__doc__)
+for line in CASES[sys.argv[1]](int(sys.argv[2])):
+    print(line)

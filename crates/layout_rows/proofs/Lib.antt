@@ -1,0 +1,2 @@
+-- The proofs of this program.
+pub mod FittingLemmas

@@ -1,0 +1,209 @@
+//! What rows settle to, as text.
+
+ghost use Rattle.std.specs.Prelude.{◌≡◌, ◌<◌, All, length};
+ghost use Rattle.asm_levels.specs.Needs as spec;
+
+use crate::forms::{push_advance, push_jump, push_leb128};
+use crate::standing::all_fit;
+use asm_base::Steps;
+use asm_levels::{Distance, Row, RowPlan, RowSize};
+use std::alloc::{AllocError, Global};
+use std::io::{self, Write};
+use std::marker::Brand;
+use std::sync::ledger::{Blank, Ledger};
+
+/// Of a case so many items are shown.
+const SHOWN_ITEMS: usize = 8;
+
+/// Settles the rows with a count of steps of their own. Answers the number of rounds.
+fn rounds_of<L: Ledger>(plan: &mut RowPlan, blank: Blank) -> u64
+    requires name { blank.name ≡ L.name }
+    requires parts { blank.parts ≡ L.parts }
+    requires some { 0 < blank.parts }
+    requires lowest { All (λ level. level ≡ 0) plan.old.levels }
+{
+    let mut steps = Steps::<L>::new(blank);
+    plan.settle(&mut steps)
+}
+
+/// How far a row is moved that another one names.
+fn named_shift(plan: &RowPlan, row: u32) -> u64 {
+    let row = row as usize;
+    if row < plan.rows().len() {
+        plan.shift(row)
+    } else {
+        0
+    }
+}
+
+/// The distance that a row holds.
+fn held_distance(plan: &RowPlan, distance: &Distance) -> u64 {
+    match distance {
+        Distance::Between {
+            number,
+            ahead,
+            behind,
+        } => {
+            number
+                .wrapping_add(named_shift(plan, *ahead))
+                .wrapping_sub(named_shift(plan, *behind))
+        }
+        // No line makes one.
+        Distance::Sum { number, .. } => *number,
+    }
+}
+
+/// Appends the bytes of a row that holds a distance.
+fn push_form(
+    plan: &RowPlan,
+    size: &RowSize,
+    level: u8,
+    bytes: &mut Vec<u8>,
+) -> Result<(), AllocError> {
+    match size {
+        RowSize::Jump {
+            conditional,
+            distance,
+        } => push_jump(*conditional, level, held_distance(plan, distance), bytes),
+        RowSize::Leb128 { signed, distance } => {
+            push_leb128(*signed, level, held_distance(plan, distance), bytes)
+        }
+        RowSize::Advance { distance } => {
+            push_advance(level, held_distance(plan, distance), bytes)
+        }
+        _ => Ok(()),
+    }
+}
+
+/// The word of a row.
+fn word_of(size: &RowSize) -> &'static str {
+    match size {
+        RowSize::Fixed(_) => "fixed",
+        RowSize::Align { .. } => "align",
+        RowSize::Org { .. } => "org",
+        RowSize::Jump {
+            conditional: false,
+            ..
+        } => "jmp",
+        RowSize::Jump {
+            conditional: true,
+            ..
+        } => "je",
+        RowSize::Leb128 { signed: false, .. } => "uleb128",
+        RowSize::Leb128 { signed: true, .. } => "sleb128",
+        RowSize::Advance { .. } => "advance",
+        RowSize::End => "end",
+    }
+}
+
+/// Writes the word of a row, its address, and its bytes, or how many they are where it holds no distance.
+fn write_row(alloc: Global, plan: &RowPlan, index: usize, out: &mut Vec<u8>) -> io::Result<()>
+    requires { index < length plan.now.rows }
+{
+    let row = &plan.rows()[index];
+    let shift = plan.shift(index);
+    let address = row.offset.wrapping_add(shift);
+    let word = word_of(&row.size);
+    write!(out, "{word} at {address}:")?;
+    if has_levels(&row.size) {
+        let mut bytes = Vec::new(alloc);
+        push_form(plan, &row.size, plan.level(index), &mut bytes)?;
+        for byte in &bytes {
+            write!(out, " {byte:02x}")?;
+        }
+        return writeln!(out);
+    }
+    let next = index + 1;
+    let moved = if next < plan.rows().len() {
+        plan.shift(next).wrapping_sub(shift)
+    } else {
+        0
+    };
+    writeln!(out, " {moved} bytes")
+}
+
+/// Whether a row has more than one level.
+#[tactic(auto, unfolding(asm_levels::specs::Needs::top))]
+fn has_levels(size: &RowSize) -> bool
+    ensures { result ≡ spec.has_levels size.now }
+{
+    matches!(
+        size,
+        RowSize::Jump { .. } | RowSize::Leb128 { .. } | RowSize::Advance { .. }
+    )
+}
+
+/// How many rows have more than one level: settling takes at most so many steps in a round.
+#[tactic(auto, unfolding(asm_levels::specs::Needs::several))]
+fn several(rows: &[Row]) -> usize
+    ensures { result ≡ spec.several rows.now }
+{
+    let mut count = 0;
+    for row in rows {
+        if has_levels(&row.size) {
+            count += 1;
+        }
+    }
+    count
+}
+
+/// How many rows of several levels have this one.
+fn count_at(plan: &RowPlan, level: u8) -> usize {
+    let mut count = 0usize;
+    for (index, row) in plan.rows().iter().enumerate() {
+        if has_levels(&row.size) && plan.level(index) == level {
+            count = count.saturating_add(1);
+        }
+    }
+    count
+}
+
+/// Writes how many rows have each level, where there are any.
+fn write_levels(plan: &RowPlan, out: &mut Vec<u8>) -> io::Result<()> {
+    for level in 0..10u8 {
+        let count = count_at(plan, level);
+        if count != 0 {
+            write!(out, ", {count} of level {level}")?;
+        }
+    }
+    writeln!(out)
+}
+
+/// The bytes of all sections.
+fn total(plan: &RowPlan) -> u64 {
+    let mut bytes = 0u64;
+    for (index, row) in plan.rows().iter().enumerate() {
+        if matches!(row.size, RowSize::End) {
+            let address = row.offset.wrapping_add(plan.shift(index));
+            bytes = bytes.wrapping_add(address);
+        }
+    }
+    bytes
+}
+
+/// Writes the first rows but the marks at the ends of sections.
+fn write_rows(alloc: Global, plan: &RowPlan, out: &mut Vec<u8>) -> io::Result<()> {
+    for (index, row) in plan.rows().iter().enumerate() {
+        if index < SHOWN_ITEMS && !matches!(row.size, RowSize::End) {
+            write_row(alloc, plan, index, out)?;
+        }
+    }
+    Ok(())
+}
+
+/// Settles the rows, and writes their bytes, rounds and levels, and the first of them.
+pub fn write_settled(alloc: Global, rows: Vec<Row>, out: &mut Vec<u8>) -> io::Result<()> {
+    if !all_fit(&rows) {
+        return writeln!(out, "too large");
+    }
+    let mut plan = match RowPlan::new(alloc, rows) {
+        Ok(plan) => plan,
+        Err(_) => return Err(io::Error::from(AllocError)),
+    };
+    let rounds = rounds_of::<Brand>(&mut plan, Blank::new(1));
+    let bytes = total(&plan);
+    let steps = rounds.saturating_mul(several(plan.rows()) as u64);
+    write!(out, "bytes {bytes}, rounds {rounds}, at most {steps} steps")?;
+    write_levels(&plan, out)?;
+    write_rows(alloc, &plan, out)
+}
