@@ -1,0 +1,9 @@
+-- Lemmas, in reading order.
+mod Types
+mod Numbers
+mod Parts
+mod Stretches
+mod Replacing
+mod Values
+mod FieldLaws
+mod ValueLaws
