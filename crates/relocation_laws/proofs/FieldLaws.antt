@@ -1,24 +1,26 @@
 -- The types, symbols and suffixes of relocations are as the laws say.
-use Rattle.std.proofs.Common.{◌≡◌, ℕ, Bool, List, Option, Some, refl, sym, ap, ◌∙◌, subst, ⊎_elim}
+use Rattle.std.proofs.Common.{◌≡◌, ℕ, ◌+◌, Bool, false, List, [], ◌∷◌, Option, Some, refl, sym, ap, ◌∙◌, subst, ⊎_elim, arith}
 use Rattle.std.specs.Prelude.{slice_get, option_map, find}
 use Rattle.asm_expr.specs.declared.forms.Term.{Term}
+use Rattle.asm_expr.specs.Forms.{term_of, wrapped}
 use Rattle.asm_frags.specs.declared.fields.Field.{Field}
 use Rattle.asm_frags.specs.SectionOf.{SectionOf}
 use Rattle.asm_symbols.specs.declared.entries.Symbol.{Symbol}
 use Rattle.asm_symbols.specs.SymbolMap.{SymbolMap}
+use Rattle.asm_relax.specs.FieldValues.{counted}
 use Rattle.asm_relax.specs.Settling.{LaidItem, LaidSections}
 use Rattle.elf_object.specs.declared.references.SymbolReference.{SymbolReference}
 use Rattle.elf_object.specs.declared.references.Reference.{Reference}
 use Rattle.elf_object.specs.declared.relocations.Relocation.{Relocation}
 use Rattle.elf_object.specs.declared.relocations.RelocationKind.{RelocationKind}
-use Rattle.elf_object.specs.Relocations.{kind_number, is_plus, field_place}
+use Rattle.elf_object.specs.Relocations.{kind_number, kind_by, kind_for, is_plus, reference, relocation_with, field_place}
 use Rattle.relocation_laws.specs.RelocationTypes.{RelocationType, relocation_type}
 use Rattle.relocation_laws.specs.FieldTypes.{IsVerified, Suits, IsTyped, RelocationsSuitFields}
-use Rattle.relocation_laws.specs.FieldSymbols.{form_left, added_symbol, IsSymbolOf, is_local_symbol, StandsFor, RelocationsNameSymbols}
+use Rattle.relocation_laws.specs.FieldSymbols.{form_left, added_symbol, IsSymbolOf, is_local_symbol, NamesSymbol, RelocationsNameSymbols}
 use Rattle.relocation_laws.specs.Suffixes.{is_led, operand_by, IsAnswered, SuffixesAreAnswered}
-use Rattle.relocation_laws.proofs.Types.{row_of, numbered, IsRight, is_led_by, kind_right, verified_held, no_zeros, no_sign}
+use Rattle.relocation_laws.proofs.Types.{row_of, numbered, IsRight, is_led_by, kind_right, verified_held, no_zeros, no_sign, no_distance}
 use Rattle.relocation_laws.proofs.Numbers.{asked}
-use Rattle.relocation_laws.proofs.Parts.{IsMade, parts_of, IsFound, found_is, IsAlone, IsLess, by_terms}
+use Rattle.relocation_laws.proofs.Parts.{IsMade, parts_of, IsFound, found_is, ArePair, IsAlone, IsLess, by_terms}
 
 -- THE TYPE SUITS THE FIELD
 
@@ -48,6 +50,7 @@ pub record IsSymbol (map : SymbolMap) (sections : LaidSections) (field : Field) 
   pub added : added_symbol map sections field ≡ Some index
   pub stands : IsFound map sections field index symbol at
   pub target : at.target ≡ found.target
+  pub alone : (form_left map sections field).terms ≡ term_of index 1 ∷ [] → reference false (form_left map sections field).constant at ≡ found
   pub local : at.local ≡ found.local
 
 -- the first of the terms that counts once
@@ -67,11 +70,16 @@ module _ (map : SymbolMap) (sections : LaidSections) (number place : ℕ) (field
         at,
         record {
           added = ap first_of alone.are;
+          alone = λ _. alone.made;
           stands = stands;
           target = ap (λ (f : Reference). f.target) alone.made;
           local = ap (λ (f : Reference). f.local) alone.made;
         },
       )
+
+  -- two terms are not one
+  not_alone : {terms : List Term} {index from : ℕ} → terms ≡ term_of index 1 ∷ [] → ArePair map sections field terms index from → ⊥
+  not_alone one two = ⊎_elim (λ e. absurd cc) (λ e. absurd cc) two
 
   less_symbol : (index from address : ℕ) (at : SymbolReference)
       → IsLess map sections field number place (form_left map sections field).terms (form_left map sections field).constant found index from address at → FindsSymbol map sections field found
@@ -81,6 +89,7 @@ module _ (map : SymbolMap) (sections : LaidSections) (number place : ℕ) (field
         symbol,
         at,
         record {
+          alone = λ e. absurd (not_alone e pair.are);
           added = ⊎_elim (λ e. ap first_of e) (λ e. ap first_of e) pair.are;
           stands = stands;
           target = ap (λ (f : Reference). f.target) pair.made;
@@ -95,25 +104,49 @@ symbol_of map sections number section field r found kind parts =
     by_terms map sections field number place (form_left map sections field).constant found (FindsSymbol map sections field found) (form_left map sections field).terms parts.there
     (alone_symbol map sections number place field found) (less_symbol map sections number place field found)
 
-stands_for : (map : SymbolMap) (sections : LaidSections) (field : Field) (index : ℕ) (symbol : Symbol) (at : SymbolReference) → IsFound map sections field index symbol at
-    → StandsFor map sections field index symbol at.target
-stands_for map sections field index symbol at is = record {
-  global = is.stands.global;
-  suffixed = is.stands.suffixed;
-  merged = is.stands.merged;
-  own_section = λ number e. (at.addend, is.stands.own_section number e);
-  own_name = λ other e. (is.stands.own_name other e).0;
-}
+-- a relocation whose place is not taken has a field that counts from nowhere: its addend is that of the sum
+addend_is : (field : Field) (found : Reference) (addend : ℕ) (kind : RelocationKind) → kind_for found.relative field.role found.local field.size ≡ Some kind
+    → found.relative ≡ false → found.addend ≡ addend → counted field.size field.role found.addend ≡ addend
+addend_is field found addend kind chosen absolute is =
+    let there : kind_by field.role.suffix false field.role.kind found.local field.size ≡ Some kind =
+    ap (λ (b : Bool). kind_by field.role.suffix b field.role.kind found.local field.size) (sym absolute) ∙ chosen in
+    let kept = no_distance field.role.suffix field.role.kind found.local field.size kind there in
+    rw kept is
+
+names_symbol : (map : SymbolMap) (sections : LaidSections) (number : ℕ) (section : SectionOf LaidItem) (field : Field) (r : Relocation) (found : Reference) (kind : RelocationKind) (index : ℕ)
+    (symbol : Symbol) (at : SymbolReference) → IsMade map sections number section field r found kind → IsSymbol map sections field found index symbol at
+    → NamesSymbol map sections field index symbol (relocation_with (field_place section field) field found kind)
+names_symbol map sections number section field r found kind index symbol at parts one =
+    let is = one.stands.stands in
+    let to = sym one.target in
+    record {
+      global = λ e. to ∙ is.global e;
+      suffixed = λ e. to ∙ is.suffixed e;
+      merged = λ n address known flagged. to ∙ is.merged n address known flagged;
+      other = λ n address known unflagged local bare. to ∙ is.other n address known unflagged local bare;
+      own_name = λ named e. (is.own_name named (one.target ∙ e)).0;
+      own_section = λ n e. (
+        at.addend,
+        is.own_section n (one.target ∙ e),
+        λ alone.
+            let made = one.alone alone in
+            let sum = sum_order (form_left map sections field).constant at.addend in
+            addend_is field found (wrapped (at.addend + (form_left map sections field).constant)) kind parts.chosen
+            (sym (ap (λ (f : Reference). f.relative) made)) (sym (ap (λ (f : Reference). f.addend) made) ∙ sum),
+      );
+    }
+  where
+    sum_order : (a b : ℕ) → wrapped (a + b) ≡ wrapped (b + a)
+    sum_order a b = omega arith
 
 pub name : RelocationsNameSymbols
 name map sections number section field r is =
     let (found, kind, parts) = parts_of map sections number section field r is in
-    let (index, symbol, at, one) = symbol_of map sections number section field r found kind parts in
-    let target : at.target ≡ r.target = one.target ∙ ap (λ (x : Relocation). x.target) parts.made in (
+    let (index, symbol, at, one) = symbol_of map sections number section field r found kind parts in (
       index,
       symbol,
       record { added = one.added; there = one.stands.there },
-      subst (StandsFor map sections field index symbol) target (stands_for map sections field index symbol at one.stands),
+      subst (NamesSymbol map sections field index symbol) parts.made (names_symbol map sections number section field r found kind index symbol at parts one),
     )
 
 -- WHAT THE SUFFIX ASKS FOR

@@ -1,6 +1,7 @@
 -- Lemmas, in reading order.
 mod Types
 mod Numbers
+mod Entries
 mod Parts
 mod Stretches
 mod Replacing

@@ -71,22 +71,29 @@ parts_of map sections number section field r is =
 
 -- THE SYMBOL
 
--- a target and a number are the symbol of this index, which is known as this, and local or not; something of the symbol itself is asked for, or not
+-- a target and a number are the symbol of this index, which is known as this, and local or not; something of the symbol
+-- itself is asked for, or not
 pub record IsOf (sections : LaidSections) (itself local : Bool) (told : Told) (index : ℕ) (at : SymbolReference) : Type 0 where
   pub same : at.local ≡ local
   pub global : local ≡ false → at.target ≡ OfSymbol index
   pub suffixed : itself ≡ true → at.target ≡ OfSymbol index
   pub merged : (number address : ℕ) → told ≡ label number address → is_flagged sections merge number ≡ true → at.target ≡ OfSymbol index
+  pub other : (number address : ℕ) → told ≡ label number address → is_flagged sections merge number ≡ false → local ≡ true → itself ≡ false → at.target ≡ OfSection number
   pub own_section : (number : ℕ) → at.target ≡ OfSection number → told ≡ label number at.addend
   pub own_name : (other : ℕ) → at.target ≡ OfSymbol other → (other ≡ index) × (at.addend ≡ 0)
 
 module _ (sections : LaidSections) (itself local : Bool) (index : ℕ) where
-  by_name : (told : Told) → IsOf sections itself local told index (symbol_reference local (OfSymbol index) 0)
-  by_name told = record {
+  -- the section of a label, if it is one, may not stand for it
+  abbrev NeedsName : Told → Type 0
+  NeedsName told = (number address : ℕ) → told ≡ label number address → is_flagged sections merge number ≡ false → local ≡ true → itself ≡ false → ⊥
+
+  by_name : (told : Told) → NeedsName told → IsOf sections itself local told index (symbol_reference local (OfSymbol index) 0)
+  by_name told needs = record {
     same = refl;
     global = λ _. refl;
     suffixed = λ _. refl;
     merged = λ number address _ _. refl;
+    other = λ number address known unmerged local_so bare. absurd (needs number address known unmerged local_so bare);
     own_section = λ number e. absurd cc;
     own_name = λ other e. let same : other ≡ index = cc in (same, refl);
   }
@@ -102,6 +109,7 @@ module _ (sections : LaidSections) (itself local : Bool) (index : ℕ) where
         let same : spot.section ≡ number = cc in
         let flag : is_flagged sections merge spot.section ≡ false = rw there unmerged in
         absurd cc;
+    other = λ number address told unflagged _ _. let same : spot.section ≡ number = cc in rw same refl;
     own_section = λ number e. let same : spot.section ≡ number = cc in rw same refl;
     own_name = λ other e. absurd cc;
   }
@@ -110,9 +118,12 @@ module _ (sections : LaidSections) (itself local : Bool) (index : ℕ) where
       → IsOf sections itself local (spot_told sections spot) index
       (cond (l && not (i || m)) (symbol_reference local (OfSection spot.section) (address_of sections spot.section spot.item spot.offset)) (symbol_reference local (OfSymbol index) 0))
   spot_is spot section there true false false local_so bare unmerged = is_bare local_so bare spot section there unmerged
-  spot_is spot section there true false true local_so bare unmerged = by_name _
-  spot_is spot section there true true m local_so bare unmerged = by_name _
-  spot_is spot section there false i m local_so bare unmerged = by_name _
+  spot_is spot section there true false true local_so bare flagged = by_name _ (λ number address known unflagged _ _.
+      let same : spot.section ≡ number = cc in
+      let flag : is_flagged sections merge spot.section ≡ true = rw there flagged in
+      absurd cc)
+  spot_is spot section there true true m local_so suffixed unmerged = by_name _ (λ number address known unflagged _ bare. absurd cc)
+  spot_is spot section there false i m global bare unmerged = by_name _ (λ number address known unflagged local_so _. absurd cc)
 
   label_is : (spot : Spot) (at : SymbolReference) → label_reference itself sections index local spot ≡ Some at → IsOf sections itself local (spot_told sections spot) index at
   label_is spot at is =
@@ -122,10 +133,10 @@ module _ (sections : LaidSections) (itself local : Bool) (index : ℕ) where
       (λ section there made. subst (IsOf sections itself local (spot_told sections spot) index) made (spot_is spot section there local itself (has_flag merge section) refl refl refl))
 
   meaning_is : (what : Meaning) (at : SymbolReference) → meaning_reference itself sections index local what ≡ Some at → IsOf sections itself local (final_meaning sections what) index at
-  meaning_is meaning.Undefined at is = subst (IsOf sections itself local absent index) (some_same is) (by_name absent)
+  meaning_is meaning.Undefined at is = subst (IsOf sections itself local absent index) (some_same is) (by_name absent (λ number address known _ _ _. absurd cc))
   meaning_is (meaning.Label spot) at is = label_is spot at is
   meaning_is (meaning.Space spot) at is = label_is spot at is
-  meaning_is (meaning.Common size align) at is = subst (IsOf sections itself local absent index) (some_same is) (by_name absent)
+  meaning_is (meaning.Common size align) at is = subst (IsOf sections itself local absent index) (some_same is) (by_name absent (λ number address known _ _ _. absurd cc))
   meaning_is (meaning.Assigned made) at is = absurd cc
 
 module _ (map : SymbolMap) (sections : LaidSections) (field : Field) where

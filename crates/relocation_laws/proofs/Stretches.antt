@@ -1,4 +1,4 @@
--- A symbol does not stand twice in what is left of a form, once added and once taken away: its stretch would have cancelled.
+-- A label does not stand twice in what is left of a form, once added and once taken away: its stretch would cancel.
 use Rattle.std.proofs.Common.{◌≡◌, ℕ, ◌+◌, ◌^◌, ◌==◌, ◌<◌, Bool, true, false, cond, List, [], ◌∷◌, ◌++◌, map, None, Some, refl, sym, ap, ◌∙◌, arith}
 use Rattle.std.proofs.lemmas.Bool.Decides.{nat_tests}
 use Rattle.std.proofs.lemmas.List.Sums.{sum_by-cons}

@@ -8,7 +8,7 @@ use Rattle.asm_frags.specs.declared.roles.FieldKind.{FieldKind}
 use Rattle.asm_frags.specs.declared.roles.FieldKind.TheVariants as field
 use Rattle.asm_frags.specs.declared.roles.Suffix.{Suffix}
 use Rattle.asm_frags.specs.declared.roles.Suffix.TheVariants as suffix
-use Rattle.asm_frags.specs.Fields.{width, holds, fits, fits_signed}
+use Rattle.asm_frags.specs.Fields.{width, is_distance, holds, fits, fits_signed}
 use Rattle.elf_object.specs.declared.relocations.RelocationKind.{RelocationKind}
 use Rattle.elf_object.specs.declared.relocations.RelocationKind.TheVariants.{Direct64, Pc32, Plt32, GotPcRel, Direct32, Signed32, Direct16, Pc16, Direct8, Pc8, GotTpOff, TpOff32, Pc64}
 use Rattle.elf_object.specs.Relocations.{kind_number, sized_kind, signed_kind, branch_kind, plain_kind, entry_kind, linkage_kind, offset_kind, kind_by}
@@ -58,7 +58,8 @@ is_alike sign_extended kind = is_sign_extended kind
 abbrev pub is_led_by : FieldKind → FieldSize → Bool → Bool
 is_led_by kind size local = is_branch kind && (width size == 4) && not local
 
--- the kind has the bytes of the field and a check like it, takes P where that is taken, and takes for the symbol what the field asks for
+-- the kind has the bytes of the field and a check like it, takes P where that is taken, and for the symbol what the field
+-- asks for
 abbrev pub IsRight : Suffix → Bool → Bool → FieldKind → FieldSize → RelocationKind → Type 0
 IsRight behind led taken kind size found =
     ((row_of found).bytes ≡ width size) × (is_alike (row_of found).check kind ≡ true) × ((row_of found).relative ≡ taken) × ((row_of found).operand ≡ operand_by behind led)
@@ -151,6 +152,22 @@ kind_right suffix.Plt taken kind local size found e = linkage_right (is_led_by k
 kind_right suffix.GotPcRel taken kind local size found e = entry_right suffix.GotPcRel (is_led_by kind size local) taken kind size GotPcRel found (refl, refl, refl, refl) e
 kind_right suffix.GotTpOff taken kind local size found e = entry_right suffix.GotTpOff (is_led_by kind size local) taken kind size GotTpOff found (refl, refl, refl, refl) e
 kind_right suffix.TpOff taken kind local size found e = offset_right (is_led_by kind size local) taken kind size found e
+
+-- a distance always has its place taken from the sum
+pub no_distance : (behind : Suffix) (kind : FieldKind) (local : Bool) (size : FieldSize) (found : RelocationKind) → kind_by behind false kind local size ≡ Some found
+    → is_distance kind ≡ false
+no_distance behind field.Plain local size found e = refl
+no_distance behind field.Signed local size found e = refl
+no_distance suffix.Absent field.Address local size found e = absurd cc
+no_distance suffix.Plt field.Address local size found e = absurd cc
+no_distance suffix.GotPcRel field.Address local size found e = absurd cc
+no_distance suffix.GotTpOff field.Address local size found e = absurd cc
+no_distance suffix.TpOff field.Address local size found e = absurd cc
+no_distance suffix.Absent field.Branch local size found e = absurd cc
+no_distance suffix.Plt field.Branch local size found e = absurd cc
+no_distance suffix.GotPcRel field.Branch local size found e = absurd cc
+no_distance suffix.GotTpOff field.Branch local size found e = absurd cc
+no_distance suffix.TpOff field.Branch local size found e = absurd cc
 
 -- WHAT IS VERIFIED IS HELD
 

@@ -19,20 +19,22 @@ is_sign_extended Signed = true
 is_sign_extended Address = true
 is_sign_extended Branch = true
 
--- the linker has verified the value, a number modulo 2 ^ 64, for a field of so many bytes; without a check nothing is verified
+-- the linker has verified the value, a number modulo 2 ^ 64, for a field of so many bytes; without a check it verifies
+-- none
 abbrev pub IsVerified : Check → ℕ → ℕ → Type 0
 IsVerified unsaid bytes value = ⊥
 IsVerified zero_extended bytes value = value < 2 ^ (8 * bytes)
 IsVerified sign_extended bytes value = (value < 2 ^ (8 * bytes - 1)) ⊎ (2 ^ 64 - 2 ^ (8 * bytes - 1) ≤ value)
 
--- the type fills the field and no more; where the linker verifies a value, it extends the field as the processor does, so that the field holds what is verified
+-- the type fills the field and no more; where the linker verifies a value, it extends the field as the processor does,
+-- so that the field holds what is verified
 pub record Suits (field : Field) (row : RelocationType) : Type 0 where
   pub bytes : row.bytes ≡ width field.size
   pub signed : is_sign_extended field.role.kind ≡ true → row.check ≢ zero_extended
   pub plain : is_sign_extended field.role.kind ≡ false → row.check ≢ sign_extended
   pub held : (value : ℕ) → value < 2 ^ 64 → IsVerified row.check row.bytes value → holds field.role.kind field.size value ≡ true
 
--- the number of the relocation is that of the type, which suits the field, and the relocation stands where the field does
+-- the relocation has the number of the type, which suits the field, and stands where the field does
 pub record IsTyped (section : SectionOf LaidItem) (field : Field) (r : Relocation) (row : RelocationType) : Type 0 where
   pub numbered : relocation_type (kind_number r.kind) ≡ Some row
   pub suits : Suits field row

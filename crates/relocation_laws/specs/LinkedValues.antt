@@ -1,4 +1,4 @@
--- What the linker makes of relocations: the values of the forms of their fields, with what it puts in place of the addresses of symbols.
+-- What the linker makes of relocations: the values of forms, with what it puts in place of the addresses of symbols.
 use Rattle.std.specs.Prelude.{◌≡◌, ℕ, ◌+◌, ◌^◌, ◌==◌, ◌<◌, ◌≤◌, length, Some, if◌then◌else◌}
 use Rattle.asm_expr.specs.Forms.{Form, wrapped}
 use Rattle.asm_expr.specs.FormValues.{form_value}
@@ -16,7 +16,8 @@ use Rattle.elf_object.specs.RelocationLaws.{PlaceStands}
 use Rattle.elf_object.specs.Relocations.{kind_number, field_relocation}
 use Rattle.relocation_laws.specs.RelocationTypes.{Operand, RelocationType, relocation_type}
 
--- what the linker puts for the target: where a section begins, or what it has of a symbol
+-- what the linker puts for the target: where a section begins, of which a type takes no more than S, or what it has of
+-- a symbol
 abbrev pub put_for : (ℕ → ℕ) → (Operand → ℕ → ℕ) → Operand → Target → ℕ
 put_for begins linked operand (OfSection number) = begins number
 put_for begins linked operand (OfSymbol index) = linked operand index
@@ -35,12 +36,14 @@ abbrev pub given_put : Target → ℕ → (ℕ → ℕ) → ℕ → ℕ
 given_put (OfSection number) put given index = given index
 given_put (OfSymbol named) put given index = if index == named then put else given index
 
--- the value of a form where sections begin there, symbols stand there, and this is put in place of the address of the symbol that a relocation names
+-- the value of a form where sections begin there, symbols stand there, and this is put in place of the address of the
+-- symbol that a relocation names
 abbrev pub value_with : (begins given : ℕ → ℕ) → (ℕ → Told) → Target → ℕ → Form → ℕ
 value_with begins given told target put made = form_value begins (given_put target put given) (told_but target told) made
 
--- wherever sections begin and symbols stand, and whatever the linker has of a symbol for each operand of the table: what the relocation's type makes of its
--- target and addend is the value of the field's form with what is put in place of the symbol's address, less what the field's kind counts from
+-- wherever sections begin and symbols stand, and whatever the linker has of a symbol for each operand of the table: what
+-- the relocation's type makes of its target and addend is the value of the field's form, with what is put in place of
+-- the symbol's address, less what the field's kind counts from
 abbrev pub LinkedValuesAreForms : Type 0
 LinkedValuesAreForms = (begins given : ℕ → ℕ) (linked : Operand → ℕ → ℕ) (map : SymbolMap) (sections : LaidSections) (number value : ℕ) (section : SectionOf LaidItem)
     (field : Field) (r : Relocation) (row : RelocationType)

@@ -1,9 +1,10 @@
--- The types of relocations, as the psABI's table gives them (psABI for AMD64, section 4.4, table 4.9, "Relocation Types").
+-- The types of relocations, as the psABI has them (psABI for AMD64, section 4.4, table 4.9, "Relocation Types").
 use Rattle.std.specs.Prelude.{ℕ, Bool, true, false, nat_eq, List, [], ◌∷◌, Option}
 use Rattle.std.specs.Map.{lookup}
 
--- what a calculation takes for the symbol: S, its address; L, the place of its entry in the procedure linkage table; G + GOT, the place of its entry
--- in the global offset table; the place of the entry there that has its offset from the thread pointer; and that offset
+-- what a calculation takes for the symbol: S, its address; L, the place of its entry in the procedure linkage table;
+-- G + GOT, the place of its entry in the global offset table; the place of the entry there that has its offset from the
+-- thread pointer; and that offset
 pub data Operand : Type 0 where
   symbol_address : Operand
   linkage_entry : Operand
@@ -11,13 +12,15 @@ pub data Operand : Type 0 where
   thread_entry : Operand
   thread_offset : Operand
 
--- what the linker has to verify of a value that it cuts to a field: nothing that the psABI says, or that the field, extended by zeros or by its sign, is the value
+-- what the linker has to verify of a value that it cuts to a field: nothing that the psABI says, or that the field,
+-- extended by zeros or by its sign, is the value
 pub data Check : Type 0 where
   unsaid : Check
   zero_extended : Check
   sign_extended : Check
 
--- a row of the table: the bytes of the field, what the calculation takes for the symbol, whether P, the place of the field, is taken from the sum, and the check
+-- a row of the table: the bytes of the field, what the calculation takes for the symbol, whether P, the place of the
+-- field, is taken from the sum, and what the linker verifies
 pub record RelocationType : Type 0 where
   pub bytes : ℕ
   pub operand : Operand

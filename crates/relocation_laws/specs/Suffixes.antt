@@ -26,7 +26,8 @@ is_branch field.Branch = true
 abbrev pub is_led : Field → Symbol → Bool
 is_led field symbol = is_branch field.role.kind && (width field.size == 4) && not (is_local_symbol symbol)
 
--- what a suffix asks for; without one it is the address of the symbol, or of its entry in the procedure linkage table for a branch that may be led
+-- what a suffix asks for; without one it is the address of the symbol, or, for a branch that may be led, of its entry in
+-- the procedure linkage table
 abbrev pub operand_by : Suffix → Bool → Operand
 operand_by Absent false = symbol_address
 operand_by Absent true = linkage_entry
@@ -47,7 +48,8 @@ pub record IsAnswered (field : Field) (symbol : Symbol) (r : Relocation) : Type 
   pub asked : IsAsked field.role.suffix (is_led field symbol) (kind_number r.kind)
   pub operand : (row : RelocationType) → relocation_type (kind_number r.kind) ≡ Some row → row.operand ≡ operand_by field.role.suffix (is_led field symbol)
 
--- the suffix of a field decides what the linker puts in place of its symbol's address, and nothing else does but that it is a branch that may be led
+-- the suffix of a field decides what the linker puts in place of the symbol's address, and nothing else does but that
+-- the field is of a branch that may be led
 abbrev pub SuffixesAreAnswered : Type 0
 SuffixesAreAnswered = (map : SymbolMap) (sections : LaidSections) (number index : ℕ) (section : SectionOf LaidItem) (field : Field) (symbol : Symbol) (r : Relocation)
     → field_relocation map sections number section field ≡ Some r → IsSymbolOf map sections field index symbol → IsAnswered field symbol r

@@ -1,11 +1,18 @@
 //! Laws of the definition of relocations.
 
+ghost use Rattle.relocation_laws.specs.Entries.{EntriesTellTypes};
 ghost use Rattle.relocation_laws.specs.FieldSymbols.{RelocationsNameSymbols};
 ghost use Rattle.relocation_laws.specs.FieldTypes.{RelocationsSuitFields};
 ghost use Rattle.relocation_laws.specs.LinkedValues.{LinkedValuesAreForms};
 ghost use Rattle.relocation_laws.specs.Suffixes.{SuffixesAreAnswered};
 
 use asm_expr::{cancelled_labels_keep_the_value, whole_stretches_cancel};
+
+/// The entry of a relocation, read at the offsets of the gABI, tells the number of its type (`r_info`,
+/// the low half), where the field stands, the symbol and the addend.
+pub fn entries_tell_types()
+    ensures { EntriesTellTypes }
+{}
 
 /// The type of each relocation, by its number (psABI for AMD64, table 4.9), has the bytes of its field,
 /// and what a linker verifies of its value is what the field holds: a field that the processor extends by
