@@ -22,7 +22,7 @@ pub fn relocations_suit_fields()
 {}
 
 /// Each relocation names the symbol of its field: by itself where it is global or weak, stands in a
-/// section with `SHF_MERGE` or has a suffix, and else at most by the section of its label.
+/// section with `SHF_MERGE` or has a suffix, and else by the section of its label.
 pub fn relocations_name_symbols()
     ensures { RelocationsNameSymbols }
 {}
