@@ -210,7 +210,7 @@ def files(crates: pathlib.Path) -> dict[pathlib.Path, str]:
     table, names = crates / "x86_table/src", crates / "x86_lookup/src"
     rows = read_table(table)
     lists = [(syntax, f"{prefix}_SLOTS", read_names(names, f"{prefix}_NAMES")) for syntax, prefix in (("AT&T", "ATT"), ("Intel", "INTEL"))]
-    return {table / "spans.rt": spans_file(rows), names / "slots.rt": slots_file(lists), names / "bare_codes.rt": codes_file(rows, lists[0][2]),
+    return {names / "spans.rt": spans_file(rows), names / "slots.rt": slots_file(lists), names / "bare_codes.rt": codes_file(rows, lists[0][2]),
             crates / "x86_encode/src/keys.rt": keys_file(rows)}
 
 

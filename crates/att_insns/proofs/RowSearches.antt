@@ -4,9 +4,9 @@ use Rattle.std.proofs.lemmas.Bool.{and_parts, and_from, ltb-true, leb-true, lt-l
 use Rattle.std.specs.List.{find, list_all}
 use Rattle.x86_insn.specs.declared.insns.Slot.{Slot}
 use Rattle.x86_table.specs.declared.forms.Row.{Row}
-use Rattle.x86_table.specs.declared.ranges.RowRange.{RowRange}
+use Rattle.x86_lookup.specs.declared.ranges.RowRange.{RowRange}
 use Rattle.x86_table.specs.Rows.{the_rows}
-use Rattle.x86_table.specs.Ranges.{is_in, is_named, IsWithin, AreRowsOf}
+use Rattle.x86_lookup.specs.Ranges.{is_in, is_named, IsWithin, AreRowsOf}
 use Rattle.att_insns.specs.Sizes.{takes_all, is_form, agrees}
 
 -- just the rows from one index on, so many, pass

@@ -11,7 +11,7 @@ use Rattle.x86_table.specs.declared.forms.Pattern.{Pattern}
 use Rattle.x86_table.specs.declared.forms.Pattern.TheVariants as pattern
 use Rattle.x86_table.specs.declared.forms.Row.{Row}
 use Rattle.x86_table.specs.Rows.{the_rows}
-use Rattle.x86_table.specs.Ranges.{is_named}
+use Rattle.x86_lookup.specs.Ranges.{is_named}
 use Rattle.x86_lookup.specs.Writing.{is_absent, is_immediate, is_target, takes_memory}
 use Rattle.att_operands.specs.declared.faults.OperandCause.{OperandCause}
 use Rattle.att_operands.specs.declared.faults.OperandCause.TheVariants.{UnknownOperandSize}

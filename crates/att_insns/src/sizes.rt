@@ -12,7 +12,8 @@ ghost use Rattle.att_insns.specs.Reading.{Makes};
 
 use att_operands::{OperandCause, OperandFault};
 use x86_insn::{Class, Insn, Mnemonic, Slot};
-use x86_table::{Pattern, Row, rows, rows_of};
+use x86_lookup::{rows, rows_of};
+use x86_table::{Pattern, Row};
 
 /// How many bits the registers of a class have.
 #[inline(always)]

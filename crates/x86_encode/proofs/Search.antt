@@ -6,12 +6,12 @@ use Rattle.x86_insn.specs.declared.insns.Mnemonic.{Mnemonic}
 use Rattle.x86_table.specs.declared.forms.Row.{Row}
 use Rattle.x86_encode.specs.declared.keys.Key.{Key}
 use Rattle.x86_encode.specs.declared.searching.Found.{Found}
-use Rattle.x86_table.specs.declared.ranges.RowRange.{RowRange}
+use Rattle.x86_lookup.specs.declared.ranges.RowRange.{RowRange}
 use Rattle.x86_insn.specs.Views.{View}
 use Rattle.x86_table.specs.Bytes.{bytes_of}
 use Rattle.x86_table.specs.Fields.{Fields, fields_of}
 use Rattle.x86_table.specs.Fits.{fields_fit, fits}
-use Rattle.x86_table.specs.Ranges.{IsWithin, is_sized, AreRowsOf}
+use Rattle.x86_lookup.specs.Ranges.{IsWithin, is_sized, AreRowsOf}
 use Rattle.x86_table.specs.Rows.{the_rows}
 use Rattle.x86_encode.specs.Building.{pick, without_rex, built, shows, takes}
 use Rattle.x86_encode.specs.Codes.{OrderedCodes, Before, HasNoOrderedCode, named, name_meant, meant}

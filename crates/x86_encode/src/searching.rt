@@ -12,7 +12,8 @@ use crate::keying::{admits, keys, sorts_of};
 use crate::lengths::{has_rex, length_of};
 use crate::showing::shows;
 use x86_insn::{Insn, Mnemonic, Values};
-use x86_table::{Parts, Row, parts_fit, rows, rows_of_size};
+use x86_lookup::{rows, rows_of_size};
+use x86_table::{Parts, Row, parts_fit};
 
 /// A row by its index, with the fields of the instruction in it and the number of their bytes.
 #[derive(Clone, Copy)]

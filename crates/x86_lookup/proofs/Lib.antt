@@ -1,4 +1,6 @@
--- Lemmas on mnemonics, and on what rows write.
+-- Lemmas on the rows of names, on mnemonics, and on what rows write.
+mod SpanFacts
+mod SpanLaws
 mod RowLookups
 mod RowWrites
 mod NameLookups

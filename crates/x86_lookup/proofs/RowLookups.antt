@@ -4,9 +4,9 @@ use Rattle.std.proofs.lemmas.Bool.{and_parts, and_from, both_ways, ltb-true, leb
 use Rattle.std.specs.List.{find}
 use Rattle.x86_insn.specs.declared.insns.Insn.{Insn}
 use Rattle.x86_table.specs.declared.forms.Row.{Row}
-use Rattle.x86_table.specs.declared.ranges.RowRange.{RowRange}
+use Rattle.x86_lookup.specs.declared.ranges.RowRange.{RowRange}
 use Rattle.x86_table.specs.Rows.{the_rows}
-use Rattle.x86_table.specs.Ranges.{is_in, is_sized, AreRowsOf}
+use Rattle.x86_lookup.specs.Ranges.{is_in, is_sized, AreRowsOf}
 use Rattle.x86_lookup.specs.Writing.{admits, kind_fits, FindsRow}
 
 some_is : {A : Type 0} {m n : A} → Some m ≡ Some n → m ≡ n

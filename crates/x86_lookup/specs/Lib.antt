@@ -1,4 +1,5 @@
 -- The definitions that contracts cite, in reading order.
+pub mod Ranges
 pub mod Names
 pub mod Writing
 pub mod BareInstructions

@@ -7,7 +7,7 @@ use Rattle.x86_lookup.specs.declared.names.Named.{Named}
 use Rattle.x86_lookup.specs.declared.att_mnemonics.TheConstants.{ATT_NAMES}
 use Rattle.x86_lookup.specs.declared.intel_mnemonics.TheConstants.{INTEL_NAMES}
 use Rattle.x86_lookup.specs.declared.slots.TheConstants.{ATT_SLOTS, INTEL_SLOTS}
-use Rattle.x86_table.specs.Ranges.{span_of, by_size}
+use Rattle.x86_lookup.specs.Ranges.{span_of, by_size}
 
 -- the mnemonics of AT&T syntax
 unfoldable pub the_att_names : List Named

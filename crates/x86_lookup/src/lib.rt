@@ -1,4 +1,4 @@
-//! What is looked up in the instruction table: the rows' name of a mnemonic, and what an instruction writes.
+//! What is looked up in the instruction table: the rows of a name, the name of a mnemonic, and what an instruction writes.
 #![tactic(auto)]
 
 mod att_mnemonics;
@@ -7,10 +7,13 @@ mod bare_instructions;
 mod intel_mnemonics;
 mod laws;
 mod names;
+mod ranges;
 mod slots;
+mod spans;
 mod writing;
 
 pub use bare_instructions::bare_code;
 pub use laws::{bare_codes_read, mnemonics_have_rows};
 pub use names::{Named, Rule, att_name, att_names, intel_name, intel_names, shown_as};
+pub use ranges::{RowRange, rows, rows_of, rows_of_size};
 pub use writing::{Store, Writes, written};

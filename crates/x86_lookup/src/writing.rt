@@ -4,8 +4,9 @@ ghost use Rattle.std.specs.Prelude.{◌≡◌, option_map};
 ghost use Rattle.std.specs.List.{find};
 ghost use Rattle.x86_lookup.specs.Writing.{is_absent, takes_register, takes_memory, is_immediate, is_target, kind_fits, admits, FindsRow, bytes_in_memory, reg_in, first_written, second_written, is_repeat, in_memory, elsewhere, stored, writes_by, no_writes, has_general, has_vector, part_is, writes_general, writes_vector, is_xmm_of, xmm_is, IsWritten};
 
+use crate::ranges::{rows, rows_of_size};
 use x86_insn::{Class, Insn, Prefix, Reg, Slot};
-use x86_table::{Destinations, Implied, Pattern, Row, StoreKind, rows, rows_of_size};
+use x86_table::{Destinations, Implied, Pattern, Row, StoreKind};
 
 /// What an instruction stores.
 #[derive(Clone, Copy)]

@@ -1,4 +1,4 @@
--- Lemmas on what bytes read as, and on the rows of names.
+-- Lemmas on what bytes read as.
 mod RowGroups
 mod TableFacts
 mod Peeling
@@ -6,4 +6,3 @@ mod FieldBytes
 mod RowHeads
 mod OneReading
 mod Lengths
-mod SpanLaws

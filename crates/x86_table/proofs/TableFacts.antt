@@ -1,8 +1,7 @@
 -- What holds of the whole table, computed over its rows once: these facts alone are proved again where a row changes.
-use Rattle.std.proofs.Common.{◌≡◌, length, true, refl}
+use Rattle.std.proofs.Common.{◌≡◌, true, refl}
 use Rattle.x86_table.specs.Rows.{the_rows}
 use Rattle.x86_table.specs.Heads.{all_apart, all_stand}
-use Rattle.x86_table.specs.Ranges.{the_spans, span_of, all_spanned, all_ordered}
 use Rattle.x86_table.proofs.RowGroups.{all_grouped, groups_apart, whole_apart}
 
 grouped : all_grouped the_rows ≡ true
@@ -19,11 +18,3 @@ apart = whole_apart the_rows grouped in_groups
 pub stand : all_stand the_rows ≡ true
 unfolding the_rows
 stand = refl
-
-pub spanned : all_spanned 0 the_rows ≡ true
-unfolding the_rows the_spans span_of
-spanned = refl
-
-pub ordered : all_ordered 0 (length the_rows) the_spans ≡ true
-unfolding the_rows the_spans
-ordered = refl

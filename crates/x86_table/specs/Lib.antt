@@ -6,6 +6,5 @@ pub mod Fits
 pub mod Reads
 pub mod WorkedReadings
 pub mod Heads
-pub mod Ranges
 pub mod WorkedWrites
 pub mod WorkedOrder

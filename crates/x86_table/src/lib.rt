@@ -7,8 +7,6 @@ mod forms;
 mod laws;
 pub mod mnemonics;
 mod parts;
-mod ranges;
-mod spans;
 mod spelling;
 mod table;
 
@@ -22,6 +20,5 @@ pub use laws::{
     worked_order, worked_readings, worked_writes,
 };
 pub use parts::{Parts, Place, Width};
-pub use ranges::{RowRange, rows, rows_of, rows_of_size};
 pub use spelling::{Bytes, bytes_of};
 pub use table::ROWS;

@@ -1,5 +1,5 @@
 use Rattle.std.proofs.Common.{refl}
-use Rattle.x86_table.specs.Ranges.{the_spans, span_of}
+use Rattle.x86_lookup.specs.Ranges.{the_spans, span_of}
 use Rattle.x86_lookup.specs.Names.{the_att_names, the_intel_names}
 use Rattle.x86_lookup.proofs.laws.mnemonics_have_rows.Goals as goal
 

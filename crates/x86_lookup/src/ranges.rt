@@ -3,12 +3,11 @@
 ghost use Rattle.std.specs.Prelude.{◌≡◌, ◌≤◌, length};
 ghost use Rattle.x86_table.specs.declared.forms.Row.{Row};
 ghost use Rattle.x86_table.specs.Rows.{the_rows};
-ghost use Rattle.x86_table.specs.Ranges.{the_spans, span_of, by_name, by_size, IsWithin, AreRowsOf, is_named, is_sized};
+ghost use Rattle.x86_lookup.specs.Ranges.{the_spans, span_of, by_name, by_size, IsWithin, AreRowsOf, is_named, is_sized};
 
-use crate::forms::Row;
 use crate::spans::{SPANS, Span};
-use crate::table::ROWS;
 use x86_insn::Mnemonic;
+use x86_table::{ROWS, Row};
 
 /// Rows that stand together, by their indices in the table: from `start` on, before `stop`.
 #[derive(Clone, Copy)]
@@ -18,7 +17,7 @@ pub struct RowRange {
 }
 
 /// The rows of the table, in order.
-#[tactic(auto, unfolding(crate::specs::Rows::the_rows))]
+#[tactic(auto, unfolding(x86_table::specs::Rows::the_rows))]
 pub fn rows() -> &'static [Row]
     ensures { result.now ≡ the_rows }
 {

@@ -2,11 +2,11 @@
 use Rattle.std.proofs.Common.{◌≡◌, ◌<◌, ◌≤◌, ℕ, ◌+◌, ◌==◌, ◌&&◌, nat_lt, nat_le, List, [], ◌∷◌, length, Bool, true, false, Option, Some, None, slice_get, refl, arith, zero, suc, sym, ap, ◌∙◌, inl, inr, subst, eq-eqb}
 use Rattle.std.proofs.lemmas.Bool.{eqb-true, both_ways, ltb-true, leb-true, lt-ltb, le-leb, and_parts, and_from, cases_Bool, cases_order}
 use Rattle.x86_table.specs.declared.forms.Row.{Row}
-use Rattle.x86_table.specs.declared.spans.Span.{Span}
-use Rattle.x86_table.specs.declared.ranges.RowRange.{RowRange}
+use Rattle.x86_lookup.specs.declared.spans.Span.{Span}
+use Rattle.x86_lookup.specs.declared.ranges.RowRange.{RowRange}
 use Rattle.x86_table.specs.Rows.{the_rows}
-use Rattle.x86_table.specs.Ranges.{agree, is_size, the_spans, span_or, span_of, range, by_name, by_size, is_in, IsWithin, is_named, is_sized, AreRowsOf, is_by_size, all_spanned, is_ordered, all_ordered}
-use Rattle.x86_table.proofs.TableFacts.{spanned, ordered}
+use Rattle.x86_lookup.specs.Ranges.{agree, is_size, the_spans, span_or, span_of, range, by_name, by_size, is_in, IsWithin, is_named, is_sized, AreRowsOf, is_by_size, all_spanned, is_ordered, all_ordered}
+use Rattle.x86_lookup.proofs.SpanFacts.{spanned, ordered}
 
 agrees : (a b : Bool) → agree a b ≡ true → a ≡ b
 agrees true b h = sym h

@@ -1,8 +1,8 @@
 -- Where the rows of a name stand.
 use Rattle.std.specs.Prelude.{◌≡◌, ◌≤◌, ◌+◌, ◌==◌, ◌&&◌, ◌||◌, ◌∷◌, [], ℕ, nat_lt, nat_le, List, Bool, true, false, not, Option, Some, None, slice_get, length, if◌then◌else◌}
-use Rattle.x86_table.specs.declared.spans.TheConstants.{SPANS}
-use Rattle.x86_table.specs.declared.spans.Span.{Span}
-use Rattle.x86_table.specs.declared.ranges.RowRange.{RowRange}
+use Rattle.x86_lookup.specs.declared.spans.TheConstants.{SPANS}
+use Rattle.x86_lookup.specs.declared.spans.Span.{Span}
+use Rattle.x86_lookup.specs.declared.ranges.RowRange.{RowRange}
 use Rattle.x86_table.specs.declared.forms.Row.{Row}
 use Rattle.x86_table.specs.Rows.{the_rows}
 use Rattle.x86_table.specs.Heads.{span}
