@@ -1,10 +1,9 @@
 -- What the size of a row moves, row by row, and the rows whose size depends on their address.
-use Rattle.std.proofs.Common.{◌≡◌, ◌⊎◌, ℕ, ◌+◌, ◌-◌, ◌<◌, ◌≤◌, zero, suc, Bool, true, false, List, [], ◌∷◌, ◌++◌, length, get_or, set, refl, sym, ap, ◌∙◌, subst, arith, inl, inr}
-use Rattle.std.proofs.lemmas.Bool.{cases_eq, cases_lt}
-use Rattle.std.proofs.lemmas.List.{get_or-set_same, get_or-set_other, get_or_push, get_or_append_left, get_or_default, length_push, length-set}
-use Rattle.asm_levels.specs.declared.rows.RowSize.{RowSize}
+use Rattle.std.proofs.Common.{◌≡◌, ℕ, ◌+◌, ◌-◌, ◌<◌, ◌≤◌, Bool, true, false, List, [], ◌∷◌, ◌++◌, length, get_or, set, refl, sym, ap, ◌∙◌, subst, arith, inl, inr}
+use Rattle.std.proofs.lemmas.Bool.{cases_eq}
+use Rattle.std.proofs.lemmas.List.{get_or-set_same, get_or-set_other, get_or_push, get_or_append_left, get_or_default, length_push}
 use Rattle.asm_levels.specs.declared.rows.Row.{Row}
-use Rattle.asm_levels.specs.Resizing.{is_end, depends_on_address, IsMovedBefore, AreEnds, AreDependents, IsAmong}
+use Rattle.asm_levels.specs.Resizing.{is_end, depends_on_address, IsMovedBefore, AreDependents, IsAmong}
 
 -- the last row moves what stands behind all rows
 pub before_last : (rows : List Row) (index : ℕ) → index + 1 ≡ length rows → IsMovedBefore rows index (index + 1)

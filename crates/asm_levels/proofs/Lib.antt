@@ -9,3 +9,8 @@ pub mod LookLemmas
 pub mod ResizingLemmas
 pub mod SizedLemmas
 pub mod EndLemmas
+pub mod LinkLemmas
+pub mod WatchLemmas
+pub mod PartLemmas
+pub mod TouchedLemmas
+pub mod CalmLemmas

@@ -1,5 +1,5 @@
 -- A row gets another size, and the rows behind it are moved.
-use Rattle.std.proofs.Common.{◌≡◌, ◌⊎◌, ℕ, ◌+◌, ◌-◌, ◌%◌, ◌^◌, ◌<◌, ◌≤◌, zero, suc, Bool, true, false, List, length, get_or, set, refl, sym, ap, ◌∙◌, subst, arith, inl, inr}
+use Rattle.std.proofs.Common.{◌≡◌, ℕ, ◌+◌, ◌-◌, ◌%◌, ◌^◌, ◌<◌, ◌≤◌, zero, suc, true, false, List, length, get_or, set, refl, sym, ap, ◌∙◌, subst, arith, inl, inr}
 use Rattle.std.specs.List.{All}
 use Rattle.std.proofs.lemmas.Bool.{cases_eq, cases_lt}
 use Rattle.std.proofs.lemmas.List.{get_or-set_same, get_or-set_other, length-set, ext_get_or}
@@ -9,10 +9,10 @@ use Rattle.asm_levels.specs.declared.rows.RowSize.TheVariants.{Fixed, Align, Org
 use Rattle.asm_levels.specs.declared.rows.Row.{Row}
 use Rattle.asm_levels.specs.Sizes.{size_at}
 use Rattle.asm_levels.specs.Shifts.{moved_past, shift_behind, shifts_of, AreInRow}
-use Rattle.asm_levels.specs.Standing.{OrgStands, RowStands, AllStand}
+use Rattle.asm_levels.specs.Standing.{OrgStands}
 use Rattle.asm_levels.specs.Resizing.{is_end, depends_on_address, AreMoved, IsMovedBefore, HasSize}
 
-past_inner : (size : RowSize) (shift bytes : ℕ) → is_end size ≡ false → moved_past size shift bytes ≡ shift + bytes
+pub past_inner : (size : RowSize) (shift bytes : ℕ) → is_end size ≡ false → moved_past size shift bytes ≡ shift + bytes
 past_inner (Fixed held) shift bytes is = refl
 past_inner (Align log most) shift bytes is = refl
 past_inner (Org from ahead behind) shift bytes is = refl

@@ -1,15 +1,15 @@
 -- Rows that have the sizes of their levels and addresses, and those that still have others.
-use Rattle.std.proofs.Common.{◌≡◌, ◌⊎◌, ℕ, ◌+◌, ◌-◌, ◌%◌, ◌^◌, ◌<◌, ◌≤◌, zero, suc, Bool, true, false, List, [], ◌∷◌, length, get_or, set, take, refl, sym, ap, ◌∙◌, subst, arith, inl, inr}
+use Rattle.std.proofs.Common.{◌≡◌, ◌⊎◌, ℕ, ◌+◌, ◌^◌, ◌<◌, ◌≤◌, zero, suc, Bool, true, false, List, [], ◌∷◌, length, get_or, set, take, refl, sym, ap, ◌∙◌, subst, arith, inl, inr}
 use Rattle.std.specs.List.{All}
 use Rattle.std.proofs.lemmas.Bool.{cases_eq, cases_lt}
 use Rattle.std.proofs.lemmas.List.Sums.{sum_by-take-le}
-use Rattle.std.proofs.lemmas.List.{get_or-set_same, get_or-set_other, get_or-take, get_or_default, length-set, length-take-le}
+use Rattle.std.proofs.lemmas.List.{get_or-set_same, get_or-set_other, get_or-take, get_or_default, length-take-le}
 use Rattle.asm_levels.specs.declared.rows.RowSize.{RowSize}
 use Rattle.asm_levels.specs.declared.rows.RowSize.TheVariants.{Fixed, Align, Org, Jump, Leb128, Advance, End}
 use Rattle.asm_levels.specs.declared.rows.Row.{Row}
-use Rattle.asm_levels.specs.Sizes.{most_bytes, most_in, size_from, size_at}
+use Rattle.asm_levels.specs.Sizes.{most_bytes, most_in, size_at}
 use Rattle.asm_levels.specs.Shifts.{moved_past, shift_behind, shifts_of, AreInRow}
-use Rattle.asm_levels.specs.Standing.{OrgStands, RowStands, AllStand}
+use Rattle.asm_levels.specs.Standing.{OrgStands, AllStand}
 use Rattle.asm_levels.specs.Resizing.{depends_on_address, AreMoved, AreDependents, HasSize, IsPlainSized, IsAmong, AreListed, size_of_level}
 use Rattle.asm_levels.proofs.RowOrder.{shifts_in_row}
 use Rattle.asm_levels.proofs.ShiftLemmas.{AllWithin, shift_behind-le, bound_more}
@@ -175,7 +175,7 @@ moved_exact rows levels sizes shifts order small many sized = record {
 }
 
 -- a row of no bytes
-abbrev no_row : Row
+abbrev pub no_row : Row
 no_row = record { offset = 0; size = End }
 
 module _ (rows : List Row) (levels sizes shifts list : List ℕ) (stand : AllStand rows) (nine : All (λ level. level ≤ 9) levels) (many : length levels ≡ length rows)

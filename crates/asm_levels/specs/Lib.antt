@@ -5,4 +5,6 @@ pub mod Shifts
 pub mod Needs
 pub mod Standing
 pub mod Resizing
+pub mod Watching
+pub mod Looking
 pub mod Plans

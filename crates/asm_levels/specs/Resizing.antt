@@ -76,3 +76,7 @@ pub record AreDependents (rows : List Row) (list : List ℕ) : Type 0 where
 abbrev pub AreListed : List ℕ → List ℕ → ℕ → List ℕ → Type 0
 AreListed before after count list = count ≤ length list → (index : ℕ) → index < length before
     → (slice_index after index ≡ slice_index before index) ⊎ IsAmong index count list
+
+-- each row with another size than before is among the first so many of the list
+abbrev pub AreTouched : List ℕ → List ℕ → ℕ → List ℕ → Type 0
+AreTouched before after count list = (index : ℕ) → IsAmong index count list ⊎ (slice_index after index ≡ slice_index before index)

@@ -4,6 +4,7 @@
 mod distances;
 mod ends;
 mod laws;
+mod looking;
 mod needs;
 mod plans;
 mod resizing;
@@ -11,6 +12,7 @@ mod rounds;
 mod rows;
 mod settling;
 mod shifts;
+mod watching;
 
 pub use distances::{Distance, RowTerm, RowTerms};
 pub use laws::{

@@ -4,6 +4,7 @@ use crate::ends::{dependents_of, ends_of};
 use crate::resizing::EndedRows;
 use crate::rows::Row;
 use crate::settling;
+use crate::watching::Watchers;
 use asm_base::{NoMemory, Steps};
 use range_table::RangeTable;
 use std::alloc::Global;
@@ -25,14 +26,21 @@ pub struct RowPlan {
     ends: Vec<u32>,
     /// The rows whose size depends on their address.
     dependents: Vec<u32>,
+    /// Which distances span which rows.
+    watchers: Watchers,
+    /// The round in which each row was looked at last, of those that did not look at all.
+    seen: Vec<u64>,
     /// Room for the rows whose levels rise in a round, where these are few.
     risen: Vec<u32>,
+    /// Room for the rows that have another size than in the round before.
+    touched: Vec<u32>,
 }
 
 impl Model for RowPlan {
-    ghost use Rattle.std.specs.Prelude.{◌≡◌, vec_len};
+    ghost use Rattle.std.specs.Prelude.{◌≡◌, ◌+◌, ◌≤◌, vec_len};
     ghost use Rattle.asm_levels.specs.Plans.{PlanOf, IsPlan};
     ghost use Rattle.asm_levels.specs.Resizing.{AreEnds, AreDependents};
+    ghost use Rattle.asm_levels.specs.Watching.{AreWatchers};
 
     ghost Value = { PlanOf };
 
@@ -42,7 +50,12 @@ impl Model for RowPlan {
     ghost invariant = { λ plan. IsPlan plan.rows.items plan.levels.items plan.shifts
         × AreEnds plan.rows.items plan.ends.items
         × AreDependents plan.rows.items plan.dependents.items
-        × (vec_len plan.sizes ≡ vec_len plan.rows) };
+        × AreWatchers plan.rows.items plan.ends.items plan.watchers.entries.rows.items
+        plan.watchers.entries.blocks.items plan.watchers.entries.heads.items
+        plan.watchers.entries.links.items plan.watchers.wide.items
+        × (vec_len plan.sizes ≡ vec_len plan.rows)
+        × (vec_len plan.seen ≡ vec_len plan.rows)
+        × (vec_len plan.risen + vec_len plan.dependents ≤ vec_len plan.touched) };
 }
 
 impl RowPlan {
@@ -66,7 +79,15 @@ impl RowPlan {
         let sizes = vec![in alloc; 0u64; rows.len()]?;
         let ends = ends_of(alloc, &rows)?;
         let dependents = dependents_of(alloc, &rows)?;
-        let risen = vec![in alloc; 0u32; rows.len() / FEW]?;
+        let all = EndedRows {
+            rows: &rows,
+            ends: &ends,
+        };
+        let watchers = Watchers::new(alloc, all)?;
+        let seen = vec![in alloc; 0u64; rows.len()]?;
+        let few = rows.len() / FEW;
+        let risen = vec![in alloc; 0u32; few]?;
+        let touched = vec![in alloc; 0u32; few + dependents.len()]?;
         Ok(RowPlan {
             rows,
             levels,
@@ -74,7 +95,10 @@ impl RowPlan {
             sizes,
             ends,
             dependents,
+            watchers,
+            seen,
             risen,
+            touched,
         })
     }
 
@@ -101,10 +125,13 @@ impl RowPlan {
         settling::settle(
             all,
             &self.dependents,
+            &self.watchers,
             &mut self.levels,
             &mut self.sizes,
             &mut self.shifts,
+            &mut self.seen,
             &mut self.risen,
+            &mut self.touched,
             steps,
         )
     }

@@ -1,12 +1,13 @@
 //! Rows that get another size, and the rows behind them that this moves.
 
-ghost use Rattle.std.specs.Prelude.{◌≡◌, ◌⊎◌, ℕ, ◌+◌, ◌^◌, ◌<◌, ◌≤◌, false, All, length, slice_index, slice_index_or, slice_set};
+ghost use Rattle.std.specs.Prelude.{◌≡◌, ◌⊎◌, ℕ, ◌+◌, ◌^◌, ◌<◌, ◌≤◌, List, IfSome, All, length, slice_index, slice_index_or, slice_set};
 ghost use Rattle.asm_levels.specs.declared.rows.Row.{Row};
 ghost use Rattle.asm_levels.specs.Sizes as spec;
 ghost use Rattle.asm_levels.specs.Shifts.{shifts_of};
 ghost use Rattle.asm_levels.specs.Standing.{OrgStands, AllStand};
-ghost use Rattle.asm_levels.specs.Resizing.{depends_on_address, AreMoved, AreEnds, AreDependents, HasSize, IsPlainSized, IsAmong, size_of_level};
+ghost use Rattle.asm_levels.specs.Resizing.{depends_on_address, AreMoved, AreEnds, AreDependents, HasSize, IsPlainSized, IsAmong, AreTouched, size_of_level};
 
+use crate::rounds::note;
 use crate::rows::{Row, RowSize};
 use crate::shifts::{place, size_from};
 use range_table::RangeTable;
@@ -87,13 +88,31 @@ fn resize(all: EndedRows, index: usize, size: u64, sizes: &mut [u64], shifts: &m
     }
 }
 
-/// Gives each of these rows, whose levels have risen, the size of its level.
+/// Puts a row at this place of a list where it is to get another size. Answers the place behind it.
+fn note_changed(list: &mut [u32], place: usize, row: usize, size: u64, sizes: &[u64]) -> usize
+    requires row { row < 2 ^ 32 }
+    requires inside { row < length sizes.now }
+    requires room { place < length list.old }
+    ensures kept { (at : ℕ) → at < place → slice_index list.new at ≡ slice_index list.old at }
+    ensures noted { ((result ≡ place) × (slice_index sizes.now row ≡ size))
+        ⊎ ((result ≡ place + 1) × (slice_index list.new place ≡ row)) }
+    ensures as_many { length list.new ≡ length list.old }
+{
+    if sizes[row] == size {
+        return place;
+    }
+    note(list, place, row);
+    place + 1
+}
+
+/// Gives each of these rows, whose levels have risen, the size of its level, and copies the list.
 pub(crate) fn resize_risen(
     all: EndedRows,
     levels: &[u8],
     risen: &[u32],
     sizes: &mut [u64],
     shifts: &mut RangeTable,
+    touched: &mut [u32],
 )
     requires stand { AllStand all.rows.now }
     requires bytes { spec.most_in all.rows.now < 2 ^ 62 }
@@ -105,12 +124,18 @@ pub(crate) fn resize_risen(
     requires plain { (index : ℕ) → index < length all.rows.now
         → IsPlainSized all.rows.now levels.now sizes.old index
         ⊎ IsAmong index (length risen.now) risen.now }
+    requires room { length risen.now ≤ length touched.old }
     ensures moved { AreMoved all.entry.rows.now sizes.new shifts.new }
     ensures plain { (index : ℕ) → index < length all.entry.rows.now
         → IsPlainSized all.entry.rows.now levels.now sizes.new index }
+    ensures touched { AreTouched sizes.old sizes.new (length risen.now) touched.new }
+    ensures within { (at : ℕ) → at < length risen.now
+        → slice_index touched.new at < length all.entry.rows.now }
+    ensures as_many_touched { length touched.new ≡ length touched.old }
 {
-    for row in risen {
+    for (place, row) in risen.iter().enumerate() {
         let index = *row as usize;
+        touched[place] = *row;
         resize(
             all,
             index,
@@ -121,16 +146,20 @@ pub(crate) fn resize_risen(
     }
 }
 
-/// Gives each row whose size depends on its address that size, one after the other.
+/// Gives each row whose size depends on its address that size, one after the other, and puts those with another size
+/// than before behind the first so many of the list. Answers how many the list has then.
 pub(crate) fn resize_dependents(
     all: EndedRows,
     levels: &[u8],
     dependents: &[u32],
     sizes: &mut [u64],
     shifts: &mut RangeTable,
-)
+    touched: &mut [u32],
+    start: usize,
+) -> usize
     requires stand { AllStand all.rows.now }
     requires bytes { spec.most_in all.rows.now < 2 ^ 62 }
+    requires few { length all.rows.now < 2 ^ 32 }
     requires levels { All (λ level. level ≤ 9) levels.now }
     requires as_many_levels { length levels.now ≡ length all.rows.now }
     requires ends { AreEnds all.rows.now all.ends.now }
@@ -138,16 +167,28 @@ pub(crate) fn resize_dependents(
     requires moved { AreMoved all.rows.now sizes.old shifts.old }
     requires plain { (index : ℕ) → index < length all.rows.now
         → IsPlainSized all.rows.now levels.now sizes.old index }
+    requires room { start + length dependents.now ≤ length touched.old }
+    requires within { (at : ℕ) → at < start
+        → slice_index touched.old at < length all.rows.now }
     ensures moved { AreMoved all.entry.rows.now sizes.new shifts.new }
     ensures shifts { shifts.new ≡ shifts_of all.entry.rows.now levels.now }
     ensures sizes { (index : ℕ) → index < length all.entry.rows.now
         → HasSize all.entry.rows.now levels.now sizes.new shifts.new index }
+    ensures touched { (before : List ℕ) → AreTouched before sizes.old start touched.old
+        → AreTouched before sizes.new result touched.new }
+    ensures within { (at : ℕ) → at < result
+        → slice_index touched.new at < length all.entry.rows.now }
+    ensures end { result ≤ length touched.new }
+    ensures as_many_touched { length touched.new ≡ length touched.old }
 {
+    let mut place = start;
     for row in dependents {
         let index = *row as usize;
         let size = size_here(all.rows, levels, shifts, index);
+        place = note_changed(touched, place, index, size, sizes);
         resize(all, index, size, sizes, shifts);
     }
+    place
 }
 
 /// Notes the size that each row has where it stands.
@@ -187,6 +228,7 @@ pub(crate) fn place_anew(rows: &[Row], levels: &[u8], sizes: &mut [u64], shifts:
 }
 
 /// Moves the rows as their levels ask for. So many of them have risen: those of the list, if it had room for so many.
+/// Answers how many rows then have another size, which are put into a list, or none where it places all anew.
 pub(crate) fn move_rows(
     all: EndedRows,
     dependents: &[u32],
@@ -195,9 +237,11 @@ pub(crate) fn move_rows(
     count: usize,
     sizes: &mut [u64],
     shifts: &mut RangeTable,
-)
+    touched: &mut [u32],
+) -> Option<usize>
     requires stand { AllStand all.rows.now }
     requires bytes { spec.most_in all.rows.now < 2 ^ 62 }
+    requires few { length all.rows.now < 2 ^ 32 }
     requires levels { All (λ level. level ≤ 9) levels.now }
     requires as_many_levels { length levels.now ≡ length all.rows.now }
     requires ends { AreEnds all.rows.now all.ends.now }
@@ -207,15 +251,23 @@ pub(crate) fn move_rows(
         → slice_index risen.now at < length all.rows.now }
     requires plain { count ≤ length risen.now → (index : ℕ) → index < length all.rows.now
         → IsPlainSized all.rows.now levels.now sizes.old index ⊎ IsAmong index count risen.now }
+    requires room { length risen.now + length dependents.now ≤ length touched.old }
     ensures moved { AreMoved all.entry.rows.now sizes.new shifts.new }
     ensures shifts { shifts.new ≡ shifts_of all.entry.rows.now levels.now }
     ensures sizes { (index : ℕ) → index < length all.entry.rows.now
         → HasSize all.entry.rows.now levels.now sizes.new shifts.new index }
+    ensures touched { IfSome result (λ many. AreTouched sizes.old sizes.new many touched.new) }
+    ensures within { IfSome result (λ many. (at : ℕ) → at < many
+        → slice_index touched.new at < length all.entry.rows.now) }
+    ensures end { IfSome result (λ many. many ≤ length touched.new) }
+    ensures as_many_touched { length touched.new ≡ length touched.old }
 {
-    if count <= risen.len() {
-        resize_risen(all, levels, &risen[..count], sizes, shifts);
-        resize_dependents(all, levels, dependents, sizes, shifts);
-    } else {
+    if count > risen.len() {
         place_anew(all.rows, levels, sizes, shifts);
+        return None;
     }
+    let list = &risen[..count];
+    resize_risen(all, levels, list, sizes, shifts, touched);
+    let many = resize_dependents(all, levels, dependents, sizes, shifts, touched, count);
+    Some(many)
 }

@@ -14,7 +14,7 @@ use range_table::RangeTable;
 use std::sync::ledger::Ledger;
 
 /// The level that a row takes. Where it is at its highest one, its distance is not looked at.
-fn level_taken<L: Ledger>(
+pub(crate) fn level_taken<L: Ledger>(
     shifts: &RangeTable,
     size: &RowSize,
     level: u8,

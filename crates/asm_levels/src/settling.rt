@@ -6,13 +6,16 @@ ghost use Rattle.asm_levels.specs.Sizes.{most_in};
 ghost use Rattle.asm_levels.specs.Shifts.{shifts_of};
 ghost use Rattle.asm_levels.specs.Needs.{need, tops, several};
 ghost use Rattle.asm_levels.specs.Resizing.{AreEnds, AreDependents};
+ghost use Rattle.asm_levels.specs.Watching.{AreWatchers};
 ghost use Rattle.asm_levels.specs.Standing.{AllStand};
 
+use crate::looking::{View, forget, look_where};
 use crate::resizing::{EndedRows, move_rows, place_anew};
-use crate::rounds::look;
+use crate::watching::Watchers;
 use asm_base::Steps;
 use level_ranks::{
-    levels_hold, levels_stay_within, one_round_more, rounds_are_few, rounds_reach_the_layout,
+    levels_hold, levels_stay_within, one_round_more, raised_by_index, rounds_are_few,
+    rounds_reach_the_layout,
 };
 use range_table::RangeTable;
 use std::sync::ledger::Ledger;
@@ -21,10 +24,13 @@ use std::sync::ledger::Ledger;
 pub(crate) fn settle<L: Ledger>(
     all: EndedRows,
     dependents: &[u32],
+    watchers: &Watchers,
     levels: &mut [u8],
     sizes: &mut [u64],
     shifts: &mut RangeTable,
+    seen: &mut [u64],
     risen: &mut [u32],
+    touched: &mut [u32],
     steps: &mut Steps<L>,
 ) -> u64
     requires stand { AllStand all.rows.now }
@@ -35,6 +41,11 @@ pub(crate) fn settle<L: Ledger>(
     requires as_many_sizes { length sizes.old ≡ length all.rows.now }
     requires ends { AreEnds all.rows.now all.ends.now }
     requires dependents { AreDependents all.rows.now dependents.now }
+    requires watchers { AreWatchers all.rows.now all.ends.now watchers.now.entries.rows.items
+        watchers.now.entries.blocks.items watchers.now.entries.heads.items
+        watchers.now.entries.links.items watchers.now.wide.items }
+    requires as_many_seen { length seen.old ≡ length all.rows.now }
+    requires room { length risen.old + length dependents.now ≤ length touched.old }
     requires lowest { All (λ level. level ≡ 0) levels.old }
     ensures layout { IsLayout (need all.entry.rows.now) (tops all.entry.rows.now) levels.new result }
     ensures shifts { shifts.new ≡ shifts_of all.entry.rows.now levels.new }
@@ -49,18 +60,28 @@ pub(crate) fn settle<L: Ledger>(
     ensures at_least { steps.old + several all.entry.rows.now ≤ steps.new }
 {
     one_round_more();
+    raised_by_index();
     levels_stay_within();
     rounds_are_few();
     rounds_reach_the_layout();
     levels_hold();
     place_anew(all.rows, levels, sizes, shifts);
+    forget(seen);
     let mut rounds = 0u64;
+    let mut moved: Option<usize> = None;
     loop {
-        let count = look(all.rows, shifts, levels, risen, steps);
         rounds += 1;
+        let view = View {
+            rows: all.rows,
+            shifts,
+            round: rounds,
+        };
+        let count = look_where(view, watchers, moved, touched, levels, seen, risen, steps);
         if count == 0 {
             return rounds;
         }
-        move_rows(all, dependents, levels, risen, count, sizes, shifts);
+        moved = move_rows(
+            all, dependents, levels, risen, count, sizes, shifts, touched,
+        );
     }
 }

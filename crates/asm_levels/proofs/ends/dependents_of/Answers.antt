@@ -1,6 +1,6 @@
 -- The next row is listed where its size depends on its address.
-use Rattle.std.proofs.Common.{◌≡◌, ℕ, sym, ◌∙◌, arith}
-use Rattle.asm_levels.proofs.EndLemmas.{no_dependents, dependent_skipped, dependent_pushed, dependents_all}
+use Rattle.std.proofs.Common.{sym, ◌∙◌}
+use Rattle.asm_levels.proofs.EndLemmas.{dependent_skipped, dependent_pushed}
 use Rattle.asm_levels.proofs.ends.dependents_of.Goals as goal
 use Rattle.asm_levels.proofs.ends.dependents_of.Goals.{then-depends_on_address+in_ok-push, else-depends_on_address}
 

@@ -1,9 +1,10 @@
 -- One round more.
-use Rattle.std.proofs.Common.{◌≡◌, ◌<◌, ◌≤◌, ◌+◌, ◌^◌, ℕ, List, get_or, refl, sym, ap, ◌∙◌, subst, arith}
+use Rattle.std.proofs.Common.{◌≡◌, ◌<◌, ◌≤◌, ◌+◌, ◌^◌, ℕ, List, length, get_or, refl, sym, ap, ◌∙◌, subst, arith}
 use Rattle.std.specs.List.{All}
 use Rattle.level_ranks.specs.Ranks.{IsLayout}
 use Rattle.level_ranks.specs.Rounds.{raised}
-use Rattle.asm_levels.specs.Needs.{need, tops, several}
+use Rattle.asm_levels.specs.Needs.{need, tops, several, levels_needed}
+use Rattle.asm_levels.proofs.CalmLemmas.{calm_if}
 use Rattle.asm_levels.proofs.LookLemmas.{first_levels, lowest_still, at_least_once}
 use Rattle.asm_levels.proofs.SizedLemmas.{plain_or_listed, shifts_small}
 use Rattle.asm_levels.proofs.TopLemmas.{need_within, nine_from, length-tops, sum-tops-le, need_is}
@@ -18,24 +19,31 @@ loop-rounds-init g c = let tops_long = length-tops c.args.all.rows.now in record
   at_most = omega arith;
   at_least = λ some. omega arith;
   from_start = omega arith;
+  many_seen = omega arith;
+  stamps = λ at. (let unseen = c.forget.ensures.unseen at in omega arith);
+  first = λ none. refl;
+  room = omega arith;
+  end = tt;
+  inside = tt;
+  calm = tt;
 }
 
 pub place_anew-requires-clause-levels : goal.place_anew-requires-clause-levels
 place_anew-requires-clause-levels g c = λ index default within. (let lowest = c.requires.lowest index default within in omega arith)
 
-pub move_rows-requires-clause-levels : goal.move_rows-requires-clause-levels
-move_rows-requires-clause-levels g c =
+pub move_rows-moved-requires-clause-levels : goal.move_rows-moved-requires-clause-levels
+move_rows-moved-requires-clause-levels g c =
     let rows = c.args.all.rows.now in
-    let new : c.look-count.new.levels ≡ raised c.loop-rounds.levels (need rows c.loop-rounds.levels) =
-    c.look-count.ensures.levels ∙ ap (λ (needs : List ℕ). raised c.loop-rounds.levels needs) (need_is rows c.loop-rounds.levels c.loop-rounds.shifts c.loop-rounds.invariant.placed) in
-    let after = c.one_round_more.ensures.more (need rows) (tops rows) c.args.levels.now c.loop-rounds.levels c.look-count.new.levels c.loop-rounds.rounds c.loop-rounds.invariant.after new (c.look-count.ensures.rose (let some = c.if-count-eq0.false in omega arith)) in
-    nine_from rows c.look-count.new.levels
-    (c.levels_stay_within.ensures.items (need rows) (tops rows) c.args.levels.now c.look-count.new.levels (c.loop-rounds.rounds + 1) after)
-    (λ index inside. c.levels_stay_within.ensures.tops (need rows) (tops rows) c.args.levels.now c.look-count.new.levels (c.loop-rounds.rounds + 1) index after inside)
+    let new : c.look_where-count.new.levels ≡ raised c.loop-rounds.levels (need rows c.loop-rounds.levels) =
+    c.look_where-count.ensures.levels ∙ ap (λ (needs : List ℕ). raised c.loop-rounds.levels needs) (need_is rows c.loop-rounds.levels c.loop-rounds.shifts c.loop-rounds.invariant.placed) in
+    let after = c.one_round_more.ensures.more (need rows) (tops rows) c.args.levels.now c.loop-rounds.levels c.look_where-count.new.levels c.loop-rounds.rounds c.loop-rounds.invariant.after new (c.look_where-count.ensures.rose (let some = c.if-count-eq0.false in omega arith)) in
+    nine_from rows c.look_where-count.new.levels
+    (c.levels_stay_within.ensures.items (need rows) (tops rows) c.args.levels.now c.look_where-count.new.levels (c.loop-rounds.rounds + 1) after)
+    (λ index inside. c.levels_stay_within.ensures.tops (need rows) (tops rows) c.args.levels.now c.look_where-count.new.levels (c.loop-rounds.rounds + 1) index after inside)
 
-pub move_rows-requires-clause-plain : goal.move_rows-requires-clause-plain
-move_rows-requires-clause-plain g c = plain_or_listed c.args.all.rows.now c.loop-rounds.levels c.look-count.new.levels c.loop-rounds.sizes c.loop-rounds.shifts c.look-count.result c.look-count.new.risen
-    (omega arith) c.loop-rounds.invariant.sized c.look-count.ensures.listed
+pub move_rows-moved-requires-clause-plain : goal.move_rows-moved-requires-clause-plain
+move_rows-moved-requires-clause-plain g c = plain_or_listed c.args.all.rows.now c.loop-rounds.levels c.look_where-count.new.levels c.loop-rounds.sizes c.loop-rounds.shifts c.look_where-count.result c.look_where-count.new.risen
+    (omega arith) c.loop-rounds.invariant.sized c.look_where-count.ensures.listed
 
 pub overflow_add-rounds : goal.overflow_add-rounds
 overflow_add-rounds g c =
@@ -51,34 +59,57 @@ loop-rounds-smaller g c =
 pub loop-rounds-preserved : goal.loop-rounds-preserved
 loop-rounds-preserved g c =
     let rows = c.args.all.rows.now in
-    let new : c.look-count.new.levels ≡ raised c.loop-rounds.levels (need rows c.loop-rounds.levels) =
-    c.look-count.ensures.levels ∙ ap (λ (needs : List ℕ). raised c.loop-rounds.levels needs) (need_is rows c.loop-rounds.levels c.loop-rounds.shifts c.loop-rounds.invariant.placed) in
+    let new : c.look_where-count.new.levels ≡ raised c.loop-rounds.levels (need rows c.loop-rounds.levels) =
+    c.look_where-count.ensures.levels ∙ ap (λ (needs : List ℕ). raised c.loop-rounds.levels needs) (need_is rows c.loop-rounds.levels c.loop-rounds.shifts c.loop-rounds.invariant.placed) in
+    let long = length-tops rows in
+    let many = c.levels_stay_within.ensures.items (need rows) (tops rows) c.args.levels.now c.loop-rounds.levels c.loop-rounds.rounds c.loop-rounds.invariant.after in
+    let nine = nine_from rows c.loop-rounds.levels many
+    (λ index inside. c.levels_stay_within.ensures.tops (need rows) (tops rows) c.args.levels.now c.loop-rounds.levels c.loop-rounds.rounds index c.loop-rounds.invariant.after inside) in
+    let small = subst (λ (all : List ℕ). All (λ shift. shift < 2 ^ 62) all) (sym c.loop-rounds.invariant.placed) (shifts_small rows c.loop-rounds.levels c.requires.stand nine (many ∙ long) c.requires.bytes) in
+    let after = c.one_round_more.ensures.more (need rows) (tops rows) c.args.levels.now c.loop-rounds.levels c.look_where-count.new.levels c.loop-rounds.rounds c.loop-rounds.invariant.after new (c.look_where-count.ensures.rose (let some = c.if-count-eq0.false in omega arith)) in
+    let many_later = c.levels_stay_within.ensures.items (need rows) (tops rows) c.args.levels.now c.look_where-count.new.levels (c.loop-rounds.rounds + 1) after in
+    let nine_later = nine_from rows c.look_where-count.new.levels many_later
+    (λ index inside. c.levels_stay_within.ensures.tops (need rows) (tops rows) c.args.levels.now c.look_where-count.new.levels (c.loop-rounds.rounds + 1) index after inside) in
+    let small_later = subst (λ (all : List ℕ). All (λ shift. shift < 2 ^ 62) all) (sym c.move_rows-moved.ensures.shifts) (shifts_small rows c.look_where-count.new.levels c.requires.stand nine_later (many_later ∙ long) c.requires.bytes) in
+    let holds : (index : ℕ) → index < length rows → get_or (levels_needed c.loop-rounds.shifts rows) index 0 ≤ get_or c.look_where-count.new.levels index 0 = (λ index within.
+    let level = c.raised_by_index.ensures.level c.loop-rounds.levels (levels_needed c.loop-rounds.shifts rows) index (omega arith) in
+    let same : get_or c.look_where-count.new.levels index 0 ≡ get_or (raised c.loop-rounds.levels (levels_needed c.loop-rounds.shifts rows)) index 0 = ap (λ (xs : List ℕ). get_or xs index 0) c.look_where-count.ensures.levels in
+    omega arith) in
     record {
-      moved = c.move_rows.ensures.moved;
-      placed = c.move_rows.ensures.shifts;
-      sized = c.move_rows.ensures.sizes;
-      after = c.one_round_more.ensures.more (need rows) (tops rows) c.args.levels.now c.loop-rounds.levels c.look-count.new.levels c.loop-rounds.rounds c.loop-rounds.invariant.after new (c.look-count.ensures.rose (let some = c.if-count-eq0.false in omega arith));
+      moved = c.move_rows-moved.ensures.moved;
+      placed = c.move_rows-moved.ensures.shifts;
+      sized = c.move_rows-moved.ensures.sizes;
+      after = after;
       at_most = omega arith;
-      at_least = λ some. at_least_once (c.args.steps.now) c.loop-rounds.steps c.look-count.new.steps (several rows) c.loop-rounds.rounds c.loop-rounds.invariant.from_start c.loop-rounds.invariant.at_least c.look-count.ensures.later
-          (λ none. c.look-count.ensures.lowest (lowest_still c.args.levels.now c.loop-rounds.levels (first_levels (need rows) (tops rows) c.args.levels.now c.loop-rounds.levels c.loop-rounds.rounds c.loop-rounds.invariant.after none) c.requires.lowest));
+      at_least = λ some. at_least_once (c.args.steps.now) c.loop-rounds.steps c.look_where-count.new.steps (several rows) c.loop-rounds.rounds c.loop-rounds.invariant.from_start c.loop-rounds.invariant.at_least c.look_where-count.ensures.at_least
+          (λ none. c.look_where-count.ensures.lowest (c.loop-rounds.invariant.first none) (lowest_still c.args.levels.now c.loop-rounds.levels (first_levels (need rows) (tops rows) c.args.levels.now c.loop-rounds.levels c.loop-rounds.rounds c.loop-rounds.invariant.after none) c.requires.lowest));
       from_start = omega arith;
+      many_seen = omega arith;
+      stamps = c.look_where-count.ensures.seen;
+      first = λ none. absurd (omega arith);
+      room = omega arith;
+      end = c.move_rows-moved.ensures.end;
+      inside = c.move_rows-moved.ensures.within;
+      calm = calm_if rows c.args.all.ends.now c.loop-rounds.sizes c.move_rows-moved.new.sizes c.loop-rounds.shifts c.move_rows-moved.new.shifts c.move_rows-moved.new.touched
+          c.args.watchers.now.entries.rows.items c.args.watchers.now.entries.blocks.items c.args.watchers.now.wide.items c.look_where-count.new.levels c.move_rows-moved.result
+          c.loop-rounds.invariant.moved c.move_rows-moved.ensures.moved c.requires.ends small small_later c.requires.watchers.covered holds c.move_rows-moved.ensures.touched;
     }
 
 pub returns-then-count-eq0-clause-layout : goal.returns-then-count-eq0-clause-layout
 returns-then-count-eq0-clause-layout g c =
     let rows = c.args.all.rows.now in
-    let new : c.look-count.new.levels ≡ raised c.loop-rounds.levels (need rows c.loop-rounds.levels) =
-    c.look-count.ensures.levels ∙ ap (λ (needs : List ℕ). raised c.loop-rounds.levels needs) (need_is rows c.loop-rounds.levels c.loop-rounds.shifts c.loop-rounds.invariant.placed) in
-    let still = c.look-count.ensures.still c.if-count-eq0.true in
+    let new : c.look_where-count.new.levels ≡ raised c.loop-rounds.levels (need rows c.loop-rounds.levels) =
+    c.look_where-count.ensures.levels ∙ ap (λ (needs : List ℕ). raised c.loop-rounds.levels needs) (need_is rows c.loop-rounds.levels c.loop-rounds.shifts c.loop-rounds.invariant.placed) in
+    let still = c.look_where-count.ensures.still c.if-count-eq0.true in
     subst (λ (xs : List ℕ). IsLayout (need rows) (tops rows) xs (c.loop-rounds.rounds + 1)) (sym still)
     (c.rounds_reach_the_layout.ensures (need rows) (tops rows) c.args.levels.now c.loop-rounds.levels c.loop-rounds.rounds c.loop-rounds.invariant.after (sym new ∙ still))
 
 pub returns-then-count-eq0-clause-holds : goal.returns-then-count-eq0-clause-holds
 returns-then-count-eq0-clause-holds g c = λ index inside. (
     let rows = c.args.all.rows.now in
-    let new : c.look-count.new.levels ≡ raised c.loop-rounds.levels (need rows c.loop-rounds.levels) =
-    c.look-count.ensures.levels ∙ ap (λ (needs : List ℕ). raised c.loop-rounds.levels needs) (need_is rows c.loop-rounds.levels c.loop-rounds.shifts c.loop-rounds.invariant.placed) in
-    let still = c.look-count.ensures.still c.if-count-eq0.true in
+    let new : c.look_where-count.new.levels ≡ raised c.loop-rounds.levels (need rows c.loop-rounds.levels) =
+    c.look_where-count.ensures.levels ∙ ap (λ (needs : List ℕ). raised c.loop-rounds.levels needs) (need_is rows c.loop-rounds.levels c.loop-rounds.shifts c.loop-rounds.invariant.placed) in
+    let still = c.look_where-count.ensures.still c.if-count-eq0.true in
     let holds = c.levels_hold.ensures (need rows) c.loop-rounds.levels index (sym new ∙ still) (omega arith) in
     subst (λ (xs : List ℕ). get_or (need rows xs) index 0 ≤ get_or xs index 0) (sym still) holds
     )
@@ -91,15 +122,15 @@ returns-then-count-eq0-clause-rounds g c =
 pub returns-then-count-eq0-clause-at_least : goal.returns-then-count-eq0-clause-at_least
 returns-then-count-eq0-clause-at_least g c =
     let rows = c.args.all.rows.now in
-    at_least_once (c.args.steps.now) c.loop-rounds.steps c.look-count.new.steps (several rows) c.loop-rounds.rounds c.loop-rounds.invariant.from_start c.loop-rounds.invariant.at_least c.look-count.ensures.later
-    (λ none. c.look-count.ensures.lowest (lowest_still c.args.levels.now c.loop-rounds.levels (first_levels (need rows) (tops rows) c.args.levels.now c.loop-rounds.levels c.loop-rounds.rounds c.loop-rounds.invariant.after none) c.requires.lowest))
+    at_least_once (c.args.steps.now) c.loop-rounds.steps c.look_where-count.new.steps (several rows) c.loop-rounds.rounds c.loop-rounds.invariant.from_start c.loop-rounds.invariant.at_least c.look_where-count.ensures.at_least
+    (λ none. c.look_where-count.ensures.lowest (c.loop-rounds.invariant.first none) (lowest_still c.args.levels.now c.loop-rounds.levels (first_levels (need rows) (tops rows) c.args.levels.now c.loop-rounds.levels c.loop-rounds.rounds c.loop-rounds.invariant.after none) c.requires.lowest))
 
 pub returns-then-count-eq0-clause-highest : goal.returns-then-count-eq0-clause-highest
 returns-then-count-eq0-clause-highest g c = λ index inside. (
     let rows = c.args.all.rows.now in
     let long = length-tops rows in
     let low = c.levels_stay_within.ensures.tops (need rows) (tops rows) c.args.levels.now c.loop-rounds.levels c.loop-rounds.rounds index c.loop-rounds.invariant.after (omega arith) in
-    subst (λ (xs : List ℕ). get_or xs index 0 ≤ get_or (tops rows) index 0) (sym (c.look-count.ensures.still c.if-count-eq0.true)) low
+    subst (λ (xs : List ℕ). get_or xs index 0 ≤ get_or (tops rows) index 0) (sym (c.look_where-count.ensures.still c.if-count-eq0.true)) low
     )
 
 pub returns-then-count-eq0-clause-small : goal.returns-then-count-eq0-clause-small

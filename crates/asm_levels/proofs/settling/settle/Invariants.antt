@@ -1,9 +1,10 @@
 -- Each round so far raised a level.
-use Rattle.std.proofs.Common.{◌≡◌, ◌<◌, ◌≤◌, ◌+◌, ◌*◌, ◌-◌, ℕ, length, sum}
+use Rattle.std.proofs.Common.{◌≡◌, ◌<◌, ◌≤◌, ◌+◌, ◌*◌, ◌-◌, ℕ, None, IfSome, length, get_or, sum}
 use Rattle.level_ranks.specs.Rounds.{IsAfterRounds}
 use Rattle.asm_levels.specs.Shifts.{shifts_of}
 use Rattle.asm_levels.specs.Resizing.{AreMoved, HasSize}
 use Rattle.asm_levels.specs.Needs.{need, tops, several}
+use Rattle.asm_levels.specs.Looking.{AreCalm}
 use Rattle.asm_levels.proofs.settling.settle.Given as goal
 
 abbrev pub invariant-loop-rounds : goal.invariant-loop-rounds
@@ -15,6 +16,13 @@ invariant-loop-rounds g l = record {
   at_most : l.steps ≤ l.fn.steps + l.rounds * several l.all.rows.now;
   from_start : l.fn.steps ≤ l.steps;
   at_least : 0 < l.rounds → l.fn.steps + several l.all.rows.now ≤ l.steps;
+  many_seen : length l.seen ≡ length l.all.rows.now;
+  stamps : (at : ℕ) → get_or l.seen at 0 ≤ l.rounds;
+  first : l.rounds ≡ 0 → l.moved ≡ None;
+  room : length l.risen + length l.dependents ≤ length l.touched;
+  end : IfSome l.moved (λ many. many ≤ length l.touched);
+  inside : IfSome l.moved (λ many. (at : ℕ) → at < many → get_or l.touched at 0 < length l.all.rows.now);
+  calm : IfSome l.moved (λ many. AreCalm l.all.rows.now l.shifts l.levels l.watchers.entries.rows.items l.watchers.entries.blocks.items l.watchers.wide.items many l.touched);
 }
 
 abbrev pub decreases-loop-rounds : goal.decreases-loop-rounds

@@ -1,0 +1,73 @@
+-- Each row that may need more was looked at.
+use Rattle.std.proofs.Common.{◌≡◌, ℕ, List, length, get_or, inl, inr, ap, sym, ◌∙◌, arith}
+use Rattle.asm_levels.specs.Needs.{levels_needed}
+use Rattle.asm_levels.proofs.PartLemmas.{part_begun, part_raised, part_steps}
+use Rattle.asm_levels.proofs.looking.look_few.Goals as goal
+
+pub look_touched-count-requires-clause-begun : goal.look_touched-count-requires-clause-begun
+look_touched-count-requires-clause-begun g c = (
+  c.args.levels.now,
+  c.args.steps.now,
+  part_begun c.args.view.rows.now c.args.view.shifts.now c.args.levels.now c.args.seen.now c.args.risen.now c.args.view.round c.args.steps.now
+      c.requires.as_many_levels c.requires.as_many_seen c.requires.fresh,
+)
+
+pub look_listed-requires-clause-begun : goal.look_listed-requires-clause-begun
+look_listed-requires-clause-begun g c = (
+  c.args.levels.now,
+  c.args.steps.now,
+  c.look_touched-count.ensures.part c.args.levels.now c.args.steps.now (part_begun c.args.view.rows.now c.args.view.shifts.now c.args.levels.now c.args.seen.now c.args.risen.now
+      c.args.view.round c.args.steps.now c.requires.as_many_levels c.requires.as_many_seen c.requires.fresh),
+)
+
+pub returns-clause-levels : goal.returns-clause-levels
+returns-clause-levels g c =
+    let part = c.look_listed.ensures.part c.args.levels.now c.args.steps.now (c.look_touched-count.ensures.part c.args.levels.now c.args.steps.now (part_begun c.args.view.rows.now c.args.view.shifts.now c.args.levels.now c.args.seen.now c.args.risen.now c.args.view.round c.args.steps.now
+    c.requires.as_many_levels c.requires.as_many_seen c.requires.fresh)) in
+    let seen = c.look_listed.new.seen in
+    let round = c.args.view.round in
+    c.raised_by_index.ensures.only c.args.levels.now (levels_needed c.args.view.shifts.now c.args.view.rows.now) c.look_listed.new.levels (omega arith)
+    (part_raised c.args.view.rows.now c.args.view.shifts.now c.args.levels.now c.look_listed.new.levels c.look_listed.new.seen c.look_listed.new.risen c.args.view.round c.look_listed.result c.args.steps.now c.look_listed.new.steps part (λ index within. elim (c.requires.calm index within) [
+      | inl enough ↦ inl enough
+      | inr rest ↦ elim rest [
+        | inl touched ↦ inr (
+            let entry = touched.2 in
+            let first = c.look_touched-count.ensures.seen touched.0 entry.0 touched.1 entry.1 entry.3 in
+            let here : get_or c.look_touched-count.new.seen index 0 ≡ round = ap (λ i. get_or c.look_touched-count.new.seen i 0) (sym entry.2) ∙ first in
+            c.look_listed.ensures.kept index here)
+        | inr wide ↦ inr (
+            let list = c.deref.ensures.value in
+            let same : length c.deref.result.now ≡ length c.args.watchers.now.wide.items = ap (λ (xs : List ℕ). length xs) list in
+            let first = c.look_listed.ensures.seen wide.0 (let less = wide.1 in omega arith) in
+            let row : get_or c.deref.result.now wide.0 0 ≡ index = ap (λ (xs : List ℕ). get_or xs wide.0 0) list ∙ wide.2 in
+            ap (λ i. get_or seen i 0) (sym row) ∙ first)
+      ]
+    ]))
+
+pub returns-clause-rose : goal.returns-clause-rose
+returns-clause-rose g c = let part = c.look_listed.ensures.part c.args.levels.now c.args.steps.now (c.look_touched-count.ensures.part c.args.levels.now c.args.steps.now (part_begun c.args.view.rows.now c.args.view.shifts.now c.args.levels.now c.args.seen.now c.args.risen.now c.args.view.round c.args.steps.now
+    c.requires.as_many_levels c.requires.as_many_seen c.requires.fresh)) in part.rises
+
+pub returns-clause-still : goal.returns-clause-still
+returns-clause-still g c = let part = c.look_listed.ensures.part c.args.levels.now c.args.steps.now (c.look_touched-count.ensures.part c.args.levels.now c.args.steps.now (part_begun c.args.view.rows.now c.args.view.shifts.now c.args.levels.now c.args.seen.now c.args.risen.now c.args.view.round c.args.steps.now
+    c.requires.as_many_levels c.requires.as_many_seen c.requires.fresh)) in part.still
+
+pub returns-clause-listed : goal.returns-clause-listed
+returns-clause-listed g c = let part = c.look_listed.ensures.part c.args.levels.now c.args.steps.now (c.look_touched-count.ensures.part c.args.levels.now c.args.steps.now (part_begun c.args.view.rows.now c.args.view.shifts.now c.args.levels.now c.args.seen.now c.args.risen.now c.args.view.round c.args.steps.now
+    c.requires.as_many_levels c.requires.as_many_seen c.requires.fresh)) in λ room index within. part.listed room index within
+
+pub returns-clause-within : goal.returns-clause-within
+returns-clause-within g c = let part = c.look_listed.ensures.part c.args.levels.now c.args.steps.now (c.look_touched-count.ensures.part c.args.levels.now c.args.steps.now (part_begun c.args.view.rows.now c.args.view.shifts.now c.args.levels.now c.args.seen.now c.args.risen.now c.args.view.round c.args.steps.now
+    c.requires.as_many_levels c.requires.as_many_seen c.requires.fresh)) in part.inside
+
+pub returns-clause-seen : goal.returns-clause-seen
+returns-clause-seen g c = let part = c.look_listed.ensures.part c.args.levels.now c.args.steps.now (c.look_touched-count.ensures.part c.args.levels.now c.args.steps.now (part_begun c.args.view.rows.now c.args.view.shifts.now c.args.levels.now c.args.seen.now c.args.risen.now c.args.view.round c.args.steps.now
+    c.requires.as_many_levels c.requires.as_many_seen c.requires.fresh)) in part.stamps
+
+pub returns-clause-at_most : goal.returns-clause-at_most
+returns-clause-at_most g c = part_steps c.args.view.rows.now c.args.view.shifts.now c.args.levels.now c.look_listed.new.levels c.look_listed.new.seen c.look_listed.new.risen c.args.view.round c.look_listed.result c.args.steps.now c.look_listed.new.steps (c.look_listed.ensures.part c.args.levels.now c.args.steps.now (c.look_touched-count.ensures.part c.args.levels.now c.args.steps.now (part_begun c.args.view.rows.now c.args.view.shifts.now c.args.levels.now c.args.seen.now c.args.risen.now c.args.view.round c.args.steps.now
+    c.requires.as_many_levels c.requires.as_many_seen c.requires.fresh)))
+
+pub returns-clause-at_least : goal.returns-clause-at_least
+returns-clause-at_least g c = let part = c.look_listed.ensures.part c.args.levels.now c.args.steps.now (c.look_touched-count.ensures.part c.args.levels.now c.args.steps.now (part_begun c.args.view.rows.now c.args.view.shifts.now c.args.levels.now c.args.seen.now c.args.risen.now c.args.view.round c.args.steps.now
+    c.requires.as_many_levels c.requires.as_many_seen c.requires.fresh)) in part.later

@@ -1,0 +1,38 @@
+-- A round in which only some rows are looked at.
+use Rattle.std.specs.Prelude.{◌≡◌, ◌⊎◌, ℕ, ◌+◌, ◌<◌, ◌≤◌, max, nat_eq, true, List, length, slice_index, slice_index_or, count_by}
+use Rattle.level_ranks.specs.Rounds.{Rises}
+use Rattle.asm_levels.specs.declared.rows.Row.{Row}
+use Rattle.asm_levels.specs.Needs.{levels_needed, has_levels}
+use Rattle.asm_levels.specs.Resizing.{IsAmong, AreListed}
+use Rattle.asm_levels.specs.Watching.{IsTouched}
+
+-- how many rows were looked at in this round, by the rounds in which each was looked at last
+unfoldable pub looked_at : ℕ → List ℕ → ℕ
+looked_at round seen = count_by (λ stamp. nat_eq stamp round) seen
+
+-- in this round, which began with the levels `old` and `start` steps, the rows were looked at that `seen` tells, and so many have risen
+pub record IsPartlyLooked (rows : List Row) (shifts old now seen risen : List ℕ) (round count start steps : ℕ) : Type 0 where
+  pub many_old : length old ≡ length rows
+  pub many_now : length now ≡ length rows
+  pub many_seen : length seen ≡ length rows
+  pub low : (index : ℕ) → slice_index old index ≤ slice_index now index
+  pub high : (index : ℕ) → index < length rows → slice_index now index ≤ max (slice_index old index) (slice_index (levels_needed shifts rows) index)
+  pub rises : 0 < count → Rises old now
+  pub still : count ≡ 0 → now ≡ old
+  pub listed : AreListed old now count risen
+  pub inside : (at : ℕ) → at < count → at < length risen → slice_index risen at < length rows
+  pub held : (index : ℕ) → index < length rows → slice_index seen index ≡ round → slice_index (levels_needed shifts rows) index ≤ slice_index now index
+  pub stamps : (index : ℕ) → slice_index seen index ≤ round
+  pub several : (index : ℕ) (default : Row) → index < length rows → slice_index seen index ≡ round → has_levels (slice_index_or rows index default).size ≡ true
+  pub counted : count ≤ looked_at round seen
+  pub ticks : steps ≤ start + looked_at round seen
+  pub later : start ≤ steps
+
+-- the round began with some levels and steps
+abbrev pub BegunBy : List Row → List ℕ → List ℕ → List ℕ → List ℕ → ℕ → ℕ → ℕ → Type 0
+BegunBy rows shifts now seen risen round count steps = (old : List ℕ) × (start : ℕ) × IsPartlyLooked rows shifts old now seen risen round count start steps
+
+-- each row needs no more than its level, or has an entry of the block of one of these rows, or is looked at in each round
+abbrev pub AreCalm : List Row → List ℕ → List ℕ → List ℕ → List ℕ → List ℕ → ℕ → List ℕ → Type 0
+AreCalm all shifts levels rows blocks wide count touched = (index : ℕ) → index < length all
+    → (slice_index (levels_needed shifts all) index ≤ slice_index levels index) ⊎ (IsTouched rows blocks count touched index ⊎ IsAmong index (length wide) wide)

@@ -1,0 +1,317 @@
+//! A round in which only those rows are looked at whose distances may have changed.
+
+ghost use Rattle.std.specs.Prelude.{◌≡◌, ◌⊎◌, ◌+◌, ◌*◌, ◌<◌, ◌≤◌, ◌^◌, ℕ, List, None, IfSome, All, true, length, slice_index, slice_index_or, vec_len};
+ghost use Rattle.level_ranks.specs.Rounds.{raised, Rises};
+ghost use Rattle.asm_levels.specs.declared.rows.Row.{Row};
+ghost use Rattle.asm_levels.specs.Needs.{levels_needed, has_levels, several};
+ghost use Rattle.asm_levels.specs.Standing.{AllStand};
+ghost use Rattle.asm_levels.specs.Resizing.{AreListed, IsAmong};
+ghost use Rattle.asm_levels.specs.Watching.{AreLinked, AreSeveral, IsTouched, block_of};
+ghost use Rattle.asm_levels.specs.Looking.{IsPartlyLooked, BegunBy, AreCalm};
+
+use crate::rounds::{level_taken, look, note};
+use crate::rows::Row;
+use crate::watching::{BLOCK, Entries, Watchers};
+use asm_base::Steps;
+use level_ranks::raised_by_index;
+use range_table::RangeTable;
+use std::sync::ledger::Ledger;
+
+/// What a round looks at: the rows where they stand, and its number.
+#[derive(Clone, Copy)]
+pub(crate) struct View<'a> {
+    pub(crate) rows: &'a [Row],
+    pub(crate) shifts: &'a RangeTable,
+    pub(crate) round: u64,
+}
+
+/// Has no row looked at.
+pub(crate) fn forget(seen: &mut [u64])
+    ensures unseen { (at : ℕ) → slice_index seen.new at ≡ 0 }
+    ensures as_many { length seen.new ≡ length seen.old }
+{
+    for index in 0..seen.len() {
+        seen[index] = 0;
+    }
+}
+
+/// Looks at the row of this index, unless that was done in this round. Answers how many have risen.
+pub(crate) fn look_row<L: Ledger>(
+    view: View,
+    index: usize,
+    levels: &mut [u8],
+    seen: &mut [u64],
+    risen: &mut [u32],
+    count: usize,
+    steps: &mut Steps<L>,
+) -> usize
+    requires stand { AllStand view.rows.now }
+    requires as_many_shifts { length view.shifts.now ≡ length view.rows.now }
+    requires as_many_levels { length levels.old ≡ length view.rows.now }
+    requires as_many_seen { length seen.old ≡ length view.rows.now }
+    requires few { length view.rows.now < 2 ^ 32 }
+    requires inside { index < length view.rows.now }
+    requires count { count ≤ length view.rows.now }
+    requires several { (default : Row)
+        → has_levels (slice_index_or view.rows.now index default).size ≡ true }
+    ensures part { (old : List ℕ) (start : ℕ)
+        → IsPartlyLooked view.entry.rows.now view.entry.shifts.now old levels.old seen.old risen.old
+        view.entry.round count start steps.old
+        → IsPartlyLooked view.entry.rows.now view.entry.shifts.now old levels.new seen.new risen.new
+        view.entry.round result start steps.new }
+    ensures seen { slice_index seen.new index ≡ view.entry.round }
+    ensures kept { (at : ℕ) → slice_index seen.old at ≡ view.entry.round
+        → slice_index seen.new at ≡ view.entry.round }
+    ensures as_many_levels { length levels.new ≡ length levels.old }
+    ensures as_many_seen { length seen.new ≡ length seen.old }
+    ensures room { length risen.new ≡ length risen.old }
+{
+    if seen[index] == view.round {
+        return count;
+    }
+    seen[index] = view.round;
+    let level = level_taken(view.shifts, &view.rows[index].size, levels[index], steps);
+    if level <= levels[index] {
+        return count;
+    }
+    levels[index] = level;
+    note(risen, count, index);
+    count + 1
+}
+
+/// Looks at the rows that have an entry of this block. Answers how many have risen.
+fn look_block<L: Ledger>(
+    view: View,
+    entries: &Entries,
+    block: usize,
+    levels: &mut [u8],
+    seen: &mut [u64],
+    risen: &mut [u32],
+    count: usize,
+    steps: &mut Steps<L>,
+) -> usize
+    requires stand { AllStand view.rows.now }
+    requires as_many_shifts { length view.shifts.now ≡ length view.rows.now }
+    requires as_many_levels { length levels.old ≡ length view.rows.now }
+    requires as_many_seen { length seen.old ≡ length view.rows.now }
+    requires few { length view.rows.now < 2 ^ 32 }
+    requires linked { AreLinked (length view.rows.now) entries.now.rows.items
+        entries.now.blocks.items entries.now.heads.items entries.now.links.items }
+    requires block { block < vec_len entries.now.heads }
+    requires several { AreSeveral view.rows.now entries.now.rows.items }
+    requires begun { BegunBy view.rows.now view.shifts.now levels.old seen.old risen.old view.round
+        count steps.old }
+    ensures part { (old : List ℕ) (start : ℕ)
+        → IsPartlyLooked view.entry.rows.now view.entry.shifts.now old levels.old seen.old risen.old
+        view.entry.round count start steps.old
+        → IsPartlyLooked view.entry.rows.now view.entry.shifts.now old levels.new seen.new risen.new
+        view.entry.round result start steps.new }
+    ensures seen { (at : ℕ) → at < length entries.now.rows.items
+        → slice_index entries.now.blocks.items at ≡ block
+        → slice_index seen.new (slice_index entries.now.rows.items at) ≡ view.entry.round }
+    ensures kept { (at : ℕ) → slice_index seen.old at ≡ view.entry.round
+        → slice_index seen.new at ≡ view.entry.round }
+    ensures as_many_levels { length levels.new ≡ length levels.old }
+    ensures as_many_seen { length seen.new ≡ length seen.old }
+    ensures room { length risen.new ≡ length risen.old }
+{
+    let mut count = count;
+    let mut left = entries.heads[block];
+    while left > 0 {
+        let row = entries.rows[left - 1] as usize;
+        count = look_row(view, row, levels, seen, risen, count, steps);
+        left = entries.links[left - 1];
+    }
+    count
+}
+
+/// Looks at the rows that have an entry of the block of one of these. Answers how many have risen.
+fn look_touched<L: Ledger>(
+    view: View,
+    entries: &Entries,
+    touched: &[u32],
+    levels: &mut [u8],
+    seen: &mut [u64],
+    risen: &mut [u32],
+    steps: &mut Steps<L>,
+) -> usize
+    requires stand { AllStand view.rows.now }
+    requires as_many_shifts { length view.shifts.now ≡ length view.rows.now }
+    requires as_many_levels { length levels.old ≡ length view.rows.now }
+    requires as_many_seen { length seen.old ≡ length view.rows.now }
+    requires few { length view.rows.now < 2 ^ 32 }
+    requires linked { AreLinked (length view.rows.now) entries.now.rows.items
+        entries.now.blocks.items entries.now.heads.items entries.now.links.items }
+    requires blocks { length view.rows.now < 64 * vec_len entries.now.heads }
+    requires several { AreSeveral view.rows.now entries.now.rows.items }
+    requires inside { (at : ℕ) → at < length touched.now
+        → slice_index touched.now at < length view.rows.now }
+    requires begun { BegunBy view.rows.now view.shifts.now levels.old seen.old risen.old view.round
+        0 steps.old }
+    ensures part { (old : List ℕ) (start : ℕ)
+        → IsPartlyLooked view.entry.rows.now view.entry.shifts.now old levels.old seen.old risen.old
+        view.entry.round 0 start steps.old
+        → IsPartlyLooked view.entry.rows.now view.entry.shifts.now old levels.new seen.new risen.new
+        view.entry.round result start steps.new }
+    ensures seen { (place at : ℕ) → place < length touched.now
+        → at < length entries.now.rows.items
+        → slice_index entries.now.blocks.items at ≡ block_of (slice_index touched.now place)
+        → slice_index seen.new (slice_index entries.now.rows.items at) ≡ view.entry.round }
+    ensures as_many_levels { length levels.new ≡ length levels.old }
+    ensures as_many_seen { length seen.new ≡ length seen.old }
+    ensures room { length risen.new ≡ length risen.old }
+{
+    let mut count = 0usize;
+    for row in touched {
+        let block = *row as usize / BLOCK;
+        count = look_block(view, entries, block, levels, seen, risen, count, steps);
+    }
+    count
+}
+
+/// Looks at the rows of this list. Answers how many have risen.
+fn look_listed<L: Ledger>(
+    view: View,
+    list: &[u32],
+    levels: &mut [u8],
+    seen: &mut [u64],
+    risen: &mut [u32],
+    count: usize,
+    steps: &mut Steps<L>,
+) -> usize
+    requires stand { AllStand view.rows.now }
+    requires as_many_shifts { length view.shifts.now ≡ length view.rows.now }
+    requires as_many_levels { length levels.old ≡ length view.rows.now }
+    requires as_many_seen { length seen.old ≡ length view.rows.now }
+    requires few { length view.rows.now < 2 ^ 32 }
+    requires inside { (at : ℕ) → at < length list.now
+        → slice_index list.now at < length view.rows.now }
+    requires several { AreSeveral view.rows.now list.now }
+    requires begun { BegunBy view.rows.now view.shifts.now levels.old seen.old risen.old view.round
+        count steps.old }
+    ensures part { (old : List ℕ) (start : ℕ)
+        → IsPartlyLooked view.entry.rows.now view.entry.shifts.now old levels.old seen.old risen.old
+        view.entry.round count start steps.old
+        → IsPartlyLooked view.entry.rows.now view.entry.shifts.now old levels.new seen.new risen.new
+        view.entry.round result start steps.new }
+    ensures seen { (at : ℕ) → at < length list.now
+        → slice_index seen.new (slice_index list.now at) ≡ view.entry.round }
+    ensures kept { (at : ℕ) → slice_index seen.old at ≡ view.entry.round
+        → slice_index seen.new at ≡ view.entry.round }
+    ensures as_many_levels { length levels.new ≡ length levels.old }
+    ensures as_many_seen { length seen.new ≡ length seen.old }
+    ensures room { length risen.new ≡ length risen.old }
+{
+    let mut count = count;
+    for row in list {
+        count = look_row(view, *row as usize, levels, seen, risen, count, steps);
+    }
+    count
+}
+
+/// Looks at the rows whose distances may have changed, since one of these rows has another size: those that have an
+/// entry of its block, and those whose distances span many. Answers how many have risen, and lists these as far as
+/// there is room.
+pub(crate) fn look_few<L: Ledger>(
+    view: View,
+    watchers: &Watchers,
+    touched: &[u32],
+    levels: &mut [u8],
+    seen: &mut [u64],
+    risen: &mut [u32],
+    steps: &mut Steps<L>,
+) -> usize
+    requires stand { AllStand view.rows.now }
+    requires as_many_shifts { length view.shifts.now ≡ length view.rows.now }
+    requires as_many_levels { length levels.old ≡ length view.rows.now }
+    requires as_many_seen { length seen.old ≡ length view.rows.now }
+    requires few { length view.rows.now < 2 ^ 32 }
+    requires linked { AreLinked (length view.rows.now) watchers.now.entries.rows.items
+        watchers.now.entries.blocks.items watchers.now.entries.heads.items
+        watchers.now.entries.links.items }
+    requires blocks { length view.rows.now < 64 * vec_len watchers.now.entries.heads }
+    requires several { AreSeveral view.rows.now watchers.now.entries.rows.items }
+    requires wide_several { AreSeveral view.rows.now watchers.now.wide.items }
+    requires wide_within { (at : ℕ) → at < length watchers.now.wide.items
+        → slice_index watchers.now.wide.items at < length view.rows.now }
+    requires inside { (at : ℕ) → at < length touched.now
+        → slice_index touched.now at < length view.rows.now }
+    requires fresh { (at : ℕ) → slice_index seen.old at < view.round }
+    requires calm { (index : ℕ) → index < length view.rows.now
+        → (slice_index (levels_needed view.shifts.now view.rows.now) index
+        ≤ slice_index levels.old index)
+        ⊎ (IsTouched watchers.now.entries.rows.items watchers.now.entries.blocks.items
+        (length touched.now) touched.now index
+        ⊎ IsAmong index (length watchers.now.wide.items) watchers.now.wide.items) }
+    ensures levels { levels.new
+        ≡ raised levels.old (levels_needed view.entry.shifts.now view.entry.rows.now) }
+    ensures rose { 0 < result → Rises levels.old levels.new }
+    ensures still { result ≡ 0 → levels.new ≡ levels.old }
+    ensures listed { AreListed levels.old levels.new result risen.new }
+    ensures within { (at : ℕ) → at < result → at < length risen.new
+        → slice_index risen.new at < length view.entry.rows.now }
+    ensures room { length risen.new ≡ length risen.old }
+    ensures seen { (at : ℕ) → slice_index seen.new at ≤ view.entry.round }
+    ensures as_many_seen { length seen.new ≡ length seen.old }
+    ensures at_most { steps.new ≤ steps.old + several view.entry.rows.now }
+    ensures at_least { steps.old ≤ steps.new }
+{
+    raised_by_index();
+    let count = look_touched(view, &watchers.entries, touched, levels, seen, risen, steps);
+    look_listed(view, &watchers.wide, levels, seen, risen, count, steps)
+}
+
+/// Looks at all rows, or, where so many are touched, at those whose distances may have changed by that.
+pub(crate) fn look_where<L: Ledger>(
+    view: View,
+    watchers: &Watchers,
+    moved: Option<usize>,
+    touched: &[u32],
+    levels: &mut [u8],
+    seen: &mut [u64],
+    risen: &mut [u32],
+    steps: &mut Steps<L>,
+) -> usize
+    requires stand { AllStand view.rows.now }
+    requires as_many_shifts { length view.shifts.now ≡ length view.rows.now }
+    requires as_many_levels { length levels.old ≡ length view.rows.now }
+    requires as_many_seen { length seen.old ≡ length view.rows.now }
+    requires few { length view.rows.now < 2 ^ 32 }
+    requires linked { AreLinked (length view.rows.now) watchers.now.entries.rows.items
+        watchers.now.entries.blocks.items watchers.now.entries.heads.items
+        watchers.now.entries.links.items }
+    requires blocks { length view.rows.now < 64 * vec_len watchers.now.entries.heads }
+    requires several { AreSeveral view.rows.now watchers.now.entries.rows.items }
+    requires wide_several { AreSeveral view.rows.now watchers.now.wide.items }
+    requires wide_within { (at : ℕ) → at < length watchers.now.wide.items
+        → slice_index watchers.now.wide.items at < length view.rows.now }
+    requires end { IfSome moved (λ many. many ≤ length touched.now) }
+    requires inside { IfSome moved (λ many. (at : ℕ) → at < many
+        → slice_index touched.now at < length view.rows.now) }
+    requires fresh { (at : ℕ) → slice_index seen.old at < view.round }
+    requires calm { IfSome moved (λ many. AreCalm view.rows.now view.shifts.now levels.old
+        watchers.now.entries.rows.items watchers.now.entries.blocks.items
+        watchers.now.wide.items many touched.now) }
+    ensures levels { levels.new
+        ≡ raised levels.old (levels_needed view.entry.shifts.now view.entry.rows.now) }
+    ensures rose { 0 < result → Rises levels.old levels.new }
+    ensures still { result ≡ 0 → levels.new ≡ levels.old }
+    ensures listed { AreListed levels.old levels.new result risen.new }
+    ensures within { (at : ℕ) → at < result → at < length risen.new
+        → slice_index risen.new at < length view.entry.rows.now }
+    ensures room { length risen.new ≡ length risen.old }
+    ensures seen { (at : ℕ) → slice_index seen.new at ≤ view.entry.round }
+    ensures as_many_seen { length seen.new ≡ length seen.old }
+    ensures at_most { steps.new ≤ steps.old + several view.entry.rows.now }
+    ensures at_least { steps.old ≤ steps.new }
+    ensures lowest { moved ≡ None → All (λ level. level ≡ 0) levels.old
+        → steps.old + several view.entry.rows.now ≤ steps.new }
+{
+    match moved {
+        Some(many) => {
+            let rows = &touched[..many];
+            look_few(view, watchers, rows, levels, seen, risen, steps)
+        }
+        None => look(view.rows, view.shifts, levels, risen, steps),
+    }
+}
