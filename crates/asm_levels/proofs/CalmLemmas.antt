@@ -1,20 +1,20 @@
 -- A distance stays where no row that it spans gets another size.
-use Rattle.std.proofs.Common.{◌≡◌, ◌⊎◌, ℕ, ◌+◌, ◌-◌, ◌%◌, ◌^◌, ◌<◌, ◌≤◌, zero, suc, Option, None, Some, IfSome, Bool, true, false, List, length, get_or, refl, sym, ap, ◌∙◌, subst, arith, inl, inr}
+use Rattle.std.proofs.Common.{◌≡◌, ◌⊎◌, ℕ, ◌+◌, ◌-◌, ◌%◌, ◌^◌, ◌<◌, ◌≤◌, zero, suc, Option, None, Some, IfSome, Bool, true, false, List, length, get_or, take, refl, sym, ap, ◌∙◌, subst, arith, inl, inr}
 use Rattle.std.specs.List.{All}
 use Rattle.std.proofs.lemmas.Bool.{cases_lt, lt-ltb}
-use Rattle.std.proofs.lemmas.List.{get_or_past, get_or-map}
+use Rattle.std.proofs.lemmas.List.{get_or_past, get_or-map, get_or-take, length-take}
 use Rattle.asm_levels.specs.declared.distances.Distance.{Distance}
 use Rattle.asm_levels.specs.declared.distances.Distance.TheVariants.{Between, Sum}
 use Rattle.asm_levels.specs.declared.rows.RowSize.{RowSize}
 use Rattle.asm_levels.specs.declared.rows.RowSize.TheVariants.{Fixed, Align, Org, Jump, Leb128, Advance, End}
 use Rattle.asm_levels.specs.declared.rows.Row.{Row}
 use Rattle.asm_levels.specs.Distances.{distance_value}
-use Rattle.asm_levels.specs.Needs.{jump_level, leb128_level, advance_level, needed, top, has_levels, levels_needed}
+use Rattle.asm_levels.specs.Needs.{jump_level, leb128_level, advance_level, needed, top, tops, has_levels, levels_needed}
 use Rattle.asm_levels.specs.Resizing.{AreMoved, AreEnds, IsAmong, AreTouched}
-use Rattle.asm_levels.specs.Watching.{IsSpan, RowSpans, block_of, IsEntry, IsWatched, IsCovered, IsTouched}
+use Rattle.asm_levels.specs.Watching.{IsSpan, RowSpans, block_of, IsEntry, IsWatched, IsCovered, IsTouched, AreHighest}
 use Rattle.asm_levels.specs.Looking.{AreCalm}
 use Rattle.asm_levels.proofs.ResizingLemmas.{past_inner}
-use Rattle.asm_levels.proofs.TopLemmas.{needed-le}
+use Rattle.asm_levels.proofs.TopLemmas.{needed-le, levels-le}
 use Rattle.asm_levels.proofs.SizedLemmas.{no_row}
 
 -- two shifts that are as far apart as before
@@ -155,25 +155,33 @@ module _ (rows : List Row) (ends sizes after shifts later : List ℕ) (many : �
       ]
 
   -- what is covered needs no more than before, or is looked at
-  pub calm_after : (default : Row) (entries blocks wide levels : List ℕ) → ((index : ℕ) → index < length rows → IsCovered rows ends entries blocks wide index)
-      → ((index : ℕ) → index < length rows → get_or (levels_needed shifts rows) index 0 ≤ get_or levels index 0) → AreCalm rows later levels entries blocks wide many touched
-  calm_after default entries blocks wide levels covered holds index within =
+  pub calm_after : (default : Row) (entries blocks wide levels : List ℕ) (left : ℕ) → ((index : ℕ) → index < length rows → IsCovered rows ends entries blocks wide index)
+      → AreHighest rows levels left wide → ((index : ℕ) → index < length rows → get_or (levels_needed shifts rows) index 0 ≤ get_or levels index 0)
+      → AreCalm rows later levels entries blocks (take left wide) many touched
+  calm_after default entries blocks wide levels left covered highest holds index within =
       let need : get_or (levels_needed shifts rows) index 0 ≡ needed shifts (get_or rows index default).size = get_or-map (λ (r : Row). needed shifts r.size) rows index default 0 within in
       let need' : get_or (levels_needed later rows) index 0 ≡ needed later (get_or rows index default).size = get_or-map (λ (r : Row). needed later r.size) rows index default 0 within in
       let before = holds index within in
       elim (covered index within) [
         | inl one ↦ inl (let none = needs_none later (get_or rows index default).size (one default) in omega arith)
         | inr rest ↦ elim rest [
-          | inl watched ↦ watched_calm default entries blocks wide levels index watched within need need' before
-          | inr among ↦ inr (inr among)
+          | inl watched ↦ watched_calm default entries blocks (take left wide) levels index watched within need need' before
+          | inr among ↦ elim (cases_lt among.0 left) [
+            | inl first ↦ inr (inr (among.0, (let less = among.1 in let long = length-take left wide in omega arith), get_or-take left wide among.0 0 first ∙ among.2))
+            | inr behind ↦ inl (
+                let own = highest among.0 behind among.1 in
+                let top : get_or (tops rows) index 0 ≤ get_or levels index 0 = subst (λ (row : ℕ). get_or (tops rows) row 0 ≤ get_or levels row 0) among.2 own in
+                let low = levels-le later rows index in
+                omega arith)
+          ]
         ]
       ]
 
 -- what the first so many of a list leave calm, where there is such a list
-pub calm_if : (rows : List Row) (ends sizes after shifts later touched entries blocks wide levels : List ℕ) (result : Option ℕ) → AreMoved rows sizes shifts → AreMoved rows after later → AreEnds rows ends
+pub calm_if : (rows : List Row) (ends sizes after shifts later touched entries blocks wide levels : List ℕ) (left : ℕ) (result : Option ℕ) → AreMoved rows sizes shifts → AreMoved rows after later → AreEnds rows ends
     → All (λ shift. shift < 2 ^ 62) shifts → All (λ shift. shift < 2 ^ 62) later → ((index : ℕ) → index < length rows → IsCovered rows ends entries blocks wide index)
-    → ((index : ℕ) → index < length rows → get_or (levels_needed shifts rows) index 0 ≤ get_or levels index 0)
-    → IfSome result (λ many. AreTouched sizes after many touched) → IfSome result (λ many. AreCalm rows later levels entries blocks wide many touched)
-calm_if rows ends sizes after shifts later touched entries blocks wide levels None moved now all_ends small small_later covered holds listed = listed
-calm_if rows ends sizes after shifts later touched entries blocks wide levels (Some many) moved now all_ends small small_later covered holds listed =
-    calm_after rows ends sizes after shifts later many touched moved now all_ends listed small small_later no_row entries blocks wide levels covered holds
+    → AreHighest rows levels left wide → ((index : ℕ) → index < length rows → get_or (levels_needed shifts rows) index 0 ≤ get_or levels index 0)
+    → IfSome result (λ many. AreTouched sizes after many touched) → IfSome result (λ many. AreCalm rows later levels entries blocks (take left wide) many touched)
+calm_if rows ends sizes after shifts later touched entries blocks wide levels left None moved now all_ends small small_later covered highest holds listed = listed
+calm_if rows ends sizes after shifts later touched entries blocks wide levels left (Some many) moved now all_ends small small_later covered highest holds listed =
+    calm_after rows ends sizes after shifts later many touched moved now all_ends listed small small_later no_row entries blocks wide levels left covered highest holds

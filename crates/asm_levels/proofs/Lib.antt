@@ -1,4 +1,5 @@
 -- Lemmas, a file for each subject.
+pub mod PaddingLemmas
 pub mod LimitLemmas
 pub mod TopLemmas
 pub mod Powers
@@ -11,6 +12,7 @@ pub mod SizedLemmas
 pub mod EndLemmas
 pub mod LinkLemmas
 pub mod WatchLemmas
+pub mod WideLemmas
 pub mod PartLemmas
 pub mod TouchedLemmas
 pub mod CalmLemmas

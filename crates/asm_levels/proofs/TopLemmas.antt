@@ -55,7 +55,7 @@ top-le (Leb128 signed distance) = omega arith
 top-le (Advance distance) = omega arith
 top-le End = omega arith
 
-levels-le : (shifts : List ℕ) (rows : List Row) (index : ℕ) → get_or (levels_needed shifts rows) index 0 ≤ get_or (tops rows) index 0
+pub levels-le : (shifts : List ℕ) (rows : List Row) (index : ℕ) → get_or (levels_needed shifts rows) index 0 ≤ get_or (tops rows) index 0
 levels-le shifts [] index = omega arith
 levels-le shifts (row ∷ rows) zero = needed-le shifts row.size
 levels-le shifts (row ∷ rows) (suc index) = levels-le shifts rows index

@@ -32,7 +32,7 @@ pub record IsPartlyLooked (rows : List Row) (shifts old now seen risen : List �
 abbrev pub BegunBy : List Row → List ℕ → List ℕ → List ℕ → List ℕ → ℕ → ℕ → ℕ → Type 0
 BegunBy rows shifts now seen risen round count steps = (old : List ℕ) × (start : ℕ) × IsPartlyLooked rows shifts old now seen risen round count start steps
 
--- each row needs no more than its level, or has an entry of the block of one of these rows, or is looked at in each round
+-- each row needs no more than its level, or has an entry of the block of one of these rows, or is in the list of those that are looked at
 abbrev pub AreCalm : List Row → List ℕ → List ℕ → List ℕ → List ℕ → List ℕ → ℕ → List ℕ → Type 0
 AreCalm all shifts levels rows blocks wide count touched = (index : ℕ) → index < length all
     → (slice_index (levels_needed shifts all) index ≤ slice_index levels index) ⊎ (IsTouched rows blocks count touched index ⊎ IsAmong index (length wide) wide)

@@ -5,7 +5,7 @@ use Rattle.asm_levels.specs.declared.distances.Distance.TheVariants.{Between, Su
 use Rattle.asm_levels.specs.declared.rows.RowSize.{RowSize}
 use Rattle.asm_levels.specs.declared.rows.RowSize.TheVariants.{Fixed, Align, Org, Jump, Leb128, Advance, End}
 use Rattle.asm_levels.specs.declared.rows.Row.{Row}
-use Rattle.asm_levels.specs.Needs.{has_levels}
+use Rattle.asm_levels.specs.Needs.{has_levels, tops}
 use Rattle.asm_levels.specs.Resizing.{IsAmong}
 
 -- the distance stands between these two rows
@@ -51,7 +51,7 @@ pub record IsWatched (all : List Row) (ends rows blocks : List ℕ) (index : ℕ
   pub section : last < slice_index ends first
   pub entries : (block : ℕ) → block_of first ≤ block → block ≤ block_of last → IsEntry rows blocks index block
 
--- the row has one level, or is watched, or is in the list of those that are looked at in each round
+-- the row has one level, or is watched, or is in the list of those that are looked at in each round until they are at their highest level
 abbrev pub IsCovered : List Row → List ℕ → List ℕ → List ℕ → List ℕ → ℕ → Type 0
 IsCovered all ends rows blocks wide index = ((default : Row) → has_levels (slice_index_or all index default).size ≡ false)
     ⊎ (IsWatched all ends rows blocks index ⊎ IsAmong index (length wide) wide)
@@ -64,7 +64,7 @@ IsTouched rows blocks count touched index = (at : ℕ) × (at < count) × IsEntr
 abbrev pub AreSeveral : List Row → List ℕ → Type 0
 AreSeveral all list = (at : ℕ) (default : Row) → at < length list → has_levels (slice_index_or all (slice_index list at) default).size ≡ true
 
--- the entries of rows by blocks, and the list of those that are looked at in each round, as far as the first so many rows ask for them
+-- the entries of rows by blocks, and the list of those without entries, as far as the first so many rows ask for them
 pub record FirstWatchers (all : List Row) (ends rows blocks heads links wide : List ℕ) (count : ℕ) : Type 0 where
   pub linked : AreLinked (length all) rows blocks heads links
   pub blocks_enough : length all < 64 * length heads
@@ -76,3 +76,12 @@ pub record FirstWatchers (all : List Row) (ends rows blocks heads links wide : L
 -- the same for all rows
 abbrev pub AreWatchers : List Row → List ℕ → List ℕ → List ℕ → List ℕ → List ℕ → List ℕ → Type 0
 AreWatchers all ends rows blocks heads links wide = FirstWatchers all ends rows blocks heads links wide (length all)
+
+-- the rows from this place of the list on are at their highest level
+abbrev pub AreHighest : List Row → List ℕ → ℕ → List ℕ → Type 0
+AreHighest all levels from list = (at : ℕ) → from ≤ at → at < length list → slice_index (tops all) (slice_index list at) ≤ slice_index levels (slice_index list at)
+
+-- each row of one list is in the other
+pub record HaveSameRows (list other : List ℕ) : Type 0 where
+  pub there : (row : ℕ) → IsAmong row (length list) list → IsAmong row (length other) other
+  pub back : (row : ℕ) → IsAmong row (length other) other → IsAmong row (length list) list

@@ -1,9 +1,9 @@
 //! What the definitions of levels and shifts come to.
 
-ghost use Rattle.std.specs.Prelude.{◌≡◌, ◌↔◌, ◌+◌, ◌-◌, ◌*◌, ◌^◌, ◌<◌, ◌≤◌, ℕ, List, All, length};
+ghost use Rattle.std.specs.Prelude.{◌≡◌, ◌↔◌, ◌+◌, ◌-◌, ◌*◌, ◌%◌, ◌^◌, ◌<◌, ◌≤◌, ℕ, List, All, length};
 ghost use Rattle.level_ranks.specs.Rounds.{NeedsWithin};
 ghost use Rattle.asm_levels.specs.declared.rows.Row.{Row as TheRow};
-ghost use Rattle.asm_levels.specs.Sizes.{most_bytes, most_in};
+ghost use Rattle.asm_levels.specs.Sizes.{padding, most_bytes, most_in};
 ghost use Rattle.asm_levels.specs.Shifts.{shifts_of, AreInRow};
 ghost use Rattle.asm_levels.specs.Needs.{jump_level, unsigned_level, signed_level, advance_level, need, tops, IsSignedWithin, AdvanceHolds};
 ghost use Rattle.asm_levels.specs.Standing.{AllStand};
@@ -32,6 +32,14 @@ pub fn advances_hold_their_distance()
     ensures holds { (distance level : ℕ) → distance < 2 ^ 32
         → (advance_level distance ≤ level) ↔ AdvanceHolds level distance }
     ensures beyond { (distance : ℕ) → 2 ^ 32 ≤ distance → advance_level distance ≡ 4 }
+{}
+
+/// The padding is the least number that takes an address to a multiple of the alignment.
+pub fn padding_is_least()
+    ensures multiple { (alignment address : ℕ) → 0 < alignment
+        → (address + padding alignment address) % alignment ≡ 0 }
+    ensures least { (alignment address more : ℕ) → 0 < alignment
+        → (address + more) % alignment ≡ 0 → padding alignment address ≤ more }
 {}
 
 /// No row needs a level above its top.

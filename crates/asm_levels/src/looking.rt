@@ -6,12 +6,13 @@ ghost use Rattle.asm_levels.specs.declared.rows.Row.{Row};
 ghost use Rattle.asm_levels.specs.Needs.{levels_needed, has_levels, several};
 ghost use Rattle.asm_levels.specs.Standing.{AllStand};
 ghost use Rattle.asm_levels.specs.Resizing.{AreListed, IsAmong};
-ghost use Rattle.asm_levels.specs.Watching.{AreLinked, AreSeveral, IsTouched, block_of};
+ghost use Rattle.asm_levels.specs.Watching.{AreLinked, AreSeveral, AreHighest, HaveSameRows, IsTouched, block_of};
 ghost use Rattle.asm_levels.specs.Looking.{IsPartlyLooked, BegunBy, AreCalm};
 
+use crate::needs::top;
 use crate::rounds::{level_taken, look, note};
 use crate::rows::Row;
-use crate::watching::{BLOCK, Entries, Watchers};
+use crate::watching::{BLOCK, Entries};
 use asm_base::Steps;
 use level_ranks::raised_by_index;
 use range_table::RangeTable;
@@ -210,11 +211,12 @@ fn look_listed<L: Ledger>(
 }
 
 /// Looks at the rows whose distances may have changed, since one of these rows has another size: those that have an
-/// entry of its block, and those whose distances span many. Answers how many have risen, and lists these as far as
+/// entry of its block, and those of the list. Answers how many have risen, and lists these as far as
 /// there is room.
 pub(crate) fn look_few<L: Ledger>(
     view: View,
-    watchers: &Watchers,
+    entries: &Entries,
+    wide: &[u32],
     touched: &[u32],
     levels: &mut [u8],
     seen: &mut [u64],
@@ -226,23 +228,23 @@ pub(crate) fn look_few<L: Ledger>(
     requires as_many_levels { length levels.old ≡ length view.rows.now }
     requires as_many_seen { length seen.old ≡ length view.rows.now }
     requires few { length view.rows.now < 2 ^ 32 }
-    requires linked { AreLinked (length view.rows.now) watchers.now.entries.rows.items
-        watchers.now.entries.blocks.items watchers.now.entries.heads.items
-        watchers.now.entries.links.items }
-    requires blocks { length view.rows.now < 64 * vec_len watchers.now.entries.heads }
-    requires several { AreSeveral view.rows.now watchers.now.entries.rows.items }
-    requires wide_several { AreSeveral view.rows.now watchers.now.wide.items }
-    requires wide_within { (at : ℕ) → at < length watchers.now.wide.items
-        → slice_index watchers.now.wide.items at < length view.rows.now }
+    requires linked { AreLinked (length view.rows.now) entries.now.rows.items
+        entries.now.blocks.items entries.now.heads.items
+        entries.now.links.items }
+    requires blocks { length view.rows.now < 64 * vec_len entries.now.heads }
+    requires several { AreSeveral view.rows.now entries.now.rows.items }
+    requires wide_several { AreSeveral view.rows.now wide.now }
+    requires wide_within { (at : ℕ) → at < length wide.now
+        → slice_index wide.now at < length view.rows.now }
     requires inside { (at : ℕ) → at < length touched.now
         → slice_index touched.now at < length view.rows.now }
     requires fresh { (at : ℕ) → slice_index seen.old at < view.round }
     requires calm { (index : ℕ) → index < length view.rows.now
         → (slice_index (levels_needed view.shifts.now view.rows.now) index
         ≤ slice_index levels.old index)
-        ⊎ (IsTouched watchers.now.entries.rows.items watchers.now.entries.blocks.items
+        ⊎ (IsTouched entries.now.rows.items entries.now.blocks.items
         (length touched.now) touched.now index
-        ⊎ IsAmong index (length watchers.now.wide.items) watchers.now.wide.items) }
+        ⊎ IsAmong index (length wide.now) wide.now) }
     ensures levels { levels.new
         ≡ raised levels.old (levels_needed view.entry.shifts.now view.entry.rows.now) }
     ensures rose { 0 < result → Rises levels.old levels.new }
@@ -257,14 +259,15 @@ pub(crate) fn look_few<L: Ledger>(
     ensures at_least { steps.old ≤ steps.new }
 {
     raised_by_index();
-    let count = look_touched(view, &watchers.entries, touched, levels, seen, risen, steps);
-    look_listed(view, &watchers.wide, levels, seen, risen, count, steps)
+    let count = look_touched(view, entries, touched, levels, seen, risen, steps);
+    look_listed(view, wide, levels, seen, risen, count, steps)
 }
 
 /// Looks at all rows, or, where so many are touched, at those whose distances may have changed by that.
 pub(crate) fn look_where<L: Ledger>(
     view: View,
-    watchers: &Watchers,
+    entries: &Entries,
+    wide: &[u32],
     moved: Option<usize>,
     touched: &[u32],
     levels: &mut [u8],
@@ -277,21 +280,21 @@ pub(crate) fn look_where<L: Ledger>(
     requires as_many_levels { length levels.old ≡ length view.rows.now }
     requires as_many_seen { length seen.old ≡ length view.rows.now }
     requires few { length view.rows.now < 2 ^ 32 }
-    requires linked { AreLinked (length view.rows.now) watchers.now.entries.rows.items
-        watchers.now.entries.blocks.items watchers.now.entries.heads.items
-        watchers.now.entries.links.items }
-    requires blocks { length view.rows.now < 64 * vec_len watchers.now.entries.heads }
-    requires several { AreSeveral view.rows.now watchers.now.entries.rows.items }
-    requires wide_several { AreSeveral view.rows.now watchers.now.wide.items }
-    requires wide_within { (at : ℕ) → at < length watchers.now.wide.items
-        → slice_index watchers.now.wide.items at < length view.rows.now }
+    requires linked { AreLinked (length view.rows.now) entries.now.rows.items
+        entries.now.blocks.items entries.now.heads.items
+        entries.now.links.items }
+    requires blocks { length view.rows.now < 64 * vec_len entries.now.heads }
+    requires several { AreSeveral view.rows.now entries.now.rows.items }
+    requires wide_several { AreSeveral view.rows.now wide.now }
+    requires wide_within { (at : ℕ) → at < length wide.now
+        → slice_index wide.now at < length view.rows.now }
     requires end { IfSome moved (λ many. many ≤ length touched.now) }
     requires inside { IfSome moved (λ many. (at : ℕ) → at < many
         → slice_index touched.now at < length view.rows.now) }
     requires fresh { (at : ℕ) → slice_index seen.old at < view.round }
     requires calm { IfSome moved (λ many. AreCalm view.rows.now view.shifts.now levels.old
-        watchers.now.entries.rows.items watchers.now.entries.blocks.items
-        watchers.now.wide.items many touched.now) }
+        entries.now.rows.items entries.now.blocks.items
+        wide.now many touched.now) }
     ensures levels { levels.new
         ≡ raised levels.old (levels_needed view.entry.shifts.now view.entry.rows.now) }
     ensures rose { 0 < result → Rises levels.old levels.new }
@@ -310,8 +313,38 @@ pub(crate) fn look_where<L: Ledger>(
     match moved {
         Some(many) => {
             let rows = &touched[..many];
-            look_few(view, watchers, rows, levels, seen, risen, steps)
+            look_few(view, entries, wide, rows, levels, seen, risen, steps)
         }
         None => look(view.rows, view.shifts, levels, risen, steps),
     }
+}
+
+/// Puts those of the first so many rows of this list that are at their highest level behind the others. Answers how
+/// many the others are.
+pub(crate) fn put_highest_last(
+    rows: &[Row],
+    levels: &[u8],
+    list: &mut [u32],
+    count: usize,
+) -> usize
+    requires as_many_levels { length levels.now ≡ length rows.now }
+    requires inside { (at : ℕ) → at < length list.old → slice_index list.old at < length rows.now }
+    requires end { count ≤ length list.old }
+    requires highest { AreHighest rows.now levels.now count list.old }
+    ensures highest { AreHighest rows.now levels.now result list.new }
+    ensures same_rows { HaveSameRows list.old list.new }
+    ensures end { result ≤ length list.new }
+{
+    let mut left = count;
+    let mut at = 0usize;
+    while at < left {
+        let row = list[at] as usize;
+        if levels[row] < top(&rows[row].size) {
+            at += 1;
+        } else {
+            left -= 1;
+            list.swap(at, left);
+        }
+    }
+    left
 }

@@ -125,7 +125,8 @@ impl RowPlan {
         settling::settle(
             all,
             &self.dependents,
-            &self.watchers,
+            &self.watchers.entries,
+            &mut self.watchers.wide,
             &mut self.levels,
             &mut self.sizes,
             &mut self.shifts,

@@ -9,9 +9,9 @@ ghost use Rattle.asm_levels.specs.Resizing.{AreEnds, AreDependents};
 ghost use Rattle.asm_levels.specs.Watching.{AreWatchers};
 ghost use Rattle.asm_levels.specs.Standing.{AllStand};
 
-use crate::looking::{View, forget, look_where};
+use crate::looking::{View, forget, look_where, put_highest_last};
 use crate::resizing::{EndedRows, move_rows, place_anew};
-use crate::watching::Watchers;
+use crate::watching::Entries;
 use asm_base::Steps;
 use level_ranks::{
     levels_hold, levels_stay_within, one_round_more, raised_by_index, rounds_are_few,
@@ -24,7 +24,8 @@ use std::sync::ledger::Ledger;
 pub(crate) fn settle<L: Ledger>(
     all: EndedRows,
     dependents: &[u32],
-    watchers: &Watchers,
+    entries: &Entries,
+    wide: &mut [u32],
     levels: &mut [u8],
     sizes: &mut [u64],
     shifts: &mut RangeTable,
@@ -41,12 +42,13 @@ pub(crate) fn settle<L: Ledger>(
     requires as_many_sizes { length sizes.old ≡ length all.rows.now }
     requires ends { AreEnds all.rows.now all.ends.now }
     requires dependents { AreDependents all.rows.now dependents.now }
-    requires watchers { AreWatchers all.rows.now all.ends.now watchers.now.entries.rows.items
-        watchers.now.entries.blocks.items watchers.now.entries.heads.items
-        watchers.now.entries.links.items watchers.now.wide.items }
+    requires watchers { AreWatchers all.rows.now all.ends.now entries.now.rows.items
+        entries.now.blocks.items entries.now.heads.items entries.now.links.items wide.old }
     requires as_many_seen { length seen.old ≡ length all.rows.now }
     requires room { length risen.old + length dependents.now ≤ length touched.old }
     requires lowest { All (λ level. level ≡ 0) levels.old }
+    ensures watchers { AreWatchers all.entry.rows.now all.entry.ends.now entries.now.rows.items
+        entries.now.blocks.items entries.now.heads.items entries.now.links.items wide.new }
     ensures layout { IsLayout (need all.entry.rows.now) (tops all.entry.rows.now) levels.new result }
     ensures shifts { shifts.new ≡ shifts_of all.entry.rows.now levels.new }
     ensures small { All (λ shift. shift < 2 ^ 62) shifts.new }
@@ -69,6 +71,7 @@ pub(crate) fn settle<L: Ledger>(
     forget(seen);
     let mut rounds = 0u64;
     let mut moved: Option<usize> = None;
+    let mut left = wide.len();
     loop {
         rounds += 1;
         let view = View {
@@ -76,10 +79,14 @@ pub(crate) fn settle<L: Ledger>(
             shifts,
             round: rounds,
         };
-        let count = look_where(view, watchers, moved, touched, levels, seen, risen, steps);
+        let listed = &wide[..left];
+        let count = look_where(
+            view, entries, listed, moved, touched, levels, seen, risen, steps,
+        );
         if count == 0 {
             return rounds;
         }
+        left = put_highest_last(all.rows, levels, wide, left);
         moved = move_rows(
             all, dependents, levels, risen, count, sizes, shifts, touched,
         );

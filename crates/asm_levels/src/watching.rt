@@ -16,7 +16,7 @@ use std::alloc::Global;
 /// How many rows stand in a block.
 pub(crate) const BLOCK: usize = 64;
 
-/// A distance over more blocks is looked at in each round.
+/// A distance over more blocks has no entries.
 const MOST_BLOCKS: usize = 4;
 
 /// Entries of rows by the blocks that their distances span. Those of a block are linked, from the last one on.
@@ -112,7 +112,7 @@ fn add_all(
     Ok(())
 }
 
-/// The rows whose distances are looked at: by entries where these span few blocks, and else in each round.
+/// The rows whose distances are looked at: by entries where these span few blocks, and else by a list.
 #[derive(Drop)]
 pub(crate) struct Watchers {
     pub(crate) entries: Entries,

@@ -35,12 +35,7 @@ returns-clause-levels g c =
             let first = c.look_touched-count.ensures.seen touched.0 entry.0 touched.1 entry.1 entry.3 in
             let here : get_or c.look_touched-count.new.seen index 0 ≡ round = ap (λ i. get_or c.look_touched-count.new.seen i 0) (sym entry.2) ∙ first in
             c.look_listed.ensures.kept index here)
-        | inr wide ↦ inr (
-            let list = c.deref.ensures.value in
-            let same : length c.deref.result.now ≡ length c.args.watchers.now.wide.items = ap (λ (xs : List ℕ). length xs) list in
-            let first = c.look_listed.ensures.seen wide.0 (let less = wide.1 in omega arith) in
-            let row : get_or c.deref.result.now wide.0 0 ≡ index = ap (λ (xs : List ℕ). get_or xs wide.0 0) list ∙ wide.2 in
-            ap (λ i. get_or seen i 0) (sym row) ∙ first)
+        | inr wide ↦ inr (ap (λ i. get_or seen i 0) (sym wide.2) ∙ c.look_listed.ensures.seen wide.0 wide.1)
       ]
     ]))
 

@@ -7,13 +7,13 @@ use Rattle.asm_levels.proofs.looking.look_where.Goals as goal
 
 pub look_few-requires-clause-calm : goal.look_few-requires-clause-calm
 look_few-requires-clause-calm g c = λ index within. (
-    let rows = c.args.watchers.now.entries.rows.items in
-    let blocks = c.args.watchers.now.entries.blocks.items in
+    let rows = c.args.entries.now.rows.items in
+    let blocks = c.args.entries.now.blocks.items in
     let many = c.in-Some.many in
     let end : many ≤ length c.args.touched.now = subst (λ (m : Option ℕ). IfSome m (λ (n : ℕ). n ≤ length c.args.touched.now)) c.in-Some.is c.requires.end in
     let long : length (take many c.args.touched.now) ≡ many = length-take-le many c.args.touched.now end in
-    let calm : AreCalm c.args.view.rows.now c.args.view.shifts.now c.args.levels.now rows blocks c.args.watchers.now.wide.items many c.args.touched.now =
-    subst (λ (m : Option ℕ). IfSome m (λ (n : ℕ). AreCalm c.args.view.rows.now c.args.view.shifts.now c.args.levels.now rows blocks c.args.watchers.now.wide.items n c.args.touched.now)) c.in-Some.is c.requires.calm in
+    let calm : AreCalm c.args.view.rows.now c.args.view.shifts.now c.args.levels.now rows blocks c.args.wide.now many c.args.touched.now =
+    subst (λ (m : Option ℕ). IfSome m (λ (n : ℕ). AreCalm c.args.view.rows.now c.args.view.shifts.now c.args.levels.now rows blocks c.args.wide.now n c.args.touched.now)) c.in-Some.is c.requires.calm in
     elim (calm index within) [
       | inl enough ↦ inl enough
       | inr rest ↦ elim rest [

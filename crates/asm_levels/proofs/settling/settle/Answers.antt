@@ -4,9 +4,11 @@ use Rattle.std.specs.List.{All}
 use Rattle.level_ranks.specs.Ranks.{IsLayout}
 use Rattle.level_ranks.specs.Rounds.{raised}
 use Rattle.asm_levels.specs.Needs.{need, tops, several, levels_needed}
+use Rattle.asm_levels.specs.Watching.{AreWatchers}
 use Rattle.asm_levels.proofs.CalmLemmas.{calm_if}
 use Rattle.asm_levels.proofs.LookLemmas.{first_levels, lowest_still, at_least_once}
 use Rattle.asm_levels.proofs.SizedLemmas.{plain_or_listed, shifts_small}
+use Rattle.asm_levels.proofs.WideLemmas.{several_first, inside_take, highest_raised, watchers_same}
 use Rattle.asm_levels.proofs.TopLemmas.{need_within, nine_from, length-tops, sum-tops-le, need_is}
 use Rattle.asm_levels.proofs.settling.settle.Goals as goal
 
@@ -26,7 +28,24 @@ loop-rounds-init g c = let tops_long = length-tops c.args.all.rows.now in record
   end = tt;
   inside = tt;
   calm = tt;
+  left = omega arith;
+  highest = λ at low less. absurd (omega arith);
+  watchers = c.requires.watchers;
 }
+
+pub look_where-count-requires-clause-wide_several : goal.look_where-count-requires-clause-wide_several
+look_where-count-requires-clause-wide_several g c = several_first c.args.all.rows.now c.loop-rounds.wide c.loop-rounds.left c.loop-rounds.invariant.watchers.wide_several
+
+pub look_where-count-requires-clause-wide_within : goal.look_where-count-requires-clause-wide_within
+look_where-count-requires-clause-wide_within g c = inside_take c.loop-rounds.wide c.loop-rounds.left (length c.args.all.rows.now) c.loop-rounds.invariant.watchers.wide_within
+
+pub put_highest_last-left-requires-clause-highest : goal.put_highest_last-left-requires-clause-highest
+put_highest_last-left-requires-clause-highest g c = highest_raised c.args.all.rows.now c.loop-rounds.levels c.look_where-count.new.levels c.loop-rounds.left c.loop-rounds.wide
+    (λ index within.
+    let level = c.raised_by_index.ensures.level c.loop-rounds.levels (levels_needed c.loop-rounds.shifts c.args.all.rows.now) index (omega arith) in
+    let same : get_or c.look_where-count.new.levels index 0 ≡ get_or (raised c.loop-rounds.levels (levels_needed c.loop-rounds.shifts c.args.all.rows.now)) index 0 = ap (λ (xs : List ℕ). get_or xs index 0) c.look_where-count.ensures.levels in
+    omega arith)
+    c.loop-rounds.invariant.watchers.wide_within c.loop-rounds.invariant.highest
 
 pub place_anew-requires-clause-levels : goal.place_anew-requires-clause-levels
 place_anew-requires-clause-levels g c = λ index default within. (let lowest = c.requires.lowest index default within in omega arith)
@@ -68,6 +87,10 @@ loop-rounds-preserved g c =
     let small = subst (λ (all : List ℕ). All (λ shift. shift < 2 ^ 62) all) (sym c.loop-rounds.invariant.placed) (shifts_small rows c.loop-rounds.levels c.requires.stand nine (many ∙ long) c.requires.bytes) in
     let after = c.one_round_more.ensures.more (need rows) (tops rows) c.args.levels.now c.loop-rounds.levels c.look_where-count.new.levels c.loop-rounds.rounds c.loop-rounds.invariant.after new (c.look_where-count.ensures.rose (let some = c.if-count-eq0.false in omega arith)) in
     let many_later = c.levels_stay_within.ensures.items (need rows) (tops rows) c.args.levels.now c.look_where-count.new.levels (c.loop-rounds.rounds + 1) after in
+    let entries = c.args.entries.now in
+    let wide = c.put_highest_last-left.new.list in
+    let watchers : AreWatchers rows c.args.all.ends.now entries.rows.items entries.blocks.items entries.heads.items entries.links.items wide = watchers_same rows c.args.all.ends.now entries.rows.items entries.blocks.items entries.heads.items
+    entries.links.items c.loop-rounds.wide wide c.put_highest_last-left.ensures.same_rows c.loop-rounds.invariant.watchers in
     let nine_later = nine_from rows c.look_where-count.new.levels many_later
     (λ index inside. c.levels_stay_within.ensures.tops (need rows) (tops rows) c.args.levels.now c.look_where-count.new.levels (c.loop-rounds.rounds + 1) index after inside) in
     let small_later = subst (λ (all : List ℕ). All (λ shift. shift < 2 ^ 62) all) (sym c.move_rows-moved.ensures.shifts) (shifts_small rows c.look_where-count.new.levels c.requires.stand nine_later (many_later ∙ long) c.requires.bytes) in
@@ -91,8 +114,11 @@ loop-rounds-preserved g c =
       end = c.move_rows-moved.ensures.end;
       inside = c.move_rows-moved.ensures.within;
       calm = calm_if rows c.args.all.ends.now c.loop-rounds.sizes c.move_rows-moved.new.sizes c.loop-rounds.shifts c.move_rows-moved.new.shifts c.move_rows-moved.new.touched
-          c.args.watchers.now.entries.rows.items c.args.watchers.now.entries.blocks.items c.args.watchers.now.wide.items c.look_where-count.new.levels c.move_rows-moved.result
-          c.loop-rounds.invariant.moved c.move_rows-moved.ensures.moved c.requires.ends small small_later c.requires.watchers.covered holds c.move_rows-moved.ensures.touched;
+          entries.rows.items entries.blocks.items wide c.look_where-count.new.levels c.put_highest_last-left.result c.move_rows-moved.result
+          c.loop-rounds.invariant.moved c.move_rows-moved.ensures.moved c.requires.ends small small_later watchers.covered c.put_highest_last-left.ensures.highest holds c.move_rows-moved.ensures.touched;
+      left = c.put_highest_last-left.ensures.end;
+      highest = c.put_highest_last-left.ensures.highest;
+      watchers = watchers;
     }
 
 pub returns-then-count-eq0-clause-layout : goal.returns-then-count-eq0-clause-layout

@@ -1,9 +1,10 @@
 -- Each round so far raised a level.
-use Rattle.std.proofs.Common.{◌≡◌, ◌<◌, ◌≤◌, ◌+◌, ◌*◌, ◌-◌, ℕ, None, IfSome, length, get_or, sum}
+use Rattle.std.proofs.Common.{◌≡◌, ◌<◌, ◌≤◌, ◌+◌, ◌*◌, ◌-◌, ℕ, None, IfSome, length, get_or, take, sum}
 use Rattle.level_ranks.specs.Rounds.{IsAfterRounds}
 use Rattle.asm_levels.specs.Shifts.{shifts_of}
 use Rattle.asm_levels.specs.Resizing.{AreMoved, HasSize}
 use Rattle.asm_levels.specs.Needs.{need, tops, several}
+use Rattle.asm_levels.specs.Watching.{AreWatchers, AreHighest}
 use Rattle.asm_levels.specs.Looking.{AreCalm}
 use Rattle.asm_levels.proofs.settling.settle.Given as goal
 
@@ -22,7 +23,10 @@ invariant-loop-rounds g l = record {
   room : length l.risen + length l.dependents ≤ length l.touched;
   end : IfSome l.moved (λ many. many ≤ length l.touched);
   inside : IfSome l.moved (λ many. (at : ℕ) → at < many → get_or l.touched at 0 < length l.all.rows.now);
-  calm : IfSome l.moved (λ many. AreCalm l.all.rows.now l.shifts l.levels l.watchers.entries.rows.items l.watchers.entries.blocks.items l.watchers.wide.items many l.touched);
+  calm : IfSome l.moved (λ many. AreCalm l.all.rows.now l.shifts l.levels l.entries.rows.items l.entries.blocks.items (take l.left l.wide) many l.touched);
+  left : l.left ≤ length l.wide;
+  highest : AreHighest l.all.rows.now l.levels l.left l.wide;
+  watchers : AreWatchers l.all.rows.now l.all.ends.now l.entries.rows.items l.entries.blocks.items l.entries.heads.items l.entries.links.items l.wide;
 }
 
 abbrev pub decreases-loop-rounds : goal.decreases-loop-rounds
