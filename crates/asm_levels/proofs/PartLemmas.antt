@@ -206,7 +206,6 @@ few_from round (row ∷ rows) (stamp ∷ seen) many all =
 
 looked_few : (round : ℕ) (rows : List Row) (seen : List ℕ) → length seen ≡ length rows
     → ((index : ℕ) (default : Row) → index < length rows → get_or seen index 0 ≡ round → has_levels (get_or rows index default).size ≡ true) → looked_at round seen ≤ several rows
-unfolding several
 looked_few round rows seen many all = let same = looked_sum round seen in let few = few_from round rows seen many all in omega arith
 
 -- where what was not looked at needs no more, each level is raised to what is needed

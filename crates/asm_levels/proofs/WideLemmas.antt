@@ -1,12 +1,11 @@
 -- The list of rows without entries: those at their highest level are put behind the others.
-use Rattle.std.proofs.Common.{◌≡◌, ℕ, ◌+◌, ◌<◌, ◌≤◌, max, inl, inr, List, length, get_or, take, refl, ap, sym, ◌∙◌, subst, arith}
+use Rattle.std.proofs.Common.{◌≡◌, ℕ, ◌+◌, ◌<◌, ◌≤◌, inl, inr, List, length, get_or, take, refl, ap, sym, ◌∙◌, subst, arith}
 use Rattle.std.proofs.lemmas.Bool.{cases_eq}
 use Rattle.std.proofs.lemmas.List.{get_or-take, length-take}
-use Rattle.level_ranks.specs.Rounds.{raised}
 use Rattle.asm_levels.specs.declared.rows.Row.{Row}
 use Rattle.asm_levels.specs.Needs.{tops, has_levels}
 use Rattle.asm_levels.specs.Resizing.{IsAmong}
-use Rattle.asm_levels.specs.Watching.{IsCovered, AreSeveral, AreWatchers, AreHighest, HaveSameRows}
+use Rattle.asm_levels.specs.Watching.{AreSeveral, AreWatchers, AreHighest, HaveSameRows}
 
 pub same_rows : (list : List ℕ) → HaveSameRows list list
 same_rows list = record { there = λ row among. among; back = λ row among. among }

@@ -239,24 +239,15 @@ pub(crate) fn look_few<L: Ledger>(
     requires inside { (at : ℕ) → at < length touched.now
         → slice_index touched.now at < length view.rows.now }
     requires fresh { (at : ℕ) → slice_index seen.old at < view.round }
-    requires calm { (index : ℕ) → index < length view.rows.now
-        → (slice_index (levels_needed view.shifts.now view.rows.now) index
-        ≤ slice_index levels.old index)
-        ⊎ (IsTouched entries.now.rows.items entries.now.blocks.items
-        (length touched.now) touched.now index
-        ⊎ IsAmong index (length wide.now) wide.now) }
+    requires calm { AreCalm view.rows.now view.shifts.now levels.old entries.now.rows.items
+        entries.now.blocks.items wide.now (length touched.now) touched.now }
     ensures levels { levels.new
         ≡ raised levels.old (levels_needed view.entry.shifts.now view.entry.rows.now) }
-    ensures rose { 0 < result → Rises levels.old levels.new }
-    ensures still { result ≡ 0 → levels.new ≡ levels.old }
-    ensures listed { AreListed levels.old levels.new result risen.new }
-    ensures within { (at : ℕ) → at < result → at < length risen.new
-        → slice_index risen.new at < length view.entry.rows.now }
+    ensures part { IsPartlyLooked view.entry.rows.now view.entry.shifts.now levels.old levels.new
+        seen.new risen.new view.entry.round result steps.old steps.new }
     ensures room { length risen.new ≡ length risen.old }
-    ensures seen { (at : ℕ) → slice_index seen.new at ≤ view.entry.round }
     ensures as_many_seen { length seen.new ≡ length seen.old }
     ensures at_most { steps.new ≤ steps.old + several view.entry.rows.now }
-    ensures at_least { steps.old ≤ steps.new }
 {
     raised_by_index();
     let count = look_touched(view, entries, touched, levels, seen, risen, steps);
@@ -321,12 +312,7 @@ pub(crate) fn look_where<L: Ledger>(
 
 /// Puts those of the first so many rows of this list that are at their highest level behind the others. Answers how
 /// many the others are.
-pub(crate) fn put_highest_last(
-    rows: &[Row],
-    levels: &[u8],
-    list: &mut [u32],
-    count: usize,
-) -> usize
+pub(crate) fn put_highest_last(rows: &[Row], levels: &[u8], list: &mut [u32], count: usize) -> usize
     requires as_many_levels { length levels.now ≡ length rows.now }
     requires inside { (at : ℕ) → at < length list.old → slice_index list.old at < length rows.now }
     requires end { count ≤ length list.old }

@@ -1,5 +1,5 @@
 -- Each row that may need more was looked at.
-use Rattle.std.proofs.Common.{◌≡◌, ℕ, List, length, get_or, inl, inr, ap, sym, ◌∙◌, arith}
+use Rattle.std.proofs.Common.{◌≡◌, get_or, inl, inr, ap, sym, ◌∙◌, arith}
 use Rattle.asm_levels.specs.Needs.{levels_needed}
 use Rattle.asm_levels.proofs.PartLemmas.{part_begun, part_raised, part_steps}
 use Rattle.asm_levels.proofs.looking.look_few.Goals as goal
@@ -39,30 +39,13 @@ returns-clause-levels g c =
       ]
     ]))
 
-pub returns-clause-rose : goal.returns-clause-rose
-returns-clause-rose g c = let part = c.look_listed.ensures.part c.args.levels.now c.args.steps.now (c.look_touched-count.ensures.part c.args.levels.now c.args.steps.now (part_begun c.args.view.rows.now c.args.view.shifts.now c.args.levels.now c.args.seen.now c.args.risen.now c.args.view.round c.args.steps.now
-    c.requires.as_many_levels c.requires.as_many_seen c.requires.fresh)) in part.rises
-
-pub returns-clause-still : goal.returns-clause-still
-returns-clause-still g c = let part = c.look_listed.ensures.part c.args.levels.now c.args.steps.now (c.look_touched-count.ensures.part c.args.levels.now c.args.steps.now (part_begun c.args.view.rows.now c.args.view.shifts.now c.args.levels.now c.args.seen.now c.args.risen.now c.args.view.round c.args.steps.now
-    c.requires.as_many_levels c.requires.as_many_seen c.requires.fresh)) in part.still
-
-pub returns-clause-listed : goal.returns-clause-listed
-returns-clause-listed g c = let part = c.look_listed.ensures.part c.args.levels.now c.args.steps.now (c.look_touched-count.ensures.part c.args.levels.now c.args.steps.now (part_begun c.args.view.rows.now c.args.view.shifts.now c.args.levels.now c.args.seen.now c.args.risen.now c.args.view.round c.args.steps.now
-    c.requires.as_many_levels c.requires.as_many_seen c.requires.fresh)) in λ room index within. part.listed room index within
-
-pub returns-clause-within : goal.returns-clause-within
-returns-clause-within g c = let part = c.look_listed.ensures.part c.args.levels.now c.args.steps.now (c.look_touched-count.ensures.part c.args.levels.now c.args.steps.now (part_begun c.args.view.rows.now c.args.view.shifts.now c.args.levels.now c.args.seen.now c.args.risen.now c.args.view.round c.args.steps.now
-    c.requires.as_many_levels c.requires.as_many_seen c.requires.fresh)) in part.inside
-
-pub returns-clause-seen : goal.returns-clause-seen
-returns-clause-seen g c = let part = c.look_listed.ensures.part c.args.levels.now c.args.steps.now (c.look_touched-count.ensures.part c.args.levels.now c.args.steps.now (part_begun c.args.view.rows.now c.args.view.shifts.now c.args.levels.now c.args.seen.now c.args.risen.now c.args.view.round c.args.steps.now
-    c.requires.as_many_levels c.requires.as_many_seen c.requires.fresh)) in part.stamps
+pub returns-clause-part : goal.returns-clause-part
+returns-clause-part g c =
+    c.look_listed.ensures.part c.args.levels.now c.args.steps.now (c.look_touched-count.ensures.part c.args.levels.now c.args.steps.now (part_begun c.args.view.rows.now c.args.view.shifts.now c.args.levels.now c.args.seen.now c.args.risen.now c.args.view.round c.args.steps.now
+    c.requires.as_many_levels c.requires.as_many_seen c.requires.fresh))
 
 pub returns-clause-at_most : goal.returns-clause-at_most
-returns-clause-at_most g c = part_steps c.args.view.rows.now c.args.view.shifts.now c.args.levels.now c.look_listed.new.levels c.look_listed.new.seen c.look_listed.new.risen c.args.view.round c.look_listed.result c.args.steps.now c.look_listed.new.steps (c.look_listed.ensures.part c.args.levels.now c.args.steps.now (c.look_touched-count.ensures.part c.args.levels.now c.args.steps.now (part_begun c.args.view.rows.now c.args.view.shifts.now c.args.levels.now c.args.seen.now c.args.risen.now c.args.view.round c.args.steps.now
-    c.requires.as_many_levels c.requires.as_many_seen c.requires.fresh)))
-
-pub returns-clause-at_least : goal.returns-clause-at_least
-returns-clause-at_least g c = let part = c.look_listed.ensures.part c.args.levels.now c.args.steps.now (c.look_touched-count.ensures.part c.args.levels.now c.args.steps.now (part_begun c.args.view.rows.now c.args.view.shifts.now c.args.levels.now c.args.seen.now c.args.risen.now c.args.view.round c.args.steps.now
-    c.requires.as_many_levels c.requires.as_many_seen c.requires.fresh)) in part.later
+returns-clause-at_most g c =
+    let part = c.look_listed.ensures.part c.args.levels.now c.args.steps.now (c.look_touched-count.ensures.part c.args.levels.now c.args.steps.now (part_begun c.args.view.rows.now c.args.view.shifts.now c.args.levels.now c.args.seen.now c.args.risen.now c.args.view.round c.args.steps.now
+    c.requires.as_many_levels c.requires.as_many_seen c.requires.fresh)) in
+    part_steps c.args.view.rows.now c.args.view.shifts.now c.args.levels.now c.look_listed.new.levels c.look_listed.new.seen c.look_listed.new.risen c.args.view.round c.look_listed.result c.args.steps.now c.look_listed.new.steps part

@@ -1,5 +1,5 @@
 -- The row is put behind those that are left.
-use Rattle.std.proofs.Common.{◌≡◌, ◌-◌, ◌<◌, ℕ, length, get_or, arith}
+use Rattle.std.proofs.Common.{◌≡◌, ◌-◌, ℕ, length, get_or, arith}
 use Rattle.std.proofs.lemmas.List.{get_or-map}
 use Rattle.asm_levels.specs.declared.rows.Row.{Row}
 use Rattle.asm_levels.specs.Needs.{top, tops}

@@ -1,5 +1,5 @@
 -- The rows behind those that are left are at their highest level.
-use Rattle.std.proofs.Common.{◌≡◌, ◌-◌, ◌<◌, ◌≤◌, ℕ, length, get_or}
+use Rattle.std.proofs.Common.{◌-◌, ◌<◌, ◌≤◌, ℕ, length, get_or}
 use Rattle.asm_levels.specs.Watching.{AreHighest, HaveSameRows}
 use Rattle.asm_levels.proofs.looking.put_highest_last.Given as goal
 
