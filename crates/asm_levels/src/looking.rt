@@ -211,8 +211,7 @@ fn look_listed<L: Ledger>(
 }
 
 /// Looks at the rows whose distances may have changed, since one of these rows has another size: those that have an
-/// entry of its block, and those of the list. Answers how many have risen, and lists these as far as
-/// there is room.
+/// entry of its block, and those of the list. Answers how many have risen, and lists these as far as there is room.
 pub(crate) fn look_few<L: Ledger>(
     view: View,
     entries: &Entries,
@@ -229,8 +228,7 @@ pub(crate) fn look_few<L: Ledger>(
     requires as_many_seen { length seen.old ≡ length view.rows.now }
     requires few { length view.rows.now < 2 ^ 32 }
     requires linked { AreLinked (length view.rows.now) entries.now.rows.items
-        entries.now.blocks.items entries.now.heads.items
-        entries.now.links.items }
+        entries.now.blocks.items entries.now.heads.items entries.now.links.items }
     requires blocks { length view.rows.now < 64 * vec_len entries.now.heads }
     requires several { AreSeveral view.rows.now entries.now.rows.items }
     requires wide_several { AreSeveral view.rows.now wide.now }
@@ -272,8 +270,7 @@ pub(crate) fn look_where<L: Ledger>(
     requires as_many_seen { length seen.old ≡ length view.rows.now }
     requires few { length view.rows.now < 2 ^ 32 }
     requires linked { AreLinked (length view.rows.now) entries.now.rows.items
-        entries.now.blocks.items entries.now.heads.items
-        entries.now.links.items }
+        entries.now.blocks.items entries.now.heads.items entries.now.links.items }
     requires blocks { length view.rows.now < 64 * vec_len entries.now.heads }
     requires several { AreSeveral view.rows.now entries.now.rows.items }
     requires wide_several { AreSeveral view.rows.now wide.now }
@@ -284,8 +281,7 @@ pub(crate) fn look_where<L: Ledger>(
         → slice_index touched.now at < length view.rows.now) }
     requires fresh { (at : ℕ) → slice_index seen.old at < view.round }
     requires calm { IfSome moved (λ many. AreCalm view.rows.now view.shifts.now levels.old
-        entries.now.rows.items entries.now.blocks.items
-        wide.now many touched.now) }
+        entries.now.rows.items entries.now.blocks.items wide.now many touched.now) }
     ensures levels { levels.new
         ≡ raised levels.old (levels_needed view.entry.shifts.now view.entry.rows.now) }
     ensures rose { 0 < result → Rises levels.old levels.new }
