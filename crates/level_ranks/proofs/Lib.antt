@@ -8,3 +8,4 @@ pub mod RunNumbers
 pub mod RunLayout
 pub mod LayoutLemmas
 pub mod SomeRanking
+pub mod ReachedLemmas

@@ -81,7 +81,7 @@ pub no_rounds : (need : List ℕ → List ℕ) (tops start : List ℕ) → lengt
 no_rounds need tops start items lowest within = record { items = items; lowest = lowest; within = within; rises = λ round below. absurd (omega arith); levels_are = refl }
 
 -- one more round is the last of one more
-more_rises : (need : List ℕ → List ℕ) (start : List ℕ) (count : ℕ) → EachRises need start count → Rises (after need start count) (after need start (suc count)) → EachRises need start (count + 1)
+pub more_rises : (need : List ℕ → List ℕ) (start : List ℕ) (count : ℕ) → EachRises need start count → Rises (after need start count) (after need start (suc count)) → EachRises need start (count + 1)
 more_rises need start count rises last round inside = by_test (nat_lt round count) refl
   where
     by_test : (b : Bool) → nat_lt round count ≡ b → Rises (after need start round) (after need start (suc round))

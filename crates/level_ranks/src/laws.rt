@@ -51,6 +51,13 @@ pub fn rounds_reach_the_layout()
         → IsLayout need tops levels (count + 1) }
 {}
 
+/// There is only one layout: its levels are those that as many rounds reach as there are levels above the lowest.
+pub fn layouts_are_reached()
+    ensures { (need : List ℕ → List ℕ) (tops start levels : List ℕ) (rounds : ℕ)
+        → length start ≡ length tops → All (λ level. level ≡ 0) start → NeedsWithin need tops
+        → IsLayout need tops levels rounds → levels ≡ after need start (sum tops) }
+{}
+
 /// There are at most as many rounds that raise a level as there are levels above the lowest.
 pub fn rounds_are_few()
     ensures { (need : List ℕ → List ℕ) (tops start levels : List ℕ) (count : ℕ)
