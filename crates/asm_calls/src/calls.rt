@@ -57,11 +57,14 @@ fn call_fill(alloc: Global, text: &str, out: &mut Vec<u8>) -> io::Result<()> {
     }
 }
 
-/// `align LOG`
+/// `align LOG SIZE`
 fn call_align(alloc: Global, text: &str, out: &mut Vec<u8>) -> io::Result<()> {
-    match text.parse::<u8>() {
-        Ok(log) => write_align(alloc, log, out),
-        Err(_) => writeln!(out, "no such call"),
+    let Some((log, rest)) = number_and_rest(text) else {
+        return writeln!(out, "no such call");
+    };
+    match rest.parse::<u64>() {
+        Ok(size) if log <= 30 => write_align(alloc, log as u8, size, out),
+        _ => writeln!(out, "no such call"),
     }
 }
 

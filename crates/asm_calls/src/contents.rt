@@ -1,21 +1,20 @@
-//! What items are known to be before they have addresses, and their bytes at one.
+//! What items are known to be before they have addresses, and their bytes at a size.
 
-use asm_frags::{
-    Align, Content, Fill, asked_alignment, fixed_size, is_known_zeros, put_bytes, size,
-};
+use asm_frags::{Align, Content, Fill, asked_alignment, fixed_size, is_known_zeros, put_bytes};
 use std::alloc::Global;
 use std::io::{self, Write};
 
-/// The item's size at address 5 and its bytes there, the size that it has at any address, its alignment, and whether it is known to be zeros.
-fn write_item(alloc: Global, content: &Content, out: &mut Vec<u8>) -> io::Result<()> {
+/// The item's size, which is this one where it has no other, and its bytes; the size that it has at any address, its
+/// alignment, and whether it is known to be zeros.
+fn write_item(alloc: Global, content: &Content, size: u64, out: &mut Vec<u8>) -> io::Result<()> {
+    let fixed = fixed_size(content);
+    let size = fixed.unwrap_or(size);
     let mut bytes = Vec::new(alloc);
-    put_bytes(content, 5, &mut bytes)?;
-    let size = size(content, 5);
+    put_bytes(content, size, &mut bytes)?;
     write!(out, "{size}:")?;
     for byte in bytes.as_slice() {
         write!(out, " {byte:02x}")?;
     }
-    let fixed = fixed_size(content);
     let alignment = asked_alignment(content);
     let zeros = is_known_zeros(content);
     writeln!(out, ", {fixed:?}, {alignment}, {zeros}")
@@ -23,7 +22,7 @@ fn write_item(alloc: Global, content: &Content, out: &mut Vec<u8>) -> io::Result
 
 /// `run`
 pub fn write_run(alloc: Global, out: &mut Vec<u8>) -> io::Result<()> {
-    write_item(alloc, &Content::Run, out)
+    write_item(alloc, &Content::Run, 0, out)
 }
 
 /// `fill COUNT SIZE VALUE`
@@ -37,11 +36,17 @@ pub fn write_fill(
     write_item(
         alloc,
         &Content::Fill(Fill::new(count.min(1 << 30), size.min(8), value)),
+        0,
         out,
     )
 }
 
-/// `align LOG`
-pub fn write_align(alloc: Global, log: u8, out: &mut Vec<u8>) -> io::Result<()> {
-    write_item(alloc, &Content::Align(Align::new(log.min(30))), out)
+/// `align LOG SIZE`
+pub fn write_align(alloc: Global, log: u8, size: u64, out: &mut Vec<u8>) -> io::Result<()> {
+    write_item(
+        alloc,
+        &Content::Align(Align::new(log.min(30))),
+        size.min(1 << 30),
+        out,
+    )
 }

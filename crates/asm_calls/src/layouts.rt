@@ -1,12 +1,17 @@
 //! What settling a layout answers.
 
-use asm_base::Pos;
+ghost use Rattle.std.specs.Prelude.{◌≡◌, ◌<◌};
+ghost use Rattle.asm_relax.specs.declared.plan_states.PlanState.TheVariants.{Fresh};
+
+use asm_base::{Pos, Steps};
 use asm_expr::{Linear, constant_form};
 use asm_frags::{Content, FieldRole, FieldSize, Fill, Frag, FragCause, FragFault, Sections};
 use asm_relax::{LayoutFault, Plan, Settled};
 use asm_symbols::Symbols;
 use std::alloc::Global;
 use std::io::{self, Write};
+use std::marker::Brand;
+use std::sync::ledger::{Blank, Ledger};
 
 /// Puts a field of line 1 into `.text`.
 fn push_field(sections: &mut Sections, size: FieldSize, form: Linear) -> Result<(), FragFault> {
@@ -34,11 +39,22 @@ fn sections(alloc: Global, size: FieldSize, value: u64, more: u64) -> Result<Sec
     Ok(sections)
 }
 
+/// Settles a plan, with a count of steps of its own.
+fn settled_plan<L: Ledger>(plan: &mut Plan, blank: Blank) -> Result<Settled, LayoutFault>
+    requires name { blank.name ≡ L.name }
+    requires parts { blank.parts ≡ L.parts }
+    requires some { 0 < blank.parts }
+    requires fresh { plan.old.state ≡ Fresh }
+{
+    let mut steps = Steps::<L>::new(blank);
+    plan.settle(&mut steps)
+}
+
 /// What settling the sections answers.
 fn settled(alloc: Global, sections: Sections) -> Result<Result<Settled, LayoutFault>, FragFault> {
     let symbols = Symbols::new(alloc);
     let mut plan = Plan::new(alloc, sections, &symbols)?;
-    Ok(plan.settle())
+    Ok(settled_plan::<Brand>(&mut plan, Blank::new(1)))
 }
 
 /// The layout's rounds, or its fault with what it tells and its line.

@@ -1,4 +1,4 @@
--- What stays where an item gets its address.
+-- What stays where an item gets its address and its size.
 use Rattle.std.proofs.Common.{◌≡◌, ℕ, zero, suc, ◌<◌, ◌≤◌, max, Bool, List, [], ◌∷◌, length, Option, None, Some, refl, sym, ap, ◌∙◌, get_or, set, slice_get, length-set, All}
 use Rattle.std.specs.List.{fold}
 use Rattle.std.proofs.lemmas.Option.{slice_get-get_or, slice_get_within, get_or_from_slice_get}
@@ -11,7 +11,7 @@ use Rattle.asm_frags.specs.Alignments.{alignment_of_all}
 use Rattle.asm_frags.specs.KnownExtents.{advanced, extent_of}
 use Rattle.asm_frags.specs.Writing.{is_run, ends_in_run}
 use Rattle.asm_frags.specs.SoundItems.{AreItems, AreBehind}
-use Rattle.asm_frags.specs.Addresses.{changed_there, changed_at, item_with_address}
+use Rattle.asm_frags.specs.Addresses.{changed_there, changed_at, item_laid_at}
 
 -- the change of one that is there
 pub changed_is : {X : Type 0} (change : X → X) (all : List X) (number : ℕ) (there : X) → number < length all → there ≡ get_or all number there
@@ -45,7 +45,7 @@ module _ {P Address : Type 0} where
   same_end (item ∷ next ∷ items) (suc zero) new d same = same_end (next ∷ items) zero new d same
   same_end (item ∷ next ∷ items) (suc (suc number)) new d same = same_end (next ∷ items) (suc number) new d same
 
-  -- what is kept of items looks at no address
+  -- what is kept of items looks at no address and no size
   pub items_laid : (items : List (Frag P Address)) (number : ℕ) (new d : Frag P Address) (alignment : ℕ) (extent : KnownExtent) (in_run : Bool)
       → AreItems items alignment extent in_run → new.content ≡ (get_or items number d).content → AreItems (set items number new) alignment extent in_run
   unfolding extent_of
@@ -70,6 +70,6 @@ all_changed {X} Holds change all number kept sound = by_there (slice_get all num
         All-set Holds all number (change x) (kept x (rw same at held)) sound
 
 -- an item stands where it stood
-pub behind_laid : {P : Type 0} (bytes : ℕ) (items : List (Frag P ℕ)) (number address : ℕ) → AreBehind bytes items
-    → AreBehind bytes (changed_at (item_with_address address) items number)
-behind_laid bytes items number address sound = all_changed (λ item. item.offset ≤ bytes) (item_with_address address) items number (λ item behind. behind) sound
+pub behind_laid : {P : Type 0} (bytes : ℕ) (items : List (Frag P ℕ)) (number address size : ℕ) → AreBehind bytes items
+    → AreBehind bytes (changed_at (item_laid_at address size) items number)
+behind_laid bytes items number address size sound = all_changed (λ item. item.offset ≤ bytes) (item_laid_at address size) items number (λ item behind. behind) sound

@@ -9,7 +9,7 @@ use Rattle.asm_frags.specs.declared.faults.FragCause.TheVariants.{BadSection}
 use Rattle.asm_frags.specs.declared.fields.FieldSize.TheVariants.{Two, Four}
 use Rattle.asm_frags.specs.declared.contents.Content.{Content}
 use Rattle.asm_frags.specs.declared.contents.Content.TheVariants.{Run, Fill, Align}
-use Rattle.asm_frags.specs.Contents.{unit_of, repeated, size_at, bytes_at, is_known_zeros}
+use Rattle.asm_frags.specs.Contents.{unit_of, repeated, bytes_of, is_known_zeros}
 use Rattle.asm_frags.specs.Alignments.{alignment_of_all}
 use Rattle.asm_frags.specs.KnownExtents.{extent_of}
 use Rattle.asm_frags.specs.SectionOf.{new_section}
@@ -24,30 +24,22 @@ align : ℕ → Content
 align log = Align (record { log = log })
 
 -- three units of two bytes
-two_bytes : bytes_at (fill 3 2 0x1234) 0 ≡ 0x34 ∷ 0x12 ∷ 0x34 ∷ 0x12 ∷ 0x34 ∷ 0x12 ∷ []
+two_bytes : bytes_of (fill 3 2 0x1234) 6 ≡ 0x34 ∷ 0x12 ∷ 0x34 ∷ 0x12 ∷ 0x34 ∷ 0x12 ∷ []
 unfolding fill unit_of repeated
 two_bytes = refl
 
 -- only the low 4 bytes of the value, then zeros
-eight_bytes : bytes_at (fill 2 8 0x5566778811223344) 7 ≡ 0x44 ∷ 0x33 ∷ 0x22 ∷ 0x11 ∷ 0 ∷ 0 ∷ 0 ∷ 0 ∷ 0x44 ∷ 0x33 ∷ 0x22 ∷ 0x11 ∷ 0 ∷ 0 ∷ 0 ∷ 0 ∷ []
+eight_bytes : bytes_of (fill 2 8 0x5566778811223344) 16 ≡ 0x44 ∷ 0x33 ∷ 0x22 ∷ 0x11 ∷ 0 ∷ 0 ∷ 0 ∷ 0 ∷ 0x44 ∷ 0x33 ∷ 0x22 ∷ 0x11 ∷ 0 ∷ 0 ∷ 0 ∷ 0 ∷ []
 unfolding fill unit_of repeated
 eight_bytes = refl
 
-no_bytes : bytes_at (fill 5 0 7) 0 ≡ []
+no_bytes : bytes_of (fill 5 0 7) 0 ≡ []
 unfolding fill unit_of repeated
 no_bytes = refl
 
-up_to_sixteen : bytes_at (align 2) 5 ≡ 0 ∷ 0 ∷ 0 ∷ []
+three_zeros : bytes_of (align 2) 3 ≡ 0 ∷ 0 ∷ 0 ∷ []
 unfolding align
-up_to_sixteen = refl
-
-there_already : size_at (align 4) 32 ≡ 0
-unfolding align
-there_already = refl
-
--- the bytes of a run are counted in its section
-run_alone : size_at Run 5 ≡ 0
-run_alone = refl
+three_zeros = refl
 
 -- the byte that counts is 0, whatever stands above it in the value
 low_zero : is_known_zeros (fill 9 1 0x100) ≡ true

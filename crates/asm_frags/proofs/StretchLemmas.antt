@@ -5,8 +5,7 @@ use Rattle.std.proofs.lemmas.List.Sums.{fold-append, sum_by-cons}
 use Rattle.std.proofs.lemmas.Bool.Decides.{nat_tests}
 use Rattle.asm_frags.specs.declared.items.Frag.{Frag}
 use Rattle.asm_frags.specs.declared.known_extents.KnownExtent.{KnownExtent}
-use Rattle.asm_frags.specs.Contents.{size_at}
-use Rattle.asm_frags.specs.KnownExtents.{is_fixed, advanced, extent_of}
+use Rattle.asm_frags.specs.KnownExtents.{is_fixed, fixed_bytes, advanced, extent_of}
 
 same_number : (a b : ℕ) → a ≡ b → (a == b) ≡ true
 same_number a b same = grind (arith, nat_tests)
@@ -18,11 +17,11 @@ module _ {P Address : Type 0} where
   are_fixed : List (Frag P Address) → Bool
   are_fixed items = list_all (λ item. is_fixed item.content) items
 
-  fixed_bytes : List (Frag P Address) → ℕ
-  fixed_bytes items = sum_by (λ item. size_at item.content 0) items
+  all_bytes : List (Frag P Address) → ℕ
+  all_bytes items = sum_by (λ item. fixed_bytes item.content) items
 
   fixed_step : (extent : KnownExtent) (item : Frag P Address) → is_fixed item.content ≡ true
-      → advanced extent item ≡ record { breaks = extent.breaks; bytes = extent.bytes + size_at item.content 0 }
+      → advanced extent item ≡ record { breaks = extent.breaks; bytes = extent.bytes + fixed_bytes item.content }
   fixed_step extent item is = rw is refl
 
   broken_step : (extent : KnownExtent) (item : Frag P Address) → is_fixed item.content ≡ false
@@ -59,10 +58,10 @@ module _ {P Address : Type 0} where
 
   -- the items add no break, and add their sizes
   abbrev IsFixedStretch : KnownExtent → List (Frag P Address) → Type 0
-  IsFixedStretch extent items = ((fold advanced extent items).breaks ≡ extent.breaks) × ((fold advanced extent items).bytes ≡ extent.bytes + fixed_bytes items)
+  IsFixedStretch extent items = ((fold advanced extent items).breaks ≡ extent.breaks) × ((fold advanced extent items).bytes ≡ extent.bytes + all_bytes items)
 
   fixed : (extent : KnownExtent) (items : List (Frag P Address)) → are_fixed items ≡ true → IsFixedStretch extent items
-  unfolding are_fixed fixed_bytes
+  unfolding are_fixed all_bytes
   fixed extent [] is = (refl, omega arith)
   fixed extent (item ∷ items) is = by_first (is_fixed item.content) refl (fixed (advanced extent item) items)
     where
@@ -72,8 +71,8 @@ module _ {P Address : Type 0} where
           let rest = below all in
           let first = fixed_step extent item here in
           let breaks : (advanced extent item).breaks ≡ extent.breaks = ap (λ (r : KnownExtent). r.breaks) first in
-          let bytes : (advanced extent item).bytes ≡ extent.bytes + size_at item.content 0 = ap (λ (r : KnownExtent). r.bytes) first in
-          let sum : fixed_bytes (item ∷ items) ≡ size_at item.content 0 + fixed_bytes items = sum_by-cons (λ (i : Frag P Address). size_at i.content 0) item items in
+          let bytes : (advanced extent item).bytes ≡ extent.bytes + fixed_bytes item.content = ap (λ (r : KnownExtent). r.bytes) first in
+          let sum : all_bytes (item ∷ items) ≡ fixed_bytes item.content + all_bytes items = sum_by-cons (λ (i : Frag P Address). fixed_bytes i.content) item items in
           (rest.0 ∙ breaks, omega (arith, rest.1, bytes, sum))
       by_first false here below = let none : false ≡ true = rw here at is in cc
 
@@ -93,6 +92,6 @@ module _ {P Address : Type 0} where
 
   -- fixed items add their sizes
   pub bytes_add : (before more : List (Frag P Address)) → list_all (λ item. is_fixed item.content) more ≡ true
-      → (extent_of (before ++ more)).bytes ≡ (extent_of before).bytes + sum_by (λ item. size_at item.content 0) more
-  unfolding are_fixed fixed_bytes
+      → (extent_of (before ++ more)).bytes ≡ (extent_of before).bytes + sum_by (λ item. fixed_bytes item.content) more
+  unfolding are_fixed all_bytes
   bytes_add before more all = rw (further before more) (fixed (extent_of before) more all).1

@@ -1,15 +1,11 @@
--- The size and the bytes that an item has beside the plain bytes of its section.
-use Rattle.std.specs.Prelude.{◌≡◌, ℕ, zero, suc, ◌-◌, ◌*◌, ◌%◌, ◌^◌, ◌≤◌, ◌==◌, ◌||◌, Bool, true, List, [], ◌++◌, take, replicate}
+-- The bytes that an item has beside the plain bytes of its section.
+use Rattle.std.specs.Prelude.{◌≡◌, ℕ, zero, suc, ◌-◌, ◌*◌, ◌%◌, ◌^◌, ◌==◌, ◌||◌, Bool, true, List, [], ◌++◌, take, replicate}
 use Rattle.std.specs.Int.{w32, to_le_bytes}
 use Rattle.std.specs.List.{list_all}
 use Rattle.asm_frags.specs.declared.contents.Content.{Content}
 use Rattle.asm_frags.specs.declared.contents.Content.TheVariants.{Run, Fill, Align}
 use Rattle.asm_frags.specs.PlainBytes.{is_zero}
-use Rattle.asm_frags.specs.ItemParts.{FillOf, AlignOf}
-
--- the number of bytes from an address up to the next multiple of the alignment
-abbrev pub padding : ℕ → ℕ → ℕ
-padding alignment at = (alignment - at % alignment) % alignment
+use Rattle.asm_frags.specs.ItemParts.{FillOf}
 
 -- a unit of a fill: the low 4 bytes of the value, little-endian, cut or extended by zeros to the size (GNU as manual, ".fill")
 unfoldable pub unit_of : FillOf → List ℕ
@@ -24,25 +20,17 @@ repeated (suc count) unit = unit ++ repeated count unit
 abbrev pub fill_bytes : FillOf → List ℕ
 fill_bytes fill = repeated fill.count (unit_of fill)
 
--- the zeros of an alignment at an address
-abbrev pub padding_bytes : AlignOf → ℕ → List ℕ
-padding_bytes align at = replicate (padding (2 ^ align.log) at) 0
+-- an item may have this size in bytes; the bytes of a run are plain bytes of the section, and are counted there
+abbrev pub MayHave : Content → ℕ → Type 0
+MayHave Run size = size ≡ 0
+MayHave (Fill held) size = size ≡ held.count * held.size
+MayHave (Align held) size = Unit {0}
 
--- the size in bytes of an item at an address; the bytes of a run are plain bytes of the section, and are counted there
-abbrev pub size_at : Content → ℕ → ℕ
-size_at Run at = 0
-size_at (Fill held) at = held.count * held.size
-size_at (Align held) at = padding (2 ^ held.log) at
-
--- the answer is this size, and at most 2 ^ 33 bytes
-abbrev pub IsSize : ℕ → ℕ → Type 0
-IsSize size answer = (answer ≡ size) × (answer ≤ 2 ^ 33)
-
--- the bytes of an item at an address; those of a run are plain bytes of the section
-abbrev pub bytes_at : Content → ℕ → List ℕ
-bytes_at Run at = []
-bytes_at (Fill held) at = fill_bytes held
-bytes_at (Align held) at = padding_bytes held at
+-- the bytes of an item of this size; those of a run are plain bytes of the section
+abbrev pub bytes_of : Content → ℕ → List ℕ
+bytes_of Run size = []
+bytes_of (Fill held) size = fill_bytes held
+bytes_of (Align held) size = replicate size 0
 
 -- the alignment that an item requires of its section: 1 unless it aligns
 abbrev pub alignment_of : Content → ℕ

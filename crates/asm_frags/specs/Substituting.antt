@@ -1,4 +1,4 @@
--- Sections as layout takes them over: the form of each field is substituted, each item gets an address, and all else is kept.
+-- Sections as layout takes them over: the form of each field is substituted, each item gets an address and a size, and all else is kept.
 use Rattle.std.specs.Prelude.{ℕ, List, map}
 use Rattle.asm_expr.specs.Forms.{Form}
 use Rattle.asm_frags.specs.declared.phases.Laid.{Laid}
@@ -12,9 +12,9 @@ abbrev pub substituted_field : (Form → Form) → Field → Field
 substituted_field substitute field =
     record { pos = field.pos; item = field.item; offset = field.offset; section = field.section; size = field.size; role = field.role; form = substitute field.form }
 
--- the item at address 0, until layout sets its address
+-- the item at address 0 and without bytes, until layout sets its address and its size
 abbrev pub laid_item : LooseItem → Frag Laid ℕ
-laid_item item = record { pos = item.pos; offset = item.offset; content = item.content; address = 0 }
+laid_item item = record { pos = item.pos; offset = item.offset; content = item.content; address = 0; size = 0 }
 
 -- the section with substituted forms, each item at address 0
 abbrev pub laid_section : (Form → Form) → LooseSection → SectionOf (Frag Laid ℕ)

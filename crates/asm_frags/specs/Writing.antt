@@ -38,11 +38,11 @@ ends_in_run (item ∷ next ∷ items) = ends_in_run (next ∷ items)
 
 -- an item that is put nowhere so far
 abbrev pub new_item : Pos → Content → LooseItem
-new_item pos content = record { pos = pos; offset = 0; content = content; address = tt }
+new_item pos content = record { pos = pos; offset = 0; content = content; address = tt; size = tt }
 
 -- the item behind so many plain bytes
 abbrev pub item_behind : ℕ → LooseItem → LooseItem
-item_behind bytes item = record { pos = item.pos; offset = bytes; content = item.content; address = item.address }
+item_behind bytes item = record { pos = item.pos; offset = bytes; content = item.content; address = item.address; size = item.size }
 
 -- the section with this item last, behind all its plain bytes
 abbrev pub with_item : LooseItem → LooseSection → LooseSection

@@ -3,7 +3,7 @@
 ghost use Rattle.std.specs.Prelude.{◌≡◌, ◌<◌, ◌≤◌, ◌^◌, [], ◌∷◌, ◌++◌, length, map, OnOk, IfOk, IfErr};
 ghost use Rattle.asm_base.specs.declared.refusals.Refusal.TheVariants.{NoMemory};
 ghost use Rattle.asm_frags.specs.Substituting.{laid_item};
-ghost use Rattle.asm_frags.specs.Addresses.{changed_at, item_with_address};
+ghost use Rattle.asm_frags.specs.Addresses.{changed_at, item_laid_at};
 
 use crate::alignments::asked_alignment;
 use crate::faults::FragFault;
@@ -152,11 +152,13 @@ impl Items<Loose> {
 }
 
 impl Items<Laid> {
-    /// Sets the address of the item of this index.
-    pub fn lay(&mut self, item: usize, address: u64)
+    /// Sets the address and the size of the item of this index.
+    pub fn lay(&mut self, item: usize, address: u64, size: u64)
         requires { item < length self.old }
-        ensures { self.new ≡ changed_at (item_with_address address) self.old item }
+        ensures { self.new ≡ changed_at (item_laid_at address size) self.old item }
     {
-        self.items[item].address = address;
+        let laid = &mut self.items[item];
+        laid.address = address;
+        laid.size = size;
     }
 }

@@ -1,4 +1,4 @@
-//! Items of sections: a statement's place and contents, and an address once it is laid out.
+//! Items of sections: a statement's place and contents, and an address and a size once it is laid out.
 
 ghost use Rattle.std.specs.Prelude.{◌≡◌};
 
@@ -6,7 +6,7 @@ use crate::contents::Content;
 use crate::phases::{Laid, Loose, Phase};
 use asm_base::Pos;
 
-/// An item of a section. `Frag::new` alone makes one, and layout gives it an address.
+/// An item of a section. `Frag::new` alone makes one, and layout gives it an address and a size.
 #[derive(Drop)]
 #[non_exhaustive]
 pub struct Frag<P: Phase> {
@@ -16,6 +16,8 @@ pub struct Frag<P: Phase> {
     pub offset: usize,
     pub content: Content,
     pub address: P::Address,
+    /// How many bytes it has beside the plain bytes of its section.
+    pub size: P::Address,
 }
 
 impl Frag<Loose> {
@@ -31,6 +33,7 @@ impl Frag<Loose> {
             offset: 0,
             content,
             address: (),
+            size: (),
         }
     }
 
@@ -43,16 +46,18 @@ impl Frag<Loose> {
             offset: _,
             content,
             address: (),
+            size: (),
         } = self;
         Frag {
             pos,
             offset: bytes,
             content,
             address: (),
+            size: (),
         }
     }
 
-    /// The item at address 0, until layout sets its address.
+    /// The item at address 0 and without bytes, until layout sets its address and its size.
     pub(crate) fn laid(self) -> Frag<Laid>
         ensures { result ≡ laid_item self }
     {
@@ -61,12 +66,14 @@ impl Frag<Loose> {
             offset,
             content,
             address: (),
+            size: (),
         } = self;
         Frag {
             pos,
             offset,
             content,
             address: 0,
+            size: 0,
         }
     }
 }

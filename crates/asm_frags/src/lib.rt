@@ -1,4 +1,4 @@
-//! Sections and their items, before and after they have addresses.
+//! Sections and their items, before and after they have addresses and sizes.
 #![tactic(auto)]
 
 mod alignments;
@@ -16,7 +16,6 @@ mod phases;
 mod pieces;
 mod roles;
 mod section_list;
-mod sizes;
 mod substituting;
 mod visiting;
 mod walking;
@@ -32,13 +31,12 @@ pub use flags::{
 };
 pub use items::Frag;
 pub use known_extents::{FixedSize, KnownExtent, fixed_size};
-pub use laws::{bytes_are_sized, padding_is_least, stretches_are_fixed, zeros_are_known};
+pub use laws::{bytes_are_sized, stretches_are_fixed, zeros_are_known};
 pub use parts::Section;
 pub use phases::{Laid, Loose, Phase};
-pub use pieces::{BytesAt, TakesBytes, put_bytes};
+pub use pieces::{BytesOf, TakesBytes, put_bytes};
 pub use roles::{FieldKind, FieldRole, Suffix, own_place};
 pub use section_list::Sections;
-pub use sizes::{SizeAt, size};
 pub use substituting::Substitution;
 pub use visiting::FragVisit;
 pub use walking::visit;

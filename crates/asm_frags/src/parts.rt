@@ -3,7 +3,7 @@
 ghost use Rattle.std.specs.Prelude.{◌≡◌, ◌<◌, ◌≤◌, ◌^◌, length, IfOk, IfErr};
 ghost use Rattle.asm_base.specs.declared.refusals.Refusal.TheVariants.{NoMemory};
 ghost use Rattle.asm_frags.specs.Substituting.{laid_section};
-ghost use Rattle.asm_frags.specs.Addresses.{section_with_address};
+ghost use Rattle.asm_frags.specs.Addresses.{section_laid_at};
 
 use crate::contents::Content;
 use crate::faults::{FragCause, FragFault};
@@ -278,11 +278,11 @@ impl Section<Loose> {
 }
 
 impl Section<Laid> {
-    /// Sets the address of the item of this index.
-    pub(crate) fn lay(&mut self, item: usize, address: u64)
+    /// Sets the address and the size of the item of this index.
+    pub(crate) fn lay(&mut self, item: usize, address: u64, size: u64)
         requires { item < length self.old.items }
-        ensures { self.new ≡ section_with_address self.old item address }
+        ensures { self.new ≡ section_laid_at self.old item address size }
     {
-        self.items.lay(item, address);
+        self.items.lay(item, address, size);
     }
 }

@@ -1,12 +1,12 @@
-//! The phases of items: before and after they have addresses.
+//! The phases of items: before and after they have addresses and sizes.
 
-/// Whether items have addresses.
+/// Whether items have addresses and sizes.
 pub trait Phase: Drop {
-    /// The address of an item: its offset in its section, in bytes.
+    /// The address of an item, which is its offset in its section, and its size, in bytes.
     type Address: Drop;
 }
 
-/// No item has an address.
+/// No item has an address or a size.
 #[derive(Clone, Copy, PartialEq, Eq, Debug)]
 pub struct Loose;
 
@@ -14,7 +14,7 @@ impl Phase for Loose {
     type Address = ();
 }
 
-/// Each item has its address.
+/// Each item has its address and its size.
 #[derive(Clone, Copy, PartialEq, Eq, Debug)]
 pub struct Laid;
 

@@ -1,10 +1,10 @@
 //! The bytes of items, piece by piece.
 
 ghost use Rattle.std.specs.Prelude.{◌≡◌, ℕ, List, []};
-ghost use Rattle.asm_frags.specs.Contents.{repeated, fill_bytes, padding_bytes, bytes_at};
+ghost use Rattle.std.specs.Prelude.{replicate};
+ghost use Rattle.asm_frags.specs.Contents.{repeated, fill_bytes, bytes_of};
 
 use crate::contents::{Align, Content, Fill};
-use crate::sizes::padding;
 use crate::visiting::FragVisit;
 use crate::walking::visit;
 
@@ -25,13 +25,13 @@ pub trait TakesBytes {
         ensures { takes self.old (repeated count unit.now) result self.new };
 }
 
-/// Hands out the bytes of an item at its address.
-pub struct BytesAt<'a, T> {
-    pub at: u64,
+/// Hands out the bytes of an item of this size.
+pub struct BytesOf<'a, T> {
+    pub size: u64,
     pub taker: &'a mut T,
 }
 
-impl<'a, T: TakesBytes> FragVisit for BytesAt<'a, T> {
+impl<'a, T: TakesBytes> FragVisit for BytesOf<'a, T> {
     type Out = T::Out;
 
     ghost run_gives = { λ before answer after.
@@ -44,7 +44,7 @@ impl<'a, T: TakesBytes> FragVisit for BytesAt<'a, T> {
 
     ghost align_gives = { λ before held answer after.
         (after.taker.ghost_name ≡ before.taker.ghost_name)
-        × T.takes before.taker.now (padding_bytes held before.at) answer after.taker.now };
+        × T.takes before.taker.now (replicate before.size 0) answer after.taker.now };
 
     fn run(&mut self) -> T::Out {
         self.taker.bytes(&[])
@@ -56,17 +56,17 @@ impl<'a, T: TakesBytes> FragVisit for BytesAt<'a, T> {
             .repeated(&unit[..held.size() as usize], held.count())
     }
 
-    fn align(&mut self, held: &Align) -> T::Out {
-        self.taker.repeated(&[0], padding(held.log(), self.at))
+    fn align(&mut self, _held: &Align) -> T::Out {
+        self.taker.repeated(&[0], self.size)
     }
 }
 
-/// Hands out the bytes of an item at this address.
-pub fn put_bytes<T: TakesBytes>(content: &Content, at: u64, taker: &mut T) -> T::Out
-    ensures { T.takes taker.old (bytes_at content.now at) result taker.new }
+/// Hands out the bytes of an item of this size.
+pub fn put_bytes<T: TakesBytes>(content: &Content, size: u64, taker: &mut T) -> T::Out
+    ensures { T.takes taker.old (bytes_of content.now size) result taker.new }
 {
-    let mut visitor = BytesAt { at, taker };
+    let mut visitor = BytesOf { size, taker };
     let answer = visit(content, &mut visitor);
-    let BytesAt { at: _, taker: _ } = visitor;
+    let BytesOf { size: _, taker: _ } = visitor;
     answer
 }

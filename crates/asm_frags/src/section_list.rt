@@ -244,7 +244,7 @@ impl Sections<Loose> {
     ghost use Rattle.asm_frags.specs.Substituting.{laid_sections};
 
     /// The sections as layout takes them over: the form of each field is substituted, and each item is at address 0 until
-    /// `lay` sets its address. The old items of a section are let go before the next section is made.
+    /// `lay` sets its address and its size. The old items of a section are let go before the next section is made.
     pub fn substituted<R: Substitution>(self, substitution: &R) -> Result<Sections<Laid>, FragFault>
         ensures ok { IfOk result (λ laid.
             laid ≡ laid_sections (R.substitute substitution.now) self) }
@@ -265,15 +265,15 @@ impl Sections<Loose> {
 }
 
 impl Sections<Laid> {
-    ghost use Rattle.asm_frags.specs.Addresses.{HasItem, with_address};
+    ghost use Rattle.asm_frags.specs.Addresses.{HasItem, sections_laid_at};
 
-    /// Sets the address of the item of this index in the section of this number, without memory.
-    pub fn lay(&mut self, section: u32, item: usize, address: u64)
+    /// Sets the address and the size of the item of this index in the section of this number, without memory.
+    pub fn lay(&mut self, section: u32, item: usize, address: u64, size: u64)
         requires section { section < length self.old }
         requires item { HasItem self.old section item }
-        ensures sections { self.new ≡ with_address self.old section item address }
+        ensures sections { self.new ≡ sections_laid_at self.old section item address size }
         ensures kept { length self.new ≡ length self.old }
     {
-        self.sections[section as usize].lay(item, address);
+        self.sections[section as usize].lay(item, address, size);
     }
 }

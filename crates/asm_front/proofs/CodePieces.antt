@@ -27,8 +27,7 @@ use Rattle.asm_place.proofs.CodeParts.{slice_long, apart_inside, apart_before}
 use Rattle.asm_front.specs.ReadsBack.{file_place, final_value}
 use Rattle.asm_front.proofs.CodeValues.{low_length}
 use Rattle.asm_front.proofs.HeldFields.{field_held}
-use Rattle.asm_front.proofs.LaidItems.{first_kept, others_kept, beside_kept}
-use Rattle.asm_front.proofs.ObjectReads.{kept_section, section_kept, laid_stays}
+use Rattle.asm_front.proofs.LaidItems.{AreSettled, kept_section, section_kept, laid_stays, laid_sized, first_kept, others_kept, beside_kept}
 
 -- a piece, and one that begins where it ends, are one
 pieces_join : (bytes one other : List ℕ) (at : ℕ) → PieceAt bytes at one → PieceAt bytes (at + length one) other → PieceAt bytes at (one ++ other)
@@ -65,22 +64,31 @@ stand_kept substitute bytes from [] stand = tt
 stand_kept substitute bytes from (field ∷ fields) stand =
     (stand.0, record { within = stand.1.within; zeros = stand.1.zeros }, stand_kept substitute bytes (field_end field) fields stand.2)
 
-module _ (symbols : SymbolMap) (sections : List LooseSection) (laid : LaidSections) (n item offset : ℕ) (pos : Pos) (code : List ℕ) (all : List FieldInCode)
+module _ (settled : AreSettled) (symbols : SymbolMap) (sections : List LooseSection) (laid : LaidSections) (n item offset : ℕ) (pos : Pos) (code : List ℕ) (all : List FieldInCode)
     (is : layout_of symbols sections ≡ Ok laid) (stands : CodeStandsAt sections n item offset pos code all)
     (stand : FieldsStand stands.section.bytes 0 stands.section.fields)
     (takes : (stands.section.kind == 8) ≡ false) where
   abbrev section : LooseSection
   section = stands.section
 
+  -- how far its rows are moved
+  abbrev own : List ℕ
+  own = (section_kept symbols sections laid n section is stands.found).0
+
   -- the section as it is laid out
   abbrev kept : SectionOf LaidItem
-  kept = kept_section symbols section
+  kept = kept_section symbols own section
 
   found : slice_get laid n ≡ Some kept
-  found = section_kept symbols sections laid n section is stands.found
+  found = (section_kept symbols sections laid n section is stands.found).1
 
   filed : IsFiled laid n kept
-  filed = record { found = found; takes_bytes = takes; laid = laid_stays symbols section }
+  filed = record {
+    found = found;
+    takes_bytes = takes;
+    laid = laid_stays settled symbols sections laid n kept is found;
+    sized = laid_sized settled symbols sections laid n kept is found;
+  }
 
   -- the place of a plain byte in the file
   abbrev file_at : ℕ → ℕ
@@ -99,9 +107,9 @@ module _ (symbols : SymbolMap) (sections : List LooseSection) (laid : LaidSectio
   between : (from to : ℕ) → offset ≤ from → to ≤ offset + length code → IsBetween kept.items item from to
   between from to up within = record {
     before = All-weaker (λ (i : LaidItem). i.offset ≤ offset) (λ (i : LaidItem). i.offset ≤ from) (λ i low. omega (arith, low, up)) _
-        (first_kept (λ at. at ≤ offset) item section.items 0 stands.items_before);
+        (first_kept (λ at. at ≤ offset) item section.items own stands.items_before);
     behind = All-weaker (λ (i : LaidItem). offset + length code ≤ i.offset) (λ (i : LaidItem). to ≤ i.offset) (λ i high. omega (arith, high, within)) _
-        (others_kept (λ at. offset + length code ≤ at) item section.items 0 stands.items_behind);
+        (others_kept (λ at. offset + length code ≤ at) item section.items own stands.items_behind);
   }
 
   -- plain bytes beside all fields

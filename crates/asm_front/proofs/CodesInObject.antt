@@ -28,17 +28,18 @@ use Rattle.asm_front.specs.ReadsBack.{file_place, final_value, CodesReadBack, Re
 use Rattle.asm_front.proofs.SmallForms.{final_small}
 use Rattle.asm_front.proofs.CodePieces.{all_hold, code_there}
 use Rattle.asm_front.proofs.CodeReads.{code_reads}
-use Rattle.asm_front.proofs.ObjectReads.{section_kept, bare_read_back, assembly_is}
+use Rattle.asm_front.proofs.LaidItems.{AreSettled, section_kept}
+use Rattle.asm_front.proofs.ObjectReads.{bare_read_back, assembly_is}
 
 -- what stands in the image begins what stands from its place on in the object
 object_begins : (object image piece : List ℕ) (at : ℕ) → object ≡ image → (there : PieceAt image at piece) → drop at object ≡ piece ++ there.rest
 object_begins object image piece at same there = ap (drop at) same ∙ drop_stands image at piece there
 
 -- each instruction with operands that was written reads back
-codes_read_back : ReadsOneWay → EncodingsFill → EncodingsNote → (flags : Flags) (source : List ℕ) (made : NotedObject)
+codes_read_back : AreSettled → ReadsOneWay → EncodingsFill → EncodingsNote → (flags : Flags) (source : List ℕ) (made : NotedObject)
     → assembly_of flags main_file source ≡ Ok made
     → CodesReadBack flags source made.object
-codes_read_back one_way fills notes flags source made e before after s text placed whole laid are front all is written filed =
+codes_read_back settled one_way fills notes flags source made e before after s text placed whole laid are front all is written filed =
     let empty = nothing_placed flags.no_warn in
     let split = map-append in_tokens before (s ∷ after) in
     let whole_is = sym (ap (λ statements. place_all statements empty) split) ∙ all in
@@ -57,8 +58,8 @@ codes_read_back one_way fills notes flags source made e before after s text plac
     (all_within (map in_tokens (before ++ s ∷ after)) empty whole all (nothing_within flags.no_warn)) in
     let takes : (section.kind == 8) ≡ false =
     sym (ap (λ found. option_map_or (λ (kept : SectionOf LaidItem). kept.kind == no_bits) found false)
-    (section_kept symbols whole.sections laid number section is insn.stands.found)) ∙ filed in
-    let there = code_there symbols whole.sections laid number item offset pos code fields is insn.stands within.apart takes in
+    (section_kept symbols whole.sections laid number section is insn.stands.found).1) ∙ filed in
+    let there = code_there settled symbols whole.sections laid number item offset pos code fields is insn.stands within.apart takes in
     let same : made.object ≡ image_of symbols laid = assembly_is flags source made (before ++ s ∷ after) whole laid are all is e in
     let at = file_place symbols laid number item offset in
     record {
@@ -67,15 +68,15 @@ codes_read_back one_way fills notes flags source made e before after s text plac
           code_reads one_way fills notes text insn.coded.forms insn.coded.made
           (λ field. final_value symbols laid (field_in pos number item offset field)) made.object there.rest at
           insn.coded.coding (λ field small. final_small symbols laid (field_in pos number item offset field) small)
-          (all_hold symbols whole.sections laid number item offset pos code fields is insn.stands within.apart takes)
+          (all_hold settled symbols whole.sections laid number item offset pos code fields is insn.stands within.apart takes)
           (object_begins made.object (image_of symbols laid) _ at same there);
     }
 
 -- each instruction that was written reads back
-pub reads_back : ReadsOneWay → BareCodesRead → BareCodesStand → EncodingsFill → EncodingsNote → (flags : Flags) (source : List ℕ) (made : NotedObject)
+pub reads_back : AreSettled → ReadsOneWay → BareCodesRead → BareCodesStand → EncodingsFill → EncodingsNote → (flags : Flags) (source : List ℕ) (made : NotedObject)
     → assembly_of flags main_file source ≡ Ok made
     → ReadsBack flags source made.object
-reads_back one_way read stand fills notes flags source made e = record {
-  bare = bare_read_back one_way read stand flags source made e;
-  coded = codes_read_back one_way fills notes flags source made e;
+reads_back settled one_way read stand fills notes flags source made e = record {
+  bare = bare_read_back settled one_way read stand flags source made e;
+  coded = codes_read_back settled one_way fills notes flags source made e;
 }

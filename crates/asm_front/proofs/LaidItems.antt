@@ -1,44 +1,83 @@
 -- What a layout keeps of a section: the offsets of its items, and where its fields stand.
-use Rattle.std.proofs.Common.{◌≡◌, ℕ, zero, suc, ◌+◌, List, [], ◌∷◌, Option, Some, None, Ok, sym, ◌∙◌}
+use Rattle.std.proofs.Common.{◌≡◌, ℕ, zero, suc, ◌+◌, ◌-◌, List, [], ◌∷◌, Option, Some, None, Ok, refl, sym, ap, subst, ◌∙◌}
 use Rattle.std.proofs.lemmas.List.Elements.{All-nil, All-cons, All-head, All-tail}
-use Rattle.std.specs.Prelude.{map, take, drop, All}
+use Rattle.std.specs.Prelude.{map, option_map, take, drop, slice_get, slice_index, All}
+use Rattle.std.proofs.lemmas.Option.{none-some, same_Some, slice_get-map, slice_get_within, get_or_from_slice_get}
 use Rattle.asm_expr.specs.Forms.{Form}
 use Rattle.asm_symbols.specs.SymbolMap.{SymbolMap}
 use Rattle.asm_frags.specs.declared.fields.Field.{Field}
 use Rattle.asm_frags.specs.PlainBytes.{IsBeside}
 use Rattle.asm_frags.specs.Writing.{LooseItem, LooseSection}
-use Rattle.asm_frags.specs.Addresses.{item_with_address}
-use Rattle.asm_frags.specs.Contents.{size_at}
+use Rattle.asm_frags.specs.SectionOf.{SectionOf}
+use Rattle.asm_frags.specs.Addresses.{item_laid_at}
 use Rattle.asm_frags.specs.Substituting.{substituted_field, laid_item, laid_section}
+use Rattle.asm_levels.specs.Shifts.{shifts_of}
 use Rattle.asm_relax.specs.RangeChecks.{first_fault}
-use Rattle.asm_relax.specs.Placing.{placed_from, placed_section}
+use Rattle.asm_relax.specs.ItemRows.{rows_of, levels_of}
+use Rattle.asm_relax.specs.Layout.{laid_from, laid_out_section, row_count, laid_out, laid_by, AreSized}
+use Rattle.asm_relax.specs.Placing.{placed_section}
 use Rattle.asm_relax.specs.Expanding.{expanded}
 use Rattle.asm_relax.specs.Settling.{LaidItem, LooseSections, LaidSections, planned, unless, settled_sections, layout_of}
-use Rattle.asm_relax.proofs.SettlingLemmas.{placed_is_settled}
 
 -- what an answer without a fault holds
 pub unless_is : {A E : Type 0} (fault : Option E) (made answer : A) → unless fault made ≡ Ok answer → answer ≡ made
 unless_is None made answer e = cc
 unless_is (Some fault) made answer e = absurd cc
 
--- the items as a plan has them
-abbrev pub items_of : LooseSection → List LaidItem
-items_of section = map laid_item section.items
+-- what holds of all settled sections: items stand one behind the other, and have sizes that they may have
+pub record AreSettled : Type 0 where
+  pub placed : (sections : LaidSections) → map placed_section (settled_sections sections) ≡ settled_sections sections
+  pub sized : (sections : LaidSections) → All (λ section. AreSized section.items) (settled_sections sections)
 
--- a layout is that of its sections, one by one
-pub layout_is : (symbols : SymbolMap) (sections : LooseSections) (laid : LaidSections) → layout_of symbols sections ≡ Ok laid
-    → laid ≡ map placed_section (map (laid_section (expanded symbols)) sections)
-unfolding planned
+-- a layout is that of its sections
+layout_is : (symbols : SymbolMap) (sections : LooseSections) (laid : LaidSections) → layout_of symbols sections ≡ Ok laid
+    → laid ≡ settled_sections (planned symbols sections)
 layout_is symbols sections laid e =
     unless_is (first_fault symbols (settled_sections (planned symbols sections))) (settled_sections (planned symbols sections)) laid e
-    ∙ sym (placed_is_settled (planned symbols sections))
 
--- the first item, laid out, and how far it and those before it move what stands behind
-abbrev first_laid : LooseItem → ℕ → LaidItem
-first_laid item shift = item_with_address (item.offset + shift) (laid_item item)
+-- the section that is laid out, by the shifts of its own rows
+laid_get : (shifts : List ℕ) (sections : LaidSections) (n : ℕ) (section : SectionOf LaidItem) → slice_get sections n ≡ Some section
+    → (own : List ℕ) × (slice_get (laid_out shifts sections) n ≡ Some (laid_out_section own section))
+laid_get shifts [] n section there = absurd (none-some section there)
+laid_get shifts (one ∷ sections) zero section there = let same : one ≡ section = same_Some one section there in (shifts, rw same refl)
+laid_get shifts (one ∷ sections) (suc n) section there = laid_get (drop (row_count one) shifts) sections n section there
 
-abbrev shift_behind_first : LooseItem → ℕ → ℕ
-shift_behind_first item shift = shift + size_at item.content (item.offset + shift)
+-- the section as it is laid out, by the shifts of its own rows
+abbrev pub kept_section : SymbolMap → List ℕ → LooseSection → SectionOf LaidItem
+kept_section symbols own section = laid_out_section own (laid_section (expanded symbols) section)
+
+-- each section stands in the layout as it is laid out
+pub section_kept : (symbols : SymbolMap) (sections : LooseSections) (laid : LaidSections) (n : ℕ) (section : LooseSection) → layout_of symbols sections ≡ Ok laid
+    → slice_get sections n ≡ Some section → (own : List ℕ) × (slice_get laid n ≡ Some (kept_section symbols own section))
+unfolding planned settled_sections laid_by
+section_kept symbols sections laid n section e there =
+    let all = planned symbols sections in
+    let substituted = laid_section (expanded symbols) in
+    let planned_there : slice_get all n ≡ Some (substituted section) = slice_get-map substituted sections n ∙ ap (option_map substituted) there in
+    let got = laid_get (shifts_of (rows_of all) (levels_of (rows_of all))) all n (substituted section) planned_there in
+    (got.0, ap (λ (found : LaidSections). slice_get found n) (layout_is symbols sections laid e) ∙ got.1)
+
+module _ (settled : AreSettled) (symbols : SymbolMap) (sections : LooseSections) (laid : LaidSections) (n : ℕ) (kept : SectionOf LaidItem) (e : layout_of symbols sections ≡ Ok laid)
+    (there : slice_get laid n ≡ Some kept) where
+  -- a section that is laid out stays as it is
+  pub laid_stays : placed_section kept ≡ kept
+  laid_stays =
+      let is = layout_is symbols sections laid e in
+      let placed : map placed_section laid ≡ laid =
+      ap (map placed_section) is ∙ settled.placed (planned symbols sections) ∙ sym is in
+      same_Some (placed_section kept) kept
+      (ap (option_map placed_section) (sym there) ∙ sym (slice_get-map placed_section laid n) ∙ ap (λ (all : LaidSections). slice_get all n) placed ∙ there)
+
+  -- and its items have sizes that they may have
+  pub laid_sized : AreSized kept.items
+  laid_sized =
+      let is = layout_is symbols sections laid e in
+      let all : All (λ section. AreSized section.items) laid = subst (λ (found : LaidSections). All (λ section. AreSized section.items) found) (sym is) (settled.sized (planned symbols sections)) in
+      subst (λ (section : SectionOf LaidItem). AreSized section.items) (get_or_from_slice_get laid n kept kept there) (all n kept (slice_get_within laid n kept there))
+
+-- the first item, laid out
+abbrev first_laid : LooseItem → List ℕ → LaidItem
+first_laid item shifts = item_laid_at (item.offset + slice_index shifts 0) (slice_index shifts 1 - slice_index shifts 0) (laid_item item)
 
 module _ (Holds : ℕ → Type 0) where
   abbrev Loose_holds : LooseItem → Type 0
@@ -48,32 +87,27 @@ module _ (Holds : ℕ → Type 0) where
   Laid_holds item = Holds item.offset
 
   -- what is true of the offset of each item stays true where the items are laid out
-  pub offsets_kept : (items : List LooseItem) (shift : ℕ) → All Loose_holds items → All Laid_holds (placed_from shift (map laid_item items))
-  unfolding placed_from
-  offsets_kept [] shift all = All-nil Laid_holds
-  offsets_kept (item ∷ items) shift all =
-      let next = shift_behind_first item shift in
-      All-cons Laid_holds (first_laid item shift) (placed_from next (map laid_item items)) (All-head Loose_holds item items all)
-      (offsets_kept items next (All-tail Loose_holds item items all))
+  pub offsets_kept : (items : List LooseItem) (shifts : List ℕ) → All Loose_holds items → All Laid_holds (laid_from shifts (map laid_item items))
+  offsets_kept [] shifts all = All-nil Laid_holds
+  offsets_kept (item ∷ items) shifts all =
+      All-cons Laid_holds (first_laid item shifts) (laid_from (drop 1 shifts) (map laid_item items)) (All-head Loose_holds item items all)
+      (offsets_kept items (drop 1 shifts) (All-tail Loose_holds item items all))
 
   -- so it does of the first items
-  pub first_kept : (count : ℕ) (items : List LooseItem) (shift : ℕ) → All Loose_holds (take count items)
-      → All Laid_holds (take count (placed_from shift (map laid_item items)))
-  unfolding placed_from
-  first_kept zero items shift all = All-nil Laid_holds
-  first_kept (suc count) [] shift all = All-nil Laid_holds
-  first_kept (suc count) (item ∷ items) shift all =
-      let next = shift_behind_first item shift in
-      All-cons Laid_holds (first_laid item shift) (take count (placed_from next (map laid_item items))) (All-head Loose_holds item (take count items) all)
-      (first_kept count items next (All-tail Loose_holds item (take count items) all))
+  pub first_kept : (count : ℕ) (items : List LooseItem) (shifts : List ℕ) → All Loose_holds (take count items)
+      → All Laid_holds (take count (laid_from shifts (map laid_item items)))
+  first_kept zero items shifts all = All-nil Laid_holds
+  first_kept (suc count) [] shifts all = All-nil Laid_holds
+  first_kept (suc count) (item ∷ items) shifts all =
+      All-cons Laid_holds (first_laid item shifts) (take count (laid_from (drop 1 shifts) (map laid_item items))) (All-head Loose_holds item (take count items) all)
+      (first_kept count items (drop 1 shifts) (All-tail Loose_holds item (take count items) all))
 
   -- and of the others
-  pub others_kept : (count : ℕ) (items : List LooseItem) (shift : ℕ) → All Loose_holds (drop count items)
-      → All Laid_holds (drop count (placed_from shift (map laid_item items)))
-  unfolding placed_from
-  others_kept zero items shift all = offsets_kept items shift all
-  others_kept (suc count) [] shift all = All-nil Laid_holds
-  others_kept (suc count) (item ∷ items) shift all = others_kept count items (shift_behind_first item shift) all
+  pub others_kept : (count : ℕ) (items : List LooseItem) (shifts : List ℕ) → All Loose_holds (drop count items)
+      → All Laid_holds (drop count (laid_from shifts (map laid_item items)))
+  others_kept zero items shifts all = offsets_kept items shifts all
+  others_kept (suc count) [] shifts all = All-nil Laid_holds
+  others_kept (suc count) (item ∷ items) shifts all = others_kept count items (drop 1 shifts) all
 
 -- fields keep their places
 pub beside_kept : (substitute : Form → Form) (from to : ℕ) (fields : List Field) → All (IsBeside from to) fields

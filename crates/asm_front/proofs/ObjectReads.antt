@@ -11,14 +11,10 @@ use Rattle.asm_lines.specs.Statements.{StatementAt, statements_of}
 use Rattle.asm_lines.specs.NextStatements.{in_tokens}
 use Rattle.asm_symbols.specs.SymbolMap.{SymbolMap}
 use Rattle.asm_frags.specs.declared.items.Frag.{Frag}
-use Rattle.asm_frags.specs.Addresses.{item_with_address}
-use Rattle.asm_frags.specs.Contents.{size_at}
 use Rattle.asm_frags.specs.SectionOf.{SectionOf}
-use Rattle.asm_frags.specs.Substituting.{laid_section}
 use Rattle.asm_relax.specs.Expanding.{expanded}
 use Rattle.asm_relax.specs.Settling.{LaidItem, LaidSections, unless, layout_of}
 use Rattle.asm_relax.specs.declared.faults.LayoutFault.{LayoutFault}
-use Rattle.asm_relax.specs.Placing.{placed_from, placed_section}
 use Rattle.x86_insn.specs.Views.{View}
 use Rattle.x86_table.specs.Reads.{Reads, ReadsOneWay}
 use Rattle.x86_lookup.specs.BareInstructions.{Coded, bare_instruction, BareCodesRead, BareCodesStand}
@@ -43,40 +39,25 @@ use Rattle.asm_front.specs.declared.ending.NotedObject.{NotedObject}
 use Rattle.asm_front.specs.Assembly.{placed_end, source_placement, assembly_of_lines, assembly_of}
 use Rattle.asm_front.specs.Outcome.{main_file}
 use Rattle.asm_front.specs.ReadsBack.{ReadsAt, file_place, BareReadBack}
-use Rattle.asm_front.proofs.LaidItems.{items_of, layout_is, first_kept, others_kept, beside_kept}
-
--- the section of an item, as it is laid out
-abbrev pub kept_section : SymbolMap → LooseSection → SectionOf LaidItem
-kept_section symbols section = placed_section (laid_section (expanded symbols) section)
-
-pub section_kept : (symbols : SymbolMap) (sections : List LooseSection) (laid : LaidSections) (n : ℕ) (section : LooseSection) → layout_of symbols sections ≡ Ok laid
-    → slice_get sections n ≡ Some section → slice_get laid n ≡ Some (kept_section symbols section)
-section_kept symbols sections laid n section e there =
-    let substituted = laid_section (expanded symbols) in
-    ap (λ (all : LaidSections). slice_get all n) (layout_is symbols sections laid e) ∙ slice_get-map placed_section (map substituted sections) n
-    ∙ ap (option_map placed_section) (slice_get-map substituted sections n ∙ ap (option_map substituted) there)
-
-placed_again : {P : Type 0} (shift : ℕ) (items : List (Frag P ℕ)) → placed_from shift (placed_from shift items) ≡ placed_from shift items
-unfolding placed_from
-placed_again shift [] = refl
-placed_again shift (item ∷ items) =
-    ap (λ xs. item_with_address (item.offset + shift) item ∷ xs) (placed_again (shift + size_at item.content (item.offset + shift)) items)
-
--- a section that is laid out stays as it is
-pub laid_stays : (symbols : SymbolMap) (section : LooseSection) → placed_section (kept_section symbols section) ≡ kept_section symbols section
-laid_stays symbols section = ap (λ items. record (kept_section symbols section) { items = items }) (placed_again 0 (items_of section))
+use Rattle.asm_front.proofs.LaidItems.{AreSettled, kept_section, section_kept, laid_stays, laid_sized, first_kept, others_kept, beside_kept}
 
 -- plain bytes that stand in a section stand in the object at their place
-pub object_stands : (symbols : SymbolMap) (sections : List LooseSection) (laid : LaidSections) (n item offset : ℕ) (bytes : List ℕ) → layout_of symbols sections ≡ Ok laid
+pub object_stands : AreSettled → (symbols : SymbolMap) (sections : List LooseSection) (laid : LaidSections) (n item offset : ℕ) (bytes : List ℕ) → layout_of symbols sections ≡ Ok laid
     → StandsAt sections n item offset bytes → PieceAt (image_of symbols laid) (file_place symbols laid n item offset) bytes
-object_stands symbols sections laid n item offset bytes e holds =
-    let section = kept_section symbols holds.section in
-    let there : slice_get laid n ≡ Some section = section_kept symbols sections laid n holds.section e holds.found in
+object_stands settled symbols sections laid n item offset bytes e holds =
+    let got = section_kept symbols sections laid n holds.section e holds.found in
+    let section = kept_section symbols got.0 holds.section in
+    let there : slice_get laid n ≡ Some section = got.1 in
     let last = offset + length bytes in
-    let filed : IsFiled laid n section = record { found = there; takes_bytes = holds.takes_bytes; laid = laid_stays symbols holds.section } in
+    let filed : IsFiled laid n section = record {
+      found = there;
+      takes_bytes = holds.takes_bytes;
+      laid = laid_stays settled symbols sections laid n section e there;
+      sized = laid_sized settled symbols sections laid n section e there;
+    } in
     let between : IsBetween section.items item offset last = record {
-      before = first_kept (λ at. at ≤ offset) item holds.section.items 0 holds.before;
-      behind = others_kept (λ at. last ≤ at) item holds.section.items 0 holds.behind;
+      before = first_kept (λ at. at ≤ offset) item holds.section.items got.0 holds.before;
+      behind = others_kept (λ at. last ≤ at) item holds.section.items got.0 holds.behind;
     } in
     let within : last ≤ length holds.section.bytes = holds.within in
     let inside : offset ≤ length holds.section.bytes = omega arith in
@@ -159,8 +140,8 @@ assembly_is flags source made statements whole laid are all is e =
     (lines_is flags source made statements whole are all (not_too_large (nat_lt most_bytes (length source)) _ (assembly_of_lines flags main_file source) made e))
 
 -- each instruction without operands that was written reads back
-pub bare_read_back : ReadsOneWay → BareCodesRead → BareCodesStand → (flags : Flags) (source : List ℕ) (made : NotedObject) → assembly_of flags main_file source ≡ Ok made → BareReadBack flags source made.object
-bare_read_back one_way read stand flags source made e before after s coded placed whole laid are front all is written =
+pub bare_read_back : AreSettled → ReadsOneWay → BareCodesRead → BareCodesStand → (flags : Flags) (source : List ℕ) (made : NotedObject) → assembly_of flags main_file source ≡ Ok made → BareReadBack flags source made.object
+bare_read_back settled one_way read stand flags source made e before after s coded placed whole laid are front all is written =
     let split = map-append in_tokens before (s ∷ after) in
     let whole_is = sym (ap (λ statements. place_all statements (nothing_placed flags.no_warn)) split) ∙ all in
     let holds = instruction_there stand (map in_tokens before) (in_tokens s) (map in_tokens after) (nothing_placed flags.no_warn) placed whole coded
@@ -168,6 +149,6 @@ bare_read_back one_way read stand flags source made e before after s coded place
     let symbols = whole.table.symbols in
     let at = file_place symbols laid placed.current (next_item placed) (next_offset placed) in
     let same : made.object ≡ image_of symbols laid = assembly_is flags source made (before ++ s ∷ after) whole laid are all is e in
-    let stands = object_stands symbols whole.sections laid placed.current (next_item placed) (next_offset placed) coded.bytes is holds in
+    let stands = object_stands settled symbols whole.sections laid placed.current (next_item placed) (next_offset placed) coded.bytes is holds in
     reads_code one_way made.object coded.bytes stands.rest at coded.insn (ap (drop at) same ∙ drop_stands (image_of symbols laid) at coded.bytes stands)
     (written_reads read (behind_labels (in_tokens s).tokens) coded written)

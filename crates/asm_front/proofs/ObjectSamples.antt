@@ -82,7 +82,7 @@ field offset size terms constant = record {
 
 -- a run that begins a section
 run : LaidItem
-run = record { pos = record { file = 0; line = 1 }; offset = 0; content = Run; address = 0 }
+run = record { pos = record { file = 0; line = 1 }; offset = 0; content = Run; address = 0; size = 0 }
 
 section : List ℕ → ℕ → ℕ → ℕ → List Field → List LaidItem → SectionOf LaidItem
 section name flags kind count fields items = record {

@@ -1,18 +1,21 @@
 //! The end of a source: the layout of what was placed, and its object, or the first fault of either.
 
-ghost use Rattle.std.specs.Prelude.{◌≡◌, Ok};
+ghost use Rattle.std.specs.Prelude.{◌≡◌, ◌<◌, Ok, OnOk};
 ghost use Rattle.asm_front.specs.Ending as spec;
 ghost use Rattle.asm_base.specs.Refusals.{Raises, Returns};
-ghost use Rattle.asm_relax.specs.Settling.{layout_of};
+ghost use Rattle.asm_relax.specs.declared.plan_states.PlanState.TheVariants.{Fresh, LaidOut};
+ghost use Rattle.asm_relax.specs.Settling.{layout_of, settled_plan, Settles};
 
-use asm_base::{EndFault, Fault, Noted, Notes, Pos, Refusal};
+use asm_base::{EndFault, Fault, Noted, Notes, Pos, Refusal, Steps};
 use asm_frags::{Laid, Sections};
 use asm_place::FaultAt;
-use asm_relax::{LayoutFault, Plan};
+use asm_relax::{LayoutFault, Plan, Settled};
 use asm_uses::SymbolUses;
 use asm_values::Placed;
 use elf_object::{Object, ObjectCause, ObjectFault};
 use std::alloc::Global;
+use std::marker::Brand;
+use std::sync::ledger::{Blank, Ledger};
 
 /// A fault that is found at the end of a source, and its place.
 #[derive(Clone, Copy, Drop)]
@@ -125,6 +128,20 @@ fn laid_end(
     }
 }
 
+/// Settles a plan, with a count of steps of its own.
+fn settled<L: Ledger>(plan: &mut Plan, blank: Blank) -> Result<Settled, LayoutFault>
+    requires name { blank.name ≡ L.name }
+    requires parts { blank.parts ≡ L.parts }
+    requires some { 0 < blank.parts }
+    requires fresh { plan.old.state ≡ Fresh }
+    ensures value { Settles plan.new.sections result
+        (settled_plan plan.old.map plan.old.sections) }
+    ensures laid { OnOk result (plan.new.state ≡ LaidOut) }
+{
+    let mut steps = Steps::<L>::new(blank);
+    plan.settle(&mut steps)
+}
+
 /// The object of the placed sections, or the first fault of layout and object.
 fn placed_object(
     alloc: Global,
@@ -137,7 +154,7 @@ fn placed_object(
         (layout_of table.now.symbols sections)) }
 {
     let mut plan = Plan::new(alloc, sections, table.symbols())?;
-    match plan.settle() {
+    match settled::<Brand>(&mut plan, Blank::new(1)) {
         Ok(_) => laid_end(alloc, fatal, plan.laid(), table, notes),
         Err(fault) => Err(Refusal::Fault(layout_end(fault))),
     }

@@ -12,6 +12,7 @@ ghost use Rattle.asm_front.specs.Assembly.{assembly_of, assembly_of_lines};
 ghost use Rattle.asm_front.specs.Outcome.{main_file};
 ghost use Rattle.asm_front.specs.ReadsBack.{ReadsBack};
 
+use asm_relax::settled_is_placed;
 use x86_encode::encodings_are_codes;
 use x86_lookup::bare_codes_read;
 use x86_table::read_one_way;
@@ -31,6 +32,7 @@ pub fn written_reads_back()
     ensures { (flags : Flags) (source : List ℕ) (made : NotedObject)
         → assembly_of flags main_file source ≡ Ok made → ReadsBack flags source made.object }
 {
+    settled_is_placed();
     read_one_way();
     bare_codes_read();
     encodings_are_codes();

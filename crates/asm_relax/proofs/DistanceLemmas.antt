@@ -1,5 +1,5 @@
 -- Where the distance to a label leads.
-use Rattle.std.proofs.Common.{◌≡◌, ℕ, ◌+◌, ◌-◌, ◌*◌, ◌^◌, ◌==◌, ◌<◌, true, false, cond, List, [], ◌∷◌, Some, refl, sym, ap, ◌∙◌, arith}
+use Rattle.std.proofs.Common.{◌≡◌, ℕ, ◌+◌, ◌-◌, ◌*◌, ◌^◌, ◌==◌, ◌<◌, true, false, cond, List, [], ◌∷◌, Some, refl, ap, ◌∙◌, arith}
 use Rattle.std.specs.Prelude.{option_map}
 use Rattle.std.proofs.lemmas.Bool.Decides.{nat_tests}
 use Rattle.asm_expr.specs.Forms.{Form, wrapped, term_of, constant_form}
@@ -13,7 +13,7 @@ use Rattle.asm_frags.specs.declared.items.Frag.{Frag}
 use Rattle.asm_frags.specs.Fields.{width, own_place}
 use Rattle.asm_frags.specs.SectionOf.{SectionOf}
 use Rattle.asm_relax.specs.Final.{address_of, final_told}
-use Rattle.asm_relax.specs.FieldValues.{is_linked, place_label, place_told, told_in_field, less, counted_bytes, counted, held_value, IsDistanceTo, instruction_end, DistancesLead}
+use Rattle.asm_relax.specs.FieldValues.{is_linked, place_label, place_told, told_in_field, less, counted, held_value, instruction_end, DistancesLead}
 
 -- a symbol and a number, less another symbol
 abbrev both_of : ℕ → ℕ → ℕ → Form

@@ -6,7 +6,9 @@ pub mod ExpansionLemmas
 pub mod OwnForms
 pub mod WayLemmas
 pub mod Changes
-pub mod PlacingLemmas
+pub mod PlainRows
+pub mod LayingLemmas
+pub mod ShiftTail
 pub mod FirstLemmas
 pub mod SettlingLemmas
 pub mod LawLemmas

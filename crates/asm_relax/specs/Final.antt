@@ -9,13 +9,12 @@ use Rattle.asm_symbols.specs.declared.entries.Meaning.TheVariants as meaning
 use Rattle.asm_symbols.specs.declared.entries.Spot.{Spot}
 use Rattle.asm_symbols.specs.SymbolMap.{SymbolMap}
 use Rattle.asm_frags.specs.declared.items.Frag.{Frag}
-use Rattle.asm_frags.specs.Contents.{size_at}
 use Rattle.asm_frags.specs.SectionOf.{SectionOf}
 use Rattle.asm_relax.specs.Expanding.{expanded}
 
 -- how far the plain bytes behind the item are moved by the items up to it
 abbrev pub shift_behind : {P : Type 0} → Frag P ℕ → ℕ
-shift_behind item = wrapped (wrapped (item.address + size_at item.content item.address) + (2 ^ 64 - item.offset))
+shift_behind item = wrapped (wrapped (item.address + item.size) + (2 ^ 64 - item.offset))
 
 -- how far the plain bytes behind so many items are moved
 unfoldable pub shift_in : {P : Type 0} → List (Frag P ℕ) → ℕ → ℕ

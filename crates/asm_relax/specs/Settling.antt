@@ -1,5 +1,5 @@
 -- From the sections of a source to their layout.
-use Rattle.std.specs.Prelude.{◌≡◌, ℕ, List, Option, None, Some, Result, Ok, Err}
+use Rattle.std.specs.Prelude.{◌≡◌, ℕ, ◌<◌, ◌≤◌, List, length, slice_index, Option, None, Some, Result, Ok, Err}
 use Rattle.asm_symbols.specs.SymbolMap.{SymbolMap}
 use Rattle.asm_frags.specs.declared.phases.Laid.{Laid}
 use Rattle.asm_frags.specs.declared.items.Frag.{Frag}
@@ -9,7 +9,11 @@ use Rattle.asm_frags.specs.Substituting.{laid_sections}
 use Rattle.asm_relax.specs.declared.faults.LayoutFault.{LayoutFault}
 use Rattle.asm_relax.specs.Expanding.{expanded}
 use Rattle.level_ranks.specs.Ranks.{IsLayout}
-use Rattle.asm_relax.specs.Layout.{tops, levels_needed, lowest_levels, laid_out}
+use Rattle.asm_levels.specs.Needs.{need, tops}
+use Rattle.asm_relax.specs.ItemRows.{rows_of, levels_of}
+use Rattle.asm_relax.specs.Layout.{laid_by}
+use Rattle.asm_relax.specs.declared.plan_states.PlanState.{PlanState}
+use Rattle.asm_relax.specs.declared.plan_states.PlanState.TheVariants.{Fresh}
 use Rattle.asm_relax.specs.RangeChecks.{first_fault}
 
 -- the sections of a source
@@ -24,10 +28,11 @@ LaidItem = Frag Laid ℕ
 abbrev pub LaidSections : Type 0
 LaidSections = List (SectionOf LaidItem)
 
--- a plan of a layout: the symbols, and the sections with assigned symbols expanded in their fields
+-- a plan of a layout: the symbols, the sections with assigned symbols expanded in their fields, and whether these are laid out
 pub record PlanOf : Type 0 where
   pub map : SymbolMap
   pub sections : LaidSections
+  pub state : PlanState
 
 -- the sections with assigned symbols expanded in their fields, at address 0
 unfoldable pub planned : SymbolMap → LooseSections → LaidSections
@@ -35,16 +40,16 @@ planned map sections = laid_sections (expanded map) sections
 
 -- a plan of these sections
 abbrev pub plan_of : SymbolMap → LooseSections → PlanOf
-plan_of map sections = record { map = map; sections = planned map sections }
+plan_of map sections = record { map = map; sections = planned map sections; state = Fresh }
 
 -- the value, or the fault where there is one
 abbrev pub unless : {A E : Type 0} → Option E → A → Result A E
 unless None made = Ok made
 unless (Some fault) made = Err fault
 
--- the sections laid out with each item at its lowest level, which is the only one
+-- the sections laid out with each row at its level in the layout
 unfoldable pub settled_sections : LaidSections → LaidSections
-settled_sections sections = laid_out (lowest_levels sections) sections
+settled_sections sections = laid_by (levels_of (rows_of sections)) sections
 
 -- the layout of a plan, or its first fault
 abbrev pub settled_plan : SymbolMap → LaidSections → Result LaidSections LayoutFault
@@ -54,11 +59,12 @@ settled_plan map sections = unless (first_fault map (settled_sections sections))
 abbrev pub layout_of : SymbolMap → LooseSections → Result LaidSections LayoutFault
 layout_of map sections = settled_plan map (planned map sections)
 
--- the sections are laid out by the levels of the one ranking, which are reached in this number of rounds
-pub record IsLaidOut (map : SymbolMap) (sections laid : LaidSections) (rounds : ℕ) : Type 0 where
+-- the sections are laid out by the levels of the one ranking, which are reached in this number of rounds, and no row needs more than its level
+pub record IsLaidOut (sections laid : LaidSections) (rounds : ℕ) : Type 0 where
   pub levels : List ℕ
-  pub layout : IsLayout (levels_needed map sections) (tops sections) levels rounds
-  pub placed : laid ≡ laid_out levels sections
+  pub layout : IsLayout (need (rows_of sections)) (tops (rows_of sections)) levels rounds
+  pub enough : (index : ℕ) → index < length (rows_of sections) → slice_index (need (rows_of sections) levels) index ≤ slice_index levels index
+  pub placed : laid ≡ laid_by levels sections
 
 -- the answer is that of the definition, and where there is no fault, so are the sections
 abbrev pub Settles : {T : Type 0} → LaidSections → Result T LayoutFault → Result LaidSections LayoutFault → Type 0

@@ -4,33 +4,60 @@ ghost use Rattle.std.specs.Prelude.{◌≡◌, true, false, ℕ, ◌+◌, ◌<�
 ghost use Rattle.asm_expr.specs.Forms.{Form, wrapped};
 ghost use Rattle.asm_symbols.specs.SymbolMap.{SymbolMap};
 ghost use Rattle.asm_symbols.specs.Assigning.{NoFormLeadsBack};
-ghost use Rattle.asm_frags.specs.Addresses.{item_with_address};
+ghost use Rattle.asm_frags.specs.Addresses.{item_laid_at};
 ghost use Rattle.asm_frags.specs.KnownExtents.{extent_of};
 ghost use Rattle.asm_relax.specs.Expanding.{replacement, with_replaced, names_assigned, expanded};
 ghost use Rattle.asm_relax.specs.FieldValues.{DistancesLead};
 ghost use Rattle.asm_relax.specs.Final.{shift_in};
-ghost use Rattle.asm_relax.specs.Layout.{laid_from, shift_with, laid_out, without_addresses, IsInRow};
+ghost use Rattle.asm_relax.specs.Layout.{laid_by, laid_out, without_addresses, AreSized, HaveSizes, IsInRow};
 ghost use Rattle.asm_relax.specs.Placing.{placed_from, placed_section, shift_of};
 ghost use Rattle.asm_relax.specs.Settling.{LaidItem, LaidSections, settled_sections};
+ghost use Rattle.asm_levels.specs.declared.rows.Row.{Row as TheRow};
+ghost use Rattle.asm_levels.specs.Needs.{need, tops};
+ghost use Rattle.level_ranks.specs.Ranks.{IsLayout};
+ghost use Rattle.asm_relax.specs.ItemRows.{levels_of};
 
-/// The items of a section stand one behind the other, from address 0 on.
-#[tactic(auto, using(crate::proofs::LawLemmas::laid_in_row))]
+use asm_levels::needs_stay_within_tops;
+use level_ranks::{layouts_are_reached, some_ranking};
+
+/// Whatever the levels of rows, the items of a section stand one behind the other, from address 0 on, and have the sizes
+/// that they have there.
+#[tactic(auto, using(crate::proofs::ShiftTail::laid_is_placed, crate::proofs::ShiftTail::laid_is_sized, crate::proofs::ShiftTail::laid_has_sizes, crate::proofs::ShiftTail::laid_in_rows))]
 pub fn items_stand_in_row()
-    ensures { (levels : List ℕ) (items : List LaidItem)
-        → IsInRow levels (laid_from levels 0 items) }
+    ensures placed { (levels : List ℕ) (sections : LaidSections)
+        → map placed_section (laid_by levels sections) ≡ laid_by levels sections }
+    ensures sized { (levels : List ℕ) (sections : LaidSections)
+        → All (λ section. AreSized section.items) (laid_by levels sections) }
+    ensures sizes { (levels : List ℕ) (sections : LaidSections)
+        → All (λ section. HaveSizes section.items) (laid_by levels sections) }
+    ensures rows { (levels : List ℕ) (sections : LaidSections)
+        → All (λ section. IsInRow section.items) (laid_by levels sections) }
 {}
 
-/// A layout changes nothing but addresses.
+/// The levels by which sections are laid out are those that the one ranking takes.
+pub fn settled_by_the_ranking()
+    ensures { (rows : List TheRow)
+        → (rounds : ℕ) × IsLayout (need rows) (tops rows) (levels_of rows) rounds }
+{
+    layouts_are_reached();
+    needs_stay_within_tops();
+    some_ranking();
+}
+
+/// A layout changes nothing but addresses and sizes.
 #[tactic(auto, using(crate::proofs::LawLemmas::sections_kept))]
 pub fn all_else_is_kept()
-    ensures { (levels : List ℕ) (sections : LaidSections)
-        → without_addresses (laid_out levels sections) ≡ without_addresses sections }
+    ensures { (shifts : List ℕ) (sections : LaidSections)
+        → without_addresses (laid_out shifts sections) ≡ without_addresses sections }
 {}
 
-/// Settled sections are those of the plan, with the items of each placed one behind the other.
-#[tactic(auto, using(crate::proofs::SettlingLemmas::settled_is_placed))]
+/// The items of settled sections stand one behind the other, and have sizes that they may have.
+#[tactic(auto, using(crate::proofs::ShiftTail::laid_is_placed, crate::proofs::ShiftTail::laid_is_sized), unfolding(crate::specs::Settling::settled_sections))]
 pub fn settled_is_placed()
-    ensures { (sections : LaidSections) → settled_sections sections ≡ map placed_section sections }
+    ensures placed { (sections : LaidSections)
+        → map placed_section (settled_sections sections) ≡ settled_sections sections }
+    ensures sized { (sections : LaidSections)
+        → All (λ section. AreSized section.items) (settled_sections sections) }
 {}
 
 /// A place is moved by the sum of the sizes of the items before it, and so is the end of a section
@@ -39,7 +66,7 @@ pub fn settled_is_placed()
 pub fn sizes_add_up()
     ensures item { (items : List LaidItem) (index : ℕ)
         → slice_get (placed_from 0 items) index
-        ≡ option_map (λ item. item_with_address (item.offset + shift_of index 0 items) item)
+        ≡ option_map (λ item. item_laid_at (item.offset + shift_of index 0 items) item.size item)
         (slice_get items index) }
     ensures length { (items : List LaidItem) → length (placed_from 0 items) ≡ length items }
     ensures shift { (items : List LaidItem) (before : ℕ) → before ≤ length items
@@ -49,17 +76,12 @@ pub fn sizes_add_up()
 
 /// Two places of a section with as many breaks before them are as far apart in every layout as is
 /// known before it: the items between them move the second one by the bytes of their known extent.
-#[tactic(auto, using(crate::proofs::StretchLemmas::laid_get, crate::proofs::StretchLemmas::stretch_keeps_distance))]
+#[tactic(auto, using(crate::proofs::StretchLemmas::stretch_keeps_distance))]
 pub fn stretches_keep_distance()
-    ensures item { (levels : List ℕ) (items : List LaidItem) (index : ℕ)
-        → slice_get (laid_from levels 0 items) index
-        ≡ option_map (λ item. item_with_address (item.offset + shift_with levels index 0 items) item)
-        (slice_get items index) }
-    ensures distance { (levels : List ℕ) (before more : List LaidItem)
+    ensures { (before more : List LaidItem) → AreSized (before ++ more)
         → (extent_of (before ++ more)).breaks ≡ (extent_of before).breaks
-        → shift_with levels (length (before ++ more)) 0 (before ++ more) + (extent_of before).bytes
-        ≡ shift_with levels (length before) 0 (before ++ more)
-        + (extent_of (before ++ more)).bytes }
+        → shift_of (length (before ++ more)) 0 (before ++ more) + (extent_of before).bytes
+        ≡ shift_of (length before) 0 (before ++ more) + (extent_of (before ++ more)).bytes }
 {}
 
 /// Where no form leads back to its symbol, an expanded form names no assigned symbol, and is the

@@ -1,10 +1,13 @@
-//! The addresses of items, set in place: each item stands behind its plain bytes and the items before it.
+//! The addresses and sizes of items, set in place from how far their rows are moved.
 
-ghost use Rattle.std.specs.Prelude.{◌≡◌, ◌+◌, ◌<◌, ◌≤◌, ◌^◌, Some, length, map, slice_get};
-ghost use Rattle.asm_frags.specs.Addresses.{HasItem, with_address, changed_at};
-ghost use Rattle.asm_relax.specs.Placing.{placed_section, address_there, shift_there};
+ghost use Rattle.std.specs.Prelude.{◌≡◌, ◌+◌, ◌-◌, ◌<◌, ◌≤◌, ◌^◌, IfSome, Some, drop, length, slice_get};
+ghost use Rattle.asm_frags.specs.Addresses.{HasItem, sections_laid_at, changed_at};
+ghost use Rattle.asm_relax.specs.ItemRows.{rows_of};
+ghost use Rattle.asm_relax.specs.Layout.{laid_out_section, laid_out, row_count};
+ghost use Rattle.asm_relax.specs.Placing.{address_there};
 
-use asm_frags::{Frag, Laid, Section, Sections, size};
+use asm_frags::{Frag, Laid, Section, Sections};
+use asm_levels::RowPlan;
 
 /// The item of this index, which has at most 2^33 plain bytes before it.
 fn item_at(section: &Section<Laid>, item: usize) -> &Frag<Laid>
@@ -17,45 +20,51 @@ fn item_at(section: &Section<Laid>, item: usize) -> &Frag<Laid>
     &section.items()[item]
 }
 
-/// Sets the address of an item, whose plain bytes the items before it move so far, and gives how far
-/// it and they move those behind it.
-#[tactic(auto, unfolding(crate::specs::Placing::address_there, crate::specs::Placing::shift_there))]
-fn lay_item(sections: &mut Sections<Laid>, number: u32, item: usize, shift: u64) -> u64
+/// Sets the address and the size of an item, whose row and the one behind it are moved so far.
+#[tactic(auto, unfolding(crate::specs::Placing::address_there))]
+fn lay_item(sections: &mut Sections<Laid>, number: u32, item: usize, shift: u64, next: u64)
     requires section { number < length sections.old }
     requires item { HasItem sections.old number item }
     requires small { shift ≤ 2 ^ 62 }
-    ensures sections { sections.new
-        ≡ with_address sections.old number item (address_there sections.old number item shift) }
-    ensures value { result ≡ shift_there sections.old number item shift }
-    ensures within { result ≤ shift + 2 ^ 33 }
+    ensures sections { sections.new ≡ sections_laid_at sections.old number item
+        (address_there sections.old number item shift) (next - shift) }
     ensures kept { length sections.new ≡ length sections.old }
 {
     let found = item_at(sections.section(number), item);
     let address = found.offset as u64 + shift;
-    let bytes = size(&found.content, address);
-    sections.lay(number, item, address);
-    shift + bytes
+    sections.lay(number, item, address, next.saturating_sub(shift));
 }
 
-/// Sets the addresses of the items of a section.
-fn lay_section(sections: &mut Sections<Laid>, number: u32)
-    requires { number < length sections.old }
-    ensures sections { sections.new ≡ changed_at placed_section sections.old number }
+/// Sets the addresses and sizes of the items of a section, whose rows begin with this one. Answers
+/// the row behind its end mark.
+fn lay_section(sections: &mut Sections<Laid>, number: u32, rows: &RowPlan, first: usize) -> usize
+    requires section { number < length sections.old }
+    requires few { length rows.now.rows < 2 ^ 32 }
+    requires rows { IfSome (slice_get sections.old number)
+        (λ section. first + row_count section ≤ length rows.now.rows) }
+    ensures sections { sections.new
+        ≡ changed_at (laid_out_section (drop first rows.now.shifts)) sections.old number }
+    ensures next { IfSome (slice_get sections.old number)
+        (λ section. result ≡ first + row_count section) }
     ensures kept { length sections.new ≡ length sections.old }
 {
     let count = sections.section(number).items().len();
-    let mut shift = 0;
     for item in 0..count {
-        shift = lay_item(sections, number, item, shift);
+        let row = first + item;
+        lay_item(sections, number, item, rows.shift(row), rows.shift(row + 1));
     }
+    first + count + 1
 }
 
-/// Sets the addresses of all items.
-pub(crate) fn lay_all(sections: &mut Sections<Laid>)
-    ensures { sections.new ≡ map placed_section sections.old }
+/// Sets the addresses and sizes of all items.
+pub(crate) fn lay_all(sections: &mut Sections<Laid>, rows: &RowPlan)
+    requires few { length rows.now.rows < 2 ^ 32 }
+    requires rows { rows.now.rows ≡ rows_of sections.old }
+    ensures { sections.new ≡ laid_out rows.now.shifts sections.old }
 {
     let count = sections.len() as u32;
+    let mut first = 0;
     for number in 0..count {
-        lay_section(sections, number);
+        first = lay_section(sections, number, rows, first);
     }
 }

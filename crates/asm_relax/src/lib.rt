@@ -6,9 +6,11 @@ mod expansions;
 mod faults;
 mod field_values;
 mod finals;
+mod item_rows;
 mod laws;
 mod laying;
 mod places;
+mod plan_states;
 mod planning;
 mod range_checks;
 
@@ -18,7 +20,8 @@ pub use field_values::{FieldView, counted, held_value, is_suffixed, look_beside}
 pub use finals::{FinalView, end_value, final_form, laid_value};
 pub use laws::{
     all_else_is_kept, distances_lead_to_labels, expansions_are_exact, items_stand_in_row,
-    settled_is_placed, sizes_add_up, stretches_keep_distance,
+    settled_by_the_ranking, settled_is_placed, sizes_add_up, stretches_keep_distance,
 };
 pub use places::{address_in, address_of, section_size};
+pub use plan_states::PlanState;
 pub use planning::{Plan, Settled};

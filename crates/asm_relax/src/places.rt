@@ -3,14 +3,14 @@
 ghost use Rattle.std.specs.Prelude.{◌≡◌, length};
 ghost use Rattle.asm_relax.specs.Final as spec;
 
-use asm_frags::{Frag, Laid, Section, Sections, size};
+use asm_frags::{Frag, Laid, Section, Sections};
 
 /// How far the plain bytes behind the item are moved by the items up to it.
 fn shift_behind(item: &Frag<Laid>) -> u64
     ensures { result ≡ spec.shift_behind item.now }
 {
     item.address
-        .wrapping_add(size(&item.content, item.address))
+        .wrapping_add(item.size)
         .wrapping_sub(item.offset as u64)
 }
 

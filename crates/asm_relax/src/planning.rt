@@ -4,14 +4,19 @@ ghost use Rattle.std.specs.Prelude.{◌≡◌};
 
 use crate::expansions::Expansions;
 use crate::faults::LayoutFault;
+use crate::item_rows;
 use crate::laying::lay_all;
+use crate::plan_states::PlanState;
 use crate::range_checks::first_fault;
-use asm_base::NoMemory;
+use asm_base::{NoMemory, Steps};
 use asm_expr::Linear;
 use asm_frags::{FragFault, Laid, Loose, Sections, Substitution};
+use asm_levels::{RowPlan, needs_stay_within_tops};
 use asm_symbols::Symbols;
+use level_ranks::layouts_are_reached;
 use std::alloc::{AllocError, Global};
 use std::marker::Model;
+use std::sync::ledger::Ledger;
 
 /// The expansion of assigned symbols, as the substitution of forms.
 #[derive(Drop)]
@@ -49,23 +54,32 @@ pub struct Settled {
     pub rounds: u64,
 }
 
-/// A plan of a layout: the sections, and the symbols that their fields name.
+/// A plan of a layout: the sections, the symbols that their fields name, and the rows of their items.
 #[derive(Drop)]
 pub struct Plan<'a> {
     symbols: &'a Symbols,
     sections: Sections<Laid>,
+    rows: RowPlan,
+    state: PlanState,
 }
 
 impl<'a> Model for Plan<'a> {
+    ghost use Rattle.asm_relax.specs.RowBounds.{IsPlanFor};
     ghost use Rattle.asm_relax.specs.Settling.{PlanOf};
 
     ghost Value = { PlanOf };
 
-    ghost view = { λ plan. record { map = plan.symbols.now; sections = plan.sections } };
+    ghost view = { λ plan.
+        record { map = plan.symbols.now; sections = plan.sections; state = plan.state } };
+
+    ghost invariant = { λ plan. IsPlanFor plan.sections plan.rows plan.state };
 }
 
 impl<'a> Plan<'a> {
-    ghost use Rattle.std.specs.Prelude.{◌≡◌, IfOk};
+    ghost use Rattle.std.specs.Prelude.{◌≡◌, ◌+◌, ◌*◌, ◌≤◌, IfOk, IfErr, OnOk, sum};
+    ghost use Rattle.asm_levels.specs.Needs.{several, tops};
+    ghost use Rattle.asm_relax.specs.declared.plan_states.PlanState.TheVariants.{Fresh, LaidOut, Refused};
+    ghost use Rattle.asm_relax.specs.ItemRows.{rows_of};
     ghost use Rattle.asm_relax.specs.Settling.{plan_of, settled_sections, settled_plan, Settles, IsLaidOut};
 
     /// A plan of the sections, with assigned symbols expanded in their fields. It takes all memory that layout takes.
@@ -82,34 +96,63 @@ impl<'a> Plan<'a> {
             symbols,
             expansions: Expansions::new(alloc, symbols)?,
         };
-        match sections.substituted(&expansion) {
-            Ok(sections) => Ok(Plan { symbols, sections }),
-            Err(_) => Err(AllocError),
-        }
+        let Ok(sections) = sections.substituted(&expansion) else {
+            return Err(AllocError);
+        };
+        let rows = item_rows::plan_of(alloc, &sections)?;
+        Ok(Plan {
+            symbols,
+            sections,
+            rows,
+            state: PlanState::Fresh,
+        })
     }
 
-    /// Sets the address of each item, and answers the first fault where there is one. It takes no memory.
-    #[tactic(auto, using(crate::proofs::SettlingLemmas::placed_is_settled, crate::proofs::SettlingLemmas::placed_is_laid_out))]
-    pub fn settle(&mut self) -> Result<Settled, LayoutFault>
+    /// Sets the address and the size of each item, and answers the first fault where there is one. It takes no memory.
+    /// A step is a look at a distance.
+    pub fn settle<L: Ledger>(&mut self, steps: &mut Steps<L>) -> Result<Settled, LayoutFault>
+        requires fresh { self.old.state ≡ Fresh }
         ensures value { Settles self.new.sections result
             (settled_plan self.old.map self.old.sections) }
         ensures layout { IfOk result (λ done.
-            IsLaidOut self.old.map self.old.sections self.new.sections done.rounds) }
+            IsLaidOut self.old.sections self.new.sections done.rounds) }
+        ensures rounds { IfOk result (λ done.
+            done.rounds ≤ 1 + sum (tops (rows_of self.old.sections))) }
+        ensures at_most { IfOk result (λ done. steps.new
+            ≤ steps.old + done.rounds * several (rows_of self.old.sections)) }
+        ensures at_least { steps.old + several (rows_of self.old.sections) ≤ steps.new }
         ensures sections { self.new.sections ≡ settled_sections self.old.sections }
         ensures kept { self.new.map ≡ self.old.map }
+        ensures always { steps.new ≤ steps.old + (1 + sum (tops (rows_of self.old.sections)))
+            * several (rows_of self.old.sections) }
+        ensures laid { OnOk result (self.new.state ≡ LaidOut) }
+        ensures refused { IfErr result (λ fault. self.new.state ≡ Refused) }
     {
-        lay_all(&mut self.sections);
+        layouts_are_reached();
+        needs_stay_within_tops();
+        self.state = PlanState::Refused;
+        let rounds = self.rows.settle(steps);
+        lay_all(&mut self.sections, &self.rows);
         match first_fault(self.symbols, &self.sections) {
             Some(fault) => Err(fault),
-            None => Ok(Settled { rounds: 1 }),
+            None => {
+                self.state = PlanState::LaidOut;
+                Ok(Settled { rounds })
+            }
         }
     }
 
-    /// The sections: after `settle`, each item has its address.
+    /// The sections, each item with its address and its size.
     pub fn laid(self) -> Sections<Laid>
+        requires { self.state ≡ LaidOut }
         ensures { result ≡ self.entry.sections }
     {
-        let Plan { symbols, sections } = self;
+        let Plan {
+            symbols,
+            sections,
+            rows: _,
+            state: _,
+        } = self;
         let _ = symbols;
         sections
     }

@@ -1,5 +1,5 @@
 -- As many bytes stand in the file as sizes say.
-use Rattle.std.proofs.Common.{◌≡◌, ℕ, ◌+◌, ◌-◌, ◌*◌, ◌%◌, ◌^◌, ◌≤◌, ◌&&◌, nat_le, Bool, true, false, cond, List, [], ◌∷◌, ◌++◌, length, drop, take, replicate, refl, ap, ◌∙◌, arith, length-append, length-drop}
+use Rattle.std.proofs.Common.{◌≡◌, ℕ, ◌+◌, ◌-◌, ◌*◌, ◌%◌, ◌^◌, ◌≤◌, ◌&&◌, nat_le, Bool, true, false, cond, List, [], ◌∷◌, ◌++◌, length, drop, take, replicate, refl, ap, sym, ◌∙◌, arith, length-append, length-drop}
 use Rattle.std.proofs.lemmas.List.{length-take, length-replicate}
 use Rattle.std.proofs.lemmas.List.Folds.{drop_split}
 use Rattle.std.proofs.lemmas.Bool.Decides.{nat_tests}
@@ -14,7 +14,7 @@ use Rattle.asm_frags.specs.declared.fields.FieldSize.TheVariants.{One, Two, Four
 use Rattle.asm_frags.specs.ItemParts.{FillOf}
 use Rattle.asm_frags.specs.PlainBytes.{field_end}
 use Rattle.asm_frags.specs.SectionOf.{SectionOf}
-use Rattle.asm_frags.specs.Contents.{size_at, bytes_at, unit_of, padding}
+use Rattle.asm_frags.specs.Contents.{MayHave, bytes_of, fill_bytes, unit_of}
 use Rattle.asm_frags.proofs.Repeats.{length-repeated}
 use Rattle.asm_relax.specs.FieldValues.{held_value}
 use Rattle.asm_frags.specs.Fields.{width, low_bytes}
@@ -80,16 +80,16 @@ length-unit fill =
     let four : length low ≡ 4 = four_bytes (fill.value % 2 ^ 32) in
     omega (arith, length-append (take fill.size low) (replicate (fill.size - 4) 0), length-take fill.size low, length-replicate {A = ℕ} (fill.size - 4) 0)
 
--- an item has as many bytes as its size at its address says
-pub length-at : (content : Content) (at : ℕ) → length (bytes_at content at) ≡ size_at content at
-length-at Run at = refl
-length-at (Fill held) at = length-repeated held.count (unit_of held) ∙ ap (λ n. held.count * n) (length-unit held)
-length-at (Align held) at = length-replicate {A = ℕ} (padding (2 ^ held.log) at) 0
+-- an item has as many bytes as its size says, where it may have that size
+pub length-at : (content : Content) (size : ℕ) → MayHave content size → length (bytes_of content size) ≡ size
+length-at Run size has = sym has
+length-at (Fill held) size has = length-repeated held.count (unit_of held) ∙ ap (λ n. held.count * n) (length-unit held) ∙ sym has
+length-at (Align held) size has = length-replicate {A = ℕ} size 0
 
 empty : (bytes : List ℕ) → length bytes ≡ 0 → [] ≡ bytes
 empty [] none = refl
 empty (byte ∷ bytes) none = absurd (omega arith)
 
--- an item without size has no bytes
-pub none_at : (content : Content) (at : ℕ) → size_at content at ≡ 0 → [] ≡ bytes_at content at
-none_at content at none = empty (bytes_at content at) (length-at content at ∙ none)
+-- a fill of no bytes has none
+pub none_filled : (held : FillOf) → held.count * held.size ≡ 0 → [] ≡ fill_bytes held
+none_filled held none = empty (fill_bytes held) (length-at (Fill held) (held.count * held.size) refl ∙ none)

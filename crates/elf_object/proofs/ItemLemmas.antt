@@ -6,7 +6,7 @@ use Rattle.std.proofs.lemmas.List.{at_drop_all, at_drop_more}
 use Rattle.std.proofs.lemmas.List.Folds.{drop_split}
 use Rattle.asm_frags.specs.declared.contents.Content.{Content}
 use Rattle.asm_frags.specs.declared.contents.Content.TheVariants.{Run, Fill, Align}
-use Rattle.asm_frags.specs.Contents.{bytes_at}
+use Rattle.asm_frags.specs.Contents.{bytes_of}
 use Rattle.asm_frags.specs.Writing.{is_run}
 use Rattle.asm_relax.specs.Settling.{LaidItem}
 use Rattle.elf_object.specs.Contents.{reached, interleaved, is_one_run}
@@ -16,16 +16,16 @@ joined out a b rest = append_assoc (out ++ a) b rest ∙ append_assoc out a (b +
 
 -- an item more is put
 pub items_step : (bytes : List ℕ) (items : List LaidItem) (i from upto : ℕ) (item : LaidItem) (out more last whole : List ℕ) → i < length items → item ≡ get_or items i item
-    → upto ≡ reached from item → more ≡ out ++ slice_range bytes from upto → last ≡ more ++ bytes_at item.content item.address
+    → upto ≡ reached from item → more ≡ out ++ slice_range bytes from upto → last ≡ more ++ bytes_of item.content item.size
     → out ++ interleaved bytes from (drop i items) ≡ whole → last ++ interleaved bytes upto (drop (i + 1) items) ≡ whole
 unfolding interleaved
 items_step bytes items i from upto item out more last whole inside is there first second before =
     let rest = interleaved bytes (reached from item) (drop (i + 1) items) in
-    let head : interleaved bytes from (drop i items) ≡ slice_range bytes from (reached from item) ++ (bytes_at item.content item.address ++ rest) =
+    let head : interleaved bytes from (drop i items) ≡ slice_range bytes from (reached from item) ++ (bytes_of item.content item.size ++ rest) =
     at_drop_more (interleaved bytes from) items i item inside ∙ ap (λ x. interleaved bytes from (x ∷ drop (i + 1) items)) (sym is) in
     ap (λ n. last ++ interleaved bytes n (drop (i + 1) items)) there
-    ∙ ap (λ xs. xs ++ rest) (second ∙ ap (λ xs. xs ++ bytes_at item.content item.address) (first ∙ ap (λ n. out ++ slice_range bytes from n) there))
-    ∙ joined out (slice_range bytes from (reached from item)) (bytes_at item.content item.address) rest ∙ ap (λ xs. out ++ xs) (sym head) ∙ before
+    ∙ ap (λ xs. xs ++ rest) (second ∙ ap (λ xs. xs ++ bytes_of item.content item.size) (first ∙ ap (λ n. out ++ slice_range bytes from n) there))
+    ∙ joined out (slice_range bytes from (reached from item)) (bytes_of item.content item.size) rest ∙ ap (λ xs. out ++ xs) (sym head) ∙ before
 
 -- behind the last item stand the plain bytes that are left
 pub items_end : (bytes : List ℕ) (items : List LaidItem) (i from : ℕ) (out last whole : List ℕ) → length items ≤ i

@@ -8,11 +8,11 @@ use Rattle.std.proofs.lemmas.Option.{slice_get-map}
 use Rattle.std.specs.Prelude.{All, take, slice_get, slice_index_or, option_map, unwrap_or, codes}
 use Rattle.asm_expr.specs.Forms.{wrapped}
 use Rattle.asm_frags.specs.declared.fields.Field.{Field}
-use Rattle.asm_frags.specs.Contents.{size_at, bytes_at}
+use Rattle.asm_frags.specs.Contents.{bytes_of}
 use Rattle.asm_frags.specs.Fields.{width}
 use Rattle.asm_frags.specs.PlainBytes.{field_end, FieldsStand}
 use Rattle.asm_frags.specs.SectionOf.{SectionOf}
-use Rattle.asm_frags.specs.Addresses.{item_with_address}
+use Rattle.asm_frags.specs.Addresses.{item_laid_at}
 use Rattle.asm_symbols.specs.SymbolMap.{SymbolMap}
 use Rattle.asm_relax.specs.FieldValues.{held_value}
 use Rattle.asm_relax.specs.Final.{shift_in, address_in}
@@ -136,7 +136,7 @@ piece_between : (symbols : SymbolMap) (sections : LaidSections) (number count of
 piece_between symbols sections number count offset section piece filed within there between =
     let plain = plain_bytes symbols sections section in
     let long = plain_long symbols sections section in
-    let stands = bytes_between plain section.items count offset (offset + length piece) (omega arith) (omega arith) between in
+    let stands = bytes_between plain section.items count offset (offset + length piece) (omega arith) (omega arith) filed.sized between in
     in_section symbols sections number (moved section.items count offset) section piece filed
     (subst (λ (xs : List ℕ). PieceAt (interleaved plain 0 (placed_from 0 section.items)) (moved section.items count offset) xs) (piece_is plain offset piece there) stands)
 
@@ -168,11 +168,11 @@ items_stand symbols sections number index section item filed there within before
     let plain = plain_bytes symbols sections section in
     let long = plain_long symbols sections section in
     let place = item.offset + shift_of index 0 section.items in
-    let stands = item_stands plain section.items index item there (omega arith) before in
-    let same : item_with_address place item ≡ item = some_same (sym (placed_get section.items index 0 item there) ∙ ap (λ (xs : List LaidItem). slice_get xs index) (items_laid section filed.laid) ∙ there) in
+    let stands = item_stands plain section.items index item there (omega arith) filed.sized before in
+    let same : item_laid_at place item.size item ≡ item = some_same (sym (placed_get section.items index 0 item there) ∙ ap (λ (xs : List LaidItem). slice_get xs index) (items_laid section filed.laid) ∙ there) in
     let address : place ≡ item.address = ap (λ (x : LaidItem). x.address) same in
-    in_section symbols sections number item.address section (bytes_at item.content item.address) filed
-    (subst (λ n. PieceAt (interleaved plain 0 (placed_from 0 section.items)) n (bytes_at item.content n)) address stands)
+    in_section symbols sections number item.address section (bytes_of item.content item.size) filed
+    (subst (λ n. PieceAt (interleaved plain 0 (placed_from 0 section.items)) n (bytes_of item.content item.size)) address stands)
   where
     some_same : {x y : LaidItem} → Some x ≡ Some y → x ≡ y
     some_same e = cc
@@ -182,10 +182,10 @@ unwrapped : (own shift size offset : ℕ) → own ≤ offset → offset + (shift
 unwrapped own shift size offset behind low = omega arith
 
 shift_more : (before shift : ℕ) (items : List LaidItem) (item : LaidItem) → slice_get items before ≡ Some item
-    → shift_of (suc before) shift items ≡ shift_of before shift items + size_at item.content (item.offset + shift_of before shift items)
+    → shift_of (suc before) shift items ≡ shift_of before shift items + item.size
 shift_more before shift [] item there = absurd cc
 shift_more zero shift (one ∷ items) item there = let same : one ≡ item = cc in rw same refl
-shift_more (suc before) shift (one ∷ items) item there = shift_more before (shift + size_at one.content (one.offset + shift)) items item there
+shift_more (suc before) shift (one ∷ items) item there = shift_more before (shift + one.size) items item there
 
 -- the address of a place whose last item before it is there
 address_behind : (items : List LaidItem) (before offset : ℕ) (item : LaidItem) → slice_get items before ≡ Some item → item.offset ≤ offset → offset + shift_of (suc before) 0 items < 2 ^ 64
@@ -194,10 +194,10 @@ unfolding shift_in
 address_behind items before offset item there behind low =
     let shift = shift_of before 0 items in
     let address = item.offset + shift in
-    let size = size_at item.content address in
+    let size = item.size in
     let one : suc before - 1 ≡ before = omega arith in
     let more : shift_of (suc before) 0 items ≡ shift + size = shift_more before 0 items item there in
-    let got : slice_get (placed_from 0 items) before ≡ Some (item_with_address address item) = placed_get items before 0 item there in
+    let got : slice_get (placed_from 0 items) before ≡ Some (item_laid_at address item.size item) = placed_get items before 0 item there in
     let some : (suc before == 0) ≡ false = eqb-suc-zero before in
     rw (some, one, got, more) (unwrapped item.offset shift size offset behind (omega arith))
 

@@ -3,7 +3,7 @@ use Rattle.std.proofs.Common.{◌≡◌, ℕ, ◌+◌, ◌-◌, ◌<◌, ◌≤�
 use Rattle.std.specs.Prelude.{slice_range}
 use Rattle.std.proofs.lemmas.List.{length-take-le, take-append-le, drop-append-le, drop_all}
 use Rattle.std.proofs.lemmas.List.Sums.{sum_by-cons, sum_by-append}
-use Rattle.asm_frags.specs.Contents.{bytes_at}
+use Rattle.asm_frags.specs.Contents.{bytes_of}
 use Rattle.asm_relax.specs.Settling.{LaidItem}
 use Rattle.elf_file.specs.declared.file_pieces.Between.{Between}
 use Rattle.elf_file.specs.Pieces.{mixed, held_before}
@@ -57,7 +57,7 @@ take_further bytes from at later =
 -- an item more is put
 pub mixed_item : (bytes : List ℕ) (items : List LaidItem) (i from upto : ℕ) (item : LaidItem) (old new : List Between) (whole : List ℕ) → i < length items → item ≡ get_or items i item
     → upto ≡ reached from item → upto ≤ length bytes → held_before old ≤ from
-    → ((xs : List ℕ) → length xs ≡ upto → mixed xs new ≡ mixed xs old ++ bytes_at item.content item.address)
+    → ((xs : List ℕ) → length xs ≡ upto → mixed xs new ≡ mixed xs old ++ bytes_of item.content item.size)
     → mixed (take from bytes) old ++ interleaved bytes from (drop i items) ≡ whole → mixed (take upto bytes) new ++ interleaved bytes upto (drop (i + 1) items) ≡ whole
 mixed_item bytes items i from upto item old new whole inside is there within few put before =
     let later : from ≤ upto = omega (arith, there) in

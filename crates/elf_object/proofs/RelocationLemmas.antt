@@ -1,11 +1,11 @@
 -- What the linker makes of a relocation is the value of its form.
-use Rattle.std.proofs.Common.{◌≡◌, ℕ, zero, suc, ◌+◌, ◌-◌, ◌*◌, ◌^◌, ◌==◌, ◌<◌, ◌≤◌, ◌&&◌, ◌||◌, not, Bool, true, false, cond, List, [], ◌∷◌, Option, None, Some, length, refl, sym, ap, ◌∙◌, subst, arith}
-use Rattle.std.specs.Prelude.{slice_get, option_map, option_and_then}
+use Rattle.std.proofs.Common.{◌≡◌, ℕ, ◌+◌, ◌-◌, ◌*◌, ◌^◌, ◌==◌, ◌<◌, ◌≤◌, ◌&&◌, ◌||◌, not, Bool, true, false, cond, List, [], ◌∷◌, Option, None, Some, length, refl, sym, ap, ◌∙◌, subst, arith}
+use Rattle.std.specs.Prelude.{slice_get, option_map}
 use Rattle.std.specs.Option.{option_map_or}
 use Rattle.std.proofs.lemmas.Bool.Decides.{nat_tests}
 use Rattle.asm_expr.specs.declared.forms.Term.{Term}
-use Rattle.asm_expr.specs.Forms.{Form, wrapped}
-use Rattle.asm_expr.specs.FormValues.{value_by, terms_value, form_value}
+use Rattle.asm_expr.specs.Forms.{wrapped}
+use Rattle.asm_expr.specs.FormValues.{value_by, terms_value}
 use Rattle.asm_expr.proofs.KeptValues.{keeps_value}
 use Rattle.asm_expr.specs.Knowledge.{Told, absent, constant, label, form}
 use Rattle.asm_expr.specs.Settled.{settled}
@@ -28,14 +28,13 @@ use Rattle.asm_relax.specs.FieldValues.{is_suffixed, is_linked, place_label, pla
 use Rattle.asm_relax.specs.Final.{address_in, address_of, spot_told, final_meaning, final_told}
 use Rattle.asm_relax.specs.Settling.{LaidItem, LaidSections}
 use Rattle.elf_symbols.specs.SymbolValues.{has_flag}
-use Rattle.elf_symbols.specs.declared.targets.Target.{Target}
 use Rattle.elf_symbols.specs.declared.targets.Target.TheVariants.{OfSection, OfSymbol}
 use Rattle.elf_object.specs.declared.references.SymbolReference.{SymbolReference}
 use Rattle.elf_object.specs.declared.references.Reference.{Reference}
 use Rattle.elf_object.specs.declared.relocations.Relocation.{Relocation}
 use Rattle.elf_object.specs.declared.relocations.RelocationKind.{RelocationKind}
 use Rattle.elf_object.specs.Relocations.{merge, sized_kind, signed_kind, branch_kind, plain_kind, kind_for, symbol_reference, label_reference, meaning_reference, reference_at, reference_found, own_address, reference, direct, relative, pair, is_plus, is_minus, minus_one, reference_by, final_reference, relocation_with, relocation, field_place, field_relocation}
-use Rattle.elf_object.specs.RelocationLaws.{is_relative, target_address, place_taken, IsLinked, PlaceStands, RelocationsMeanForms}
+use Rattle.elf_object.specs.RelocationLaws.{is_relative, target_address, IsLinked, PlaceStands, RelocationsMeanForms}
 use Rattle.elf_object.proofs.Targets.{mapped, then_got, nothing, chosen, got_inside}
 use Rattle.elf_object.proofs.ItemBytes.{both_true}
 

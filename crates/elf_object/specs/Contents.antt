@@ -1,7 +1,7 @@
 -- What the sections of an object hold: plain bytes with the values of fields in place, the bytes of items between them, and the relocations of the other fields.
 use Rattle.std.specs.Prelude.{ℕ, ◌+◌, ◌==◌, ◌&&◌, ◌||◌, not, max, nat_le, Bool, true, false, List, [], ◌∷◌, ◌++◌, length, drop, slice_range, filter_map, is_some, unwrap_or, if◌then◌else◌}
 use Rattle.asm_frags.specs.declared.fields.Field.{Field}
-use Rattle.asm_frags.specs.Contents.{bytes_at}
+use Rattle.asm_frags.specs.Contents.{bytes_of}
 use Rattle.asm_frags.specs.PlainBytes.{field_end}
 use Rattle.asm_frags.specs.Fields.{low_bytes}
 use Rattle.asm_frags.specs.SectionOf.{SectionOf}
@@ -40,7 +40,7 @@ reached from item = max from item.offset
 unfoldable pub interleaved : List ℕ → ℕ → List LaidItem → List ℕ
 interleaved bytes from [] = drop from bytes
 interleaved bytes from (item ∷ items) =
-    slice_range bytes from (reached from item) ++ (bytes_at item.content item.address ++ interleaved bytes (reached from item) items)
+    slice_range bytes from (reached from item) ++ (bytes_of item.content item.size ++ interleaved bytes (reached from item) items)
 
 -- no item but one run: the plain bytes are all
 abbrev pub is_one_run : List LaidItem → Bool

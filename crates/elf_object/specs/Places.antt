@@ -1,11 +1,12 @@
 -- Where the bytes of sections, of their fields and of their items stand in the file.
 use Rattle.std.specs.Prelude.{◌≡◌, ℕ, ◌+◌, ◌-◌, ◌^◌, ◌<◌, ◌≤◌, ◌==◌, false, List, All, length, take, drop, Some, slice_get, slice_index_or, slice_range}
 use Rattle.asm_frags.specs.declared.fields.Field.{Field}
-use Rattle.asm_frags.specs.Contents.{bytes_at}
+use Rattle.asm_frags.specs.Contents.{bytes_of}
 use Rattle.asm_frags.specs.PlainBytes.{field_end, IsBeside, FieldsStand}
 use Rattle.asm_frags.specs.SectionOf.{SectionOf}
 use Rattle.asm_symbols.specs.SymbolMap.{SymbolMap}
 use Rattle.asm_relax.specs.Final.{address_in}
+use Rattle.asm_relax.specs.Layout.{AreSized}
 use Rattle.asm_relax.specs.Placing.{placed_section, shift_of}
 use Rattle.asm_relax.specs.Settling.{LaidItem, LaidSections}
 use Rattle.elf_file.specs.Sections.{no_bits}
@@ -29,11 +30,12 @@ pub record IsBetween (items : List LaidItem) (count from to : ℕ) : Type 0 wher
   pub before : All (λ item. item.offset ≤ from) (take count items)
   pub behind : All (λ item. to ≤ item.offset) (drop count items)
 
--- the section of this number is laid out, and takes bytes in the file
+-- the section of this number takes bytes in the file, and is laid out: its items stand one behind the other, and each item has a size that it may have
 pub record IsFiled (sections : LaidSections) (number : ℕ) (section : SectionOf LaidItem) : Type 0 where
   pub found : slice_get sections number ≡ Some section
   pub takes_bytes : (section.kind == no_bits) ≡ false
   pub laid : placed_section section ≡ section
+  pub sized : AreSized section.items
 
 -- plain bytes beside all fields, and between items, stand in the object as they were written, moved by the items before them
 abbrev pub BytesStand : Type 0
@@ -54,7 +56,7 @@ abbrev pub ItemsStand : Type 0
 ItemsStand = (symbols : SymbolMap) (sections : LaidSections) (number index : ℕ) (section : SectionOf LaidItem) (item : LaidItem)
     → IsFiled sections number section → slice_get section.items index ≡ Some item → item.offset ≤ length section.bytes
     → All (λ other. other.offset ≤ item.offset) (take index section.items)
-    → PieceAt (image_of symbols sections) (section_offset symbols sections number + item.address) (bytes_at item.content item.address)
+    → PieceAt (image_of symbols sections) (section_offset symbols sections number + item.address) (bytes_of item.content item.size)
 
 -- the place of a plain byte behind so many items is its address, the one that labels and relocations have, where addresses do not wrap
 abbrev pub PlacesAreAddresses : Type 0

@@ -1,9 +1,9 @@
 //! What the sections of an object hold: plain bytes with the values of fields in place, the bytes of
 //! items between them, and the relocations of the other fields.
 
-ghost use Rattle.std.specs.Prelude.{◌≡◌, ℕ, List, ◌+◌, ◌≤◌, [], ◌++◌, None, false, All, drop, filter_map, length, map, slice_range, take, unwrap_or, IfErr, IfOk, OnOk};
+ghost use Rattle.std.specs.Prelude.{◌≡◌, ℕ, List, ◌+◌, ◌≤◌, [], ◌++◌, None, false, All, drop, filter_map, length, map, replicate, slice_range, take, unwrap_or, IfErr, IfOk, OnOk};
 ghost use Rattle.std.specs.Option.{option_to_list};
-ghost use Rattle.asm_frags.specs.Contents.{bytes_at};
+ghost use Rattle.asm_frags.specs.Contents.{bytes_of, fill_bytes};
 ghost use Rattle.asm_frags.specs.Fields.{low_bytes, width};
 ghost use Rattle.asm_frags.specs.PlainBytes.{field_end};
 ghost use Rattle.elf_object.specs.Contents as spec;
@@ -18,7 +18,9 @@ ghost use Rattle.elf_object.specs.Views.{held_entry, relocations_in};
 use crate::faults::{ObjectCause, ObjectFault};
 use crate::references::field_relocation;
 use crate::relocations::Relocation;
-use asm_frags::{Content, Field, FieldSize, Frag, Laid, SHT_NOBITS, Section, size};
+use asm_frags::{
+    Align, Content, Field, FieldSize, Fill, Frag, FragVisit, Laid, SHT_NOBITS, Section, visit,
+};
 use asm_relax::{held_value, section_size};
 use elf_file::{Between, Body, Mixed, Repetition};
 use elf_symbols::Placement;
@@ -108,23 +110,47 @@ fn file_fields(
     Ok(out)
 }
 
-/// The bytes of an item at its address, if it has any.
-fn repetition_of(content: &Content, at: u64) -> Option<Repetition>
-    ensures { unwrap_or result [] ≡ bytes_at content.now at }
+/// Tells the bytes of an item of this size.
+#[derive(Drop)]
+struct ItemRepetition {
+    size: u64,
+}
+
+impl FragVisit for ItemRepetition {
+    type Out = Option<Repetition>;
+
+    ghost run_gives = { λ before answer after. unwrap_or answer [] ≡ [] };
+
+    ghost fill_gives = { λ before held answer after. unwrap_or answer [] ≡ fill_bytes held };
+
+    ghost align_gives = { λ before held answer after.
+        unwrap_or answer [] ≡ replicate before.size 0 };
+
+    fn run(&mut self) -> Option<Repetition> {
+        None
+    }
+
+    fn fill(&mut self, held: &Fill) -> Option<Repetition> {
+        if held.count() * held.size() == 0 {
+            return None;
+        }
+        Some(Repetition::new(held.unit(), held.size() as usize, held.count()))
+    }
+
+    fn align(&mut self, _held: &Align) -> Option<Repetition> {
+        if self.size == 0 {
+            return None;
+        }
+        Some(Repetition::new([0; 8], 1, self.size))
+    }
+}
+
+/// The bytes of an item of this size, if it has any.
+fn repetition_of(content: &Content, size: u64) -> Option<Repetition>
+    ensures { unwrap_or result [] ≡ bytes_of content.now size }
 {
-    let bytes = size(content, at);
-    if bytes == 0 {
-        return None;
-    }
-    match content {
-        Content::Run => None,
-        Content::Fill(held) => Some(Repetition::new(
-            held.unit(),
-            held.size() as usize,
-            held.count(),
-        )),
-        Content::Align(_) => Some(Repetition::new([0; 8], 1, bytes)),
-    }
+    let mut visitor = ItemRepetition { size };
+    visit(content, &mut visitor)
 }
 
 /// Puts the bytes of an item behind so many plain bytes, of which `last` stand before the last
@@ -141,9 +167,9 @@ fn put_item(
     ensures later { IfOk result (λ now. now ≤ upto) }
     ensures bytes { OnOk result ((bytes : List ℕ) → length bytes ≡ upto
         → mixed bytes between.new.items
-        ≡ mixed bytes between.old.items ++ bytes_at item.now.content item.now.address) }
+        ≡ mixed bytes between.old.items ++ bytes_of item.now.content item.now.size) }
 {
-    match repetition_of(&item.content, item.address) {
+    match repetition_of(&item.content, item.size) {
         Some(repetition) => {
             between.push(Between {
                 held: upto - last,

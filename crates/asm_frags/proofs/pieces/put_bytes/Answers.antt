@@ -1,11 +1,11 @@
 -- The visitor's law by cases, and what takes is the same at the end.
 use Rattle.std.proofs.Common.{rules}
-use Rattle.asm_frags.specs.declared.pieces.BytesAt.{BytesAt}
+use Rattle.asm_frags.specs.declared.pieces.BytesOf.{BytesOf}
 use Rattle.asm_frags.proofs.BytesGiven.{bytes_given}
 use Rattle.asm_frags.proofs.pieces.put_bytes.Goals as goal
 
 pub returns : goal.returns
 returns g c =
-    let given = bytes_given g.T.TakesBytes.takes (λ (v : BytesAt g.row.T.Denot). v.taker.now) (λ (v : BytesAt g.row.T.Denot). v.taker.ghost_name)
-    (λ (v : BytesAt g.row.T.Denot). v.at) c.args.content.now _ c.visit-answer.result c.visit-answer.new.visitor c.visit-answer.ensures in
+    let given = bytes_given g.T.TakesBytes.takes (λ (v : BytesOf g.row.T.Denot). v.taker.now) (λ (v : BytesOf g.row.T.Denot). v.taker.ghost_name)
+    (λ (v : BytesOf g.row.T.Denot). v.size) c.args.content.now _ c.visit-answer.result c.visit-answer.new.visitor c.visit-answer.ensures in
     search rules

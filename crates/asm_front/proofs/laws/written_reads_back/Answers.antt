@@ -3,4 +3,4 @@ use Rattle.asm_front.proofs.laws.written_reads_back.Goals as goal
 
 pub returns : goal.returns
 returns c =
-    reads_back c.read_one_way.ensures c.bare_codes_read.ensures.read c.bare_codes_read.ensures.stand c.encodings_are_codes.ensures.fields c.encodings_are_codes.ensures.notes
+    reads_back (record { placed = c.settled_is_placed.ensures.placed; sized = c.settled_is_placed.ensures.sized }) c.read_one_way.ensures c.bare_codes_read.ensures.read c.bare_codes_read.ensures.stand c.encodings_are_codes.ensures.fields c.encodings_are_codes.ensures.notes

@@ -1,5 +1,5 @@
 -- A number stays as it is.
-use Rattle.std.proofs.Common.{◌≡◌, ◌<◌, length, [], sym, ap, ◌∙◌, arith}
+use Rattle.std.proofs.Common.{◌≡◌, [], sym, ap, ◌∙◌, arith}
 use Rattle.std.proofs.lemmas.List.{nil_from_length}
 use Rattle.asm_relax.specs.Final.{laid_value}
 use Rattle.asm_relax.proofs.ExpandingLemmas.{expanded_number}
