@@ -1,0 +1,8 @@
+//! From linear forms to the distances of rows.
+#![tactic(auto)]
+
+mod form_distances;
+mod places;
+
+pub use form_distances::distance_of;
+pub use places::{OwnPlace, Place, RowView};

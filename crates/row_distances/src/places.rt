@@ -1,0 +1,107 @@
+//! Where symbols stand among rows.
+
+ghost use Rattle.std.specs.Prelude.{◌≡◌, ◌<◌, ◌≤◌, ◌^◌, IfSome};
+ghost use Rattle.asm_expr.specs.Knowledge.{told_by};
+ghost use Rattle.row_distances.specs.Places as spec;
+
+use asm_expr::{Known, Look, SymId, Written};
+use asm_symbols::{Meaning, Symbols};
+
+/// A place: its section, and how many items and how many plain bytes of it stand before it.
+#[derive(Clone, Copy)]
+pub struct Place {
+    pub section: u32,
+    pub item: u64,
+    pub offset: u64,
+}
+
+/// The place of an item, and the number of the symbol that stands for it in forms.
+#[derive(Clone, Copy)]
+pub struct OwnPlace {
+    pub symbol: u32,
+    pub place: Place,
+}
+
+/// Where symbols stand: the symbols, the first row of each section, and the place of the item itself.
+#[derive(Clone, Copy)]
+pub struct RowView<'a> {
+    pub symbols: &'a Symbols,
+    pub starts: &'a [u32],
+    pub own: OwnPlace,
+}
+
+/// Where a symbol of this meaning stands.
+fn meant_place(meaning: &Meaning) -> Option<Place>
+    ensures { result ≡ spec.meant_place meaning.now }
+{
+    match meaning {
+        Meaning::Label(spot) | Meaning::Space(spot) => Some(Place {
+            section: spot.section,
+            item: spot.item,
+            offset: spot.offset,
+        }),
+        Meaning::Undefined | Meaning::Common { .. } | Meaning::Assigned(_) => None,
+    }
+}
+
+/// Where a symbol stands.
+#[tactic(auto, unfolding(crate::specs::Places::place_of))]
+pub(crate) fn place_of(view: RowView, symbol: SymId) -> Option<Place>
+    ensures { result ≡ spec.place_of view.entry.symbols.now view.entry.own symbol }
+{
+    if symbol.index() == view.own.symbol {
+        return Some(view.own.place);
+    }
+    match view.symbols.as_slice().get(symbol.index() as usize) {
+        Some(found) => meant_place(&found.meaning),
+        None => None,
+    }
+}
+
+/// The symbols as they are known where no row is moved.
+impl Known for RowView<'_> {
+    ghost use Rattle.std.specs.Prelude.{[]};
+    ghost use Rattle.row_distances.specs.Places.{row_told};
+
+    ghost told = { λ view symbol. row_told view.symbols.now view.own view.starts.now [] symbol };
+
+    ghost meant = { λ _ _. 0 };
+
+    ghost place = { λ _. 0 };
+
+    fn look(&self, symbol: SymId) -> Look<'_> {
+        match place_of(*self, symbol) {
+            Some(place) => Look::Label {
+                stretch: u64::from(place.section),
+                at: place.offset,
+            },
+            None => Look::Absent,
+        }
+    }
+
+    fn symbol(&self, _written: &Written) -> SymId {
+        SymId::new(0)
+    }
+
+    fn here(&self) -> SymId {
+        SymId::new(0)
+    }
+}
+
+/// The row that moves a place, if it is one of so many.
+pub(crate) fn row_at(starts: &[u32], place: Place, count: usize) -> Option<u32>
+    requires few { count ≤ 2 ^ 32 }
+    ensures row { result ≡ spec.row_among starts.now place count }
+    ensures within { IfSome result (λ row. row < count) }
+{
+    let first = match starts.get(place.section as usize) {
+        Some(first) => u64::from(*first),
+        None => 0,
+    };
+    let row = first.checked_add(place.item)?;
+    if row < count as u64 {
+        Some(row as u32)
+    } else {
+        None
+    }
+}
