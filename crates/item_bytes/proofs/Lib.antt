@@ -1,0 +1,5 @@
+-- Lemmas, a file for each subject.
+pub mod PushingLemmas
+pub mod ReadingLemmas
+pub mod FillingLemmas
+pub mod JumpLemmas

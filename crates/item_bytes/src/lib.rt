@@ -1,0 +1,15 @@
+//! The bytes of items of several levels, and of padding.
+#![tactic(auto)]
+
+mod advances;
+mod jumps;
+mod low_bytes;
+mod no_operations;
+mod numbers;
+
+pub use advances::{advance, advance_reads_back};
+pub use jumps::{Condition, jump, jump_reads_back};
+pub use no_operations::{
+    NoOperationParts, no_operation, no_operation_parts, no_operations_have_their_size,
+};
+pub use numbers::{leb128, leb128_reads_back};
