@@ -2,7 +2,7 @@
 `checks/rows.py` compares it with objdump.
 
 The rows stand one a line in a file for each chapter, in the order that the table names them in; beside the table stand the arms of macros that say what the
-short words of their columns are, in the types of `forms.rt`, and the numbers of their names stand in `mnemonics.rt`. What cannot be read is a TableError that
+short words of their columns are, in the types of `forms.rt`, and the numbers of their names stand in the files of `mnemonics.rt`. What cannot be read is a TableError that
 tells its place, and so is a row whose columns do not belong together.
 """
 import pathlib
@@ -175,16 +175,26 @@ def rows_in(folder: pathlib.Path) -> list[Row]:
     return rows
 
 
-def rows_of_chapter(folder: pathlib.Path, name: str, forms: Forms, words: dict[str, Term]) -> list[Row]:
-    """The rows of the file of this name, which its macro hands on behind those before."""
-    path = folder / "chapters" / f"{name}.rt"
+def chapter_in(path: pathlib.Path, name: str) -> tuple[int, list[str]]:
+    """The lines of the rows that the macro of this name hands on behind those before, and the number of the first."""
     text = path.read_text()
     found = re.search(rf"^macro_rules! {name} \{{\n.*; \$\(\$before\)\*\n(.*?)^    \}} \}};\n\}}$", text, re.MULTILINE | re.DOTALL)
     if not found:
         raise TableError(f"{path}: it has another form")
-    first = text[:found.start(1)].count("\n") + 1
+    return text[:found.start(1)].count("\n") + 1, found[1].splitlines()
+
+
+def lines_of_chapter(path: pathlib.Path, name: str) -> list[str]:
+    """The lines of the rows that the macro of this name hands on."""
+    return chapter_in(path, name)[1]
+
+
+def rows_of_chapter(folder: pathlib.Path, name: str, forms: Forms, words: dict[str, Term]) -> list[Row]:
+    """The rows of the file of this name, which its macro hands on behind those before."""
+    path = folder / "chapters" / f"{name}.rt"
+    first, lines = chapter_in(path, name)
     rows, chapter = [], ""
-    for number, line in enumerate(map(str.strip, found[1].splitlines()), first):
+    for number, line in enumerate(map(str.strip, lines), first):
         if line.startswith("// "):
             chapter = line[3:]
         elif line:
@@ -228,7 +238,7 @@ def operand_of(term: Term) -> Operand:
 
 def check_names(rows: list[Row], path: pathlib.Path) -> None:
     """Raises TableError where the numbers of names are not their order in the table, or the rows of a name do not stand together, by their sizes."""
-    text = path.read_text()
+    text = "".join((path.with_suffix("") / f"{name}.rt").read_text() for name in re.findall(r"^pub mod (\w+);", path.read_text(), re.MULTILINE))
     numbers = {name: int(number) for name, number in re.findall(r"pub const (\w+): u16 = (\d+);", text)}
     if list(dict.fromkeys(row.name for row in rows)) != list(numbers) or list(numbers.values()) != list(range(text.count("pub const"))):
         raise TableError(f"{path}: the names are not those of the table, by their order")
@@ -266,11 +276,14 @@ class Name:
 def read_names(folder: pathlib.Path, table: str) -> list[Name]:
     """The mnemonics of a syntax: ATT_NAMES or INTEL_NAMES. Raises TableError or OSError."""
     path, text = file_with(folder, table)
-    whole = re.search(rf"^pub static {table}: \[\w+; (\d+)\] = \w+! \{{\n(.*?)^\}};", text, re.MULTILINE | re.DOTALL)
+    whole = re.search(rf"^pub static {table}: \[\w+; (\d+)\] = (\w+)! \{{\n(.*?)^\}};", text, re.MULTILINE | re.DOTALL)
     if not whole:
         raise TableError(f"{path}: {table} has another form")
+    lines = whole[3].splitlines()
+    if chapters := re.fullmatch(r" *([\w ]*)names;\n", whole[3]):
+        lines = [line for name in [whole[2], *chapters[1].split()] for line in lines_of_chapter(path.with_suffix("") / f"{name}.rt", name)]
     names = []
-    for line in filter(None, map(str.strip, whole[2].splitlines())):
+    for line in filter(None, map(str.strip, lines)):
         found = re.fullmatch(r'b"(\w+) *" +(\d+) +(\w+) +(\d+) +(\w+)(\(\w+\))?;', line)
         if not found or len(found[1]) != int(found[2]):
             raise TableError(f"{path}: no name: {line}")

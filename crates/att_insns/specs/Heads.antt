@@ -4,7 +4,7 @@ use Rattle.std.specs.List.{find}
 use Rattle.asm_base.specs.Tokens.{SpelledToken}
 use Rattle.x86_insn.specs.declared.insns.Prefix.{Prefix}
 use Rattle.x86_insn.specs.declared.insns.Prefix.TheVariants.{Absent}
-use Rattle.x86_table.specs.declared.mnemonics.TheConstants.{JMP, JO, JG}
+use Rattle.x86_table.specs.declared.mnemonics.integers.TheConstants.{JMP, JO, JG}
 use Rattle.x86_lookup.specs.declared.names.Named.{Named}
 use Rattle.x86_lookup.specs.Names.{has_text, the_att_names}
 use Rattle.att_operands.specs.Marks.{mark_at}

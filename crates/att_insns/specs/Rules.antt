@@ -7,7 +7,8 @@ use Rattle.x86_insn.specs.declared.registers.Reg.{Reg}
 use Rattle.x86_insn.specs.declared.insns.Mnemonic.{Mnemonic}
 use Rattle.x86_insn.specs.declared.insns.Slot.{Slot}
 use Rattle.x86_insn.specs.declared.insns.Slot.TheVariants as slot
-use Rattle.x86_table.specs.declared.mnemonics.TheConstants.{MOV, MOVQ}
+use Rattle.x86_table.specs.declared.mnemonics.integers.TheConstants.{MOV}
+use Rattle.x86_table.specs.declared.mnemonics.vectors.TheConstants.{MOVQ}
 use Rattle.x86_lookup.specs.declared.names.Rule.{Rule}
 use Rattle.x86_lookup.specs.declared.names.Rule.TheVariants as rule
 use Rattle.att_operands.specs.Values.{ValueText}

@@ -16,7 +16,8 @@ use Rattle.x86_insn.specs.declared.insns.Index.TheVariants as index
 use Rattle.x86_insn.specs.declared.insns.Address.{Address}
 use Rattle.x86_insn.specs.declared.insns.Slot.{Slot}
 use Rattle.x86_insn.specs.declared.insns.Slot.TheVariants as slot
-use Rattle.x86_table.specs.declared.mnemonics.TheConstants.{ADD, MOV, MOVABS, MOVQ, LEA, XCHG, TEST, IMUL, SHL, PUSH, STOS, CALL, JMP, LOOP, RET, NOP, CMPPS, CVTSI2SS, CVTSI2SD, PBLENDVB, CRC32}
+use Rattle.x86_table.specs.declared.mnemonics.integers.TheConstants.{ADD, MOV, MOVABS, LEA, XCHG, TEST, IMUL, SHL, PUSH, STOS, CALL, JMP, LOOP, RET, NOP}
+use Rattle.x86_table.specs.declared.mnemonics.vectors.TheConstants.{MOVQ, CMPPS, CVTSI2SS, CVTSI2SD, PBLENDVB, CRC32}
 use Rattle.att_operands.specs.declared.faults.OperandCause.{OperandCause}
 use Rattle.att_operands.specs.declared.faults.OperandCause.TheVariants.{UnknownMnemonic, BadExpression, BadOperand, UnknownOperandSize}
 use Rattle.att_operands.specs.Values.{ValueText}

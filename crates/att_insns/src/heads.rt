@@ -9,7 +9,7 @@ use asm_base::Token;
 use att_operands::{mark_at, prefix_named};
 use x86_insn::{Mnemonic, Prefix};
 use x86_lookup::{Named, att_name};
-use x86_table::mnemonics::{JG, JMP, JO};
+use x86_table::mnemonics::integers::{JG, JMP, JO};
 
 /// A mnemonic and the prefix before it, and the index of the first token behind them.
 #[derive(Clone, Copy)]

@@ -10,7 +10,8 @@ use crate::slots::{
 };
 use x86_insn::{Amount, Insn, Mnemonic, Slot, Value};
 use x86_lookup::Rule;
-use x86_table::mnemonics::{MOV, MOVQ};
+use x86_table::mnemonics::integers::MOV;
+use x86_table::mnemonics::vectors::MOVQ;
 
 /// The value of a number.
 #[inline(always)]

@@ -17,7 +17,7 @@ use Rattle.x86_table.specs.Fields.{Fields}
 use Rattle.x86_table.specs.Fits.{fields_fit, fits}
 use Rattle.x86_table.specs.Reads.{shown}
 use Rattle.x86_table.specs.Rows.{the_rows}
-use Rattle.x86_table.specs.declared.mnemonics.TheConstants.{MOV, MOVABS}
+use Rattle.x86_table.specs.declared.mnemonics.integers.TheConstants.{MOV, MOVABS}
 use Rattle.x86_encode.specs.Building.{is_held, is_low, is_reg, is_rm, chosen, pick, low_of, reg_of, rm_operand, held_in, wants_one, without_rex, built, same_operand, shows, takes}
 use Rattle.x86_encode.specs.Codes.{named, meant, normal}
 use Rattle.x86_encode.specs.Filling.{Coding}

@@ -19,7 +19,7 @@ use Rattle.x86_encode.proofs.Orders.{any_zero, any_value}
 use Rattle.x86_encode.proofs.Roles.{or_rest}
 use Rattle.x86_encode.proofs.Search.{meant_is}
 use Rattle.x86_encode.proofs.Values.{Takes}
-use Rattle.x86_table.specs.declared.mnemonics.TheConstants.{MOV, MOVABS}
+use Rattle.x86_table.specs.declared.mnemonics.integers.TheConstants.{MOV, MOVABS}
 
 -- A VALUE THAT EACH IMMEDIATE HOLDS
 

@@ -12,7 +12,7 @@ use Rattle.x86_insn.specs.declared.insns.Base.TheVariants as base
 use Rattle.x86_table.specs.declared.forms.Immediate.TheVariants as immediate
 use Rattle.x86_table.specs.declared.forms.Pattern.TheVariants as pattern
 use Rattle.x86_table.specs.declared.forms.Shape.TheVariants as shape
-use Rattle.x86_table.specs.declared.mnemonics.TheConstants.{XCHG}
+use Rattle.x86_table.specs.declared.mnemonics.integers.TheConstants.{XCHG}
 use Rattle.x86_insn.specs.Views.{Seen, absent, register, immediate as shown_immediate, memory, target, View, displaced}
 use Rattle.x86_table.specs.Bytes.{has_rex, bytes_of}
 use Rattle.x86_table.specs.Fields.{Location, nowhere, direct, from_rip, bare, based, Fields}

@@ -14,7 +14,7 @@ use Rattle.x86_encode.specs.Codes.{OrderedCodes, AtMost, Before, HasNoOrderedCod
 use Rattle.x86_encode.specs.Encoding.{RowCoding, turned_position, turned_field, turned_coding, is_earlier}
 use Rattle.x86_encode.specs.Exchanges.{turned, exchanges, CodeAt, Codes, HasNoCode, OrderedAt, at_most}
 use Rattle.x86_encode.specs.Filling.{FieldsFill, field_holds, filled, moved_field, held_field, in_memory, holds_number, operand_in, FieldAt, Noted}
-use Rattle.x86_table.specs.declared.mnemonics.TheConstants.{XCHG}
+use Rattle.x86_table.specs.declared.mnemonics.integers.TheConstants.{XCHG}
 
 -- WHAT IS MADE
 

@@ -14,7 +14,7 @@ use Rattle.x86_table.specs.Fields.{Fields}
 use Rattle.x86_table.specs.Fits.{is_signed, fits}
 use Rattle.x86_table.specs.Reads.{shown}
 use Rattle.x86_table.specs.Rows.{the_rows}
-use Rattle.x86_table.specs.declared.mnemonics.TheConstants.{MOV, MOVABS}
+use Rattle.x86_table.specs.declared.mnemonics.integers.TheConstants.{MOV, MOVABS}
 
 -- classes by numbers
 abbrev pub class_number : Class → ℕ

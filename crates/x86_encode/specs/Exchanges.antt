@@ -3,7 +3,7 @@ use Rattle.std.specs.Prelude.{◌≡◌, ◌==◌, ◌&&◌, ◌||◌, ◌∷◌
 use Rattle.x86_insn.specs.Views.{View}
 use Rattle.x86_table.specs.Reads.{is_register, is_accumulator}
 use Rattle.x86_encode.specs.Codes.{OrderedCodes, Before}
-use Rattle.x86_table.specs.declared.mnemonics.TheConstants.{XCHG}
+use Rattle.x86_table.specs.declared.mnemonics.integers.TheConstants.{XCHG}
 
 -- the first two operands exchanged
 abbrev pub turned : View → View

@@ -14,7 +14,7 @@ use Rattle.x86_table.specs.Reads.{is_known}
 use Rattle.x86_encode.specs.Codes.{meant}
 use Rattle.x86_encode.specs.Exchanges.{HasNoCode, HasCode}
 use Rattle.x86_encode.specs.Filling.{Coding}
-use Rattle.x86_table.specs.declared.mnemonics.TheConstants.{MOVABS}
+use Rattle.x86_table.specs.declared.mnemonics.integers.TheConstants.{MOVABS}
 
 -- the instruction with these values in place of its own
 abbrev pub with_values : Insn → Option ℕ → Option ℕ → View

@@ -9,7 +9,8 @@ use Rattle.x86_insn.specs.Views.{absent, register, immediate as shown_immediate,
 use Rattle.x86_table.specs.WorkedReadings.{worked}
 use Rattle.x86_encode.specs.Codes.{meant}
 use Rattle.x86_encode.specs.Exchanges.{IsCode, HasNoCode}
-use Rattle.x86_table.specs.declared.mnemonics.TheConstants.{ADD, ADDSD, CALL, CMPXCHG, CRC32, LEA, MOV, MOVBE, MOVZX_BYTE, PEXTRW, PSHUFB, PUSH, ROUNDSD, SHL, XCHG}
+use Rattle.x86_table.specs.declared.mnemonics.integers.TheConstants.{ADD, CALL, CMPXCHG, LEA, MOV, MOVZX_BYTE, PUSH, SHL, XCHG}
+use Rattle.x86_table.specs.declared.mnemonics.vectors.TheConstants.{ADDSD, CRC32, MOVBE, PEXTRW, PSHUFB, ROUNDSD}
 
 -- the bytes are the shortest of these instructions
 pub record WorkedCodes : Type 0 where

@@ -12,7 +12,7 @@ use Rattle.x86_insn.specs.Views.{Seen, absent, register, immediate as shown_imme
 use Rattle.x86_table.specs.WorkedReadings.{worked}
 use Rattle.x86_encode.specs.Filling.{Coding}
 use Rattle.x86_encode.specs.Encoding.{encoding_of}
-use Rattle.x86_table.specs.declared.mnemonics.TheConstants.{ADD, CALL, LEA, MOV, SHL, XCHG}
+use Rattle.x86_table.specs.declared.mnemonics.integers.TheConstants.{ADD, CALL, LEA, MOV, SHL, XCHG}
 
 -- a 32-bit register
 abbrev pub long : ℕ → Seen

@@ -13,7 +13,7 @@ use crate::immediates::is_signed_32;
 use crate::making::{encoded_of, exchanged, made_of};
 use crate::searching::{Found, shortest};
 use x86_insn::{Class, Insn, Mnemonic, Slot, Values};
-use x86_table::mnemonics::{MOV, MOVABS, XCHG};
+use x86_table::mnemonics::integers::{MOV, MOVABS, XCHG};
 
 /// Whether the value goes into a 64-bit register and 32 bits, sign-extended, do not hold it.
 fn is_wide_move(insn: &Insn, values: &Values) -> bool

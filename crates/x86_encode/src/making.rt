@@ -14,7 +14,7 @@ use crate::filling::{displacement_field, immediate_field};
 use crate::searching::{Found, shortest};
 use x86_insn::{Insn, Mnemonic, Slot, Values};
 use x86_lookup::rows;
-use x86_table::mnemonics::XCHG;
+use x86_table::mnemonics::integers::XCHG;
 use x86_table::{bytes_of, fields_have_bytes};
 
 /// What is encoded, and the index of its row.

@@ -6,7 +6,8 @@ use crate::names::Rule::{
     Predicate, QuadIsMovq, WithXmm0,
 };
 use x86_insn::Mnemonic;
-use x86_table::mnemonics::*;
+use x86_table::mnemonics::integers::*;
+use x86_table::mnemonics::vectors::*;
 
 macro_rules! names {
     ($($text:literal $length:literal $name:ident $size:literal $rule:expr;)*) => {

@@ -12,7 +12,7 @@ use Rattle.x86_insn.specs.declared.insns.Index.TheVariants as index
 use Rattle.x86_table.specs.declared.forms.Pattern.{Pattern}
 use Rattle.x86_table.specs.declared.forms.Pattern.TheVariants as pattern
 use Rattle.x86_table.specs.declared.forms.Row.{Row}
-use Rattle.x86_table.specs.declared.mnemonics.TheConstants.{XCHG}
+use Rattle.x86_table.specs.declared.mnemonics.integers.TheConstants.{XCHG}
 use Rattle.x86_table.specs.Rows.{the_rows}
 use Rattle.x86_table.specs.Fields.{Location, Fields, nowhere, direct, from_rip, bare, based}
 use Rattle.x86_table.specs.Bytes.{has_rex, bytes_of}

@@ -3,7 +3,8 @@ use Rattle.std.specs.Prelude.{◌≡◌, ◌==◌, ◌&&◌, ◌∷◌, [], ℕ,
 use Rattle.x86_table.specs.declared.forms.Pattern.{Pattern}
 use Rattle.x86_table.specs.declared.forms.Pattern.TheVariants as pattern
 use Rattle.x86_table.specs.declared.forms.Row.{Row}
-use Rattle.x86_table.specs.declared.mnemonics.TheConstants.{ADD, MOV, MOVUPS, MOVSS, MOVAPS, MOVDQA}
+use Rattle.x86_table.specs.declared.mnemonics.integers.TheConstants.{ADD, MOV}
+use Rattle.x86_table.specs.declared.mnemonics.vectors.TheConstants.{MOVUPS, MOVSS, MOVAPS, MOVDQA}
 use Rattle.x86_table.specs.Rows.{the_rows}
 
 -- the pattern shows the register of ModRM.rm or ModRM.reg

@@ -2,7 +2,8 @@
 use Rattle.std.specs.Prelude.{◌∷◌, [], ℕ, Some, None}
 use Rattle.x86_insn.specs.Views.{Seen, absent, register, immediate as shown_immediate, memory, target, View}
 use Rattle.x86_table.specs.Reads.{Reads}
-use Rattle.x86_table.specs.declared.mnemonics.TheConstants.{ADD, ADDSD, CALL, CMPS, CMPXCHG, CRC32, JMP, LEA, MOV, MOVS, MOVZX_BYTE, NOP, NOT, PAUSE, PEXTRW, PSHUFB, SCAS, XCHG}
+use Rattle.x86_table.specs.declared.mnemonics.integers.TheConstants.{ADD, CALL, CMPS, CMPXCHG, JMP, LEA, MOV, MOVS, MOVZX_BYTE, NOP, NOT, PAUSE, SCAS, XCHG}
+use Rattle.x86_table.specs.declared.mnemonics.vectors.TheConstants.{ADDSD, CRC32, PEXTRW, PSHUFB}
 use Rattle.x86_insn.specs.declared.registers.Class.TheVariants as class
 use Rattle.x86_insn.specs.declared.insns.Prefix.{Prefix}
 use Rattle.x86_insn.specs.declared.insns.Prefix.TheVariants as prefix

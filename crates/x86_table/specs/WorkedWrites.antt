@@ -7,7 +7,8 @@ use Rattle.x86_table.specs.declared.forms.Implied.{Implied}
 use Rattle.x86_table.specs.declared.forms.Implied.TheVariants as implied
 use Rattle.x86_table.specs.declared.forms.StoreKind.{StoreKind}
 use Rattle.x86_table.specs.declared.forms.StoreKind.TheVariants as kind
-use Rattle.x86_table.specs.declared.mnemonics.TheConstants.{ADD, BSWAP, BT, BTS, CALL, CDQE, CMOVO, CMP, CMPS, CMPXCHG, CMPXCHG16B, CMPXCHG8B, CPUID, CQO, IDIV, INT, JMP, JRCXZ, LAHF, LDMXCSR, LEA, LEAVE, LODS, LOOP, MOV, MOVNTI, MOVS, MUL, NOP, PCMPESTRM, PCMPISTRI, POP, POPF, PTEST, PUSH, PUSHF, RDTSC, RET, SAHF, SCAS, SETO, SHL, STMXCSR, STOS, SYSCALL, TEST, UCOMISD, XADD, XCHG}
+use Rattle.x86_table.specs.declared.mnemonics.integers.TheConstants.{ADD, BSWAP, BT, BTS, CALL, CDQE, CMOVO, CMP, CMPS, CMPXCHG, CMPXCHG16B, CMPXCHG8B, CPUID, CQO, IDIV, INT, JMP, JRCXZ, LAHF, LDMXCSR, LEA, LEAVE, LODS, LOOP, MOV, MOVNTI, MOVS, MUL, NOP, POP, POPF, PUSH, PUSHF, RDTSC, RET, SAHF, SCAS, SETO, SHL, STMXCSR, STOS, SYSCALL, TEST, XADD, XCHG}
+use Rattle.x86_table.specs.declared.mnemonics.vectors.TheConstants.{PCMPESTRM, PCMPISTRI, PTEST, UCOMISD}
 use Rattle.x86_table.specs.declared.forms.Row.{Row}
 use Rattle.x86_table.specs.Rows.{the_rows}
 

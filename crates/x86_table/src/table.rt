@@ -13,7 +13,8 @@ use crate::forms::{
     Destinations, Immediate, Implied, Lead, Map, Outputs, Pattern, Repeat, Rm, Row, Shape,
     StoreKind, Words,
 };
-use crate::mnemonics::*;
+use crate::mnemonics::integers::*;
+use crate::mnemonics::vectors::*;
 use x86_insn::{Class, Mnemonic};
 
 /// What stands before the opcode: 66, F2, F3, REX.W.

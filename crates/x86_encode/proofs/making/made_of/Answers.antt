@@ -1,6 +1,6 @@
 use Rattle.std.proofs.Common.{rules, ◌≡◌, ◌==◌, ◌∙◌, false}
 use Rattle.x86_insn.specs.Views.{view_of}
-use Rattle.x86_table.specs.declared.mnemonics.TheConstants.{XCHG}
+use Rattle.x86_table.specs.declared.mnemonics.integers.TheConstants.{XCHG}
 use Rattle.x86_encode.specs.Codes.{named}
 use Rattle.x86_encode.proofs.Coded.{coding_plain}
 use Rattle.x86_encode.proofs.Turning.{not_named}
