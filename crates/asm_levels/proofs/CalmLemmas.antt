@@ -1,5 +1,5 @@
 -- A distance stays where no row that it spans gets another size.
-use Rattle.std.proofs.Common.{◌≡◌, ◌⊎◌, ℕ, ◌+◌, ◌-◌, ◌%◌, ◌^◌, ◌<◌, ◌≤◌, zero, suc, Option, None, Some, IfSome, Bool, true, false, List, length, get_or, take, refl, sym, ap, ◌∙◌, subst, arith, inl, inr}
+use Rattle.std.proofs.Common.{◌≡◌, ◌⊎◌, ℕ, ◌+◌, ◌-◌, ◌%◌, ◌^◌, ◌<◌, ◌≤◌, zero, suc, Option, None, Some, IfSome, Bool, false, List, length, get_or, take, refl, sym, ap, ◌∙◌, subst, arith, inl, inr}
 use Rattle.std.specs.List.{All}
 use Rattle.std.proofs.lemmas.Bool.{cases_lt, lt-ltb}
 use Rattle.std.proofs.lemmas.List.{get_or_past, get_or-map, get_or-take, length-take}
@@ -11,8 +11,9 @@ use Rattle.asm_levels.specs.declared.rows.Row.{Row}
 use Rattle.asm_levels.specs.Distances.{distance_value}
 use Rattle.asm_levels.specs.Needs.{jump_level, leb128_level, advance_level, needed, top, tops, has_levels, levels_needed}
 use Rattle.asm_levels.specs.Resizing.{AreMoved, AreEnds, IsAmong, AreTouched}
-use Rattle.asm_levels.specs.Watching.{IsSpan, RowSpans, block_of, IsEntry, IsWatched, IsCovered, IsTouched, AreHighest}
+use Rattle.asm_levels.specs.Watching.{IsSpan, RowSpans, block_of, leaf_of, HasEntryAbove, IsWatched, IsCovered, IsTouched, AreHighest}
 use Rattle.asm_levels.specs.Looking.{AreCalm}
+use Rattle.asm_levels.proofs.RunLemmas.{apart_tests}
 use Rattle.asm_levels.proofs.ResizingLemmas.{past_inner}
 use Rattle.asm_levels.proofs.TopLemmas.{needed-le, levels-le}
 use Rattle.asm_levels.proofs.SizedLemmas.{no_row}
@@ -52,9 +53,6 @@ needed_kept shifts later (Jump conditional distance) first last span apart small
 needed_kept shifts later (Leb128 signed distance) first last span apart small small_later = ap (λ d. leb128_level signed d) (distance_kept shifts later distance first last span apart small small_later)
 needed_kept shifts later (Advance distance) first last span apart small small_later = ap (λ d. advance_level d) (distance_kept shifts later distance first last span apart small small_later)
 needed_kept shifts later End first last span apart small small_later = refl
-
-apart_tests : (b : Bool) → b ≡ true → b ≡ false → ⊥
-apart_tests b one other = cc
 
 needs_none : (all : List ℕ) (size : RowSize) → has_levels size ≡ false → needed all size ≡ 0
 needs_none all size none = elim (cases_lt 0 (top size)) [
@@ -122,11 +120,11 @@ module _ (rows : List Row) (ends sizes after shifts later : List ℕ) (many : �
   ]
 
   -- a row whose distance spans no listed row needs what it did before
-  watched_calm : (default : Row) (entries blocks wide levels : List ℕ) (index : ℕ) → IsWatched rows ends entries blocks index → index < length rows
+  watched_calm : (default : Row) (entries nodes : List ℕ) (follows : List Bool) (wide levels : List ℕ) (index : ℕ) → IsWatched rows ends entries nodes follows index → index < length rows
       → get_or (levels_needed shifts rows) index 0 ≡ needed shifts (get_or rows index default).size → get_or (levels_needed later rows) index 0 ≡ needed later (get_or rows index default).size
       → get_or (levels_needed shifts rows) index 0 ≤ get_or levels index 0
-      → (get_or (levels_needed later rows) index 0 ≤ get_or levels index 0) ⊎ (IsTouched entries blocks many touched index ⊎ IsAmong index (length wide) wide)
-  watched_calm default entries blocks wide levels index watched within need need' before =
+      → (get_or (levels_needed later rows) index 0 ≤ get_or levels index 0) ⊎ (IsTouched (length rows) entries nodes follows many touched index ⊎ IsAmong index (length wide) wide)
+  watched_calm default entries nodes follows wide levels index watched within need need' before =
       let first = watched.first in
       let last = watched.last in
       let span = watched.span default in
@@ -145,7 +143,7 @@ module _ (rows : List Row) (ends sizes after shifts later : List ℕ) (many : �
             let high = there.2 in
             let among = there.3 in
             let entry = watched.entries (block_of there.0) (omega arith) (omega arith) in
-            (among.0, among.1, subst (λ (row : ℕ). IsEntry entries blocks index (block_of row)) (sym among.2) entry)))
+            (among.0, among.1, subst (λ (row : ℕ). HasEntryAbove entries nodes follows index (leaf_of (length rows) row)) (sym among.2) entry)))
       ]
     where
       first_inside : (first last : ℕ) → last < get_or ends first 0 → first < length rows
@@ -155,17 +153,17 @@ module _ (rows : List Row) (ends sizes after shifts later : List ℕ) (many : �
       ]
 
   -- what is covered needs no more than before, or is looked at
-  pub calm_after : (default : Row) (entries blocks wide levels : List ℕ) (left : ℕ) → ((index : ℕ) → index < length rows → IsCovered rows ends entries blocks wide index)
+  pub calm_after : (default : Row) (entries nodes : List ℕ) (follows : List Bool) (wide levels : List ℕ) (left : ℕ) → ((index : ℕ) → index < length rows → IsCovered rows ends entries nodes follows wide index)
       → AreHighest rows levels left wide → ((index : ℕ) → index < length rows → get_or (levels_needed shifts rows) index 0 ≤ get_or levels index 0)
-      → AreCalm rows later levels entries blocks (take left wide) many touched
-  calm_after default entries blocks wide levels left covered highest holds index within =
+      → AreCalm rows later levels entries nodes follows (take left wide) many touched
+  calm_after default entries nodes follows wide levels left covered highest holds index within =
       let need : get_or (levels_needed shifts rows) index 0 ≡ needed shifts (get_or rows index default).size = get_or-map (λ (r : Row). needed shifts r.size) rows index default 0 within in
       let need' : get_or (levels_needed later rows) index 0 ≡ needed later (get_or rows index default).size = get_or-map (λ (r : Row). needed later r.size) rows index default 0 within in
       let before = holds index within in
       elim (covered index within) [
         | inl one ↦ inl (let none = needs_none later (get_or rows index default).size (one default) in omega arith)
         | inr rest ↦ elim rest [
-          | inl watched ↦ watched_calm default entries blocks (take left wide) levels index watched within need need' before
+          | inl watched ↦ watched_calm default entries nodes follows (take left wide) levels index watched within need need' before
           | inr among ↦ elim (cases_lt among.0 left) [
             | inl first ↦ inr (inr (among.0, (let less = among.1 in let long = length-take left wide in omega arith), get_or-take left wide among.0 0 first ∙ among.2))
             | inr behind ↦ inl (
@@ -178,10 +176,10 @@ module _ (rows : List Row) (ends sizes after shifts later : List ℕ) (many : �
       ]
 
 -- what the first so many of a list leave calm, where there is such a list
-pub calm_if : (rows : List Row) (ends sizes after shifts later touched entries blocks wide levels : List ℕ) (left : ℕ) (result : Option ℕ) → AreMoved rows sizes shifts → AreMoved rows after later → AreEnds rows ends
-    → All (λ shift. shift < 2 ^ 62) shifts → All (λ shift. shift < 2 ^ 62) later → ((index : ℕ) → index < length rows → IsCovered rows ends entries blocks wide index)
+pub calm_if : (rows : List Row) (ends sizes after shifts later touched entries nodes : List ℕ) (follows : List Bool) (wide levels : List ℕ) (left : ℕ) (result : Option ℕ) → AreMoved rows sizes shifts → AreMoved rows after later → AreEnds rows ends
+    → All (λ shift. shift < 2 ^ 62) shifts → All (λ shift. shift < 2 ^ 62) later → ((index : ℕ) → index < length rows → IsCovered rows ends entries nodes follows wide index)
     → AreHighest rows levels left wide → ((index : ℕ) → index < length rows → get_or (levels_needed shifts rows) index 0 ≤ get_or levels index 0)
-    → IfSome result (λ many. AreTouched sizes after many touched) → IfSome result (λ many. AreCalm rows later levels entries blocks (take left wide) many touched)
-calm_if rows ends sizes after shifts later touched entries blocks wide levels left None moved now all_ends small small_later covered highest holds listed = listed
-calm_if rows ends sizes after shifts later touched entries blocks wide levels left (Some many) moved now all_ends small small_later covered highest holds listed =
-    calm_after rows ends sizes after shifts later many touched moved now all_ends listed small small_later no_row entries blocks wide levels left covered highest holds
+    → IfSome result (λ many. AreTouched sizes after many touched) → IfSome result (λ many. AreCalm rows later levels entries nodes follows (take left wide) many touched)
+calm_if rows ends sizes after shifts later touched entries nodes follows wide levels left None moved now all_ends small small_later covered highest holds listed = listed
+calm_if rows ends sizes after shifts later touched entries nodes follows wide levels left (Some many) moved now all_ends small small_later covered highest holds listed =
+    calm_after rows ends sizes after shifts later many touched moved now all_ends listed small small_later no_row entries nodes follows wide levels left covered highest holds

@@ -11,6 +11,8 @@ pub mod ResizingLemmas
 pub mod SizedLemmas
 pub mod EndLemmas
 pub mod LinkLemmas
+pub mod TreeLemmas
+pub mod RunLemmas
 pub mod WatchLemmas
 pub mod WideLemmas
 pub mod PartLemmas

@@ -6,7 +6,7 @@ use Rattle.std.proofs.lemmas.List.{get_or-set_same, get_or-set_other, length-set
 use Rattle.std.proofs.lemmas.List.Sums.{sum_by-set, sum_by-cons, count_by-le-length}
 use Rattle.asm_levels.specs.declared.rows.Row.{Row}
 use Rattle.asm_levels.specs.Needs.{levels_needed, has_levels, several}
-use Rattle.asm_levels.specs.Watching.{AreLinked}
+use Rattle.asm_levels.specs.Watching.{AreLinked, IsFollowed}
 use Rattle.asm_levels.specs.Looking.{looked_at, IsPartlyLooked}
 
 same_test : (a b : ℕ) → a ≡ b → nat_eq a b ≡ true
@@ -144,20 +144,20 @@ pub one_tick : (steps later : ℕ) (looks : Bool) → later ≡ steps + cond loo
 one_tick steps later true is = omega arith
 one_tick steps later false is = omega arith
 
--- the entries of the block from this one on were looked at
-abbrev pub FromEntry : (rows blocks seen : List ℕ) (block round left : ℕ) → Type 0
-FromEntry rows blocks seen block round left = (at : ℕ) → left ≤ at → at < length rows → get_or blocks at 0 ≡ block → get_or seen (get_or rows at 0) 0 ≡ round
+-- the entries of the node from this one on were looked at
+abbrev pub FromEntry : (rows nodes : List ℕ) (follows : List Bool) (seen : List ℕ) (node round left : ℕ) → Type 0
+FromEntry rows nodes follows seen node round left = (at row : ℕ) → left ≤ at → at < length rows → get_or nodes at 0 ≡ node → IsFollowed follows (get_or rows at 0) row → get_or seen row 0 ≡ round
 
-pub from_entry : (many : ℕ) (rows blocks heads links seen later : List ℕ) (block round left next : ℕ) → AreLinked many rows blocks heads links → 0 < left → left ≤ length rows
-    → get_or blocks (left - 1) 0 ≡ block → next ≡ get_or links (left - 1) 0 → ((at : ℕ) → get_or seen at 0 ≡ round → get_or later at 0 ≡ round)
-    → get_or later (get_or rows (left - 1) 0) 0 ≡ round → FromEntry rows blocks seen block round left → FromEntry rows blocks later block round next
-from_entry many rows blocks heads links seen later block round left next linked some bound of is kept own here at low less there = elim (cases_lt at (left - 1)) [
+pub from_entry : (many : ℕ) (rows nodes heads links : List ℕ) (follows : List Bool) (seen later : List ℕ) (node round left next : ℕ) → AreLinked many rows nodes heads links → 0 < left → left ≤ length rows
+    → get_or nodes (left - 1) 0 ≡ node → next ≡ get_or links (left - 1) 0 → ((at : ℕ) → get_or seen at 0 ≡ round → get_or later at 0 ≡ round)
+    → ((row : ℕ) → IsFollowed follows (get_or rows (left - 1) 0) row → get_or later row 0 ≡ round) → FromEntry rows nodes follows seen node round left → FromEntry rows nodes follows later node round next
+from_entry many rows nodes heads links follows seen later node round left next linked some bound of is kept own here at row low less there followed = elim (cases_lt at (left - 1)) [
   | inl before ↦ absurd (
-      let same : get_or blocks at 0 ≡ get_or blocks (left - 1) 0 = there ∙ sym of in
+      let same : get_or nodes at 0 ≡ get_or nodes (left - 1) 0 = there ∙ sym of in
       let link = linked.link_last (left - 1) at (omega arith) before same in omega arith)
   | inr behind ↦ elim (cases_eq at (left - 1)) [
-    | inl same ↦ subst (λ (i : ℕ). get_or later (get_or rows i 0) 0 ≡ round) (sym same) own
-    | inr other ↦ kept (get_or rows at 0) (here at (omega arith) less there)
+    | inl same ↦ own row (subst (λ (i : ℕ). IsFollowed follows (get_or rows i 0) row) same followed)
+    | inr other ↦ kept row (here at row (omega arith) less there followed)
   ]
 ]
 

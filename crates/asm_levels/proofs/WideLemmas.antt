@@ -1,5 +1,5 @@
 -- The list of rows without entries: those at their highest level are put behind the others.
-use Rattle.std.proofs.Common.{◌≡◌, ℕ, ◌+◌, ◌<◌, ◌≤◌, inl, inr, List, length, get_or, take, refl, ap, sym, ◌∙◌, subst, arith}
+use Rattle.std.proofs.Common.{◌≡◌, ℕ, ◌+◌, ◌<◌, ◌≤◌, Bool, inl, inr, List, length, get_or, take, refl, ap, sym, ◌∙◌, subst, arith}
 use Rattle.std.proofs.lemmas.Bool.{cases_eq}
 use Rattle.std.proofs.lemmas.List.{get_or-take, length-take}
 use Rattle.asm_levels.specs.declared.rows.Row.{Row}
@@ -46,15 +46,17 @@ several_same rows list now same several at default less =
     let among = same.back (get_or now at 0) (at, less, refl) in
     ap (λ row. has_levels (get_or rows row default).size) (sym among.2) ∙ several among.0 default among.1
 
-pub watchers_same : (all : List Row) (ends rows blocks heads links wide later : List ℕ) → HaveSameRows wide later → AreWatchers all ends rows blocks heads links wide → AreWatchers all ends rows blocks heads links later
-watchers_same all ends rows blocks heads links wide later same watchers = record {
+pub watchers_same : (all : List Row) (ends rows nodes heads links : List ℕ) (follows : List Bool) (wide later : List ℕ) → HaveSameRows wide later → AreWatchers all ends rows nodes heads links follows wide → AreWatchers all ends rows nodes heads links follows later
+watchers_same all ends rows nodes heads links follows wide later same watchers = record {
   linked = watchers.linked;
-  blocks_enough = watchers.blocks_enough;
+  many_heads = watchers.many_heads;
   covered = λ index less. elim (watchers.covered index less) [
     | inl one ↦ inl one
     | inr rest ↦ elim rest [ inl watched ↦ inr (inl watched) | inr among ↦ inr (inr (same.there index among)) ]
   ];
   wide_within = inside_same wide later (length all) same watchers.wide_within;
+  many_follows = watchers.many_follows;
+  followers = watchers.followers;
   several = watchers.several;
   wide_several = several_same all wide later same watchers.wide_several;
 }

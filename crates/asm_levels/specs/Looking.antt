@@ -1,5 +1,5 @@
 -- A round in which only some rows are looked at.
-use Rattle.std.specs.Prelude.{◌≡◌, ◌⊎◌, ℕ, ◌+◌, ◌<◌, ◌≤◌, max, nat_eq, true, List, length, slice_index, slice_index_or, count_by}
+use Rattle.std.specs.Prelude.{◌≡◌, ◌⊎◌, ℕ, ◌+◌, ◌<◌, ◌≤◌, max, nat_eq, Bool, true, List, length, slice_index, slice_index_or, count_by}
 use Rattle.level_ranks.specs.Rounds.{Rises}
 use Rattle.asm_levels.specs.declared.rows.Row.{Row}
 use Rattle.asm_levels.specs.Needs.{levels_needed, has_levels}
@@ -32,7 +32,8 @@ pub record IsPartlyLooked (rows : List Row) (shifts old now seen risen : List �
 abbrev pub BegunBy : List Row → List ℕ → List ℕ → List ℕ → List ℕ → ℕ → ℕ → ℕ → Type 0
 BegunBy rows shifts now seen risen round count steps = (old : List ℕ) × (start : ℕ) × IsPartlyLooked rows shifts old now seen risen round count start steps
 
--- each row needs no more than its level, or has an entry of the block of one of these rows, or is in the list of those that are looked at
-abbrev pub AreCalm : List Row → List ℕ → List ℕ → List ℕ → List ℕ → List ℕ → ℕ → List ℕ → Type 0
-AreCalm all shifts levels rows blocks wide count touched = (index : ℕ) → index < length all
-    → (slice_index (levels_needed shifts all) index ≤ slice_index levels index) ⊎ (IsTouched rows blocks count touched index ⊎ IsAmong index (length wide) wide)
+-- each row needs no more than its level, or has an entry at or above the block of one of these rows, or is in the list of those that are looked at
+abbrev pub AreCalm : List Row → List ℕ → List ℕ → List ℕ → List ℕ → List Bool → List ℕ → ℕ → List ℕ → Type 0
+AreCalm all shifts levels rows nodes follows wide count touched = (index : ℕ) → index < length all
+    → (slice_index (levels_needed shifts all) index ≤ slice_index levels index)
+    ⊎ (IsTouched (length all) rows nodes follows count touched index ⊎ IsAmong index (length wide) wide)

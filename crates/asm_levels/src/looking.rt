@@ -6,13 +6,14 @@ ghost use Rattle.asm_levels.specs.declared.rows.Row.{Row};
 ghost use Rattle.asm_levels.specs.Needs.{levels_needed, has_levels, several};
 ghost use Rattle.asm_levels.specs.Standing.{AllStand};
 ghost use Rattle.asm_levels.specs.Resizing.{AreListed, IsAmong};
-ghost use Rattle.asm_levels.specs.Watching.{AreLinked, AreSeveral, AreHighest, HaveSameRows, IsTouched, block_of};
+ghost use Rattle.asm_levels.specs.Watching.{AreLinked, AreSeveral, AreFollowers, AreHighest, HaveSameRows, HasEntryAbove, IsFollowed, IsTouched};
+ghost use Rattle.asm_levels.specs.Watching as spec;
 ghost use Rattle.asm_levels.specs.Looking.{IsPartlyLooked, BegunBy, AreCalm};
 
 use crate::needs::top;
 use crate::rounds::{level_taken, look, note};
 use crate::rows::Row;
-use crate::watching::{BLOCK, Entries};
+use crate::watching::{Entries, leaf_of};
 use asm_base::Steps;
 use level_ranks::raised_by_index;
 use range_table::RangeTable;
@@ -80,11 +81,57 @@ pub(crate) fn look_row<L: Ledger>(
     count + 1
 }
 
-/// Looks at the rows that have an entry of this block. Answers how many have risen.
-fn look_block<L: Ledger>(
+/// Looks at this row and at those behind it that have its entries. Answers how many have risen.
+fn look_run<L: Ledger>(
     view: View,
     entries: &Entries,
-    block: usize,
+    first: usize,
+    levels: &mut [u8],
+    seen: &mut [u64],
+    risen: &mut [u32],
+    count: usize,
+    steps: &mut Steps<L>,
+) -> usize
+    requires stand { AllStand view.rows.now }
+    requires as_many_shifts { length view.shifts.now ≡ length view.rows.now }
+    requires as_many_levels { length levels.old ≡ length view.rows.now }
+    requires as_many_seen { length seen.old ≡ length view.rows.now }
+    requires few { length view.rows.now < 2 ^ 32 }
+    requires inside { first < length view.rows.now }
+    requires many_follows { length entries.now.follows.items ≡ length view.rows.now }
+    requires several { (default : Row)
+        → has_levels (slice_index_or view.rows.now first default).size ≡ true }
+    requires followers { AreFollowers view.rows.now entries.now.follows.items }
+    requires begun { BegunBy view.rows.now view.shifts.now levels.old seen.old risen.old view.round
+        count steps.old }
+    ensures part { (old : List ℕ) (start : ℕ)
+        → IsPartlyLooked view.entry.rows.now view.entry.shifts.now old levels.old seen.old risen.old
+        view.entry.round count start steps.old
+        → IsPartlyLooked view.entry.rows.now view.entry.shifts.now old levels.new seen.new risen.new
+        view.entry.round result start steps.new }
+    ensures seen { (row : ℕ) → IsFollowed entries.now.follows.items first row
+        → slice_index seen.new row ≡ view.entry.round }
+    ensures kept { (at : ℕ) → slice_index seen.old at ≡ view.entry.round
+        → slice_index seen.new at ≡ view.entry.round }
+    ensures as_many_levels { length levels.new ≡ length levels.old }
+    ensures as_many_seen { length seen.new ≡ length seen.old }
+    ensures room { length risen.new ≡ length risen.old }
+{
+    let mut count = look_row(view, first, levels, seen, risen, count, steps);
+    for row in first + 1..view.rows.len() {
+        if !entries.follows[row] {
+            return count;
+        }
+        count = look_row(view, row, levels, seen, risen, count, steps);
+    }
+    count
+}
+
+/// Looks at the rows that have an entry at this node. Answers how many have risen.
+fn look_node<L: Ledger>(
+    view: View,
+    entries: &Entries,
+    node: usize,
     levels: &mut [u8],
     seen: &mut [u64],
     risen: &mut [u32],
@@ -97,9 +144,11 @@ fn look_block<L: Ledger>(
     requires as_many_seen { length seen.old ≡ length view.rows.now }
     requires few { length view.rows.now < 2 ^ 32 }
     requires linked { AreLinked (length view.rows.now) entries.now.rows.items
-        entries.now.blocks.items entries.now.heads.items entries.now.links.items }
-    requires block { block < vec_len entries.now.heads }
+        entries.now.nodes.items entries.now.heads.items entries.now.links.items }
+    requires node { node < vec_len entries.now.heads }
     requires several { AreSeveral view.rows.now entries.now.rows.items }
+    requires many_follows { length entries.now.follows.items ≡ length view.rows.now }
+    requires followers { AreFollowers view.rows.now entries.now.follows.items }
     requires begun { BegunBy view.rows.now view.shifts.now levels.old seen.old risen.old view.round
         count steps.old }
     ensures part { (old : List ℕ) (start : ℕ)
@@ -107,9 +156,10 @@ fn look_block<L: Ledger>(
         view.entry.round count start steps.old
         → IsPartlyLooked view.entry.rows.now view.entry.shifts.now old levels.new seen.new risen.new
         view.entry.round result start steps.new }
-    ensures seen { (at : ℕ) → at < length entries.now.rows.items
-        → slice_index entries.now.blocks.items at ≡ block
-        → slice_index seen.new (slice_index entries.now.rows.items at) ≡ view.entry.round }
+    ensures seen { (at row : ℕ) → at < length entries.now.rows.items
+        → slice_index entries.now.nodes.items at ≡ node
+        → IsFollowed entries.now.follows.items (slice_index entries.now.rows.items at) row
+        → slice_index seen.new row ≡ view.entry.round }
     ensures kept { (at : ℕ) → slice_index seen.old at ≡ view.entry.round
         → slice_index seen.new at ≡ view.entry.round }
     ensures as_many_levels { length levels.new ≡ length levels.old }
@@ -117,16 +167,63 @@ fn look_block<L: Ledger>(
     ensures room { length risen.new ≡ length risen.old }
 {
     let mut count = count;
-    let mut left = entries.heads[block];
+    let mut left = entries.heads[node];
     while left > 0 {
         let row = entries.rows[left - 1] as usize;
-        count = look_row(view, row, levels, seen, risen, count, steps);
+        count = look_run(view, entries, row, levels, seen, risen, count, steps);
         left = entries.links[left - 1];
     }
     count
 }
 
-/// Looks at the rows that have an entry of the block of one of these. Answers how many have risen.
+/// Looks at the rows that have an entry at this node or at one above it. Answers how many have risen.
+fn look_above<L: Ledger>(
+    view: View,
+    entries: &Entries,
+    leaf: usize,
+    levels: &mut [u8],
+    seen: &mut [u64],
+    risen: &mut [u32],
+    count: usize,
+    steps: &mut Steps<L>,
+) -> usize
+    requires stand { AllStand view.rows.now }
+    requires as_many_shifts { length view.shifts.now ≡ length view.rows.now }
+    requires as_many_levels { length levels.old ≡ length view.rows.now }
+    requires as_many_seen { length seen.old ≡ length view.rows.now }
+    requires few { length view.rows.now < 2 ^ 32 }
+    requires linked { AreLinked (length view.rows.now) entries.now.rows.items
+        entries.now.nodes.items entries.now.heads.items entries.now.links.items }
+    requires leaf { leaf < vec_len entries.now.heads }
+    requires several { AreSeveral view.rows.now entries.now.rows.items }
+    requires many_follows { length entries.now.follows.items ≡ length view.rows.now }
+    requires followers { AreFollowers view.rows.now entries.now.follows.items }
+    requires begun { BegunBy view.rows.now view.shifts.now levels.old seen.old risen.old view.round
+        count steps.old }
+    ensures part { (old : List ℕ) (start : ℕ)
+        → IsPartlyLooked view.entry.rows.now view.entry.shifts.now old levels.old seen.old risen.old
+        view.entry.round count start steps.old
+        → IsPartlyLooked view.entry.rows.now view.entry.shifts.now old levels.new seen.new risen.new
+        view.entry.round result start steps.new }
+    ensures seen { (row : ℕ) → HasEntryAbove entries.now.rows.items entries.now.nodes.items
+        entries.now.follows.items row leaf → slice_index seen.new row ≡ view.entry.round }
+    ensures kept { (at : ℕ) → slice_index seen.old at ≡ view.entry.round
+        → slice_index seen.new at ≡ view.entry.round }
+    ensures as_many_levels { length levels.new ≡ length levels.old }
+    ensures as_many_seen { length seen.new ≡ length seen.old }
+    ensures room { length risen.new ≡ length risen.old }
+{
+    let mut count = count;
+    let mut node = leaf;
+    while node > 0 {
+        count = look_node(view, entries, node, levels, seen, risen, count, steps);
+        node /= 2;
+    }
+    count
+}
+
+/// Looks at the rows that have an entry at the node of the block of one of these, or at one above it. Answers how
+/// many have risen.
 fn look_touched<L: Ledger>(
     view: View,
     entries: &Entries,
@@ -142,9 +239,11 @@ fn look_touched<L: Ledger>(
     requires as_many_seen { length seen.old ≡ length view.rows.now }
     requires few { length view.rows.now < 2 ^ 32 }
     requires linked { AreLinked (length view.rows.now) entries.now.rows.items
-        entries.now.blocks.items entries.now.heads.items entries.now.links.items }
-    requires blocks { length view.rows.now < 64 * vec_len entries.now.heads }
+        entries.now.nodes.items entries.now.heads.items entries.now.links.items }
+    requires nodes { vec_len entries.now.heads ≡ 2 * spec.first_leaf (length view.rows.now) }
     requires several { AreSeveral view.rows.now entries.now.rows.items }
+    requires many_follows { length entries.now.follows.items ≡ length view.rows.now }
+    requires followers { AreFollowers view.rows.now entries.now.follows.items }
     requires inside { (at : ℕ) → at < length touched.now
         → slice_index touched.now at < length view.rows.now }
     requires begun { BegunBy view.rows.now view.shifts.now levels.old seen.old risen.old view.round
@@ -154,18 +253,17 @@ fn look_touched<L: Ledger>(
         view.entry.round 0 start steps.old
         → IsPartlyLooked view.entry.rows.now view.entry.shifts.now old levels.new seen.new risen.new
         view.entry.round result start steps.new }
-    ensures seen { (place at : ℕ) → place < length touched.now
-        → at < length entries.now.rows.items
-        → slice_index entries.now.blocks.items at ≡ block_of (slice_index touched.now place)
-        → slice_index seen.new (slice_index entries.now.rows.items at) ≡ view.entry.round }
+    ensures seen { (row : ℕ) → IsTouched (length view.entry.rows.now) entries.now.rows.items
+        entries.now.nodes.items entries.now.follows.items (length touched.now) touched.now row
+        → slice_index seen.new row ≡ view.entry.round }
     ensures as_many_levels { length levels.new ≡ length levels.old }
     ensures as_many_seen { length seen.new ≡ length seen.old }
     ensures room { length risen.new ≡ length risen.old }
 {
     let mut count = 0usize;
     for row in touched {
-        let block = *row as usize / BLOCK;
-        count = look_block(view, entries, block, levels, seen, risen, count, steps);
+        let leaf = leaf_of(view.rows.len(), *row as usize);
+        count = look_above(view, entries, leaf, levels, seen, risen, count, steps);
     }
     count
 }
@@ -211,7 +309,8 @@ fn look_listed<L: Ledger>(
 }
 
 /// Looks at the rows whose distances may have changed, since one of these rows has another size: those that have an
-/// entry of its block, and those of the list. Answers how many have risen, and lists these as far as there is room.
+/// entry at the node of its block or above it, and those of the list. Answers how many have risen, and lists these as
+/// far as there is room.
 pub(crate) fn look_few<L: Ledger>(
     view: View,
     entries: &Entries,
@@ -228,9 +327,11 @@ pub(crate) fn look_few<L: Ledger>(
     requires as_many_seen { length seen.old ≡ length view.rows.now }
     requires few { length view.rows.now < 2 ^ 32 }
     requires linked { AreLinked (length view.rows.now) entries.now.rows.items
-        entries.now.blocks.items entries.now.heads.items entries.now.links.items }
-    requires blocks { length view.rows.now < 64 * vec_len entries.now.heads }
+        entries.now.nodes.items entries.now.heads.items entries.now.links.items }
+    requires nodes { vec_len entries.now.heads ≡ 2 * spec.first_leaf (length view.rows.now) }
     requires several { AreSeveral view.rows.now entries.now.rows.items }
+    requires many_follows { length entries.now.follows.items ≡ length view.rows.now }
+    requires followers { AreFollowers view.rows.now entries.now.follows.items }
     requires wide_several { AreSeveral view.rows.now wide.now }
     requires wide_within { (at : ℕ) → at < length wide.now
         → slice_index wide.now at < length view.rows.now }
@@ -238,7 +339,8 @@ pub(crate) fn look_few<L: Ledger>(
         → slice_index touched.now at < length view.rows.now }
     requires fresh { (at : ℕ) → slice_index seen.old at < view.round }
     requires calm { AreCalm view.rows.now view.shifts.now levels.old entries.now.rows.items
-        entries.now.blocks.items wide.now (length touched.now) touched.now }
+        entries.now.nodes.items entries.now.follows.items wide.now (length touched.now)
+        touched.now }
     ensures levels { levels.new
         ≡ raised levels.old (levels_needed view.entry.shifts.now view.entry.rows.now) }
     ensures part { IsPartlyLooked view.entry.rows.now view.entry.shifts.now levels.old levels.new
@@ -270,9 +372,11 @@ pub(crate) fn look_where<L: Ledger>(
     requires as_many_seen { length seen.old ≡ length view.rows.now }
     requires few { length view.rows.now < 2 ^ 32 }
     requires linked { AreLinked (length view.rows.now) entries.now.rows.items
-        entries.now.blocks.items entries.now.heads.items entries.now.links.items }
-    requires blocks { length view.rows.now < 64 * vec_len entries.now.heads }
+        entries.now.nodes.items entries.now.heads.items entries.now.links.items }
+    requires nodes { vec_len entries.now.heads ≡ 2 * spec.first_leaf (length view.rows.now) }
     requires several { AreSeveral view.rows.now entries.now.rows.items }
+    requires many_follows { length entries.now.follows.items ≡ length view.rows.now }
+    requires followers { AreFollowers view.rows.now entries.now.follows.items }
     requires wide_several { AreSeveral view.rows.now wide.now }
     requires wide_within { (at : ℕ) → at < length wide.now
         → slice_index wide.now at < length view.rows.now }
@@ -281,7 +385,8 @@ pub(crate) fn look_where<L: Ledger>(
         → slice_index touched.now at < length view.rows.now) }
     requires fresh { (at : ℕ) → slice_index seen.old at < view.round }
     requires calm { IfSome moved (λ many. AreCalm view.rows.now view.shifts.now levels.old
-        entries.now.rows.items entries.now.blocks.items wide.now many touched.now) }
+        entries.now.rows.items entries.now.nodes.items entries.now.follows.items wide.now many
+        touched.now) }
     ensures levels { levels.new
         ≡ raised levels.old (levels_needed view.entry.shifts.now view.entry.rows.now) }
     ensures rose { 0 < result → Rises levels.old levels.new }

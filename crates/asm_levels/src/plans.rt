@@ -51,8 +51,9 @@ impl Model for RowPlan {
         × AreEnds plan.rows.items plan.ends.items
         × AreDependents plan.rows.items plan.dependents.items
         × AreWatchers plan.rows.items plan.ends.items plan.watchers.entries.rows.items
-        plan.watchers.entries.blocks.items plan.watchers.entries.heads.items
-        plan.watchers.entries.links.items plan.watchers.wide.items
+        plan.watchers.entries.nodes.items plan.watchers.entries.heads.items
+        plan.watchers.entries.links.items plan.watchers.entries.follows.items
+        plan.watchers.wide.items
         × (vec_len plan.sizes ≡ vec_len plan.rows)
         × (vec_len plan.seen ≡ vec_len plan.rows)
         × (vec_len plan.risen + vec_len plan.dependents ≤ vec_len plan.touched) };

@@ -43,12 +43,14 @@ pub(crate) fn settle<L: Ledger>(
     requires ends { AreEnds all.rows.now all.ends.now }
     requires dependents { AreDependents all.rows.now dependents.now }
     requires watchers { AreWatchers all.rows.now all.ends.now entries.now.rows.items
-        entries.now.blocks.items entries.now.heads.items entries.now.links.items wide.old }
+        entries.now.nodes.items entries.now.heads.items entries.now.links.items
+        entries.now.follows.items wide.old }
     requires as_many_seen { length seen.old ≡ length all.rows.now }
     requires room { length risen.old + length dependents.now ≤ length touched.old }
     requires lowest { All (λ level. level ≡ 0) levels.old }
     ensures watchers { AreWatchers all.entry.rows.now all.entry.ends.now entries.now.rows.items
-        entries.now.blocks.items entries.now.heads.items entries.now.links.items wide.new }
+        entries.now.nodes.items entries.now.heads.items entries.now.links.items
+        entries.now.follows.items wide.new }
     ensures layout { IsLayout (need all.entry.rows.now) (tops all.entry.rows.now) levels.new result }
     ensures shifts { shifts.new ≡ shifts_of all.entry.rows.now levels.new }
     ensures small { All (λ shift. shift < 2 ^ 62) shifts.new }

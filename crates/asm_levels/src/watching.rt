@@ -1,9 +1,9 @@
 //! Which distances span each block of rows.
 
-ghost use Rattle.std.specs.Prelude.{◌≡◌, ◌⊎◌, ◌-◌, ◌/◌, ◌<◌, ◌≤◌, ◌^◌, ℕ, IfOk, IfSome, OnOk, length, slice_index, slice_index_or, vec_len};
+ghost use Rattle.std.specs.Prelude.{◌≡◌, ◌+◌, ◌*◌, ◌++◌, ◌∷◌, ◌<◌, ◌≤◌, ◌^◌, ℕ, Bool, [], IfOk, IfSome, OnOk, length, slice_index, slice_index_or, vec_len};
 ghost use Rattle.asm_levels.specs.declared.rows.Row.{Row};
 ghost use Rattle.asm_levels.specs.Watching as spec;
-ghost use Rattle.asm_levels.specs.Watching.{AreLinked, IsEntry, AreWatchers};
+ghost use Rattle.asm_levels.specs.Watching.{AreLinked, HaveMore, HasOwnEntry, AreWatchers, IsRun, block_of};
 ghost use Rattle.asm_levels.specs.Resizing.{AreEnds};
 
 use crate::distances::Distance;
@@ -14,72 +14,148 @@ use asm_base::NoMemory;
 use std::alloc::Global;
 
 /// How many rows stand in a block.
-pub(crate) const BLOCK: usize = 64;
+const BLOCK: usize = 64;
 
-/// A distance over more blocks has no entries.
-const MOST_BLOCKS: usize = 4;
+/// The node of the first block of so many rows.
+pub(crate) fn first_leaf(count: usize) -> usize
+    requires { count < 2 ^ 32 }
+    ensures { result ≡ spec.first_leaf count }
+{
+    count / BLOCK + 1
+}
 
-/// Entries of rows by the blocks that their distances span. Those of a block are linked, from the last one on.
+/// The node of the block in which a row stands.
+pub(crate) fn leaf_of(count: usize, row: usize) -> usize
+    requires count { count < 2 ^ 32 }
+    requires row { row < count }
+    ensures leaf { result ≡ spec.leaf_of count row }
+    ensures within { result < 2 * spec.first_leaf count }
+{
+    row / BLOCK + first_leaf(count)
+}
+
+/// Entries of rows at the nodes of a tree over blocks of rows, where node `n` stands above the nodes `2 * n` and
+/// `2 * n + 1`. Those of a node are linked, from the last one on.
 #[derive(Drop)]
 pub(crate) struct Entries {
     pub(crate) rows: Vec<u32>,
-    pub(crate) blocks: Vec<u32>,
-    /// For each block one more than the number of its last entry, and 0 where it has none.
+    pub(crate) nodes: Vec<u32>,
+    /// For each node one more than the number of its last entry, and 0 where it has none.
     pub(crate) heads: Vec<usize>,
-    /// For each entry one more than the number of the one of its block before it.
+    /// For each entry one more than the number of the one of its node before it.
     pub(crate) links: Vec<usize>,
+    /// For each row whether it has the entries of the row before it, and none of its own.
+    pub(crate) follows: Vec<bool>,
 }
 
 impl Entries {
-    ghost use Rattle.std.specs.Prelude.{◌≡◌, ◌⊎◌, ◌*◌, ◌<◌, ◌≤◌, ◌^◌, ℕ, [], IfOk, OnOk, length, slice_index, vec_len};
-    ghost use Rattle.asm_levels.specs.Watching.{AreLinked, IsEntry};
+    ghost use Rattle.std.specs.Prelude.{◌≡◌, ◌⊎◌, ◌+◌, ◌*◌, ◌/◌, ◌%◌, ◌<◌, ◌≤◌, ◌^◌, ℕ, [], IfOk, OnOk, length, vec_len};
+    ghost use Rattle.asm_levels.specs.Watching as spec;
+    ghost use Rattle.asm_levels.specs.Watching.{AreLinked, HaveMore, IsEntry};
 
     /// No entries, for so many rows.
     fn new(alloc: Global, count: usize) -> Result<Entries, NoMemory>
-        ensures linked { IfOk result (λ made. AreLinked count made.rows.items made.blocks.items
+        requires { count < 2 ^ 32 }
+        ensures linked { IfOk result (λ made. AreLinked count made.rows.items made.nodes.items
             made.heads.items made.links.items) }
         ensures none { IfOk result (λ made. made.rows.items ≡ []) }
-        ensures blocks { IfOk result (λ made. count < 64 * vec_len made.heads) }
+        ensures no_follows { IfOk result (λ made. made.follows.items ≡ []) }
+        ensures nodes { IfOk result (λ made. vec_len made.heads ≡ 2 * spec.first_leaf count) }
     {
         Ok(Entries {
             rows: Vec::new(alloc),
-            blocks: Vec::new(alloc),
-            heads: vec![in alloc; 0usize; count / BLOCK + 1]?,
+            nodes: Vec::new(alloc),
+            heads: vec![in alloc; 0usize; 2 * first_leaf(count)]?,
             links: Vec::new(alloc),
+            follows: Vec::new(alloc),
         })
     }
 
-    /// Adds an entry of a row, one of so many, to a block.
-    fn add(&mut self, all: EndedRows, row: usize, block: usize) -> Result<(), NoMemory>
+    /// Adds an entry of a row, one of so many, to a node.
+    fn add(&mut self, all: EndedRows, row: usize, node: usize) -> Result<(), NoMemory>
         requires inside { row < length all.rows.now }
         requires few { length all.rows.now < 2 ^ 32 }
-        requires block { block < vec_len self.old.heads }
-        requires within { block < 2 ^ 32 }
+        requires node { node < vec_len self.old.heads }
+        requires within { vec_len self.old.heads < 2 ^ 32 }
         requires linked { AreLinked (length all.rows.now) self.old.rows.items
-            self.old.blocks.items self.old.heads.items self.old.links.items }
-        ensures linked { OnOk result (AreLinked (length all.entry.rows.now) self.new.rows.items
-            self.new.blocks.items self.new.heads.items self.new.links.items) }
-        ensures blocks { vec_len self.new.heads ≡ vec_len self.old.heads }
-        ensures kept { OnOk result ((index there : ℕ)
-            → IsEntry self.old.rows.items self.old.blocks.items index there
-            → IsEntry self.new.rows.items self.new.blocks.items index there) }
-        ensures others { OnOk result ((at : ℕ) → at < length self.new.rows.items
-            → (slice_index self.new.rows.items at ≡ row)
-            ⊎ ((at < length self.old.rows.items)
-            × (slice_index self.new.rows.items at ≡ slice_index self.old.rows.items at))) }
-        ensures entry { OnOk result (IsEntry self.new.rows.items self.new.blocks.items row block) }
+            self.old.nodes.items self.old.heads.items self.old.links.items }
+        ensures more { OnOk result (HaveMore (length all.entry.rows.now) row self.old.rows.items
+            self.old.nodes.items self.new.rows.items self.new.nodes.items
+            self.new.heads.items self.new.links.items) }
+        ensures nodes { vec_len self.new.heads ≡ vec_len self.old.heads }
+        ensures follows { self.new.follows.items ≡ self.old.follows.items }
+        ensures entry { OnOk result (IsEntry self.new.rows.items self.new.nodes.items row node) }
     {
-        let before = self.heads[block];
+        let before = self.heads[node];
         let number = self.rows.len();
         self.rows.push(row as u32)?;
-        self.blocks.push(block as u32)?;
+        self.nodes.push(node as u32)?;
         self.links.push(before)?;
-        self.heads[block] = number + 1;
+        self.heads[node] = number + 1;
+        Ok(())
+    }
+
+    /// The same, where this number is odd.
+    fn add_where_odd(
+        &mut self,
+        all: EndedRows,
+        row: usize,
+        number: usize,
+        node: usize,
+    ) -> Result<(), NoMemory>
+        requires inside { row < length all.rows.now }
+        requires few { length all.rows.now < 2 ^ 32 }
+        requires node { node < vec_len self.old.heads }
+        requires within { vec_len self.old.heads < 2 ^ 32 }
+        requires linked { AreLinked (length all.rows.now) self.old.rows.items
+            self.old.nodes.items self.old.heads.items self.old.links.items }
+        ensures more { OnOk result (HaveMore (length all.entry.rows.now) row self.old.rows.items
+            self.old.nodes.items self.new.rows.items self.new.nodes.items
+            self.new.heads.items self.new.links.items) }
+        ensures nodes { vec_len self.new.heads ≡ vec_len self.old.heads }
+        ensures follows { self.new.follows.items ≡ self.old.follows.items }
+        ensures entry { OnOk result (number % 2 ≡ 1
+            → IsEntry self.new.rows.items self.new.nodes.items row node) }
+    {
+        if number % 2 == 1 {
+            self.add(all, row, node)
+        } else {
+            Ok(())
+        }
+    }
+
+    /// Of the nodes from one up to an end, adds entries of a row to the first, if it is odd, and to the last, if the end
+    /// is: the nodes above the others have no more nodes below them.
+    fn add_ends(
+        &mut self,
+        all: EndedRows,
+        row: usize,
+        first: usize,
+        end: usize,
+    ) -> Result<(), NoMemory>
+        requires inside { row < length all.rows.now }
+        requires few { length all.rows.now < 2 ^ 32 }
+        requires some { first < end }
+        requires node { end ≤ vec_len self.old.heads }
+        requires within { vec_len self.old.heads < 2 ^ 32 }
+        requires linked { AreLinked (length all.rows.now) self.old.rows.items
+            self.old.nodes.items self.old.heads.items self.old.links.items }
+        ensures more { OnOk result (HaveMore (length all.entry.rows.now) row self.old.rows.items
+            self.old.nodes.items self.new.rows.items self.new.nodes.items
+            self.new.heads.items self.new.links.items) }
+        ensures nodes { vec_len self.new.heads ≡ vec_len self.old.heads }
+        ensures follows { self.new.follows.items ≡ self.old.follows.items }
+        ensures entry { OnOk result ((node : ℕ) → first ≤ node → node < end
+            → IsEntry self.new.rows.items self.new.nodes.items row node
+            ⊎ (((first + 1) / 2 ≤ node / 2) × (node / 2 < end / 2))) }
+    {
+        self.add_where_odd(all, row, first, first)?;
+        self.add_where_odd(all, row, end, end - 1)?;
         Ok(())
     }
 }
 
-/// Adds entries of a row to the blocks from one to another.
+/// Adds entries of a row to the nodes that stand above just the blocks from one to another: at most two of each height.
 fn add_all(
     entries: &mut Entries,
     all: EndedRows,
@@ -89,30 +165,70 @@ fn add_all(
 ) -> Result<(), NoMemory>
     requires inside { row < length all.rows.now }
     requires few { length all.rows.now < 2 ^ 32 }
-    requires block { last < vec_len entries.old.heads }
-    requires within { last < 2 ^ 32 }
+    requires first { first ≤ block_of (length all.rows.now) }
+    requires last { last ≤ block_of (length all.rows.now) }
+    requires nodes { vec_len entries.old.heads ≡ 2 * spec.first_leaf (length all.rows.now) }
     requires linked { AreLinked (length all.rows.now) entries.old.rows.items
-        entries.old.blocks.items entries.old.heads.items entries.old.links.items }
-    ensures linked { OnOk result (AreLinked (length all.entry.rows.now) entries.new.rows.items
-        entries.new.blocks.items entries.new.heads.items entries.new.links.items) }
-    ensures blocks { vec_len entries.new.heads ≡ vec_len entries.old.heads }
-    ensures kept { OnOk result ((index there : ℕ)
-        → IsEntry entries.old.rows.items entries.old.blocks.items index there
-        → IsEntry entries.new.rows.items entries.new.blocks.items index there) }
-    ensures others { OnOk result ((at : ℕ) → at < length entries.new.rows.items
-        → (slice_index entries.new.rows.items at ≡ row)
-        ⊎ ((at < length entries.old.rows.items)
-        × (slice_index entries.new.rows.items at ≡ slice_index entries.old.rows.items at))) }
+        entries.old.nodes.items entries.old.heads.items entries.old.links.items }
+    ensures more { OnOk result (HaveMore (length all.entry.rows.now) row entries.old.rows.items
+        entries.old.nodes.items entries.new.rows.items entries.new.nodes.items
+        entries.new.heads.items entries.new.links.items) }
+    ensures nodes { vec_len entries.new.heads ≡ vec_len entries.old.heads }
+    ensures follows { entries.new.follows.items ≡ entries.old.follows.items }
     ensures entry { OnOk result ((block : ℕ) → first ≤ block → block ≤ last
-        → IsEntry entries.new.rows.items entries.new.blocks.items row block) }
+        → HasOwnEntry entries.new.rows.items entries.new.nodes.items row
+        (block + spec.first_leaf (length all.entry.rows.now))) }
 {
-    for block in first..last + 1 {
-        entries.add(all, row, block)?;
+    let leaf = first_leaf(all.rows.len());
+    let mut low = leaf + first;
+    let mut end = leaf + last + 1;
+    while low < end {
+        entries.add_ends(all, row, low, end)?;
+        low = (low + 1) / 2;
+        end /= 2;
     }
     Ok(())
 }
 
-/// The rows whose distances are looked at: by entries where these span few blocks, and else by a list.
+/// Gives a row entries for the blocks from one to another: those of the row before it, where that has entries for just
+/// these blocks, and else its own.
+fn add_run(
+    entries: &mut Entries,
+    all: EndedRows,
+    row: usize,
+    first: usize,
+    last: usize,
+    before: (usize, usize),
+) -> Result<(), NoMemory>
+    requires inside { row < length all.rows.now }
+    requires few { length all.rows.now < 2 ^ 32 }
+    requires first { first ≤ block_of (length all.rows.now) }
+    requires last { last ≤ block_of (length all.rows.now) }
+    requires nodes { vec_len entries.old.heads ≡ 2 * spec.first_leaf (length all.rows.now) }
+    requires linked { AreLinked (length all.rows.now) entries.old.rows.items
+        entries.old.nodes.items entries.old.heads.items entries.old.links.items }
+    requires many_follows { length entries.old.follows.items ≡ row }
+    requires before { IsRun (length all.rows.now) entries.old.rows.items entries.old.nodes.items
+        entries.old.follows.items before.0 before.1 row }
+    ensures more { OnOk result (HaveMore (length all.entry.rows.now) row entries.old.rows.items
+        entries.old.nodes.items entries.new.rows.items entries.new.nodes.items
+        entries.new.heads.items entries.new.links.items) }
+    ensures nodes { vec_len entries.new.heads ≡ vec_len entries.old.heads }
+    ensures follows { OnOk result ((flag : Bool)
+        × (entries.new.follows.items ≡ entries.old.follows.items ++ flag ∷ [])) }
+    ensures run { OnOk result (IsRun (length all.entry.rows.now) entries.new.rows.items
+        entries.new.nodes.items entries.new.follows.items first last (row + 1)) }
+{
+    if first == before.0 && last == before.1 {
+        entries.follows.push(true)?;
+    } else {
+        add_all(entries, all, row, first, last)?;
+        entries.follows.push(false)?;
+    }
+    Ok(())
+}
+
+/// The rows whose distances are looked at: by entries where these stand within a section, and else by a list.
 #[derive(Drop)]
 pub(crate) struct Watchers {
     pub(crate) entries: Entries,
@@ -140,18 +256,19 @@ fn span_of(size: &RowSize) -> Option<(usize, usize)>
     }
 }
 
-/// The same, where they stand in one section and few blocks apart.
-fn narrow_span(all: EndedRows, row: usize) -> Option<(usize, usize)>
+/// The same, where they stand in one section.
+fn span_within(all: EndedRows, row: usize) -> Option<(usize, usize)>
     requires inside { row < length all.rows.now }
     requires ends { AreEnds all.rows.now all.ends.now }
     ensures span { IfSome result (λ span. (default : Row) → spec.RowSpans
         (slice_index_or all.entry.rows.now row default).size span.0 span.1) }
     ensures section { IfSome result (λ span. span.1 < slice_index all.entry.ends.now span.0) }
-    ensures within { IfSome result (λ span. span.1 < length all.entry.rows.now) }
+    ensures first { IfSome result (λ span. span.0 < length all.entry.rows.now) }
+    ensures last { IfSome result (λ span. span.1 < length all.entry.rows.now) }
 {
     let (first, last) = span_of(&all.rows[row].size)?;
     let end = *all.ends.get(first)? as usize;
-    if last < end && last / BLOCK - first / BLOCK < MOST_BLOCKS {
+    if last < end {
         Some((first, last))
     } else {
         None
@@ -161,31 +278,49 @@ fn narrow_span(all: EndedRows, row: usize) -> Option<(usize, usize)>
 impl Watchers {
     ghost use Rattle.std.specs.Prelude.{◌≡◌, ◌+◌, ◌<◌, ◌≤◌, ◌^◌, ℕ, IfOk, OnOk, length, vec_len};
     ghost use Rattle.asm_levels.specs.Resizing.{AreEnds};
-    ghost use Rattle.asm_levels.specs.Watching.{FirstWatchers, AreWatchers};
+    ghost use Rattle.asm_levels.specs.Watching.{FirstWatchers, AreWatchers, IsRun};
 
-    /// Has the distance of a row looked at where it may have changed.
-    fn watch(&mut self, all: EndedRows, row: usize) -> Result<(), NoMemory>
+    /// Has the distance of a row looked at where it may have changed. Takes the first and the last block for which the
+    /// row before it has entries, and answers those of this row: block 1 to block 0, where it has none.
+    fn watch(
+        &mut self,
+        all: EndedRows,
+        row: usize,
+        before: (usize, usize),
+    ) -> Result<(usize, usize), NoMemory>
         requires inside { row < length all.rows.now }
         requires few { length all.rows.now < 2 ^ 32 }
         requires ends { AreEnds all.rows.now all.ends.now }
         requires first { FirstWatchers all.rows.now all.ends.now self.old.entries.rows.items
-            self.old.entries.blocks.items self.old.entries.heads.items
-            self.old.entries.links.items self.old.wide.items row }
-        ensures { OnOk result (FirstWatchers all.entry.rows.now all.entry.ends.now
-            self.new.entries.rows.items self.new.entries.blocks.items
-            self.new.entries.heads.items self.new.entries.links.items self.new.wide.items
-            (row + 1)) }
+            self.old.entries.nodes.items self.old.entries.heads.items
+            self.old.entries.links.items self.old.entries.follows.items self.old.wide.items row }
+        requires before { IsRun (length all.rows.now) self.old.entries.rows.items
+            self.old.entries.nodes.items self.old.entries.follows.items before.0 before.1 row }
+        ensures first { OnOk result (FirstWatchers all.entry.rows.now all.entry.ends.now
+            self.new.entries.rows.items self.new.entries.nodes.items
+            self.new.entries.heads.items self.new.entries.links.items
+            self.new.entries.follows.items self.new.wide.items (row + 1)) }
+        ensures run { IfOk result (λ run. IsRun (length all.entry.rows.now)
+            self.new.entries.rows.items self.new.entries.nodes.items
+            self.new.entries.follows.items run.0 run.1 (row + 1)) }
     {
         if top(&all.rows[row].size) == 0 {
-            return Ok(());
+            self.entries.follows.push(false)?;
+            return Ok((1, 0));
         }
-        match narrow_span(all, row) {
-            Some((first, last)) => {
-                add_all(&mut self.entries, all, row, first / BLOCK, last / BLOCK)?;
+        match span_within(all, row) {
+            Some((start, end)) => {
+                let first = start / BLOCK;
+                let last = end / BLOCK;
+                add_run(&mut self.entries, all, row, first, last, before)?;
+                Ok((first, last))
             }
-            None => self.wide.push(row as u32)?,
+            None => {
+                self.wide.push(row as u32)?;
+                self.entries.follows.push(false)?;
+                Ok((1, 0))
+            }
         }
-        Ok(())
     }
 
     /// The watchers of all rows.
@@ -193,15 +328,16 @@ impl Watchers {
         requires few { length all.rows.now < 2 ^ 32 }
         requires ends { AreEnds all.rows.now all.ends.now }
         ensures { IfOk result (λ made. AreWatchers all.entry.rows.now all.entry.ends.now
-            made.entries.rows.items made.entries.blocks.items made.entries.heads.items
-            made.entries.links.items made.wide.items) }
+            made.entries.rows.items made.entries.nodes.items made.entries.heads.items
+            made.entries.links.items made.entries.follows.items made.wide.items) }
     {
         let mut made = Watchers {
             entries: Entries::new(alloc, all.rows.len())?,
             wide: Vec::new(alloc),
         };
+        let mut run = (1, 0);
         for row in 0..all.rows.len() {
-            made.watch(all, row)?;
+            run = made.watch(all, row, run)?;
         }
         Ok(made)
     }

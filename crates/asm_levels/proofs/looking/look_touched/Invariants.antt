@@ -1,6 +1,6 @@
--- The blocks of the rows so far were looked at.
-use Rattle.std.proofs.Common.{◌≡◌, ◌<◌, ℕ, List, length, get_or}
-use Rattle.asm_levels.specs.Watching.{block_of}
+-- The nodes above the rows so far were looked at.
+use Rattle.std.proofs.Common.{◌≡◌, ℕ, List, length, get_or}
+use Rattle.asm_levels.specs.Watching.{IsTouched}
 use Rattle.asm_levels.specs.Looking.{IsPartlyLooked}
 use Rattle.asm_levels.proofs.looking.look_touched.Given as goal
 
@@ -8,8 +8,7 @@ abbrev pub invariant-loop-row : goal.invariant-loop-row
 invariant-loop-row g l = record {
   part : (old : List ℕ) (start : ℕ) → IsPartlyLooked l.view.rows.now l.view.shifts.now old l.fn.levels l.fn.seen l.fn.risen l.view.round 0 start l.fn.steps
       → IsPartlyLooked l.view.rows.now l.view.shifts.now old l.levels l.seen l.risen l.view.round l.count start l.steps;
-  done : (place at : ℕ) → place < l.row-index → at < length l.entries.rows.items → get_or l.entries.blocks.items at 0 ≡ block_of (get_or l.touched place 0)
-      → get_or l.seen (get_or l.entries.rows.items at 0) 0 ≡ l.view.round;
+  done : (row : ℕ) → IsTouched (length l.view.rows.now) l.entries.rows.items l.entries.nodes.items l.entries.follows.items l.row-index l.touched row → get_or l.seen row 0 ≡ l.view.round;
   many_levels : length l.levels ≡ length l.fn.levels;
   many_seen : length l.seen ≡ length l.fn.seen;
   room : length l.risen ≡ length l.fn.risen;

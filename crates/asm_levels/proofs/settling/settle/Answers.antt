@@ -89,8 +89,8 @@ loop-rounds-preserved g c =
     let many_later = c.levels_stay_within.ensures.items (need rows) (tops rows) c.args.levels.now c.look_where-count.new.levels (c.loop-rounds.rounds + 1) after in
     let entries = c.args.entries.now in
     let wide = c.put_highest_last-left.new.list in
-    let watchers : AreWatchers rows c.args.all.ends.now entries.rows.items entries.blocks.items entries.heads.items entries.links.items wide = watchers_same rows c.args.all.ends.now entries.rows.items entries.blocks.items entries.heads.items
-    entries.links.items c.loop-rounds.wide wide c.put_highest_last-left.ensures.same_rows c.loop-rounds.invariant.watchers in
+    let watchers : AreWatchers rows c.args.all.ends.now entries.rows.items entries.nodes.items entries.heads.items entries.links.items entries.follows.items wide = watchers_same rows c.args.all.ends.now entries.rows.items entries.nodes.items entries.heads.items
+    entries.links.items entries.follows.items c.loop-rounds.wide wide c.put_highest_last-left.ensures.same_rows c.loop-rounds.invariant.watchers in
     let nine_later = nine_from rows c.look_where-count.new.levels many_later
     (λ index inside. c.levels_stay_within.ensures.tops (need rows) (tops rows) c.args.levels.now c.look_where-count.new.levels (c.loop-rounds.rounds + 1) index after inside) in
     let small_later = subst (λ (all : List ℕ). All (λ shift. shift < 2 ^ 62) all) (sym c.move_rows-moved.ensures.shifts) (shifts_small rows c.look_where-count.new.levels c.requires.stand nine_later (many_later ∙ long) c.requires.bytes) in
@@ -114,7 +114,7 @@ loop-rounds-preserved g c =
       end = c.move_rows-moved.ensures.end;
       inside = c.move_rows-moved.ensures.within;
       calm = calm_if rows c.args.all.ends.now c.loop-rounds.sizes c.move_rows-moved.new.sizes c.loop-rounds.shifts c.move_rows-moved.new.shifts c.move_rows-moved.new.touched
-          entries.rows.items entries.blocks.items wide c.look_where-count.new.levels c.put_highest_last-left.result c.move_rows-moved.result
+          entries.rows.items entries.nodes.items entries.follows.items wide c.look_where-count.new.levels c.put_highest_last-left.result c.move_rows-moved.result
           c.loop-rounds.invariant.moved c.move_rows-moved.ensures.moved c.requires.ends small small_later watchers.covered c.put_highest_last-left.ensures.highest holds c.move_rows-moved.ensures.touched;
       left = c.put_highest_last-left.ensures.end;
       highest = c.put_highest_last-left.ensures.highest;

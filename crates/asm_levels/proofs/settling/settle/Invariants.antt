@@ -23,10 +23,10 @@ invariant-loop-rounds g l = record {
   room : length l.risen + length l.dependents ≤ length l.touched;
   end : IfSome l.moved (λ many. many ≤ length l.touched);
   inside : IfSome l.moved (λ many. (at : ℕ) → at < many → get_or l.touched at 0 < length l.all.rows.now);
-  calm : IfSome l.moved (λ many. AreCalm l.all.rows.now l.shifts l.levels l.entries.rows.items l.entries.blocks.items (take l.left l.wide) many l.touched);
+  calm : IfSome l.moved (λ many. AreCalm l.all.rows.now l.shifts l.levels l.entries.rows.items l.entries.nodes.items l.entries.follows.items (take l.left l.wide) many l.touched);
   left : l.left ≤ length l.wide;
   highest : AreHighest l.all.rows.now l.levels l.left l.wide;
-  watchers : AreWatchers l.all.rows.now l.all.ends.now l.entries.rows.items l.entries.blocks.items l.entries.heads.items l.entries.links.items l.wide;
+  watchers : AreWatchers l.all.rows.now l.all.ends.now l.entries.rows.items l.entries.nodes.items l.entries.heads.items l.entries.links.items l.entries.follows.items l.wide;
 }
 
 abbrev pub decreases-loop-rounds : goal.decreases-loop-rounds

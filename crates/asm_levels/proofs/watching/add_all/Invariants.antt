@@ -1,14 +1,19 @@
--- The blocks so far have entries of the row.
-use Rattle.std.proofs.Common.{◌≡◌, ◌⊎◌, ◌<◌, ◌≤◌, ℕ, length, get_or}
+-- Each block has an entry of the row, or one of the nodes that are left is above it.
+use Rattle.std.proofs.Common.{◌≡◌, ◌+◌, ◌*◌, ◌<◌, ◌≤◌, ℕ, length}
 use Rattle.std.specs.Prelude.{vec_len}
-use Rattle.asm_levels.specs.Watching.{AreLinked, IsEntry}
+use Rattle.asm_levels.specs.Watching.{HaveMore, first_leaf}
+use Rattle.asm_levels.proofs.TreeLemmas.{IsReached}
 use Rattle.asm_levels.proofs.watching.add_all.Given as goal
 
-abbrev pub invariant-loop-block : goal.invariant-loop-block
-invariant-loop-block l = record {
-  linked : AreLinked (length l.all.rows.now) l.entries.rows.items l.entries.blocks.items l.entries.heads.items l.entries.links.items;
+abbrev pub invariant-loop-low : goal.invariant-loop-low
+invariant-loop-low l = record {
+  more : HaveMore (length l.all.rows.now) l.row l.fn.entries.rows.items l.fn.entries.nodes.items l.entries.rows.items l.entries.nodes.items l.entries.heads.items l.entries.links.items;
   heads : vec_len l.entries.heads ≡ vec_len l.fn.entries.heads;
-  kept : (index there : ℕ) → IsEntry l.fn.entries.rows.items l.fn.entries.blocks.items index there → IsEntry l.entries.rows.items l.entries.blocks.items index there;
-  others : (at : ℕ) → at < length l.entries.rows.items → (get_or l.entries.rows.items at 0 ≡ l.row) ⊎ ((at < length l.fn.entries.rows.items) × (get_or l.entries.rows.items at 0 ≡ get_or l.fn.entries.rows.items at 0));
-  entry : (block : ℕ) → l.first ≤ block → block < l.block → IsEntry l.entries.rows.items l.entries.blocks.items l.row block;
+  follows : l.entries.follows.items ≡ l.fn.entries.follows.items;
+  some : 0 < l.low;
+  bound : l.end ≤ 2 * first_leaf (length l.all.rows.now);
+  entry : (block : ℕ) → l.first ≤ block → block ≤ l.last → IsReached l.entries.rows.items l.entries.nodes.items l.row (block + first_leaf (length l.all.rows.now)) l.low l.end;
 }
+
+abbrev pub decreases-loop-low : goal.decreases-loop-low
+decreases-loop-low l = l.end
