@@ -4,6 +4,7 @@
   bench/layouts.py jumps 400000      so many jumps to one label: all but the last are near, in two rounds
   bench/layouts.py cascade 8000      so many jumps, each of which makes the one before it grow: one round more than jumps
   bench/layouts.py leb128 16000      so many LEB128 differences over jumps that grow: three rounds
+  bench/layouts.py far 4000          so many jumps of a cascade, each beside a LEB128 difference over 400 rows
 """
 import sys
 
@@ -29,7 +30,19 @@ def leb128(count):
         yield from ['uleb128 2f-1f', 'label 1', 'jmp 3f', 'bytes 125', 'label 2', 'bytes 10', 'label 3']
 
 
-CASES = {'jumps': jumps, 'cascade': cascade, 'leb128': leb128}
+def far(count):
+    """A cascade, where a difference stands behind each jump, back over 200 jumps and as many differences."""
+    for number in range(1, count + 1):
+        yield f'label {10 + number % 201}'
+        yield f'jmp {number % 2}f'
+        if number > 1:
+            yield f'label {(number - 1) % 2}'
+        yield f'uleb128 {10 + number % 201}b-{10 + max(1, number - 200) % 201}b'
+        yield 'bytes 122' if number < count else 'bytes 128'
+    yield f'label {count % 2}'
+
+
+CASES = {'jumps': jumps, 'cascade': cascade, 'leb128': leb128, 'far': far}
 
 if len(sys.argv) != 3 or sys.argv[1] not in CASES or not sys.argv[2].isdigit():
     sys.exit(__doc__)
