@@ -5,7 +5,7 @@ use Rattle.asm_levels.specs.declared.rows.RowSize.TheVariants.{Fixed, Align, Org
 use Rattle.asm_levels.specs.declared.rows.Row.{Row}
 use Rattle.asm_levels.specs.Sizes.{size_at}
 
--- how far the row behind one is moved that is moved so far and has so many bytes: behind an end mark, not at all
+-- the shift of the row behind one of this size and shift, which has so many bytes: 0 behind an end mark
 abbrev pub moved_past : RowSize → ℕ → ℕ → ℕ
 moved_past (Fixed held) shift bytes = shift + bytes
 moved_past (Align log most) shift bytes = shift + bytes

@@ -49,7 +49,7 @@ size_from start End level address = 0
 unfoldable pub size_at : List ℕ → RowSize → ℕ → ℕ → ℕ
 size_at shifts size level address = size_from (start_of shifts size) size level address
 
--- the most bytes of a row, at any level and address; those of an `.org` past the row that it counts from
+-- a bound on the bytes of a row, at any level and address; of an `.org`, on those past the row that it counts from
 unfoldable pub most_bytes : RowSize → ℕ
 most_bytes (Fixed bytes) = bytes
 most_bytes (Align log most) = 2 ^ log

@@ -35,7 +35,7 @@ NamesRows count (Leb128 signed distance) = DistanceStands count distance
 NamesRows count (Advance distance) = DistanceStands count distance
 NamesRows count End = Unit {0}
 
--- the row of this index stands among so many: its alignment, its `.org`, its distance, and 2^33 plain bytes before it
+-- the row of this index stands among so many: its alignment, its `.org`, its distance, and at most 2^33 plain bytes before it
 pub record RowStands (count index : ℕ) (row : Row) : Type 0 where
   pub align : AlignStands row.size
   pub org : OrgStands (index + 1) row.size
