@@ -13,6 +13,7 @@ pub mod EndLemmas
 pub mod LinkLemmas
 pub mod TreeLemmas
 pub mod RunLemmas
+pub mod PassLemmas
 pub mod WatchLemmas
 pub mod WideLemmas
 pub mod PartLemmas

@@ -4,7 +4,7 @@ use Rattle.level_ranks.specs.Rounds.{Rises}
 use Rattle.asm_levels.specs.declared.rows.Row.{Row}
 use Rattle.asm_levels.specs.Needs.{levels_needed, has_levels}
 use Rattle.asm_levels.specs.Resizing.{IsAmong, AreListed}
-use Rattle.asm_levels.specs.Watching.{IsTouched}
+use Rattle.asm_levels.specs.Watching.{IsTouched, IsFollowed, IsAbove}
 
 -- how many rows were looked at in this round, by the rounds in which each was looked at last
 unfoldable pub looked_at : ℕ → List ℕ → ℕ
@@ -27,6 +27,16 @@ pub record IsPartlyLooked (rows : List Row) (shifts old now seen risen : List �
   pub counted : count ≤ looked_at round seen
   pub ticks : steps ≤ start + looked_at round seen
   pub later : start ≤ steps
+
+-- the rows that have an entry at this node were looked at in this round
+abbrev pub AreSeen : List ℕ → List ℕ → List Bool → List ℕ → ℕ → ℕ → Type 0
+AreSeen rows nodes follows seen round node = (at row : ℕ) → at < length rows → slice_index nodes at ≡ node
+    → IsFollowed follows (slice_index rows at) row → slice_index seen row ≡ round
+
+-- where a node was passed in this round, the rows that have an entry at it or at one above it were looked at
+abbrev pub ArePassed : List ℕ → List ℕ → List Bool → List ℕ → List ℕ → ℕ → Type 0
+ArePassed rows nodes follows seen passed round = (node above : ℕ) → slice_index passed node ≡ round → 0 < above → IsAbove above node
+    → AreSeen rows nodes follows seen round above
 
 -- the round began with some levels and steps
 abbrev pub BegunBy : List Row → List ℕ → List ℕ → List ℕ → List ℕ → ℕ → ℕ → ℕ → Type 0

@@ -8,7 +8,7 @@ ghost use Rattle.asm_levels.specs.Standing.{AllStand};
 ghost use Rattle.asm_levels.specs.Resizing.{AreListed, IsAmong};
 ghost use Rattle.asm_levels.specs.Watching.{AreLinked, AreSeveral, AreFollowers, AreHighest, HaveSameRows, HasEntryAbove, IsFollowed, IsTouched};
 ghost use Rattle.asm_levels.specs.Watching as spec;
-ghost use Rattle.asm_levels.specs.Looking.{IsPartlyLooked, BegunBy, AreCalm};
+ghost use Rattle.asm_levels.specs.Looking.{IsPartlyLooked, BegunBy, AreCalm, ArePassed};
 
 use crate::needs::top;
 use crate::rounds::{level_taken, look, note};
@@ -176,13 +176,15 @@ fn look_node<L: Ledger>(
     count
 }
 
-/// Looks at the rows that have an entry at this node or at one above it. Answers how many have risen.
+/// Looks at the rows that have an entry at this node or at one above it, up to a node that was passed in this round.
+/// Answers how many have risen.
 fn look_above<L: Ledger>(
     view: View,
     entries: &Entries,
     leaf: usize,
     levels: &mut [u8],
     seen: &mut [u64],
+    passed: &mut [u64],
     risen: &mut [u32],
     count: usize,
     steps: &mut Steps<L>,
@@ -194,6 +196,9 @@ fn look_above<L: Ledger>(
     requires few { length view.rows.now < 2 ^ 32 }
     requires linked { AreLinked (length view.rows.now) entries.now.rows.items
         entries.now.nodes.items entries.now.heads.items entries.now.links.items }
+    requires as_many_passed { length passed.old ≡ vec_len entries.now.heads }
+    requires passed { ArePassed entries.now.rows.items entries.now.nodes.items
+        entries.now.follows.items seen.old passed.old view.round }
     requires leaf { leaf < vec_len entries.now.heads }
     requires several { AreSeveral view.rows.now entries.now.rows.items }
     requires many_follows { length entries.now.follows.items ≡ length view.rows.now }
@@ -207,6 +212,11 @@ fn look_above<L: Ledger>(
         view.entry.round result start steps.new }
     ensures seen { (row : ℕ) → HasEntryAbove entries.now.rows.items entries.now.nodes.items
         entries.now.follows.items row leaf → slice_index seen.new row ≡ view.entry.round }
+    ensures passed { ArePassed entries.now.rows.items entries.now.nodes.items
+        entries.now.follows.items seen.new passed.new view.entry.round }
+    ensures stamps { ((at : ℕ) → slice_index passed.old at ≤ view.entry.round)
+        → (at : ℕ) → slice_index passed.new at ≤ view.entry.round }
+    ensures as_many_passed { length passed.new ≡ length passed.old }
     ensures kept { (at : ℕ) → slice_index seen.old at ≡ view.entry.round
         → slice_index seen.new at ≡ view.entry.round }
     ensures as_many_levels { length levels.new ≡ length levels.old }
@@ -216,6 +226,10 @@ fn look_above<L: Ledger>(
     let mut count = count;
     let mut node = leaf;
     while node > 0 {
+        if passed[node] == view.round {
+            return count;
+        }
+        passed[node] = view.round;
         count = look_node(view, entries, node, levels, seen, risen, count, steps);
         node /= 2;
     }
@@ -230,6 +244,7 @@ fn look_touched<L: Ledger>(
     touched: &[u32],
     levels: &mut [u8],
     seen: &mut [u64],
+    passed: &mut [u64],
     risen: &mut [u32],
     steps: &mut Steps<L>,
 ) -> usize
@@ -244,6 +259,8 @@ fn look_touched<L: Ledger>(
     requires several { AreSeveral view.rows.now entries.now.rows.items }
     requires many_follows { length entries.now.follows.items ≡ length view.rows.now }
     requires followers { AreFollowers view.rows.now entries.now.follows.items }
+    requires as_many_passed { length passed.old ≡ vec_len entries.now.heads }
+    requires fresh_passed { (at : ℕ) → slice_index passed.old at < view.round }
     requires inside { (at : ℕ) → at < length touched.now
         → slice_index touched.now at < length view.rows.now }
     requires begun { BegunBy view.rows.now view.shifts.now levels.old seen.old risen.old view.round
@@ -256,6 +273,8 @@ fn look_touched<L: Ledger>(
     ensures seen { (row : ℕ) → IsTouched (length view.entry.rows.now) entries.now.rows.items
         entries.now.nodes.items entries.now.follows.items (length touched.now) touched.now row
         → slice_index seen.new row ≡ view.entry.round }
+    ensures passed { (at : ℕ) → slice_index passed.new at ≤ view.entry.round }
+    ensures as_many_passed { length passed.new ≡ length passed.old }
     ensures as_many_levels { length levels.new ≡ length levels.old }
     ensures as_many_seen { length seen.new ≡ length seen.old }
     ensures room { length risen.new ≡ length risen.old }
@@ -263,7 +282,9 @@ fn look_touched<L: Ledger>(
     let mut count = 0usize;
     for row in touched {
         let leaf = leaf_of(view.rows.len(), *row as usize);
-        count = look_above(view, entries, leaf, levels, seen, risen, count, steps);
+        count = look_above(
+            view, entries, leaf, levels, seen, passed, risen, count, steps,
+        );
     }
     count
 }
@@ -318,6 +339,7 @@ pub(crate) fn look_few<L: Ledger>(
     touched: &[u32],
     levels: &mut [u8],
     seen: &mut [u64],
+    passed: &mut [u64],
     risen: &mut [u32],
     steps: &mut Steps<L>,
 ) -> usize
@@ -337,6 +359,8 @@ pub(crate) fn look_few<L: Ledger>(
         → slice_index wide.now at < length view.rows.now }
     requires inside { (at : ℕ) → at < length touched.now
         → slice_index touched.now at < length view.rows.now }
+    requires as_many_passed { length passed.old ≡ vec_len entries.now.heads }
+    requires fresh_passed { (at : ℕ) → slice_index passed.old at < view.round }
     requires fresh { (at : ℕ) → slice_index seen.old at < view.round }
     requires calm { AreCalm view.rows.now view.shifts.now levels.old entries.now.rows.items
         entries.now.nodes.items entries.now.follows.items wide.now (length touched.now)
@@ -346,11 +370,13 @@ pub(crate) fn look_few<L: Ledger>(
     ensures part { IsPartlyLooked view.entry.rows.now view.entry.shifts.now levels.old levels.new
         seen.new risen.new view.entry.round result steps.old steps.new }
     ensures room { length risen.new ≡ length risen.old }
+    ensures passed { (at : ℕ) → slice_index passed.new at ≤ view.entry.round }
+    ensures as_many_passed { length passed.new ≡ length passed.old }
     ensures as_many_seen { length seen.new ≡ length seen.old }
     ensures at_most { steps.new ≤ steps.old + several view.entry.rows.now }
 {
     raised_by_index();
-    let count = look_touched(view, entries, touched, levels, seen, risen, steps);
+    let count = look_touched(view, entries, touched, levels, seen, passed, risen, steps);
     look_listed(view, wide, levels, seen, risen, count, steps)
 }
 
@@ -363,6 +389,7 @@ pub(crate) fn look_where<L: Ledger>(
     touched: &[u32],
     levels: &mut [u8],
     seen: &mut [u64],
+    passed: &mut [u64],
     risen: &mut [u32],
     steps: &mut Steps<L>,
 ) -> usize
@@ -383,6 +410,8 @@ pub(crate) fn look_where<L: Ledger>(
     requires end { IfSome moved (λ many. many ≤ length touched.now) }
     requires inside { IfSome moved (λ many. (at : ℕ) → at < many
         → slice_index touched.now at < length view.rows.now) }
+    requires as_many_passed { length passed.old ≡ vec_len entries.now.heads }
+    requires fresh_passed { (at : ℕ) → slice_index passed.old at < view.round }
     requires fresh { (at : ℕ) → slice_index seen.old at < view.round }
     requires calm { IfSome moved (λ many. AreCalm view.rows.now view.shifts.now levels.old
         entries.now.rows.items entries.now.nodes.items entries.now.follows.items wide.now many
@@ -396,6 +425,8 @@ pub(crate) fn look_where<L: Ledger>(
         → slice_index risen.new at < length view.entry.rows.now }
     ensures room { length risen.new ≡ length risen.old }
     ensures seen { (at : ℕ) → slice_index seen.new at ≤ view.entry.round }
+    ensures passed { (at : ℕ) → slice_index passed.new at ≤ view.entry.round }
+    ensures as_many_passed { length passed.new ≡ length passed.old }
     ensures as_many_seen { length seen.new ≡ length seen.old }
     ensures at_most { steps.new ≤ steps.old + several view.entry.rows.now }
     ensures at_least { steps.old ≤ steps.new }
@@ -405,7 +436,9 @@ pub(crate) fn look_where<L: Ledger>(
     match moved {
         Some(many) => {
             let rows = &touched[..many];
-            look_few(view, entries, wide, rows, levels, seen, risen, steps)
+            look_few(
+                view, entries, wide, rows, levels, seen, passed, risen, steps,
+            )
         }
         None => look(view.rows, view.shifts, levels, risen, steps),
     }

@@ -30,6 +30,8 @@ pub struct RowPlan {
     watchers: Watchers,
     /// The round in which each row was looked at last, of those that did not look at all.
     seen: Vec<u64>,
+    /// The round in which each node over blocks of rows was passed last.
+    passed: Vec<u64>,
     /// Room for the rows whose levels rise in a round, where these are few.
     risen: Vec<u32>,
     /// Room for the rows that have another size than in the round before.
@@ -56,6 +58,7 @@ impl Model for RowPlan {
         plan.watchers.wide.items
         × (vec_len plan.sizes ≡ vec_len plan.rows)
         × (vec_len plan.seen ≡ vec_len plan.rows)
+        × (vec_len plan.passed ≡ vec_len plan.watchers.entries.heads)
         × (vec_len plan.risen + vec_len plan.dependents ≤ vec_len plan.touched) };
 }
 
@@ -86,6 +89,7 @@ impl RowPlan {
         };
         let watchers = Watchers::new(alloc, all)?;
         let seen = vec![in alloc; 0u64; rows.len()]?;
+        let passed = vec![in alloc; 0u64; watchers.entries.heads.len()]?;
         let few = rows.len() / FEW;
         let risen = vec![in alloc; 0u32; few]?;
         let touched = vec![in alloc; 0u32; few + dependents.len()]?;
@@ -98,6 +102,7 @@ impl RowPlan {
             dependents,
             watchers,
             seen,
+            passed,
             risen,
             touched,
         })
@@ -132,6 +137,7 @@ impl RowPlan {
             &mut self.sizes,
             &mut self.shifts,
             &mut self.seen,
+            &mut self.passed,
             &mut self.risen,
             &mut self.touched,
             steps,

@@ -1,6 +1,6 @@
 //! Rounds, until none raises a level.
 
-ghost use Rattle.std.specs.Prelude.{◌≡◌, ◌+◌, ◌*◌, ◌^◌, ◌<◌, ◌≤◌, ℕ, All, length, sum, slice_index};
+ghost use Rattle.std.specs.Prelude.{◌≡◌, ◌+◌, ◌*◌, ◌^◌, ◌<◌, ◌≤◌, ℕ, All, length, sum, slice_index, vec_len};
 ghost use Rattle.level_ranks.specs.Ranks.{IsLayout};
 ghost use Rattle.asm_levels.specs.Sizes.{most_in};
 ghost use Rattle.asm_levels.specs.Shifts.{shifts_of};
@@ -30,6 +30,7 @@ pub(crate) fn settle<L: Ledger>(
     sizes: &mut [u64],
     shifts: &mut RangeTable,
     seen: &mut [u64],
+    passed: &mut [u64],
     risen: &mut [u32],
     touched: &mut [u32],
     steps: &mut Steps<L>,
@@ -45,6 +46,7 @@ pub(crate) fn settle<L: Ledger>(
     requires watchers { AreWatchers all.rows.now all.ends.now entries.now.rows.items
         entries.now.nodes.items entries.now.heads.items entries.now.links.items
         entries.now.follows.items wide.old }
+    requires as_many_passed { length passed.old ≡ vec_len entries.now.heads }
     requires as_many_seen { length seen.old ≡ length all.rows.now }
     requires room { length risen.old + length dependents.now ≤ length touched.old }
     requires lowest { All (λ level. level ≡ 0) levels.old }
@@ -71,6 +73,7 @@ pub(crate) fn settle<L: Ledger>(
     levels_hold();
     place_anew(all.rows, levels, sizes, shifts);
     forget(seen);
+    forget(passed);
     let mut rounds = 0u64;
     let mut moved: Option<usize> = None;
     let mut left = wide.len();
@@ -83,7 +86,7 @@ pub(crate) fn settle<L: Ledger>(
         };
         let listed = &wide[..left];
         let count = look_where(
-            view, entries, listed, moved, touched, levels, seen, risen, steps,
+            view, entries, listed, moved, touched, levels, seen, passed, risen, steps,
         );
         if count == 0 {
             return rounds;

@@ -1,7 +1,8 @@
--- The nodes so far were looked at: those above the first one that are not above the next one.
-use Rattle.std.proofs.Common.{◌≡◌, ◌⊎◌, ◌<◌, ◌≤◌, ℕ, List, length, get_or}
-use Rattle.asm_levels.specs.Watching.{IsAbove, IsFollowed}
+-- The nodes so far were looked at: those above the first one, or above one that was passed, that are not above the next one.
+use Rattle.std.proofs.Common.{◌≡◌, ◌≤◌, ℕ, List, length, get_or}
+use Rattle.asm_levels.specs.Watching.{IsAbove}
 use Rattle.asm_levels.specs.Looking.{IsPartlyLooked}
+use Rattle.asm_levels.proofs.PassLemmas.{IsLeft, AreLeft}
 use Rattle.asm_levels.proofs.looking.look_above.Given as goal
 
 abbrev pub invariant-loop-node : goal.invariant-loop-node
@@ -9,12 +10,14 @@ invariant-loop-node g l = record {
   part : (old : List ℕ) (start : ℕ) → IsPartlyLooked l.view.rows.now l.view.shifts.now old l.fn.levels l.fn.seen l.fn.risen l.view.round l.fn.count start l.fn.steps
       → IsPartlyLooked l.view.rows.now l.view.shifts.now old l.levels l.seen l.risen l.view.round l.count start l.steps;
   bound : l.node ≤ l.leaf;
-  done : (node : ℕ) → IsAbove node l.leaf → IsAbove node l.node
-      ⊎ ((at row : ℕ) → at < length l.entries.rows.items → get_or l.entries.nodes.items at 0 ≡ node → IsFollowed l.entries.follows.items (get_or l.entries.rows.items at 0) row
-      → get_or l.seen row 0 ≡ l.view.round);
+  done : (node : ℕ) → IsAbove node l.leaf → IsLeft l.entries.rows.items l.entries.nodes.items l.entries.follows.items l.seen l.view.round l.node node;
+  walked : AreLeft l.entries.rows.items l.entries.nodes.items l.entries.follows.items l.seen l.passed l.view.round l.node;
+  before : (at : ℕ) → at ≤ l.node → get_or l.passed at 0 ≡ get_or l.fn.passed at 0;
+  stamps : ((at : ℕ) → get_or l.fn.passed at 0 ≤ l.view.round) → (at : ℕ) → get_or l.passed at 0 ≤ l.view.round;
   kept : (at : ℕ) → get_or l.fn.seen at 0 ≡ l.view.round → get_or l.seen at 0 ≡ l.view.round;
   many_levels : length l.levels ≡ length l.fn.levels;
   many_seen : length l.seen ≡ length l.fn.seen;
+  many_passed : length l.passed ≡ length l.fn.passed;
   room : length l.risen ≡ length l.fn.risen;
 }
 

@@ -19,6 +19,9 @@ loop-row-preserved g c =
             (ap (λ i. leaf_of (length c.args.view.rows.now) (get_or c.args.touched.now i 0)) same ∙ sym c.leaf_of-leaf.ensures.leaf) touched.2)
         | inr other ↦ one.kept row (all.done row (touched.0, (let less = touched.1 in omega arith), touched.2))
       ];
+      passed = one.passed;
+      stamps = one.stamps all.stamps;
+      many_passed = one.as_many_passed ∙ all.many_passed;
       many_levels = one.as_many_levels ∙ all.many_levels;
       many_seen = one.as_many_seen ∙ all.many_seen;
       room = one.room ∙ all.room;

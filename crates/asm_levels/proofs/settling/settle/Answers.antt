@@ -23,6 +23,8 @@ loop-rounds-init g c = let tops_long = length-tops c.args.all.rows.now in record
   from_start = omega arith;
   many_seen = omega arith;
   stamps = λ at. (let unseen = c.forget.ensures.unseen at in omega arith);
+  many_passed = omega arith;
+  stamps_passed = λ at. (let unseen = c.forget-2.ensures.unseen at in omega arith);
   first = λ none. refl;
   room = omega arith;
   end = tt;
@@ -109,6 +111,8 @@ loop-rounds-preserved g c =
       from_start = omega arith;
       many_seen = omega arith;
       stamps = c.look_where-count.ensures.seen;
+      many_passed = omega arith;
+      stamps_passed = c.look_where-count.ensures.passed;
       first = λ none. absurd (omega arith);
       room = omega arith;
       end = c.move_rows-moved.ensures.end;

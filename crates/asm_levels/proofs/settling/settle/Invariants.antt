@@ -1,5 +1,6 @@
 -- Each round so far raised a level.
 use Rattle.std.proofs.Common.{◌≡◌, ◌<◌, ◌≤◌, ◌+◌, ◌*◌, ◌-◌, ℕ, None, IfSome, length, get_or, take, sum}
+use Rattle.std.specs.Prelude.{vec_len}
 use Rattle.level_ranks.specs.Rounds.{IsAfterRounds}
 use Rattle.asm_levels.specs.Shifts.{shifts_of}
 use Rattle.asm_levels.specs.Resizing.{AreMoved, HasSize}
@@ -19,6 +20,8 @@ invariant-loop-rounds g l = record {
   at_least : 0 < l.rounds → l.fn.steps + several l.all.rows.now ≤ l.steps;
   many_seen : length l.seen ≡ length l.all.rows.now;
   stamps : (at : ℕ) → get_or l.seen at 0 ≤ l.rounds;
+  many_passed : length l.passed ≡ vec_len l.entries.heads;
+  stamps_passed : (at : ℕ) → get_or l.passed at 0 ≤ l.rounds;
   first : l.rounds ≡ 0 → l.moved ≡ None;
   room : length l.risen + length l.dependents ≤ length l.touched;
   end : IfSome l.moved (λ many. many ≤ length l.touched);
