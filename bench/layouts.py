@@ -5,7 +5,10 @@
   bench/layouts.py cascade 8000      so many jumps, each of which makes the one before it grow: one round more than jumps
   bench/layouts.py leb128 16000      so many LEB128 differences over jumps that grow: three rounds
   bench/layouts.py far 4000          so many jumps of a cascade, each beside a LEB128 difference over 400 rows
+
+With `object` behind the number the case is a line for asm_calls, which lays out items in a section, and writes the object.
 """
+import re
 import sys
 
 
@@ -44,7 +47,28 @@ def far(count):
 
 CASES = {'jumps': jumps, 'cascade': cascade, 'leb128': leb128, 'far': far}
 
-if len(sys.argv) != 3 or sys.argv[1] not in CASES or not sys.argv[2].isdigit():
+
+def words(lines):
+    """The words of asm_calls, where each label has a name of its own."""
+    seen = {}
+
+    def named(match):
+        return f'{match[1]}_{seen.get(match[1], 0) + (match[2] == "f")}'
+
+    for line in lines:
+        kind, text = line.split(' ')
+        if kind == 'label':
+            seen[text] = seen.get(text, 0) + 1
+            yield f'label={text}_{seen[text]}'
+        else:
+            kind = {'bytes': 'zero', 'uleb128': 'uleb'}.get(kind, kind)
+            yield f'{kind}=' + re.sub('([0-9]+)([bf])', named, text)
+
+
+if len(sys.argv) < 3 or sys.argv[1] not in CASES or not sys.argv[2].isdigit() or sys.argv[3:] not in ([], ['object']):
     sys.exit(__doc__)
-for line in CASES[sys.argv[1]](int(sys.argv[2])):
-    print(line)
+case = CASES[sys.argv[1]](int(sys.argv[2]))
+if sys.argv[3:]:
+    print('object', *words(case))
+else:
+    print(*case, sep='\n')

@@ -3,6 +3,7 @@
 use crate::contents::{write_align, write_fill, write_run};
 use crate::faults::write_faults;
 use crate::layouts::write_layout;
+use crate::objects::write_object;
 use crate::symbols::{write_assigned, write_instances};
 use asm_frags::FieldSize;
 use expression_calls::{
@@ -101,6 +102,7 @@ fn make_other_call(alloc: Global, call: &str, text: &str, out: &mut Vec<u8>) -> 
         "fill" => call_fill(alloc, text, out),
         "align" => call_align(alloc, text, out),
         "layout" => call_layout(alloc, text, out),
+        "object" => write_object(alloc, text, out),
         _ => writeln!(out, "no such call"),
     }
 }

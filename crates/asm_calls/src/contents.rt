@@ -1,18 +1,42 @@
 //! What items are known to be before they have addresses, and their bytes at a size.
 
-use asm_frags::{Align, Content, Fill, asked_alignment, fixed_size, is_known_zeros, put_bytes};
-use std::alloc::Global;
+use item_contents::{
+    Align, Content, Fill, TakesBytes, asked_alignment, fixed_size, is_known_zeros, put_bytes,
+};
+use std::alloc::{AllocError, Global};
 use std::io::{self, Write};
+
+/// The bytes of items, one behind the other.
+#[derive(Drop)]
+struct Collected {
+    bytes: Vec<u8>,
+}
+
+impl TakesBytes for Collected {
+    type Out = Result<(), AllocError>;
+
+    // The bytes are compared where they are written.
+    ghost takes = { λ before bytes answer after. Unit {0} };
+
+    fn pieces(&mut self, unit: &[u8], count: u64, rest: &[u8]) -> Result<(), AllocError> {
+        for _ in 0..count {
+            self.bytes.extend_from_slice(unit)?;
+        }
+        self.bytes.extend_from_slice(rest)
+    }
+}
 
 /// The item's size, which is this one where it has no other, and its bytes; the size that it has at any address, its
 /// alignment, and whether it is known to be zeros.
 fn write_item(alloc: Global, content: &Content, size: u64, out: &mut Vec<u8>) -> io::Result<()> {
     let fixed = fixed_size(content);
     let size = fixed.unwrap_or(size);
-    let mut bytes = Vec::new(alloc);
-    put_bytes(content, size, &mut bytes)?;
+    let mut collected = Collected {
+        bytes: Vec::new(alloc),
+    };
+    put_bytes(content, size, 0, &mut collected)?;
     write!(out, "{size}:")?;
-    for byte in bytes.as_slice() {
+    for byte in collected.bytes.as_slice() {
         write!(out, " {byte:02x}")?;
     }
     let alignment = asked_alignment(content);
@@ -45,7 +69,7 @@ pub fn write_fill(
 pub fn write_align(alloc: Global, log: u8, size: u64, out: &mut Vec<u8>) -> io::Result<()> {
     write_item(
         alloc,
-        &Content::Align(Align::new(log.min(30))),
+        &Content::Align(Align::zeros(log.min(30))),
         size.min(1 << 30),
         out,
     )

@@ -1,13 +1,14 @@
 //! What settling a layout answers.
 
-ghost use Rattle.std.specs.Prelude.{◌≡◌, ◌<◌};
-ghost use Rattle.asm_relax.specs.declared.plan_states.PlanState.TheVariants.{Fresh};
+ghost use Rattle.std.specs.Prelude.{◌≡◌, ◌<◌, OnOk};
+ghost use Rattle.asm_relax.specs.declared.plan_states.PlanState.TheVariants.{Fresh, LaidOut};
 
 use asm_base::{Pos, Steps};
 use asm_expr::{Linear, constant_form};
-use asm_frags::{Content, FieldRole, FieldSize, Fill, Frag, FragCause, FragFault, Sections};
+use asm_frags::{FieldRole, FieldSize, Frag, FragCause, FragFault, Sections};
 use asm_relax::{LayoutFault, Plan, Settled};
 use asm_symbols::Symbols;
+use item_contents::{Content, Fill};
 use std::alloc::Global;
 use std::io::{self, Write};
 use std::marker::Brand;
@@ -40,11 +41,12 @@ fn sections(alloc: Global, size: FieldSize, value: u64, more: u64) -> Result<Sec
 }
 
 /// Settles a plan, with a count of steps of its own.
-fn settled_plan<L: Ledger>(plan: &mut Plan, blank: Blank) -> Result<Settled, LayoutFault>
+pub fn settled_plan<L: Ledger>(plan: &mut Plan, blank: Blank) -> Result<Settled, LayoutFault>
     requires name { blank.name ≡ L.name }
     requires parts { blank.parts ≡ L.parts }
     requires some { 0 < blank.parts }
     requires fresh { plan.old.state ≡ Fresh }
+    ensures laid { OnOk result (plan.new.state ≡ LaidOut) }
 {
     let mut steps = Steps::<L>::new(blank);
     plan.settle(&mut steps)
@@ -58,7 +60,7 @@ fn settled(alloc: Global, sections: Sections) -> Result<Result<Settled, LayoutFa
 }
 
 /// The layout's rounds, or its fault with what it tells and its line.
-fn write_settled(settled: Result<Settled, LayoutFault>, out: &mut Vec<u8>) -> io::Result<()> {
+pub fn write_settled(settled: Result<Settled, LayoutFault>, out: &mut Vec<u8>) -> io::Result<()> {
     match settled {
         Ok(settled) => {
             let rounds = settled.rounds;
@@ -68,6 +70,7 @@ fn write_settled(settled: Result<Settled, LayoutFault>, out: &mut Vec<u8>) -> io
             let line = fault.pos().line;
             let told = match fault {
                 LayoutFault::SectionTooLarge { size, .. } => size,
+                LayoutFault::OrgMovesBackwards { .. } => 0,
                 LayoutFault::DistanceOutOfRange { distance, .. } => distance,
             };
             writeln!(out, "{fault}: {told}, line {line}")

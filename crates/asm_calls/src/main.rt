@@ -5,6 +5,8 @@ mod calls;
 mod contents;
 mod faults;
 mod layouts;
+mod made_sections;
+mod objects;
 mod outside;
 mod symbols;
 

@@ -3,13 +3,14 @@ use Rattle.std.proofs.Common.{◌≡◌, ℕ, zero, suc, ◌<◌, ◌≤◌, max
 use Rattle.std.specs.List.{fold}
 use Rattle.std.proofs.lemmas.Option.{slice_get-get_or, slice_get_within, get_or_from_slice_get}
 use Rattle.std.proofs.lemmas.List.Elements.{All-set}
-use Rattle.asm_frags.specs.declared.contents.Content.{Content}
+use Rattle.item_contents.specs.declared.contents.Content.{Content}
 use Rattle.asm_frags.specs.declared.items.Frag.{Frag}
 use Rattle.asm_frags.specs.declared.known_extents.KnownExtent.{KnownExtent}
-use Rattle.asm_frags.specs.Contents.{alignment_of}
+use Rattle.item_contents.specs.Contents.{alignment_of}
 use Rattle.asm_frags.specs.Alignments.{alignment_of_all}
 use Rattle.asm_frags.specs.KnownExtents.{advanced, extent_of}
-use Rattle.asm_frags.specs.Writing.{is_run, ends_in_run}
+use Rattle.item_contents.specs.Contents.{is_run}
+use Rattle.asm_frags.specs.Writing.{ends_in_run}
 use Rattle.asm_frags.specs.SoundItems.{AreItems, AreBehind}
 use Rattle.asm_frags.specs.Addresses.{changed_there, changed_at, item_laid_at}
 

@@ -1,7 +1,7 @@
 -- The alignment of items of which one more comes.
 use Rattle.std.proofs.Common.{◌≡◌, ℕ, max, List, [], ◌∷◌, ◌++◌, arith}
 use Rattle.asm_frags.specs.declared.items.Frag.{Frag}
-use Rattle.asm_frags.specs.Contents.{alignment_of}
+use Rattle.item_contents.specs.Contents.{alignment_of}
 use Rattle.asm_frags.specs.Alignments.{alignment_of_all}
 
 turned : (a b c : ℕ) → max a (max b c) ≡ max (max a b) c

@@ -3,9 +3,10 @@ use Rattle.std.proofs.Common.{◌≡◌, ℕ, ◌+◌, ◌^◌, ◌<◌, ◌≤�
 use Rattle.std.proofs.lemmas.List.Sums.{fold-append}
 use Rattle.asm_frags.specs.declared.items.Frag.{Frag}
 use Rattle.asm_frags.specs.declared.known_extents.KnownExtent.{KnownExtent}
-use Rattle.asm_frags.specs.Contents.{alignment_of}
+use Rattle.item_contents.specs.Contents.{alignment_of}
 use Rattle.asm_frags.specs.KnownExtents.{advanced, extent_of}
-use Rattle.asm_frags.specs.Writing.{is_run, ends_in_run}
+use Rattle.item_contents.specs.Contents.{is_run}
+use Rattle.asm_frags.specs.Writing.{ends_in_run}
 use Rattle.asm_frags.specs.SoundItems.{AreItems}
 use Rattle.asm_frags.proofs.AlignmentLemmas.{alignment_more}
 

@@ -11,11 +11,13 @@ use Rattle.asm_frags.specs.declared.faults.FragCause.{FragCause}
 use Rattle.asm_frags.specs.declared.faults.FragCause.TheVariants.{BadSection}
 use Rattle.asm_frags.specs.declared.fields.FieldSize.{FieldSize}
 use Rattle.asm_frags.specs.declared.roles.FieldRole.{FieldRole}
-use Rattle.asm_frags.specs.declared.contents.Content.TheVariants.{Run}
-use Rattle.asm_frags.specs.PlainBytes.{is_zero}
-use Rattle.asm_frags.specs.Contents.{is_known_zeros}
+use Rattle.asm_frags.specs.declared.roles.Suffix.{Suffix}
+use Rattle.item_contents.specs.declared.kinds.Growth.{Growth}
+use Rattle.item_contents.specs.declared.contents.Content.TheVariants.{Run}
+use Rattle.item_contents.specs.Zeros.{is_zero}
+use Rattle.item_contents.specs.Contents.{is_known_zeros}
 use Rattle.asm_frags.specs.SectionOf.{SectionOf}
-use Rattle.asm_frags.specs.Writing.{LooseItem, LooseSection, ends_in_run, new_item, with_item, with_run, with_bytes, with_field, takes_zeros_alone, bytes_put, field_put, item_put}
+use Rattle.asm_frags.specs.Writing.{LooseItem, LooseSection, ends_in_run, new_item, with_item, with_run, with_bytes, with_field, with_growing, takes_zeros_alone, bytes_put, field_put, growing_put, item_put}
 use Rattle.asm_frags.specs.Answers.{Changes}
 use Rattle.asm_frags.specs.Sections.{with_section_or_fault, put_into}
 
@@ -68,3 +70,7 @@ module _ (old new : LooseSection) (answer : Result (Unit {0}) (Refusal FragCause
   -- a section that a field is put into keeps its name
   pub field_name : (pos : Pos) (number : ℕ) (size : FieldSize) (role : FieldRole) (form : Form) → Changes old new answer (field_put pos number size role form old) → new.name ≡ old.name
   field_name pos number size role form = name_kept (takes_zeros_alone old) old (with_field pos number size role form old) new answer (run_name pos old)
+
+  -- a section that an item is put into that grows keeps its name
+  pub growing_name : (pos : Pos) (number : ℕ) (kind : Growth) (suffix : Suffix) (form : Form) → Changes old new answer (growing_put pos number kind suffix form old) → new.name ≡ old.name
+  growing_name pos number kind suffix form = name_kept (takes_zeros_alone old) old (with_growing pos number kind suffix form old) new answer refl

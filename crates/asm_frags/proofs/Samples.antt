@@ -7,52 +7,25 @@ use Rattle.asm_expr.specs.Forms.{constant_form}
 use Rattle.asm_frags.specs.declared.faults.FragCause.{FragCause}
 use Rattle.asm_frags.specs.declared.faults.FragCause.TheVariants.{BadSection}
 use Rattle.asm_frags.specs.declared.fields.FieldSize.TheVariants.{Two, Four}
-use Rattle.asm_frags.specs.declared.contents.Content.{Content}
-use Rattle.asm_frags.specs.declared.contents.Content.TheVariants.{Run, Fill, Align}
-use Rattle.asm_frags.specs.Contents.{unit_of, repeated, bytes_of, is_known_zeros}
+use Rattle.item_contents.specs.declared.contents.Content.{Content}
+use Rattle.item_contents.specs.declared.contents.Content.TheVariants.{Run, Fill, Align, Growing}
+use Rattle.item_contents.specs.declared.kinds.Growth.TheVariants.{Leb128}
+use Rattle.item_contents.specs.ItemParts.{zeros_up_to}
+use Rattle.item_contents.specs.Contents.{unit_of}
 use Rattle.asm_frags.specs.Alignments.{alignment_of_all}
 use Rattle.asm_frags.specs.KnownExtents.{extent_of}
 use Rattle.asm_frags.specs.SectionOf.{new_section}
+use Rattle.asm_frags.specs.declared.roles.FieldKind.TheVariants.{Number}
+use Rattle.asm_frags.specs.declared.roles.Suffix.TheVariants.{Absent}
 use Rattle.asm_frags.specs.Fields.{data_role}
-use Rattle.asm_frags.specs.Writing.{LooseItem, LooseSection, new_item, item_behind, with_bytes, bytes_put, field_put, item_put}
+use Rattle.asm_frags.specs.Writing.{LooseItem, LooseSection, new_item, item_behind, with_bytes, bytes_put, field_put, growing_put, item_put}
 use Rattle.asm_frags.specs.Sections.{section_flags, first_sections, entered, put_into}
 
 fill : ℕ → ℕ → ℕ → Content
 fill count size value = Fill (record { count = count; size = size; value = value })
 
 align : ℕ → Content
-align log = Align (record { log = log })
-
--- three units of two bytes
-two_bytes : bytes_of (fill 3 2 0x1234) 6 ≡ 0x34 ∷ 0x12 ∷ 0x34 ∷ 0x12 ∷ 0x34 ∷ 0x12 ∷ []
-unfolding fill unit_of repeated
-two_bytes = refl
-
--- only the low 4 bytes of the value, then zeros
-eight_bytes : bytes_of (fill 2 8 0x5566778811223344) 16 ≡ 0x44 ∷ 0x33 ∷ 0x22 ∷ 0x11 ∷ 0 ∷ 0 ∷ 0 ∷ 0 ∷ 0x44 ∷ 0x33 ∷ 0x22 ∷ 0x11 ∷ 0 ∷ 0 ∷ 0 ∷ 0 ∷ []
-unfolding fill unit_of repeated
-eight_bytes = refl
-
-no_bytes : bytes_of (fill 5 0 7) 0 ≡ []
-unfolding fill unit_of repeated
-no_bytes = refl
-
-three_zeros : bytes_of (align 2) 3 ≡ 0 ∷ 0 ∷ 0 ∷ []
-unfolding align
-three_zeros = refl
-
--- the byte that counts is 0, whatever stands above it in the value
-low_zero : is_known_zeros (fill 9 1 0x100) ≡ true
-unfolding fill unit_of
-low_zero = refl
-
-not_low_zero : is_known_zeros (fill 9 2 0x100) ≡ false
-unfolding fill unit_of
-not_low_zero = refl
-
-no_units : is_known_zeros (fill 0 1 5) ≡ true
-unfolding fill unit_of
-no_units = refl
+align log = Align (zeros_up_to log)
 
 on_line : ℕ → Pos
 on_line line = record { file = 0; line = line }
@@ -84,7 +57,7 @@ filled_is : filled ≡ Ok (record {
   kind = 1;
   entry_size = 0;
   bytes = 1 ∷ 2 ∷ 3 ∷ 4 ∷ 7 ∷ 0 ∷ 0 ∷ [];
-  fields = record { pos = on_line 5; item = 3; offset = 5; section = 0; size = Two; role = data_role; form = constant_form 8 } ∷ [];
+  fields = record { pos = on_line 5; item = 3; offset = 5; section = 0; size = Two; role = data_role; in_item = false; form = constant_form 8 } ∷ [];
   items = item_behind 0 (item 1 Run) ∷ item_behind 4 (item 3 (fill 5 1 9)) ∷ item_behind 4 (item 4 Run) ∷ [];
 })
 unfolding filled text item fill
@@ -93,11 +66,23 @@ filled_is = refl
 -- a field begins a run too
 field_first : field_put (on_line 1) 0 Four data_role (constant_form 0) text ≡ Ok (record text {
   bytes = 0 ∷ 0 ∷ 0 ∷ 0 ∷ [];
-  fields = record { pos = on_line 1; item = 1; offset = 0; section = 0; size = Four; role = data_role; form = constant_form 0 } ∷ [];
+  fields = record { pos = on_line 1; item = 1; offset = 0; section = 0; size = Four; role = data_role; in_item = false; form = constant_form 0 } ∷ [];
   items = item 1 Run ∷ [];
 })
 unfolding text item
 field_first = refl
+
+-- a number that grows stands behind the bytes, and its field counts from its end
+grown : Result LooseSection FragCause
+grown = bytes_put (on_line 1) (7 ∷ []) text >>= growing_put (on_line 2) 0 (Leb128 false) Absent (constant_form 9)
+
+grown_is : grown ≡ Ok (record text {
+  bytes = 7 ∷ [];
+  fields = record { pos = on_line 2; item = 2; offset = 1; section = 0; size = Four; role = record { kind = Number; suffix = Absent; behind = 0 }; in_item = true; form = constant_form 9 } ∷ [];
+  items = item 1 Run ∷ item_behind 1 (item 2 (Growing (record { kind = Leb128 false; field = 0 }))) ∷ [];
+})
+unfolding grown text item
+grown_is = refl
 
 first : List LooseSection
 first = first_sections
@@ -140,3 +125,7 @@ zeros_in_bss : put_into (bytes_put (on_line 1) (0 ∷ 0 ∷ [])) first 2 ≡ Ok 
     ∷ with_bytes (on_line 1) (0 ∷ 0 ∷ []) (new_section (codes ".bss") (section_flags 3) 8 0) ∷ [])
 unfolding first first_sections
 zeros_in_bss = refl
+
+grown_in_bss : put_into (growing_put (on_line 1) 2 (Leb128 false) Absent (constant_form 0)) first 2 ≡ Err BadSection
+unfolding first first_sections
+grown_in_bss = refl

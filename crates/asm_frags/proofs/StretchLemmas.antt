@@ -5,7 +5,8 @@ use Rattle.std.proofs.lemmas.List.Sums.{fold-append, sum_by-cons}
 use Rattle.std.proofs.lemmas.Bool.Decides.{nat_tests}
 use Rattle.asm_frags.specs.declared.items.Frag.{Frag}
 use Rattle.asm_frags.specs.declared.known_extents.KnownExtent.{KnownExtent}
-use Rattle.asm_frags.specs.KnownExtents.{is_fixed, fixed_bytes, advanced, extent_of}
+use Rattle.item_contents.specs.FixedSizes.{is_fixed, fixed_bytes}
+use Rattle.asm_frags.specs.KnownExtents.{advanced, extent_of}
 
 same_number : (a b : ℕ) → a ≡ b → (a == b) ≡ true
 same_number a b same = grind (arith, nat_tests)

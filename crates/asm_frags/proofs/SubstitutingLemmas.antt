@@ -8,7 +8,7 @@ use Rattle.asm_frags.specs.declared.phases.Laid.{Laid}
 use Rattle.asm_frags.specs.declared.fields.Field.{Field}
 use Rattle.asm_frags.specs.declared.items.Frag.{Frag}
 use Rattle.asm_frags.specs.declared.known_extents.KnownExtent.{KnownExtent}
-use Rattle.asm_frags.specs.Contents.{alignment_of}
+use Rattle.item_contents.specs.Contents.{alignment_of}
 use Rattle.asm_frags.specs.PlainBytes.{field_end, FieldsStand, AreBytes}
 use Rattle.asm_frags.specs.Alignments.{alignment_of_all}
 use Rattle.asm_frags.specs.KnownExtents.{advanced, extent_of}

@@ -4,9 +4,12 @@ use Rattle.std.specs.Int.{w64, to_le_bytes}
 use Rattle.asm_frags.specs.declared.fields.FieldSize.{FieldSize}
 use Rattle.asm_frags.specs.declared.fields.FieldSize.TheVariants.{One, Two, Four, Eight}
 use Rattle.asm_frags.specs.declared.roles.FieldKind.{FieldKind}
-use Rattle.asm_frags.specs.declared.roles.FieldKind.TheVariants.{Plain, Signed, Address, Branch}
+use Rattle.asm_frags.specs.declared.roles.FieldKind.TheVariants.{Plain, Signed, Address, Branch, Number}
 use Rattle.asm_frags.specs.declared.roles.FieldRole.{FieldRole}
+use Rattle.asm_frags.specs.declared.roles.Suffix.{Suffix}
 use Rattle.asm_frags.specs.declared.roles.Suffix.TheVariants.{Absent}
+use Rattle.item_contents.specs.declared.kinds.Growth.{Growth}
+use Rattle.item_contents.specs.declared.kinds.Growth.TheVariants as growth
 
 -- the size of a field in bytes
 abbrev pub width : FieldSize → ℕ
@@ -29,12 +32,13 @@ fits_signed Two value = nat_lt value (2 ^ 15) || nat_le (2 ^ 64 - 2 ^ 15) value
 fits_signed Four value = nat_lt value (2 ^ 31) || nat_le (2 ^ 64 - 2 ^ 31) value
 fits_signed Eight value = true
 
--- a field of this kind and size holds the value: as it is, or with a sign
+-- a field of this kind and size holds the value: as it is, or with a sign; the item of a number has room for each value of its levels
 abbrev pub holds : FieldKind → FieldSize → ℕ → Bool
 holds Plain size value = fits size value
 holds Signed size value = fits_signed size value
 holds Address size value = fits_signed size value
 holds Branch size value = fits_signed size value
+holds Number size value = true
 
 -- the value is a distance from the end of the instruction
 abbrev pub is_distance : FieldKind → Bool
@@ -42,6 +46,13 @@ is_distance Plain = false
 is_distance Signed = false
 is_distance Address = true
 is_distance Branch = true
+is_distance Number = false
+
+-- the role of the field of what grows: a jump holds the distance from its end, which may have a suffix, and the others hold numbers
+abbrev pub growth_role : Growth → Suffix → FieldRole
+growth_role (growth.Jump condition) suffix = record { kind = Branch; suffix = suffix; behind = 0 }
+growth_role (growth.Leb128 signed) suffix = record { kind = Number; suffix = Absent; behind = 0 }
+growth_role growth.Advance suffix = record { kind = Number; suffix = Absent; behind = 0 }
 
 -- data: the value as it is
 abbrev pub data_role : FieldRole

@@ -1,9 +1,6 @@
 -- The definitions that contracts cite, in reading order.
 pub mod Fields
 pub mod PlainBytes
-pub mod ItemParts
-pub mod Contents
-pub mod Visits
 pub mod Alignments
 pub mod KnownExtents
 pub mod SectionOf

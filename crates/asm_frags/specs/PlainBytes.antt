@@ -1,20 +1,20 @@
 -- The plain bytes of a section, and the fields over them.
-use Rattle.std.specs.Prelude.{◌≡◌, ◌⊎◌, ℕ, ◌+◌, ◌^◌, ◌≤◌, ◌==◌, Bool, List, [], ◌∷◌, length, replicate, slice_range}
+use Rattle.std.specs.Prelude.{◌≡◌, ◌⊎◌, ℕ, ◌+◌, ◌^◌, ◌≤◌, List, [], ◌∷◌, length, replicate, slice_range, if◌then◌else◌}
 use Rattle.asm_frags.specs.declared.fields.Field.{Field}
 use Rattle.asm_frags.specs.Fields.{width}
 
--- the byte is 0
-abbrev pub is_zero : ℕ → Bool
-is_zero byte = byte == 0
+-- how many plain bytes the field stands over: none where it stands in an item
+abbrev pub covered : Field → ℕ
+covered field = if field.in_item then 0 else width field.size
 
 -- the offset behind the field
 abbrev pub field_end : Field → ℕ
-field_end field = field.offset + width field.size
+field_end field = field.offset + covered field
 
 -- the field stands within the bytes, over zeros
 pub record IsBlank (bytes : List ℕ) (field : Field) : Type 0 where
   pub within : field_end field ≤ length bytes
-  pub zeros : slice_range bytes field.offset (field_end field) ≡ replicate (width field.size) 0
+  pub zeros : slice_range bytes field.offset (field_end field) ≡ replicate (covered field) 0
 
 -- the field ends before these bytes, from the one offset to the other, or begins behind them
 abbrev pub IsBeside : ℕ → ℕ → Field → Type 0

@@ -5,7 +5,7 @@ use Rattle.asm_frags.specs.declared.fields.Field.{Field}
 use Rattle.asm_frags.specs.declared.flags.SectionFlags.{SectionFlags}
 
 -- a section: its name, `sh_flags`, `sh_type`, `sh_entsize`, the plain bytes of all its statements in one piece, the fields over them, and the
--- items in order: a run says where plain bytes begin, and a fill or an alignment stands between the plain bytes before its offset and those behind it
+-- items in order: a run says where plain bytes begin, and each other item stands between the plain bytes before its offset and those behind it
 pub record SectionOf (Item : Type 0) : Type 0 where
   pub name : List ℕ
   pub flags : SectionFlags

@@ -10,7 +10,7 @@ use Rattle.asm_frags.specs.Writing.{LooseItem, LooseSection}
 -- the field with its form substituted
 abbrev pub substituted_field : (Form → Form) → Field → Field
 substituted_field substitute field =
-    record { pos = field.pos; item = field.item; offset = field.offset; section = field.section; size = field.size; role = field.role; form = substitute field.form }
+    record { pos = field.pos; item = field.item; offset = field.offset; section = field.section; size = field.size; role = field.role; in_item = field.in_item; form = substitute field.form }
 
 -- the item at address 0 and without bytes, until layout sets its address and its size
 abbrev pub laid_item : LooseItem → Frag Laid ℕ

@@ -1,5 +1,5 @@
--- What is put into a section: plain bytes, a field over zeros, or an item.
-use Rattle.std.specs.Prelude.{ℕ, ◌==◌, ◌&&◌, not, Bool, true, false, List, [], ◌∷◌, ◌++◌, length, replicate, Result, Ok, Err, if◌then◌else◌}
+-- What is put into a section: plain bytes, a field over zeros, an item, or one that grows with the value of its field.
+use Rattle.std.specs.Prelude.{ℕ, ◌+◌, ◌==◌, ◌&&◌, not, Bool, true, false, List, [], ◌∷◌, ◌++◌, length, replicate, Result, Ok, Err, if◌then◌else◌}
 use Rattle.std.specs.List.{list_all}
 use Rattle.asm_base.specs.declared.positions.Pos.{Pos}
 use Rattle.asm_expr.specs.Forms.{Form}
@@ -7,13 +7,16 @@ use Rattle.asm_frags.specs.declared.phases.Loose.{Loose}
 use Rattle.asm_frags.specs.declared.faults.FragCause.{FragCause}
 use Rattle.asm_frags.specs.declared.faults.FragCause.TheVariants.{BadSection}
 use Rattle.asm_frags.specs.declared.fields.FieldSize.{FieldSize}
+use Rattle.asm_frags.specs.declared.fields.FieldSize.TheVariants.{Four}
 use Rattle.asm_frags.specs.declared.roles.FieldRole.{FieldRole}
-use Rattle.asm_frags.specs.declared.contents.Content.{Content}
-use Rattle.asm_frags.specs.declared.contents.Content.TheVariants.{Run, Fill, Align}
+use Rattle.asm_frags.specs.declared.roles.Suffix.{Suffix}
+use Rattle.item_contents.specs.declared.contents.Content.{Content}
+use Rattle.item_contents.specs.declared.contents.Content.TheVariants.{Run, Growing}
+use Rattle.item_contents.specs.declared.kinds.Growth.{Growth}
 use Rattle.asm_frags.specs.declared.items.Frag.{Frag}
-use Rattle.asm_frags.specs.Fields.{width}
-use Rattle.asm_frags.specs.PlainBytes.{is_zero}
-use Rattle.asm_frags.specs.Contents.{is_known_zeros}
+use Rattle.asm_frags.specs.Fields.{width, growth_role}
+use Rattle.item_contents.specs.Zeros.{is_zero}
+use Rattle.item_contents.specs.Contents.{is_run, is_known_zeros}
 use Rattle.asm_frags.specs.SectionOf.{SectionOf, with_last_item}
 
 -- an item before it has an address
@@ -23,12 +26,6 @@ LooseItem = Frag Loose (Unit {0})
 -- a section before layout
 abbrev pub LooseSection : Type 0
 LooseSection = SectionOf LooseItem
-
--- the item is a run
-abbrev pub is_run : Content → Bool
-is_run Run = true
-is_run (Fill held) = false
-is_run (Align held) = false
 
 -- the last item is a run: plain bytes go on with it
 abbrev pub ends_in_run : {P Address : Type 0} → List (Frag P Address) → Bool
@@ -67,6 +64,23 @@ with_field pos number size role form section = record (with_run pos section) {
     section = number;
     size = size;
     role = role;
+    in_item = false;
+    form = form;
+  } ∷ [];
+}
+
+-- the section, which has this number, with an item more that grows with the value of this form, and with the field of the form, whose place is the end
+-- of the item; a jump's field is that of its near form, four bytes
+abbrev pub with_growing : Pos → ℕ → Growth → Suffix → Form → LooseSection → LooseSection
+with_growing pos number kind suffix form section = record (with_item (new_item pos (Growing (record { kind = kind; field = length section.fields }))) section) {
+  fields = section.fields ++ record {
+    pos = pos;
+    item = length section.items + 1;
+    offset = length section.bytes;
+    section = number;
+    size = Four;
+    role = growth_role kind suffix;
+    in_item = true;
     form = form;
   } ∷ [];
 }
@@ -82,6 +96,10 @@ bytes_put pos more section = if takes_zeros_alone section && not (list_all is_ze
 -- a field is put into the section, which has this number, or refused
 abbrev pub field_put : Pos → ℕ → FieldSize → FieldRole → Form → LooseSection → Result LooseSection FragCause
 field_put pos number size role form section = if takes_zeros_alone section then Err BadSection else Ok (with_field pos number size role form section)
+
+-- an item that grows is put into the section, which has this number, or refused
+abbrev pub growing_put : Pos → ℕ → Growth → Suffix → Form → LooseSection → Result LooseSection FragCause
+growing_put pos number kind suffix form section = if takes_zeros_alone section then Err BadSection else Ok (with_growing pos number kind suffix form section)
 
 -- an item is put into the section, or refused
 abbrev pub item_put : LooseItem → LooseSection → Result LooseSection FragCause

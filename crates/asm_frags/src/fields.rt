@@ -72,7 +72,7 @@ impl FieldSize {
     }
 }
 
-/// A field over plain bytes of a section.
+/// A field over plain bytes of a section, or in the last bytes of an item.
 #[derive(Drop)]
 pub struct Field {
     /// The place of its statement.
@@ -86,6 +86,8 @@ pub struct Field {
     pub size: FieldSize,
     /// How it holds its value.
     pub role: FieldRole,
+    /// Whether it stands in the last bytes of the item before it, and over no plain bytes.
+    pub in_item: bool,
     /// The form whose value it holds, less what its role counts from.
     pub form: Linear,
 }

@@ -5,11 +5,11 @@ ghost use Rattle.asm_base.specs.declared.refusals.Refusal.TheVariants.{NoMemory}
 ghost use Rattle.asm_frags.specs.Substituting.{laid_item};
 ghost use Rattle.asm_frags.specs.Addresses.{changed_at, item_laid_at};
 
-use crate::alignments::asked_alignment;
 use crate::faults::FragFault;
 use crate::items::Frag;
 use crate::known_extents::KnownExtent;
 use crate::phases::{Laid, Loose, Phase};
+use item_contents::asked_alignment;
 use std::alloc::Global;
 use std::marker::Model;
 

@@ -2,9 +2,9 @@
 
 ghost use Rattle.std.specs.Prelude.{◌≡◌};
 
-use crate::contents::Content;
 use crate::phases::{Laid, Loose, Phase};
 use asm_base::Pos;
+use item_contents::Content;
 
 /// An item of a section. `Frag::new` alone makes one, and layout gives it an address and a size.
 #[derive(Drop)]

@@ -5,7 +5,6 @@ ghost use Rattle.asm_base.specs.declared.refusals.Refusal.TheVariants.{NoMemory}
 ghost use Rattle.asm_frags.specs.Substituting.{laid_section};
 ghost use Rattle.asm_frags.specs.Addresses.{section_laid_at};
 
-use crate::contents::Content;
 use crate::faults::{FragCause, FragFault};
 use crate::fields::{Field, FieldSize};
 use crate::flags::{SHT_NOBITS, SectionFlags};
@@ -13,11 +12,11 @@ use crate::item_list::Items;
 use crate::items::Frag;
 use crate::known_extents::KnownExtent;
 use crate::phases::{Laid, Loose, Phase};
-use crate::roles::FieldRole;
+use crate::roles::{FieldRole, Suffix, growth_role};
 use crate::substituting::{Substitution, substitute_fields};
-use crate::zeros::{are_zeros, is_known_zeros};
 use asm_base::{Pos, Text};
 use asm_expr::Linear;
+use item_contents::{Content, Growing, Growth, are_zeros, is_known_zeros};
 use std::alloc::Global;
 use std::marker::Model;
 
@@ -166,7 +165,7 @@ impl<P: Phase> Section<P> {
 
 impl Section<Loose> {
     ghost use Rattle.asm_frags.specs.Answers.{Changes};
-    ghost use Rattle.asm_frags.specs.Writing.{bytes_put, field_put, item_put};
+    ghost use Rattle.asm_frags.specs.Writing.{bytes_put, field_put, growing_put, item_put};
 
     /// Puts the item last. `BadSection` comes exactly where the section has the type `SHT_NOBITS` and the item is not known
     /// to be zeros.
@@ -236,6 +235,45 @@ impl Section<Loose> {
                 section: number,
                 size,
                 role,
+                in_item: false,
+                form,
+            })
+            .unwrap();
+        Ok(())
+    }
+
+    /// Puts an item last that grows with the value of this form, in the section, which has this
+    /// number. `BadSection` comes exactly where the section has the type `SHT_NOBITS`.
+    pub(crate) fn put_growing(
+        &mut self,
+        pos: Pos,
+        number: u32,
+        kind: Growth,
+        suffix: Suffix,
+        form: Linear,
+    ) -> Result<(), FragFault>
+        ensures { Changes self.old self.new result
+            (growing_put pos number kind suffix form self.old) }
+    {
+        if self.kind == SHT_NOBITS {
+            return Err(FragFault::Fault(FragCause::BadSection));
+        }
+        self.fields.reserve(1)?;
+        let offset = self.bytes.len();
+        let field = self.fields.len();
+        let held = Content::Growing(Growing { kind, field });
+        self.items.add(Frag::new(pos, held).behind(offset))?;
+        let item = self.items.len();
+        // `reserve` made room for it.
+        self.fields
+            .push(Field {
+                pos,
+                item,
+                offset,
+                section: number,
+                size: FieldSize::Four,
+                role: growth_role(kind, suffix),
+                in_item: true,
                 form,
             })
             .unwrap();

@@ -1,10 +1,11 @@
 //! The roles of fields: how a value stands in a field, and what the linker puts there.
 
 ghost use Rattle.std.specs.Prelude.{◌≡◌};
-ghost use Rattle.asm_frags.specs.Fields.{data_role, holds, is_distance, own_place};
+ghost use Rattle.asm_frags.specs.Fields.{data_role, holds, is_distance, growth_role, own_place};
 
 use crate::fields::FieldSize;
 use asm_expr::SymId;
+use item_contents::Growth;
 
 /// How a value stands in its field.
 #[derive(Clone, Copy, PartialEq, Eq, Debug)]
@@ -17,6 +18,8 @@ pub enum FieldKind {
     Address,
     /// Counted from the end of the instruction, of a branch.
     Branch,
+    /// Of an item that takes as many bytes as the number needs.
+    Number,
 }
 
 impl FieldKind {
@@ -27,6 +30,7 @@ impl FieldKind {
         match self {
             FieldKind::Plain => size.fits(value),
             FieldKind::Signed | FieldKind::Address | FieldKind::Branch => size.fits_signed(value),
+            FieldKind::Number => true,
         }
     }
 
@@ -73,6 +77,25 @@ impl FieldRole {
             suffix: Suffix::Absent,
             behind: 0,
         }
+    }
+}
+
+/// The role of the field of what grows: a jump holds the distance from its end, which may have a
+/// suffix, and the others hold numbers.
+pub(crate) fn growth_role(kind: Growth, suffix: Suffix) -> FieldRole
+    ensures { result ≡ growth_role kind suffix }
+{
+    match kind {
+        Growth::Jump(_) => FieldRole {
+            kind: FieldKind::Branch,
+            suffix,
+            behind: 0,
+        },
+        Growth::Leb128 { .. } | Growth::Advance => FieldRole {
+            kind: FieldKind::Number,
+            suffix: Suffix::Absent,
+            behind: 0,
+        },
     }
 }
 

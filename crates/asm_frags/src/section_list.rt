@@ -11,12 +11,13 @@ use crate::flags::{SHT_NOBITS, SHT_PROGBITS, SectionFlags};
 use crate::items::Frag;
 use crate::parts::Section;
 use crate::phases::{Laid, Loose, Phase};
-use crate::roles::FieldRole;
+use crate::roles::{FieldRole, Suffix};
 use crate::substituting::Substitution;
 use asm_base::{Pos, Text};
 use asm_expr::Linear;
 use bitflags::Flags;
 use indexmap::IndexSet;
+use item_contents::Growth;
 use std::alloc::Global;
 use std::marker::Model;
 
@@ -96,7 +97,7 @@ impl Sections<Loose> {
     ghost use Rattle.asm_frags.specs.Sections.{first_sections, entered, Enters, put_into, new_last};
     ghost use Rattle.asm_frags.specs.SectionOf.{new_section, is_section_named, section_number};
     ghost use Rattle.asm_frags.specs.Answers.{Changes};
-    ghost use Rattle.asm_frags.specs.Writing.{item_put, bytes_put, field_put};
+    ghost use Rattle.asm_frags.specs.Writing.{item_put, bytes_put, field_put, growing_put};
 
     /// Adds one of the first three sections.
     fn begin(&mut self, name: &[u8], flags: SectionFlags, kind: u32) -> Result<(), FragFault>
@@ -220,6 +221,25 @@ impl Sections<Loose> {
     {
         let held = &mut self.sections[section as usize];
         held.put_field(pos, section, size, role, form)
+    }
+
+    /// Puts an item last in the section of this number that grows with the value of this form. That of
+    /// a jump counts from its end, and is less the symbol `own_place`; it alone may have a suffix.
+    /// `BadSection` comes exactly where the section has the type `SHT_NOBITS`.
+    pub fn push_growing(
+        &mut self,
+        section: u32,
+        pos: Pos,
+        kind: Growth,
+        suffix: Suffix,
+        form: Linear,
+    ) -> Result<(), FragFault>
+        requires { section < length self.old }
+        ensures { Changes self.old self.new result
+            (put_into (growing_put pos section kind suffix form) self.old section) }
+    {
+        let held = &mut self.sections[section as usize];
+        held.put_growing(pos, section, kind, suffix, form)
     }
 }
 

@@ -15,12 +15,11 @@ use Rattle.asm_frags.specs.SectionOf.{SectionOf}
 use Rattle.asm_frags.specs.Substituting.{substituted_field}
 use Rattle.asm_frags.specs.Writing.{LooseSection}
 use Rattle.asm_expr.specs.Forms.{Form}
-use Rattle.asm_relax.specs.Expanding.{expanded}
+use Rattle.assigned_forms.specs.Expanding.{expanded}
 use Rattle.asm_relax.specs.Settling.{LaidItem, LaidSections, layout_of}
 use Rattle.elf_file.specs.Places.{PieceAt}
 use Rattle.elf_object.specs.Image.{image_of}
 use Rattle.elf_object.specs.Places.{section_offset, moved, IsBetween, IsFiled}
-use Rattle.elf_object.proofs.ItemPlaces.{bytes_stand, values_stand}
 use Rattle.asm_place.specs.CodePlaces.{FieldInCode, with_held, zeros_in, AreApart, field_in, CodeStandsAt}
 use Rattle.asm_place.proofs.FieldOrder.{zeros_long}
 use Rattle.asm_place.proofs.CodeParts.{slice_long, apart_inside, apart_before}
@@ -119,7 +118,7 @@ module _ (settled : AreSettled) (symbols : SymbolMap) (sections : List LooseSect
   plain_there front more bytes from up within long there free =
       let whole : length section.bytes ≡ from + length (bytes ++ more) = ap (λ (xs : List ℕ). length xs) there ∙ length-append front (bytes ++ more) ∙ ap
       (λ k. k + length (bytes ++ more)) long in
-      bytes_stand symbols laid n item from kept bytes filed (omega (arith, whole))
+      settled.bytes symbols laid n item from kept bytes filed (omega (arith, whole))
       (ap (λ (xs : List ℕ). slice_range xs from (from + length bytes)) there ∙ middle front bytes more from long)
       (beside_kept (expanded symbols) from (from + length bytes) section.fields free) (between from (from + length bytes) up within)
 
@@ -136,7 +135,7 @@ module _ (settled : AreSettled) (symbols : SymbolMap) (sections : List LooseSect
       → section.fields ≡ earlier ++ (place field ∷ more)
       → PieceAt image (file_at (offset + field.at)) (valued field)
   field_there earlier more field within there =
-      values_stand symbols laid n (length earlier) kept (substituted_field (expanded symbols) (place field)) filed
+      settled.values symbols laid n (length earlier) kept (substituted_field (expanded symbols) (place field)) filed
       (stand_kept (expanded symbols) section.bytes 0 section.fields stand)
       (field_got earlier more field there)
       (between (offset + field.at) (offset + field.at + width field.size) (omega arith) (omega (arith, within)))

@@ -116,3 +116,4 @@ holds_zero held.Plain size = zero_fits size
 holds_zero held.Signed size = zero_fits_signed size
 holds_zero held.Address size = zero_fits_signed size
 holds_zero held.Branch size = zero_fits_signed size
+holds_zero held.Number size = refl

@@ -12,9 +12,9 @@ use Rattle.asm_frags.specs.SectionOf.{SectionOf}
 use Rattle.asm_frags.specs.Substituting.{substituted_field}
 use Rattle.asm_relax.specs.declared.faults.LayoutFault.TheVariants.{DistanceOutOfRange}
 use Rattle.asm_relax.specs.Faults.{or_later, first_of}
-use Rattle.asm_relax.specs.Expanding.{expanded}
+use Rattle.assigned_forms.specs.Expanding.{expanded}
 use Rattle.asm_relax.specs.FieldValues.{held_value}
-use Rattle.asm_relax.specs.RangeChecks.{large_section, misfit, field_misfit, section_misfit, first_fault}
+use Rattle.asm_relax.specs.RangeChecks.{large_section, section_back, misfit, field_misfit, section_misfit, first_fault}
 use Rattle.asm_relax.specs.Settling.{LaidItem, LooseSections, LaidSections, planned, unless, settled_sections, layout_of}
 use Rattle.asm_front.specs.ReadsBack.{final_value}
 use Rattle.asm_front.proofs.CodeValues.{holds_zero}
@@ -27,7 +27,7 @@ unless_none (Some fault) made answer e = absurd cc
 
 layout_fine : (symbols : SymbolMap) (sections : LooseSections) (laid : LaidSections) → layout_of symbols sections ≡ Ok laid → first_fault symbols laid ≡ None
 layout_fine symbols sections laid e =
-    let settled = settled_sections (planned symbols sections) in
+    let settled = settled_sections symbols (planned symbols sections) in
     ap (first_fault symbols) (unless_is (first_fault symbols settled) settled laid e) ∙ unless_none (first_fault symbols settled) settled laid e
 
 later_none : {E : Type 0} (first later : Option E) → or_later first later ≡ None → (first ≡ None) × (later ≡ None)
@@ -43,7 +43,9 @@ each_fine fault (y ∷ xs) (suc n) x none there = each_fine fault xs n x (later_
 
 sections_fine : (symbols : SymbolMap) (laid : LaidSections) → first_fault symbols laid ≡ None → first_of (section_misfit symbols laid) laid ≡ None
 unfolding first_fault
-sections_fine symbols laid none = (later_none (first_of large_section laid) (first_of (section_misfit symbols laid) laid) none).1
+sections_fine symbols laid none =
+    (later_none (first_of section_back laid) (first_of (section_misfit symbols laid) laid)
+    (later_none (first_of large_section laid) (or_later (first_of section_back laid) (first_of (section_misfit symbols laid) laid)) none).1).1
 
 no_misfit : (pos : Pos) (kind : FieldKind) (size : FieldSize) (value : ℕ) (test : Bool) → holds kind size value ≡ test
     → cond test None (Some (DistanceOutOfRange pos value)) ≡ None → holds kind size value ≡ true

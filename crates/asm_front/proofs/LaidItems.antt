@@ -13,10 +13,11 @@ use Rattle.asm_frags.specs.Addresses.{item_laid_at}
 use Rattle.asm_frags.specs.Substituting.{substituted_field, laid_item, laid_section}
 use Rattle.asm_levels.specs.Shifts.{shifts_of}
 use Rattle.asm_relax.specs.RangeChecks.{first_fault}
-use Rattle.asm_relax.specs.ItemRows.{rows_of, levels_of}
-use Rattle.asm_relax.specs.Layout.{laid_from, laid_out_section, row_count, laid_out, laid_by, AreSized}
+use Rattle.asm_relax.specs.ItemRows.{row_count, rows_of, levels_of}
+use Rattle.asm_relax.specs.Layout.{laid_from, laid_out_section, laid_out, laid_by, AreSized}
 use Rattle.asm_relax.specs.Placing.{placed_section}
-use Rattle.asm_relax.specs.Expanding.{expanded}
+use Rattle.assigned_forms.specs.Expanding.{expanded}
+use Rattle.elf_object.specs.Places.{BytesStand, ValuesStand}
 use Rattle.asm_relax.specs.Settling.{LaidItem, LooseSections, LaidSections, planned, unless, settled_sections, layout_of}
 
 -- what an answer without a fault holds
@@ -24,16 +25,19 @@ pub unless_is : {A E : Type 0} (fault : Option E) (made answer : A) → unless f
 unless_is None made answer e = cc
 unless_is (Some fault) made answer e = absurd cc
 
--- what holds of all settled sections: items stand one behind the other, and have sizes that they may have
+-- what holds of all settled sections: items stand one behind the other, and have sizes that they may have; and of their objects: plain bytes and the
+-- values of fields stand where they are said to
 pub record AreSettled : Type 0 where
-  pub placed : (sections : LaidSections) → map placed_section (settled_sections sections) ≡ settled_sections sections
-  pub sized : (sections : LaidSections) → All (λ section. AreSized section.items) (settled_sections sections)
+  pub placed : (symbols : SymbolMap) (sections : LaidSections) → map placed_section (settled_sections symbols sections) ≡ settled_sections symbols sections
+  pub sized : (symbols : SymbolMap) (sections : LaidSections) → All (λ section. AreSized section.items) (settled_sections symbols sections)
+  pub bytes : BytesStand
+  pub values : ValuesStand
 
 -- a layout is that of its sections
 layout_is : (symbols : SymbolMap) (sections : LooseSections) (laid : LaidSections) → layout_of symbols sections ≡ Ok laid
-    → laid ≡ settled_sections (planned symbols sections)
+    → laid ≡ settled_sections symbols (planned symbols sections)
 layout_is symbols sections laid e =
-    unless_is (first_fault symbols (settled_sections (planned symbols sections))) (settled_sections (planned symbols sections)) laid e
+    unless_is (first_fault symbols (settled_sections symbols (planned symbols sections))) (settled_sections symbols (planned symbols sections)) laid e
 
 -- the section that is laid out, by the shifts of its own rows
 laid_get : (shifts : List ℕ) (sections : LaidSections) (n : ℕ) (section : SectionOf LaidItem) → slice_get sections n ≡ Some section
@@ -54,7 +58,7 @@ section_kept symbols sections laid n section e there =
     let all = planned symbols sections in
     let substituted = laid_section (expanded symbols) in
     let planned_there : slice_get all n ≡ Some (substituted section) = slice_get-map substituted sections n ∙ ap (option_map substituted) there in
-    let got = laid_get (shifts_of (rows_of all) (levels_of (rows_of all))) all n (substituted section) planned_there in
+    let got = laid_get (shifts_of (rows_of symbols all) (levels_of (rows_of symbols all))) all n (substituted section) planned_there in
     (got.0, ap (λ (found : LaidSections). slice_get found n) (layout_is symbols sections laid e) ∙ got.1)
 
 module _ (settled : AreSettled) (symbols : SymbolMap) (sections : LooseSections) (laid : LaidSections) (n : ℕ) (kept : SectionOf LaidItem) (e : layout_of symbols sections ≡ Ok laid)
@@ -64,7 +68,7 @@ module _ (settled : AreSettled) (symbols : SymbolMap) (sections : LooseSections)
   laid_stays =
       let is = layout_is symbols sections laid e in
       let placed : map placed_section laid ≡ laid =
-      ap (map placed_section) is ∙ settled.placed (planned symbols sections) ∙ sym is in
+      ap (map placed_section) is ∙ settled.placed symbols (planned symbols sections) ∙ sym is in
       same_Some (placed_section kept) kept
       (ap (option_map placed_section) (sym there) ∙ sym (slice_get-map placed_section laid n) ∙ ap (λ (all : LaidSections). slice_get all n) placed ∙ there)
 
@@ -72,7 +76,7 @@ module _ (settled : AreSettled) (symbols : SymbolMap) (sections : LooseSections)
   pub laid_sized : AreSized kept.items
   laid_sized =
       let is = layout_is symbols sections laid e in
-      let all : All (λ section. AreSized section.items) laid = subst (λ (found : LaidSections). All (λ section. AreSized section.items) found) (sym is) (settled.sized (planned symbols sections)) in
+      let all : All (λ section. AreSized section.items) laid = subst (λ (found : LaidSections). All (λ section. AreSized section.items) found) (sym is) (settled.sized symbols (planned symbols sections)) in
       subst (λ (section : SectionOf LaidItem). AreSized section.items) (get_or_from_slice_get laid n kept kept there) (all n kept (slice_get_within laid n kept there))
 
 -- the first item, laid out

@@ -12,7 +12,7 @@ use Rattle.asm_lines.specs.NextStatements.{in_tokens}
 use Rattle.asm_symbols.specs.SymbolMap.{SymbolMap}
 use Rattle.asm_frags.specs.declared.items.Frag.{Frag}
 use Rattle.asm_frags.specs.SectionOf.{SectionOf}
-use Rattle.asm_relax.specs.Expanding.{expanded}
+use Rattle.assigned_forms.specs.Expanding.{expanded}
 use Rattle.asm_relax.specs.Settling.{LaidItem, LaidSections, unless, layout_of}
 use Rattle.asm_relax.specs.declared.faults.LayoutFault.{LayoutFault}
 use Rattle.x86_insn.specs.Views.{View}
@@ -32,7 +32,6 @@ use Rattle.elf_object.specs.Image.{image_of}
 use Rattle.elf_file.specs.Places.{PieceAt}
 use Rattle.elf_object.specs.Places.{IsFiled, IsBetween}
 use Rattle.elf_file.proofs.FilePlaces.{drop_stands}
-use Rattle.elf_object.proofs.ItemPlaces.{bytes_stand}
 use Rattle.asm_front.specs.Ending.{Flags, first_warning, warned_end, made_end, laid_end, noted, finished}
 use Rattle.asm_front.specs.declared.ending.Ended.{Ended}
 use Rattle.asm_front.specs.declared.ending.NotedObject.{NotedObject}
@@ -61,7 +60,7 @@ object_stands settled symbols sections laid n item offset bytes e holds =
     } in
     let within : last ≤ length holds.section.bytes = holds.within in
     let inside : offset ≤ length holds.section.bytes = omega arith in
-    let stands = bytes_stand symbols laid n item offset section bytes filed inside holds.there
+    let stands = settled.bytes symbols laid n item offset section bytes filed inside holds.there
     (beside_kept (expanded symbols) offset last holds.section.fields holds.free) between in
     rw there stands
 

@@ -1,12 +1,12 @@
 -- The definition of an object at small sections and symbols, by computing.
-use Rattle.std.proofs.Common.{◌≡◌, ℕ, ◌-◌, ◌^◌, List, [], ◌∷◌, ◌++◌, length, take, drop, codes, None, Some, Result, Ok, Err, refl}
+use Rattle.std.proofs.Common.{◌≡◌, ℕ, ◌-◌, ◌^◌, false, List, [], ◌∷◌, ◌++◌, length, take, drop, codes, None, Some, Result, Ok, Err, refl}
 use Rattle.std.proofs.Math.ListN.{replicate}
 use Rattle.asm_expr.specs.declared.naming.Name.{Name}
 use Rattle.asm_expr.specs.declared.naming.Name.TheVariants.{Plain, Place}
 use Rattle.asm_expr.specs.declared.forms.Term.{Term}
 use Rattle.asm_expr.specs.Forms.{term_of}
 use Rattle.asm_expr.specs.Settled.{put_all, settled}
-use Rattle.asm_frags.specs.declared.contents.Content.TheVariants.{Run}
+use Rattle.item_contents.specs.declared.contents.Content.TheVariants.{Run}
 use Rattle.asm_frags.specs.declared.fields.Field.{Field}
 use Rattle.asm_frags.specs.declared.fields.FieldSize.{FieldSize}
 use Rattle.asm_frags.specs.declared.fields.FieldSize.TheVariants.{Four, Eight}
@@ -20,7 +20,7 @@ use Rattle.asm_symbols.specs.declared.entries.Meaning.TheVariants as meaning
 use Rattle.asm_symbols.specs.SymbolMap.{SymbolMap}
 use Rattle.asm_relax.specs.FieldValues.{told_beside, told_in_field, held_value}
 use Rattle.asm_relax.specs.Final.{shift_in, section_size, address_of, final_told, laid_value, final_form}
-use Rattle.asm_relax.specs.Expanding.{plus_terms, expanded_within, expanded}
+use Rattle.assigned_forms.specs.Expanding.{plus_terms, expanded_within, expanded}
 use Rattle.asm_relax.specs.Settling.{LaidItem, LaidSections}
 use Rattle.elf_object.specs.declared.faults.ObjectCause.{ObjectCause}
 use Rattle.elf_file.specs.Fields.{half, word, xword}
@@ -77,6 +77,7 @@ field offset size terms constant = record {
   section = 1;
   size = size;
   role = data_role;
+  in_item = false;
   form = record { terms = terms; constant = constant };
 }
 

@@ -12,7 +12,7 @@ use Rattle.asm_symbols.specs.SymbolMap.{SymbolMap}
 use Rattle.asm_frags.specs.declared.fields.Field.{Field}
 use Rattle.asm_frags.specs.Fields.{is_distance, own_place}
 use Rattle.asm_frags.specs.Substituting.{substituted_field}
-use Rattle.asm_relax.specs.Expanding.{replacement, plus_terms, with_replaced, names_assigned, expanded_within, expanded}
+use Rattle.assigned_forms.specs.Expanding.{replacement, plus_terms, with_replaced, names_assigned, expanded_within, expanded}
 use Rattle.asm_relax.specs.FieldValues.{less, counted_bytes, counted, told_in_field, held_value}
 use Rattle.asm_relax.specs.Settling.{LaidSections}
 use Rattle.x86_encode.specs.declared.encoded.FieldKind.{FieldKind}

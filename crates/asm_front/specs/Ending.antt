@@ -30,6 +30,7 @@ ended_at fault pos = record { fault = fault; pos = pos }
 -- the fault of the layout
 abbrev pub layout_end : LayoutFault → Ended
 layout_end (layout.SectionTooLarge pos size) = ended_at end.SectionTooLarge pos
+layout_end (layout.OrgMovesBackwards pos) = ended_at end.OrgMovesBackwards pos
 layout_end (layout.DistanceOutOfRange pos distance) = ended_at end.DistanceOutOfRange pos
 
 -- the first line of the source file

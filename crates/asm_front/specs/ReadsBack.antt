@@ -8,7 +8,7 @@ use Rattle.asm_lines.specs.NextStatements.{TokenStatement, in_tokens}
 use Rattle.asm_symbols.specs.SymbolMap.{SymbolMap}
 use Rattle.asm_frags.specs.declared.fields.Field.{Field}
 use Rattle.asm_frags.specs.Substituting.{substituted_field}
-use Rattle.asm_relax.specs.Expanding.{expanded}
+use Rattle.assigned_forms.specs.Expanding.{expanded}
 use Rattle.asm_relax.specs.FieldValues.{held_value}
 use Rattle.asm_relax.specs.Settling.{LaidSections, layout_of}
 use Rattle.elf_file.specs.Sections.{no_bits}

@@ -36,6 +36,10 @@ fn layout_end(fault: LayoutFault) -> Ended
             fault: EndFault::SectionTooLarge,
             pos,
         },
+        LayoutFault::OrgMovesBackwards { pos } => Ended {
+            fault: EndFault::OrgMovesBackwards,
+            pos,
+        },
         LayoutFault::DistanceOutOfRange { pos, .. } => Ended {
             fault: EndFault::DistanceOutOfRange,
             pos,

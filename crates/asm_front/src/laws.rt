@@ -13,6 +13,7 @@ ghost use Rattle.asm_front.specs.Outcome.{main_file};
 ghost use Rattle.asm_front.specs.ReadsBack.{ReadsBack};
 
 use asm_relax::settled_is_placed;
+use elf_object::{bytes_stand, values_stand};
 use x86_encode::encodings_are_codes;
 use x86_lookup::bare_codes_read;
 use x86_table::read_one_way;
@@ -33,6 +34,8 @@ pub fn written_reads_back()
         → assembly_of flags main_file source ≡ Ok made → ReadsBack flags source made.object }
 {
     settled_is_placed();
+    bytes_stand();
+    values_stand();
     read_one_way();
     bare_codes_read();
     encodings_are_codes();

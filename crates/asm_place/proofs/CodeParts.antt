@@ -7,14 +7,14 @@ use Rattle.std.proofs.lemmas.Option.{same_Some}
 use Rattle.asm_base.specs.declared.positions.Pos.{Pos}
 use Rattle.asm_base.specs.Refusals.{◌>>=◌}
 use Rattle.asm_expr.specs.Forms.{Form}
-use Rattle.asm_frags.specs.declared.contents.Content.TheVariants.{Run}
+use Rattle.item_contents.specs.declared.contents.Content.TheVariants.{Run}
 use Rattle.asm_frags.specs.declared.faults.FragCause.{FragCause}
 use Rattle.asm_frags.specs.declared.faults.FragCause.TheVariants as frag
 use Rattle.asm_frags.specs.declared.fields.Field.{Field}
 use Rattle.asm_frags.specs.declared.fields.FieldSize.{FieldSize}
 use Rattle.asm_frags.specs.declared.roles.FieldRole.{FieldRole}
 use Rattle.asm_frags.specs.Fields.{width}
-use Rattle.asm_frags.specs.PlainBytes.{is_zero}
+use Rattle.item_contents.specs.Zeros.{is_zero}
 use Rattle.asm_frags.specs.Writing.{LooseItem, LooseSection, ends_in_run, new_item, item_behind, with_item, with_run, with_bytes, with_field, takes_zeros_alone, bytes_put, field_put}
 use Rattle.asm_frags.specs.Sections.{with_section_or_fault, put_into_there}
 use Rattle.asm_operands.specs.LayerFaults.{of_sections}
@@ -180,7 +180,7 @@ module _ (before : List LooseSection) (number : ℕ) (section : LooseSection) (t
     -- a field at this offset, behind so many items
     abbrev field_behind : ℕ → ℕ → CodeField → Field
     field_behind items bytes field =
-        record { pos = pos; item = items; offset = bytes; section = number; size = field.size; role = field.role; form = field.form }
+        record { pos = pos; item = items; offset = bytes; section = number; size = field.size; role = field.role; in_item = false; form = field.form }
 
     more_field : (bytes : List ℕ) (fields : List Field) (field : CodeField) → length bytes ≡ field.at
         → with_field pos number field.size field.role field.form (begun bytes fields) ≡ begun (bytes ++ zeros_in field) (fields ++ place field ∷ [])

@@ -1,5 +1,5 @@
 -- Fields of a section stay in order, apart and over zeros where bytes and a field more come.
-use Rattle.std.proofs.Common.{◌≡◌, ℕ, ◌+◌, ◌-◌, ◌≤◌, List, [], ◌∷◌, ◌++◌, All, length, take, drop, replicate, refl, ap, ◌∙◌, arith, length-append, length-drop}
+use Rattle.std.proofs.Common.{◌≡◌, ℕ, zero, suc, ◌+◌, ◌-◌, ◌≤◌, List, [], ◌∷◌, ◌++◌, All, length, take, drop, replicate, refl, ap, ◌∙◌, arith, length-append, length-drop}
 use Rattle.std.specs.Prelude.{slice_range}
 use Rattle.std.proofs.lemmas.List.{take-append-le, drop-append-le}
 use Rattle.std.proofs.lemmas.List.Elements.{All-head, All-tail}
@@ -8,7 +8,7 @@ use Rattle.asm_frags.specs.declared.fields.FieldSize.{FieldSize}
 use Rattle.asm_frags.specs.declared.fields.FieldSize.TheVariants.{One, Two, Four, Eight}
 use Rattle.asm_frags.specs.declared.fields.Field.{Field}
 use Rattle.asm_frags.specs.Fields.{width}
-use Rattle.asm_frags.specs.PlainBytes.{field_end, IsBlank, FieldsStand}
+use Rattle.asm_frags.specs.PlainBytes.{covered, field_end, IsBlank, FieldsStand}
 
 range_more : (xs ys : List ℕ) (from to : ℕ) → from ≤ to → to ≤ length xs → slice_range (xs ++ ys) from to ≡ slice_range xs from to
 range_more xs ys from to up within =
@@ -39,11 +39,13 @@ stand_both bytes from end (field ∷ fields) more before ends stand later = (
       (All-tail (λ (field : Field). field_end field ≤ end) field fields ends) stand.2 later,
 )
 
-zeros_whole : (size : FieldSize) → take {A = ℕ} (width size) (replicate (width size) 0) ≡ replicate (width size) 0
-zeros_whole One = refl
-zeros_whole Two = refl
-zeros_whole Four = refl
-zeros_whole Eight = refl
+zeros_whole : (count : ℕ) → take {A = ℕ} count (replicate count 0) ≡ replicate count 0
+zeros_whole zero = refl
+zeros_whole (suc count) = ap (λ (zs : List ℕ). 0 ∷ zs) (zeros_whole count)
+
+zeros_many : (count : ℕ) → length {A = ℕ} (replicate count 0) ≡ count
+zeros_many zero = refl
+zeros_many (suc count) = ap suc (zeros_many count)
 
 pub zeros_long : (size : FieldSize) → length {A = ℕ} (replicate (width size) 0) ≡ width size
 zeros_long One = refl
@@ -52,21 +54,21 @@ zeros_long Four = refl
 zeros_long Eight = refl
 
 -- zeros behind the bytes, from there on
-zeros_behind : (bytes : List ℕ) (size : FieldSize)
-    → slice_range (bytes ++ replicate (width size) 0) (length bytes) (length bytes + width size) ≡ replicate (width size) 0
-zeros_behind bytes size =
-    let behind : length bytes + width size - length bytes ≡ width size = omega arith in
-    ap (λ (n : ℕ). take n (drop (length bytes) (bytes ++ replicate (width size) 0))) behind
-    ∙ ap (λ (zs : List ℕ). take (width size) zs) (drop-append_seam bytes (replicate (width size) 0)) ∙ zeros_whole size
+zeros_behind : (bytes : List ℕ) (count : ℕ)
+    → slice_range (bytes ++ replicate count 0) (length bytes) (length bytes + count) ≡ replicate count 0
+zeros_behind bytes count =
+    let behind : length bytes + count - length bytes ≡ count = omega arith in
+    ap (λ (n : ℕ). take n (drop (length bytes) (bytes ++ replicate count 0))) behind
+    ∙ ap (λ (zs : List ℕ). take count zs) (drop-append_seam bytes (replicate count 0)) ∙ zeros_whole count
 
 -- a field over zeros that come last
 pub stand_last : (bytes : List ℕ) (field : Field) → field.offset ≡ length bytes → (at : ℕ) → at ≤ length bytes
-    → FieldsStand (bytes ++ replicate (width field.size) 0) at (field ∷ [])
+    → FieldsStand (bytes ++ replicate (covered field) 0) at (field ∷ [])
 stand_last bytes field behind at before = (
   rw behind before,
   record {
-    within = let known = zeros_long field.size in omega (arith, length-append bytes (replicate (width field.size) 0));
-    zeros = ap (λ (n : ℕ). slice_range (bytes ++ replicate (width field.size) 0) n (n + width field.size)) behind ∙ zeros_behind bytes field.size;
+    within = let known = zeros_many (covered field) in omega (arith, length-append bytes (replicate (covered field) 0));
+    zeros = ap (λ (n : ℕ). slice_range (bytes ++ replicate (covered field) 0) n (n + covered field)) behind ∙ zeros_behind bytes (covered field);
   },
   tt,
 )

@@ -5,7 +5,7 @@ use Rattle.std.proofs.lemmas.List.{length-replicate}
 use Rattle.std.proofs.lemmas.List.Elements.{All-from_recursion, All-nil, All-cons, All-head, All-tail, All-append, All-push, All-set, All-weaker}
 use Rattle.asm_base.specs.declared.positions.Pos.{Pos}
 use Rattle.asm_expr.specs.Forms.{Form}
-use Rattle.asm_frags.specs.declared.contents.Content.TheVariants.{Run}
+use Rattle.item_contents.specs.declared.contents.Content.TheVariants.{Run}
 use Rattle.asm_frags.specs.declared.fields.Field.{Field}
 use Rattle.asm_frags.specs.declared.fields.FieldSize.{FieldSize}
 use Rattle.asm_frags.specs.declared.roles.FieldRole.{FieldRole}
@@ -234,7 +234,7 @@ bytes_added pos more section =
 -- a field over zeros
 abbrev field_of : Pos → ℕ → FieldSize → FieldRole → Form → LooseSection → Field
 field_of pos number size role form section =
-    record { pos = pos; item = length (with_run pos section).items; offset = length section.bytes; section = number; size = size; role = role; form = form }
+    record { pos = pos; item = length (with_run pos section).items; offset = length section.bytes; section = number; size = size; role = role; in_item = false; form = form }
 
 field_is_more : (pos : Pos) (number : ℕ) (size : FieldSize) (role : FieldRole) (form : Form) (section : LooseSection)
     → with_more (with_run pos section) (replicate (width size) 0) (field_of pos number size role form section ∷ []) [] ≡ with_field pos number size role form section

@@ -13,10 +13,11 @@ use Rattle.asm_base.specs.declared.notes.Noted.{Noted}
 use Rattle.asm_base.specs.declared.positions.Pos.{Pos}
 use Rattle.asm_base.specs.Tokens.{SpelledToken}
 use Rattle.asm_lines.specs.NextStatements.{TokenStatement}
-use Rattle.asm_frags.specs.declared.contents.Content.TheVariants.{Run}
+use Rattle.item_contents.specs.declared.contents.Content.TheVariants.{Run}
 use Rattle.asm_frags.specs.declared.fields.Field.{Field}
 use Rattle.asm_frags.specs.declared.faults.FragCause.TheVariants as frag
-use Rattle.asm_frags.specs.PlainBytes.{is_zero, field_end, IsBeside}
+use Rattle.item_contents.specs.Zeros.{is_zero}
+use Rattle.asm_frags.specs.PlainBytes.{field_end, IsBeside}
 use Rattle.asm_frags.specs.Writing.{LooseItem, LooseSection, new_item, ends_in_run, takes_zeros_alone, with_item, with_run, with_bytes, bytes_put}
 use Rattle.asm_frags.specs.Sections.{with_section_or_fault, put_into_there}
 use Rattle.x86_lookup.specs.BareInstructions.{Coded, bare_instruction, BareCodesStand}

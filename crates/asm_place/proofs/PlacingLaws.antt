@@ -12,14 +12,15 @@ use Rattle.asm_lines.specs.NextStatements.{TokenStatement}
 use Rattle.asm_expr.specs.declared.naming.Name.TheVariants as naming
 use Rattle.asm_expr.specs.declared.forms.Term.{Term}
 use Rattle.asm_expr.specs.Forms.{Form}
-use Rattle.asm_frags.specs.declared.contents.Content.{Content}
-use Rattle.asm_frags.specs.declared.contents.Content.TheVariants as content
+use Rattle.item_contents.specs.declared.contents.Content.{Content}
+use Rattle.item_contents.specs.declared.contents.Content.TheVariants as content
 use Rattle.asm_frags.specs.declared.faults.FragCause.{FragCause}
 use Rattle.asm_frags.specs.declared.fields.FieldSize.{FieldSize}
 use Rattle.asm_frags.specs.declared.faults.FragCause.TheVariants as frag
 use Rattle.asm_frags.specs.SectionOf.{new_section, is_alike, section_number}
-use Rattle.asm_frags.specs.PlainBytes.{is_zero}
-use Rattle.asm_frags.specs.Contents.{is_known_zeros}
+use Rattle.item_contents.specs.ItemParts.{zeros_up_to}
+use Rattle.item_contents.specs.Zeros.{is_zero}
+use Rattle.item_contents.specs.Contents.{is_known_zeros}
 use Rattle.asm_frags.specs.declared.roles.FieldRole.{FieldRole}
 use Rattle.asm_frags.specs.Fields.{width, data_role}
 use Rattle.asm_frags.specs.Writing.{LooseSection, new_item, takes_zeros_alone, with_item, with_bytes, with_field, bytes_put, field_put, item_put}
@@ -279,7 +280,7 @@ assignment_steps pos token tokens placed =
 with_space_steps : (pos : Pos) (naming : Naming) (symbol size log : ℕ) (placed : Placed) → Steps placed (with_space pos naming symbol size log placed)
 unfolding with_space
 with_space_steps pos naming symbol size log placed =
-    after (space_of size 0) (λ space. grown placed (push_steps pos bss (content.Align (record { log = log })) placed)
+    after (space_of size 0) (λ space. grown placed (push_steps pos bss (content.Align (zeros_up_to log)) placed)
     (λ aligned. grown aligned (push_steps pos bss space aligned)
     (λ pushed. after (define_space naming symbol size (Space (spot_at aligned.sections bss)) pushed.table)
     (λ table. made (with_table pushed table) (still pushed)))))

@@ -109,7 +109,7 @@ AreApart from end (field ∷ fields) = (from ≤ field.at) × AreApart (field.at
 -- a field of the instruction at this offset of the section of this number, which so many items stand before
 abbrev pub field_in : Pos → ℕ → ℕ → ℕ → CodeField → Field
 field_in pos number item offset field =
-    record { pos = pos; item = item; offset = offset + field.at; section = number; size = field.size; role = field.role; form = field.form }
+    record { pos = pos; item = item; offset = offset + field.at; section = number; size = field.size; role = field.role; in_item = false; form = field.form }
 
 -- the section, which has this number, with the bytes and the fields of an instruction more
 abbrev pub with_code : Pos → ℕ → List ℕ → List CodeField → LooseSection → LooseSection

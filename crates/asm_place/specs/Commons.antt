@@ -7,7 +7,8 @@ use Rattle.asm_base.specs.declared.positions.Pos.{Pos}
 use Rattle.asm_base.specs.Tokens.{SpelledToken}
 use Rattle.asm_expr.specs.declared.naming.Name.{Name}
 use Rattle.asm_expr.specs.declared.naming.Name.TheVariants as naming
-use Rattle.asm_frags.specs.declared.contents.Content.TheVariants as content
+use Rattle.item_contents.specs.declared.contents.Content.TheVariants as content
+use Rattle.item_contents.specs.ItemParts.{zeros_up_to}
 use Rattle.asm_symbols.specs.declared.entries.Binding.{Binding}
 use Rattle.asm_symbols.specs.declared.entries.Binding.TheVariants.{Local, Global, Weak}
 use Rattle.asm_symbols.specs.declared.entries.Definition.TheVariants.{Common, Space}
@@ -40,7 +41,7 @@ is_said_local map index = option_map_or (λ symbol. is_local_binding symbol.bind
 -- zeros up to a multiple of 2 ^ log in `.bss`, and then so many more, which are the symbol's
 unfoldable pub with_space : Pos → Naming → ℕ → ℕ → ℕ → Placed → Result Placed PlaceCause
 with_space pos naming symbol size log placed =
-    space_of size 0 >>= λ space. push_into pos bss (content.Align (record { log = log })) placed >>= λ aligned.
+    space_of size 0 >>= λ space. push_into pos bss (content.Align (zeros_up_to log)) placed >>= λ aligned.
     push_into pos bss space aligned >>= λ pushed.
     define_space naming symbol size (Space (spot_at aligned.sections bss)) pushed.table >>= λ table. Ok (with_table pushed table)
 

@@ -9,12 +9,12 @@ ghost use Rattle.asm_place.specs.SpaceWordsIn.{space_words_in};
 ghost use Rattle.asm_values.specs.PlacedBy.{placed_by, PlacesBy};
 
 use asm_base::{Pos, Token};
-use asm_frags::{Align, Content};
 use asm_operands::{Operands, PlaceFault, begins_with_place, needed_name};
 use asm_symbols::{Binding, Definition, SymId, Symbols};
 use asm_uses::{Naming, spot_at};
 use asm_values::{Assembler, KnownOperands};
 use asm_words::{log_of, space_of, space_size};
+use item_contents::{Align, Content};
 
 /// The number of `.bss`.
 const BSS: u32 = 2;
@@ -82,7 +82,7 @@ fn with_space(
     ensures kept { assembler.new.notes ≡ assembler.old.notes }
 {
     let space = space_of(size, 0)?;
-    assembler.push_into(pos, BSS, Content::Align(Align::new(log)))?;
+    assembler.push_into(pos, BSS, Content::Align(Align::zeros(log)))?;
     let spot = spot_at(&assembler.sections, BSS);
     assembler.push_into(pos, BSS, space)?;
     assembler

@@ -12,8 +12,8 @@ use Rattle.asm_frags.specs.declared.fields.FieldSize.TheVariants.{One, Two, Four
 use Rattle.asm_frags.specs.declared.items.Frag.{Frag}
 use Rattle.asm_frags.specs.Fields.{width, own_place}
 use Rattle.asm_frags.specs.SectionOf.{SectionOf}
-use Rattle.asm_relax.specs.Final.{address_of, final_told}
-use Rattle.asm_relax.specs.FieldValues.{is_linked, place_label, place_told, told_in_field, less, counted, held_value, instruction_end, DistancesLead}
+use Rattle.asm_relax.specs.Final.{final_told}
+use Rattle.asm_relax.specs.FieldValues.{is_linked, field_address, place_label, place_told, told_in_field, less, counted, held_value, instruction_end, DistancesLead}
 
 -- a symbol and a number, less another symbol
 abbrev both_of : ℕ → ℕ → ℕ → Form
@@ -51,7 +51,7 @@ leads at origin number taken small = omega arith
 pub distances_lead : DistancesLead
 unfolding held_value
 distances_lead map sections field symbol number address is free differs there =
-    let place = address_of sections field.section field.item field.offset in
+    let place = field_address sections field in
     let told = told_in_field map sections field in
     let taken = width field.size + field.role.behind in
     let value = left_of address place number in

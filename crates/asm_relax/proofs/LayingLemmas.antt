@@ -1,13 +1,16 @@
 -- Items and sections that are laid out one after the other, in place.
-use Rattle.std.proofs.Common.{◌≡◌, ℕ, zero, suc, ◌+◌, ◌-◌, ◌<◌, ◌≤◌, List, [], ◌∷◌, Some, length, drop, refl, sym, ap, ◌∙◌, arith, length-append, drop-drop}
+use Rattle.std.proofs.Common.{◌≡◌, ℕ, zero, suc, ◌+◌, ◌-◌, ◌<◌, ◌≤◌, List, [], ◌∷◌, ◌++◌, Some, length, get_or, drop, refl, sym, ap, ◌∙◌, arith, length-append, append_assoc, drop-drop}
 use Rattle.std.specs.Prelude.{slice_get, slice_index}
 use Rattle.std.proofs.Math.Seq.{get_or-drop}
-use Rattle.std.proofs.lemmas.List.{length-map}
+use Rattle.std.proofs.lemmas.List.{at_drop_more}
 use Rattle.asm_frags.specs.declared.items.Frag.{Frag}
 use Rattle.asm_frags.specs.SectionOf.{SectionOf}
 use Rattle.asm_frags.specs.Addresses.{item_laid_at, section_laid_at, changed_at, sections_laid_at, HasItem}
-use Rattle.asm_relax.specs.ItemRows.{row_of, item_rows, end_of, section_rows, rows_of}
-use Rattle.asm_relax.specs.Layout.{laid_from, laid_out_section, laid_out, row_count}
+use Rattle.asm_symbols.specs.SymbolMap.{SymbolMap}
+use Rattle.asm_frags.specs.declared.fields.Field.{Field}
+use Rattle.asm_levels.specs.declared.rows.Row.{Row}
+use Rattle.asm_relax.specs.ItemRows.{RowsIn, row_count, starts_from, all_rows, rows_in, row_of, item_rows, end_of, section_rows, rows_from, rows_of}
+use Rattle.asm_relax.specs.Layout.{laid_from, laid_out_section, laid_out}
 use Rattle.asm_relax.specs.Placing.{address_there}
 use Rattle.asm_relax.proofs.Changes.{changed_more, changed_twice, changed_alike, changed_get, changed_none}
 
@@ -159,32 +162,81 @@ module _ {P : Type 0} where
   row_next zero (one ∷ sections) section is = let same : one ≡ section = cc in rw same (omega arith)
   row_next (suc n) (one ∷ sections) section is = let later = row_next n sections section is in omega arith
 
-  section_long : (section : SectionOf (Frag P ℕ)) → length (section_rows section) ≡ row_count section
-  section_long section =
-      let items : length (item_rows section.items) ≡ length section.items = length-map section.items row_of in
-      omega (arith, length-append (item_rows section.items) (end_of section ∷ []))
+  items_long : (rows : RowsIn) (fields : List Field) (number index : ℕ) (items : List (Frag P ℕ)) → length (item_rows rows fields number index items) ≡ length items
+  items_long rows fields number index [] = refl
+  items_long rows fields number index (item ∷ items) = ap suc (items_long rows fields (number + 1) (index + 1) items)
+
+  pub section_long : (rows : RowsIn) (first : ℕ) (section : SectionOf (Frag P ℕ)) → length (section_rows rows first section) ≡ row_count section
+  section_long rows first section =
+      let items = items_long rows section.fields first 0 section.items in
+      omega (arith, length-append (item_rows rows section.fields first 0 section.items) (end_of section ∷ []))
+
+  -- there are as many rows as there are of each section
+  pub all_long : (rows : RowsIn) (first : ℕ) (sections : List (SectionOf (Frag P ℕ))) → length (rows_from rows first sections) ≡ all_rows sections
+  all_long rows first [] = refl
+  all_long rows first (section ∷ sections) =
+      let own = section_long rows first section in
+      let later = all_long rows (first + row_count section) sections in
+      omega (arith, length-append (section_rows rows first section) (rows_from rows (first + row_count section) sections))
 
   -- each section has its rows among them all
-  pub rows_long : (n : ℕ) (sections : List (SectionOf (Frag P ℕ))) (section : SectionOf (Frag P ℕ)) → slice_get sections n ≡ Some section
-      → first_row n sections + row_count section ≤ length (rows_of sections)
-  rows_long n [] section is = absurd cc
-  rows_long zero (one ∷ sections) section is =
-      let same : one ≡ section = cc in
-      let own = section_long section in
-      rw same (omega (arith, length-append (section_rows section) (rows_of sections)))
-  rows_long (suc n) (one ∷ sections) section is =
-      let later = rows_long n sections section is in
-      let own = section_long one in
-      omega (arith, length-append (section_rows one) (rows_of sections))
+  pub row_inside : (n : ℕ) (sections : List (SectionOf (Frag P ℕ))) (section : SectionOf (Frag P ℕ)) → slice_get sections n ≡ Some section
+      → first_row n sections + row_count section ≤ all_rows sections
+  row_inside n [] section is = absurd cc
+  row_inside zero (one ∷ sections) section is = let same : one ≡ section = cc in rw same (omega arith)
+  row_inside (suc n) (one ∷ sections) section is = let later = row_inside n sections section is in omega arith
 
-  same_rows : (shifts : List ℕ) (items : List (Frag P ℕ)) → item_rows (laid_from shifts items) ≡ item_rows items
-  same_rows shifts [] = refl
-  same_rows shifts (item ∷ items) = ap (λ rows. row_of item ∷ rows) (same_rows (drop 1 shifts) items)
+  -- a section more goes last
+  pub rows_step : (rows : RowsIn) (sections : List (SectionOf (Frag P ℕ))) (i : ℕ) (section : SectionOf (Frag P ℕ)) (old new whole : List Row) → i < length sections
+      → section ≡ get_or sections i section → new ≡ old ++ section_rows rows (length old) section → old ++ rows_from rows (length old) (drop i sections) ≡ whole
+      → new ++ rows_from rows (length new) (drop (i + 1) sections) ≡ whole
+  rows_step rows sections i section old new whole inside is put before =
+      let own = section_rows rows (length old) section in
+      let long : length new ≡ length old + row_count section = ap (λ (all : List Row). length all) put ∙ length-append old own ∙ ap (λ (n : ℕ). length old + n) (section_long rows (length old) section) in
+      let rest = rows_from rows (length old + row_count section) (drop (i + 1) sections) in
+      let head : rows_from rows (length old) (drop i sections) ≡ own ++ rest =
+      at_drop_more (rows_from rows (length old)) sections i section inside ∙ ap (λ (s : SectionOf (Frag P ℕ)). rows_from rows (length old) (s ∷ drop (i + 1) sections)) (sym is) in
+      ap (λ (n : ℕ). new ++ rows_from rows n (drop (i + 1) sections)) long ∙ ap (λ (all : List Row). all ++ rest) put ∙ append_assoc old own rest
+      ∙ ap (λ (all : List Row). old ++ all) (sym head) ∙ before
+
+  -- there are as many rows as the sections have
+  pub rows_are_all : (map : SymbolMap) (sections : List (SectionOf (Frag P ℕ))) → length (rows_of map sections) ≡ all_rows sections
+  unfolding rows_of
+  rows_are_all map sections = all_long (rows_in map sections) 0 sections
+
+  items_kept : (shifts : List ℕ) (items : List (Frag P ℕ)) → length (laid_from shifts items) ≡ length items
+  items_kept shifts [] = refl
+  items_kept shifts (item ∷ items) = ap suc (items_kept (drop 1 shifts) items)
+
+  same_rows : (rows : RowsIn) (fields : List Field) (number index : ℕ) (shifts : List ℕ) (items : List (Frag P ℕ))
+      → item_rows rows fields number index (laid_from shifts items) ≡ item_rows rows fields number index items
+  same_rows rows fields number index shifts [] = refl
+  same_rows rows fields number index shifts (item ∷ items) =
+      ap (λ (more : List Row). row_of rows fields number index item ∷ more) (same_rows rows fields (number + 1) (index + 1) (drop 1 shifts) items)
+
+  same_starts : (first : ℕ) (shifts : List ℕ) (sections : List (SectionOf (Frag P ℕ))) → starts_from first (laid_out shifts sections) ≡ starts_from first sections
+  same_starts first shifts [] = refl
+  same_starts first shifts (section ∷ sections) =
+      let long = items_kept shifts section.items in
+      let later = same_starts (first + row_count section) (drop (row_count section) shifts) sections in
+      rw (long, later)
+
+  same_count : (shifts : List ℕ) (sections : List (SectionOf (Frag P ℕ))) → all_rows (laid_out shifts sections) ≡ all_rows sections
+  same_count shifts [] = refl
+  same_count shifts (section ∷ sections) =
+      let long = items_kept shifts section.items in
+      let later = same_count (drop (row_count section) shifts) sections in
+      rw (long, later)
+
+  same_from : (rows : RowsIn) (first : ℕ) (shifts : List ℕ) (sections : List (SectionOf (Frag P ℕ))) → rows_from rows first (laid_out shifts sections) ≡ rows_from rows first sections
+  same_from rows first shifts [] = refl
+  same_from rows first shifts (section ∷ sections) =
+      let own = same_rows rows section.fields first 0 shifts section.items in
+      let long = items_kept shifts section.items in
+      let later = same_from rows (first + row_count section) (drop (row_count section) shifts) sections in
+      rw (own, long, later)
 
   -- rows look at no address and no size
-  pub rows_kept : (shifts : List ℕ) (sections : List (SectionOf (Frag P ℕ))) → rows_of (laid_out shifts sections) ≡ rows_of sections
-  rows_kept shifts [] = refl
-  rows_kept shifts (section ∷ sections) =
-      let first = same_rows shifts section.items in
-      let later = rows_kept (drop (row_count section) shifts) sections in
-      rw (first, later)
+  pub rows_kept : (map : SymbolMap) (shifts : List ℕ) (sections : List (SectionOf (Frag P ℕ))) → rows_of map (laid_out shifts sections) ≡ rows_of map sections
+  unfolding rows_of
+  rows_kept map shifts sections = rw (same_starts 0 shifts sections, same_count shifts sections) (same_from (rows_in map sections) 0 shifts sections)

@@ -1,5 +1,5 @@
 -- The rounds of the rows give the layout of the sections.
-use Rattle.std.proofs.Common.{◌≡◌, ℕ, zero, suc, ◌+◌, ◌<◌, ◌≤◌, List, [], ◌∷◌, length, sum, refl, sym, ap, ◌∙◌, subst, arith}
+use Rattle.std.proofs.Common.{◌≡◌, ℕ, zero, suc, ◌+◌, ◌<◌, ◌≤◌, List, [], ◌∷◌, length, map, sum, refl, sym, ap, ◌∙◌, subst, arith}
 use Rattle.std.specs.Prelude.{All, slice_index}
 use Rattle.std.proofs.lemmas.List.{length-map}
 use Rattle.level_ranks.specs.Ranks.{Ranks, greatest, levels_taken, IsRanking, IsLayout}
@@ -8,7 +8,10 @@ use Rattle.asm_levels.specs.declared.rows.Row.{Row}
 use Rattle.asm_levels.specs.Needs.{need, tops}
 use Rattle.asm_levels.specs.Shifts.{shifts_of}
 use Rattle.asm_relax.specs.ItemRows.{rows_of, lowest_levels, levels_of}
-use Rattle.asm_relax.specs.Layout.{laid_out, laid_by}
+use Rattle.asm_symbols.specs.SymbolMap.{SymbolMap}
+use Rattle.asm_relax.specs.Layout.{laid_out, laid_by, AreSized, AreWithin}
+use Rattle.asm_relax.specs.Placing.{placed_section}
+use Rattle.asm_relax.proofs.ShiftTail.{ranked_within, laid_is_placed, laid_is_sized}
 use Rattle.asm_relax.specs.Settling.{LaidSections, settled_sections, IsLaidOut}
 
 -- what rounds reach where some layout is the one that they reach
@@ -32,9 +35,27 @@ levels_ranked reached within ranked rows =
     let same = reached (need rows) (tops rows) (lowest_levels rows) (levels_taken ranking.0) (1 + greatest ranking.0) long (lowest_all rows) (within rows) layout in
     (1 + greatest ranking.0, subst (λ (levels : List ℕ). IsLayout (need rows) (tops rows) levels (1 + greatest ranking.0)) same layout)
 
-module _ (reached : AreReached) (within : (rows : List Row) → NeedsWithin (need rows) (tops rows)) (sections laid : LaidSections) (rows : List Row) (levels shifts : List ℕ) (rounds : ℕ)
-    (same : rows ≡ rows_of sections) (layout : IsLayout (need rows) (tops rows) levels rounds) (moved : shifts ≡ shifts_of rows levels) (placed : laid ≡ laid_out shifts sections) where
-  by_levels : laid ≡ laid_by levels sections
+module _ (reached : AreReached) (within : (rows : List Row) → NeedsWithin (need rows) (tops rows)) (ranked : (need' : List ℕ → List ℕ) (tops' : List ℕ) → (ranks : Ranks) × IsRanking need' tops' ranks)
+    (symbols : SymbolMap) (sections : LaidSections) where
+  settled_within : AreWithin (levels_of (rows_of symbols sections)) (rows_of symbols sections)
+  settled_within =
+      let (rounds, layout) = levels_ranked reached within ranked (rows_of symbols sections) in
+      ranked_within (rows_of symbols sections) (levels_of (rows_of symbols sections)) rounds layout
+
+  -- the items of settled sections stand one behind the other
+  pub settled_placed : map placed_section (settled_sections symbols sections) ≡ settled_sections symbols sections
+  unfolding settled_sections
+  settled_placed = laid_is_placed symbols (levels_of (rows_of symbols sections)) sections settled_within
+
+  -- and have sizes that they may have
+  pub settled_sized : All (λ section. AreSized section.items) (settled_sections symbols sections)
+  unfolding settled_sections
+  settled_sized = laid_is_sized symbols (levels_of (rows_of symbols sections)) sections settled_within
+
+module _ (reached : AreReached) (within : (rows : List Row) → NeedsWithin (need rows) (tops rows)) (symbols : SymbolMap) (sections laid : LaidSections) (rows : List Row) (levels shifts : List ℕ)
+    (rounds : ℕ) (same : rows ≡ rows_of symbols sections) (layout : IsLayout (need rows) (tops rows) levels rounds) (moved : shifts ≡ shifts_of rows levels)
+    (placed : laid ≡ laid_out shifts sections) where
+  by_levels : laid ≡ laid_by symbols levels sections
   unfolding laid_by
   by_levels = placed ∙ ap (λ (all : List ℕ). laid_out all sections) (moved ∙ ap (λ (all : List Row). shifts_of all levels) same)
 
@@ -45,12 +66,12 @@ module _ (reached : AreReached) (within : (rows : List Row) → NeedsWithin (nee
       reached (need rows) (tops rows) (lowest_levels rows) levels rounds long (lowest_all rows) (within rows) layout
 
   -- the sections are those of the definition
-  pub sections_settled : laid ≡ settled_sections sections
+  pub sections_settled : laid ≡ settled_sections symbols sections
   unfolding settled_sections
-  sections_settled = by_levels ∙ ap (λ (all : List ℕ). laid_by all sections) (levels_are ∙ ap levels_of same)
+  sections_settled = by_levels ∙ ap (λ (all : List ℕ). laid_by symbols all sections) (levels_are ∙ ap levels_of same)
 
   -- and laid out by the ranking
-  pub sections_laid_out : ((index : ℕ) → index < length rows → slice_index (need rows levels) index ≤ slice_index levels index) → IsLaidOut sections laid rounds
+  pub sections_laid_out : ((index : ℕ) → index < length rows → slice_index (need rows levels) index ≤ slice_index levels index) → IsLaidOut symbols sections laid rounds
   sections_laid_out enough = record {
     levels = levels;
     layout = rw same at layout;

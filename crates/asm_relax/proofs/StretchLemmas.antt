@@ -3,12 +3,13 @@ use Rattle.std.proofs.Common.{◌≡◌, ℕ, ◌+◌, ◌≤◌, List, [], ◌�
 use Rattle.std.specs.Prelude.{if◌then◌else◌}
 use Rattle.std.specs.List.{fold}
 use Rattle.std.proofs.lemmas.List.Elements.{All-head, All-tail}
-use Rattle.asm_frags.specs.declared.contents.Content.{Content}
-use Rattle.asm_frags.specs.declared.contents.Content.TheVariants.{Run, Fill, Align}
+use Rattle.item_contents.specs.declared.contents.Content.{Content}
+use Rattle.item_contents.specs.declared.contents.Content.TheVariants.{Run, Fill, Align, Org, Growing}
 use Rattle.asm_frags.specs.declared.items.Frag.{Frag}
 use Rattle.asm_frags.specs.declared.known_extents.KnownExtent.{KnownExtent}
-use Rattle.asm_frags.specs.Contents.{MayHave}
-use Rattle.asm_frags.specs.KnownExtents.{is_fixed, fixed_bytes, advanced, extent_of}
+use Rattle.item_contents.specs.Contents.{MayHave}
+use Rattle.item_contents.specs.FixedSizes.{is_fixed, fixed_bytes}
+use Rattle.asm_frags.specs.KnownExtents.{advanced, extent_of}
 use Rattle.asm_relax.specs.Layout.{AreSized}
 use Rattle.asm_relax.specs.Placing.{shift_of}
 
@@ -21,6 +22,8 @@ breaks_stay : (extent : KnownExtent) (content : Content) → extent.breaks ≤ (
 breaks_stay extent Run = omega arith
 breaks_stay extent (Fill held) = omega arith
 breaks_stay extent (Align held) = omega arith
+breaks_stay extent (Org held) = omega arith
+breaks_stay extent (Growing held) = omega arith
 
 breaks_rise : {P : Type 0} (extent : KnownExtent) (items : List (Frag P ℕ)) → extent.breaks ≤ (fold advanced extent items).breaks
 breaks_rise extent [] = omega arith
@@ -35,6 +38,8 @@ known_size : (extent : KnownExtent) (content : Content) (size : ℕ) → MayHave
 known_size extent Run size has same = omega arith
 known_size extent (Fill held) size has same = rw has refl
 known_size extent (Align held) size has same = absurd (omega arith)
+known_size extent (Org held) size has same = absurd (omega arith)
+known_size extent (Growing held) size has same = absurd (omega arith)
 
 -- items without a break move what stands behind them by their known sizes
 stretch : {P : Type 0} (extent : KnownExtent) (shift : ℕ) (items : List (Frag P ℕ)) → AreSized items → (fold advanced extent items).breaks ≡ extent.breaks

@@ -47,9 +47,18 @@ names_weak map form = list_any (is_of_weak map) form.terms
 abbrev pub is_linked : SymbolMap → Field → Bool
 is_linked map field = is_suffixed field.role.suffix || names_weak map field.form
 
+-- a number modulo 2 ^ 64, taken away
+abbrev pub less : ℕ → ℕ → ℕ
+less n taken = wrapped (n + (2 ^ 64 - taken))
+
+-- the address of a field: that of its place, or, where the field stands in an item, of the last bytes of that, which end at its place
+abbrev pub field_address : {P : Type 0} → List (SectionOf (Frag P ℕ)) → Field → ℕ
+field_address sections field =
+    if field.in_item then less (address_of sections field.section field.item field.offset) (width field.size) else address_of sections field.section field.item field.offset
+
 -- the place of a field, as a label of its section
 abbrev pub place_label : {P : Type 0} → List (SectionOf (Frag P ℕ)) → Field → Told
-place_label sections field = label field.section (address_of sections field.section field.item field.offset)
+place_label sections field = label field.section (field_address sections field)
 
 -- what the symbol at this index is known as where the place of the field is one of the labels
 unfoldable pub told_beside : {P : Type 0} → SymbolMap → List (SectionOf (Frag P ℕ)) → Field → ℕ → Told
@@ -62,10 +71,6 @@ place_told map sections field = if is_linked map field then absent else place_la
 -- what the symbol at this index is known as in the form of a field
 unfoldable pub told_in_field : {P : Type 0} → SymbolMap → List (SectionOf (Frag P ℕ)) → Field → ℕ → Told
 told_in_field map sections field index = if index == own_place then place_told map sections field else final_told map sections index
-
--- a number modulo 2 ^ 64, taken away
-abbrev pub less : ℕ → ℕ → ℕ
-less n taken = wrapped (n + (2 ^ 64 - taken))
 
 -- how many bytes stand from a field to what its value counts from: a distance counts from the end of the instruction
 abbrev pub counted_bytes : FieldSize → FieldRole → ℕ
@@ -87,7 +92,7 @@ pub record IsDistanceTo (field : Field) (symbol number : ℕ) : Type 0 where
 
 -- where the end of the instruction stands: behind the field, and the bytes of the instruction that follow it
 abbrev pub instruction_end : {P : Type 0} → List (SectionOf (Frag P ℕ)) → Field → ℕ
-instruction_end sections field = address_of sections field.section field.item field.offset + width field.size + field.role.behind
+instruction_end sections field = field_address sections field + width field.size + field.role.behind
 
 -- a distance to a label of the field's section leads from the end of the instruction to the label, unless the linker alone knows it
 abbrev pub DistancesLead : Type 0

@@ -10,7 +10,7 @@ use Rattle.asm_symbols.specs.declared.entries.Spot.{Spot}
 use Rattle.asm_symbols.specs.SymbolMap.{SymbolMap}
 use Rattle.asm_frags.specs.declared.items.Frag.{Frag}
 use Rattle.asm_frags.specs.SectionOf.{SectionOf}
-use Rattle.asm_relax.specs.Expanding.{expanded}
+use Rattle.assigned_forms.specs.Expanding.{expanded}
 
 -- how far the plain bytes behind the item are moved by the items up to it
 abbrev pub shift_behind : {P : Type 0} → Frag P ℕ → ℕ

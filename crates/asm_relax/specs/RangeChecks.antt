@@ -1,8 +1,11 @@
--- The range checks of a layout: a section that is too large, and else a field that does not hold its value.
-use Rattle.std.specs.Prelude.{ℕ, ◌-◌, ◌^◌, nat_lt, Bool, List, Option, None, Some, option_map, slice_get, if◌then◌else◌}
+-- The range checks of a layout: a section that is too large, else an `.org` that moves back, and else a field that does not hold its value.
+use Rattle.std.specs.Prelude.{ℕ, ◌+◌, ◌-◌, ◌^◌, nat_lt, Bool, false, List, [], ◌∷◌, Option, None, Some, option_map, slice_get, if◌then◌else◌}
 use Rattle.std.specs.List.{position_or_len}
 use Rattle.asm_base.specs.declared.positions.Pos.{Pos}
 use Rattle.asm_symbols.specs.SymbolMap.{SymbolMap}
+use Rattle.item_contents.specs.declared.contents.Content.{Content}
+use Rattle.item_contents.specs.declared.contents.Content.TheVariants.{Run, Fill, Align, Org, Growing}
+use Rattle.item_contents.specs.ItemParts.{OrgOf}
 use Rattle.asm_frags.specs.declared.fields.Field.{Field}
 use Rattle.asm_frags.specs.declared.fields.FieldSize.{FieldSize}
 use Rattle.asm_frags.specs.declared.roles.FieldKind.{FieldKind}
@@ -10,8 +13,8 @@ use Rattle.asm_frags.specs.Fields.{holds}
 use Rattle.asm_frags.specs.declared.items.Frag.{Frag}
 use Rattle.asm_frags.specs.SectionOf.{SectionOf}
 use Rattle.asm_relax.specs.declared.faults.LayoutFault.{LayoutFault}
-use Rattle.asm_relax.specs.declared.faults.LayoutFault.TheVariants.{SectionTooLarge, DistanceOutOfRange}
-use Rattle.asm_relax.specs.Final.{section_size}
+use Rattle.asm_relax.specs.declared.faults.LayoutFault.TheVariants.{SectionTooLarge, OrgMovesBackwards, DistanceOutOfRange}
+use Rattle.asm_relax.specs.Final.{shift_in, section_size}
 use Rattle.asm_relax.specs.FieldValues.{held_value}
 use Rattle.asm_relax.specs.Faults.{or_later, first_of}
 
@@ -32,6 +35,27 @@ abbrev pub large_section : {P : Type 0} → SectionOf (Frag P ℕ) → Option La
 large_section section =
     if is_large (section_size section) then option_map (λ item. SectionTooLarge item.pos (section_size section)) (first_large section.items) else None
 
+-- the place that an `.org` counts from is moved so far: the items before it move it, at most those before the `.org`, which has this index
+abbrev pub origin_shift : {P : Type 0} → List (Frag P ℕ) → ℕ → OrgOf → ℕ
+origin_shift items index org = shift_in items (index - (index - org.from))
+
+-- the item of this index, which stands at this address, is an `.org` to a place before it
+abbrev pub moves_back : {P : Type 0} → List (Frag P ℕ) → ℕ → ℕ → Content → Bool
+moves_back items index address Run = false
+moves_back items index address (Fill held) = false
+moves_back items index address (Align held) = false
+moves_back items index address (Org held) = nat_lt (origin_shift items index held + held.ahead) (address + held.behind)
+moves_back items index address (Growing held) = false
+
+-- the fault of the first such item of these, the first of which has this index among them all
+abbrev pub first_back : {P : Type 0} → List (Frag P ℕ) → ℕ → List (Frag P ℕ) → Option LayoutFault
+first_back all index [] = None
+first_back all index (item ∷ items) = if moves_back all index item.address item.content then Some (OrgMovesBackwards item.pos) else first_back all (index + 1) items
+
+-- the fault of the first such item of a section
+abbrev pub section_back : {P : Type 0} → SectionOf (Frag P ℕ) → Option LayoutFault
+section_back section = first_back section.items 0 section.items
+
 -- the fault of a field that does not hold its value; a field without a value is left to the linker
 abbrev pub misfit : Pos → FieldKind → FieldSize → Option ℕ → Option LayoutFault
 misfit pos kind size None = None
@@ -46,6 +70,6 @@ module _ {P : Type 0} (map : SymbolMap) (sections : List (SectionOf (Frag P ℕ)
   abbrev pub section_misfit : SectionOf (Frag P ℕ) → Option LayoutFault
   section_misfit section = first_of field_misfit section.fields
 
-  -- the first fault of a layout: sections that are too large come before all fields
+  -- the first fault of a layout: sections that are too large come before `.org`s that move back, and these before all fields
   unfoldable pub first_fault : Option LayoutFault
-  first_fault = or_later (first_of large_section sections) (first_of section_misfit sections)
+  first_fault = or_later (first_of large_section sections) (or_later (first_of section_back sections) (first_of section_misfit sections))

@@ -7,7 +7,7 @@ use Rattle.asm_frags.specs.SectionOf.{SectionOf}
 use Rattle.asm_frags.specs.Writing.{LooseSection}
 use Rattle.asm_frags.specs.Substituting.{laid_sections}
 use Rattle.asm_relax.specs.declared.faults.LayoutFault.{LayoutFault}
-use Rattle.asm_relax.specs.Expanding.{expanded}
+use Rattle.assigned_forms.specs.Expanding.{expanded}
 use Rattle.level_ranks.specs.Ranks.{IsLayout}
 use Rattle.asm_levels.specs.Needs.{need, tops}
 use Rattle.asm_relax.specs.ItemRows.{rows_of, levels_of}
@@ -48,23 +48,23 @@ unless None made = Ok made
 unless (Some fault) made = Err fault
 
 -- the sections laid out with each row at its level in the layout
-unfoldable pub settled_sections : LaidSections → LaidSections
-settled_sections sections = laid_by (levels_of (rows_of sections)) sections
+unfoldable pub settled_sections : SymbolMap → LaidSections → LaidSections
+settled_sections map sections = laid_by map (levels_of (rows_of map sections)) sections
 
 -- the layout of a plan, or its first fault
 abbrev pub settled_plan : SymbolMap → LaidSections → Result LaidSections LayoutFault
-settled_plan map sections = unless (first_fault map (settled_sections sections)) (settled_sections sections)
+settled_plan map sections = unless (first_fault map (settled_sections map sections)) (settled_sections map sections)
 
 -- the layout of the sections of a source, or its first fault
 abbrev pub layout_of : SymbolMap → LooseSections → Result LaidSections LayoutFault
 layout_of map sections = settled_plan map (planned map sections)
 
 -- the sections are laid out by the levels of the one ranking, which are reached in this number of rounds, and no row needs more than its level
-pub record IsLaidOut (sections laid : LaidSections) (rounds : ℕ) : Type 0 where
+pub record IsLaidOut (map : SymbolMap) (sections laid : LaidSections) (rounds : ℕ) : Type 0 where
   pub levels : List ℕ
-  pub layout : IsLayout (need (rows_of sections)) (tops (rows_of sections)) levels rounds
-  pub enough : (index : ℕ) → index < length (rows_of sections) → slice_index (need (rows_of sections) levels) index ≤ slice_index levels index
-  pub placed : laid ≡ laid_by levels sections
+  pub layout : IsLayout (need (rows_of map sections)) (tops (rows_of map sections)) levels rounds
+  pub enough : (index : ℕ) → index < length (rows_of map sections) → slice_index (need (rows_of map sections) levels) index ≤ slice_index levels index
+  pub placed : laid ≡ laid_by map levels sections
 
 -- the answer is that of the definition, and where there is no fault, so are the sections
 abbrev pub Settles : {T : Type 0} → LaidSections → Result T LayoutFault → Result LaidSections LayoutFault → Type 0

@@ -9,6 +9,9 @@ pub enum LayoutFault {
     /// A section has more than 2^30 bytes.
     #[error("section is too large")]
     SectionTooLarge { pos: Pos, size: u64 },
+    /// An `.org` leads to a place before it.
+    #[error("org moves backwards")]
+    OrgMovesBackwards { pos: Pos },
     /// A field does not hold its value.
     #[error("distance out of range")]
     DistanceOutOfRange { pos: Pos, distance: u64 },
@@ -19,6 +22,7 @@ impl LayoutFault {
     pub fn pos(&self) -> Pos {
         match self {
             LayoutFault::SectionTooLarge { pos, .. } => *pos,
+            LayoutFault::OrgMovesBackwards { pos } => *pos,
             LayoutFault::DistanceOutOfRange { pos, .. } => *pos,
         }
     }

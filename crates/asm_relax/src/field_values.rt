@@ -3,7 +3,7 @@
 ghost use Rattle.std.specs.Prelude.{◌≡◌};
 ghost use Rattle.asm_expr.specs.Knowledge.{told_by};
 ghost use Rattle.asm_expr.specs.Settled.{constant_left, settled};
-ghost use Rattle.asm_relax.specs.FieldValues.{is_suffixed, is_weak, is_of_weak, names_weak, is_linked, place_label, place_told, told_beside, told_in_field, counted_bytes, counted, held_value};
+ghost use Rattle.asm_relax.specs.FieldValues.{is_suffixed, is_weak, is_of_weak, names_weak, is_linked, field_address, place_label, place_told, told_beside, told_in_field, counted_bytes, counted, held_value};
 
 use crate::finals::{cannot_cancel, constant_left, final_look};
 use crate::places::address_of;
@@ -43,7 +43,7 @@ fn names_weak(symbols: &Symbols, form: &Linear) -> bool
 }
 
 /// Whether the linker alone knows how far the symbol is from the field.
-fn is_linked(symbols: &Symbols, field: &Field) -> bool
+pub(crate) fn is_linked(symbols: &Symbols, field: &Field) -> bool
     ensures { result ≡ is_linked symbols.now field.now }
 {
     is_suffixed(field.role.suffix) || names_weak(symbols, &field.form)
@@ -57,18 +57,31 @@ pub struct FieldView<'a> {
     pub field: &'a Field,
 }
 
+/// The address of a field: that of its place, or, where the field stands in an item, of the last
+/// bytes of that, which end at its place.
+pub fn field_address(sections: &Sections<Laid>, field: &Field) -> u64
+    ensures { result ≡ field_address sections.now field.now }
+{
+    let place = address_of(
+        sections,
+        field.section,
+        field.item as u64,
+        field.offset as u64,
+    );
+    if field.in_item {
+        place.wrapping_sub(field.size.bytes() as u64)
+    } else {
+        place
+    }
+}
+
 /// The place of a field, as a label of its section.
 fn place_label<'a>(sections: &Sections<Laid>, field: &Field) -> Look<'a>
     ensures { told_by result ≡ place_label sections.now field.now }
 {
     Look::Label {
         stretch: u64::from(field.section),
-        at: address_of(
-            sections,
-            field.section,
-            field.item as u64,
-            field.offset as u64,
-        ),
+        at: field_address(sections, field),
     }
 }
 

@@ -3,15 +3,15 @@
 ghost use Rattle.std.specs.Prelude.{◌≡◌, IfOk};
 ghost use Rattle.asm_expr.specs.Knowledge.{told_by};
 ghost use Rattle.asm_expr.specs.Settled.{cannot_cancel, constant_left};
-ghost use Rattle.asm_relax.specs.Expanding.{AreExpansions};
+ghost use Rattle.assigned_forms.specs.Expanding.{AreExpansions};
 ghost use Rattle.asm_relax.specs.Final.{spot_told, final_meaning, final_told, final_form, laid_value, field_value};
 
-use crate::expansions::Expansions;
 use crate::places::address_of;
 use asm_base::NoMemory;
 use asm_expr::{Known, Linear, Look, SymId, Term, Written, copied_form, settled, settled_value};
 use asm_frags::{Laid, Sections};
 use asm_symbols::{Meaning, Spot, Symbols};
+use assigned_forms::Expansions;
 use std::alloc::{AllocError, Global};
 
 /// What the symbols are known as in a layout.

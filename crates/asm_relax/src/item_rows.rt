@@ -1,133 +1,336 @@
 //! The rows of items: one list for all sections, with an end mark behind the items of each.
 
-ghost use Rattle.std.specs.Prelude.{◌≡◌, ◌*◌, ◌<◌, ◌≤◌, ◌^◌, ◌++◌, ◌∷◌, [], All, IfOk, OnOk, length};
+ghost use Rattle.std.specs.Prelude.{◌≡◌, ℕ, ◌+◌, ◌*◌, ◌<◌, ◌≤◌, ◌^◌, ◌++◌, ◌∷◌, [], All, IfOk, OnOk, ◌-◌, length, slice_get};
+ghost use Rattle.std.specs.Option.{option_and_then};
 ghost use Rattle.asm_levels.specs.declared.rows.RowSize.TheVariants as size;
+ghost use Rattle.row_distances.specs.FormDistances.{NamesFew};
+ghost use Rattle.asm_levels.specs.Sizes.{near_size};
+ghost use Rattle.item_bytes.specs.Jumps.{is_conditional};
 ghost use Rattle.asm_relax.specs.ItemRows as spec;
-ghost use Rattle.asm_relax.specs.RowBounds.{IsPlain, IsRowSize, IsPlainRow, ArePlain};
+ghost use Rattle.asm_relax.specs.RowViews.{told_rows};
+ghost use Rattle.asm_relax.specs.RowBounds.{SizeFits, IsRowSize, RowFits, AllFit};
 
+use crate::field_values::is_linked;
 use asm_base::NoMemory;
-use asm_frags::{Align, Content, Fill, Frag, FragVisit, Laid, Section, Sections, visit};
-use asm_levels::{Row, RowPlan, RowSize, few_rows_have_few_bytes};
+use asm_frags::{Field, Frag, Laid, Section, Sections, own_place};
+use asm_levels::{Distance, Row, RowPlan, RowSize, few_rows_have_few_bytes};
+use asm_symbols::Symbols;
+use item_bytes::Condition;
+use item_contents::{Align, Content, Fill, FragVisit, Growing, Growth, Org, visit};
+use row_distances::{OwnPlace, Place, RowView, distance_of, distances_are_values};
 use std::alloc::{AllocError, Global};
 
 /// The most rows: so many have fewer than 2^62 bytes.
 const MOST_ROWS: usize = (1 << 28) - 1;
 
-/// Tells what the size of an item depends on.
-#[derive(Clone, Copy, Debug)]
-struct SizeInRow;
-
-impl FragVisit for SizeInRow {
-    type Out = RowSize;
-
-    ghost run_gives = { λ before answer after. IsRowSize (size.Fixed 0) answer };
-
-    ghost fill_gives = { λ before held answer after.
-        IsRowSize (size.Fixed (held.count * held.size)) answer };
-
-    ghost align_gives = { λ before held answer after.
-        IsRowSize (size.Align held.log (2 ^ held.log)) answer };
-
-    fn run(&mut self) -> RowSize {
-        RowSize::Fixed(0)
-    }
-
-    fn fill(&mut self, held: &Fill) -> RowSize {
-        RowSize::Fixed(held.count() * held.size())
-    }
-
-    fn align(&mut self, held: &Align) -> RowSize {
-        let log = held.log();
-        RowSize::Align {
-            log,
-            most: 1 << log,
-        }
-    }
+/// What distances are told by: the symbols, the first row of each section, and how many rows there
+/// are.
+#[derive(Clone, Copy)]
+struct RowsIn<'a> {
+    symbols: &'a Symbols,
+    starts: &'a [u32],
+    count: u32,
 }
 
-/// What the size of an item depends on.
-fn row_size(content: &Content) -> RowSize
-    ensures size { result ≡ spec.row_size content.now }
-    ensures plain { IsPlain result }
+/// The place of a field, which one of the symbols stands for.
+fn own_of(field: &Field) -> OwnPlace
+    ensures { result ≡ spec.own_of field.now }
 {
-    let mut visitor = SizeInRow;
-    visit(content, &mut visitor)
+    OwnPlace {
+        symbol: own_place().index(),
+        place: Place {
+            section: field.section,
+            item: field.item as u64,
+            offset: field.offset as u64,
+        },
+    }
 }
 
-/// The row of an item.
-fn row_of(item: &Frag<Laid>) -> Row
+/// The distance to which the value of a field comes, if it does.
+fn field_distance(alloc: Global, rows: RowsIn, field: &Field) -> Result<Option<Distance>, NoMemory>
+    ensures { IfOk result (λ found. found ≡ spec.field_distance (told_rows rows.entry) field.now) }
+{
+    if field.role.kind.is_distance() && is_linked(rows.symbols, field) {
+        return Ok(None);
+    }
+    let view = RowView {
+        symbols: rows.symbols,
+        starts: rows.starts,
+        own: own_of(field),
+    };
+    distance_of(alloc, view, rows.count, &field.form)
+}
+
+/// The distance of the field of this index, if it is there and comes to one.
+fn held_distance(
+    alloc: Global,
+    rows: RowsIn,
+    fields: &[Field],
+    field: usize,
+) -> Result<Option<Distance>, NoMemory>
+    ensures distance { IfOk result (λ found. found ≡ option_and_then
+        (spec.field_distance (told_rows rows.entry)) (slice_get fields.now field)) }
+    ensures names { IfOk result (NamesFew rows.entry.count) }
+{
+    distances_are_values();
+    match fields.get(field) {
+        Some(field) => field_distance(alloc, rows, field),
+        None => Ok(None),
+    }
+}
+
+/// The size of a near jump, in bytes.
+fn near_size(condition: Option<Condition>) -> u64
+    ensures { result ≡ near_size (is_conditional condition) }
+{
+    match condition {
+        None => 5,
+        Some(_) => 6,
+    }
+}
+
+/// What the size of an item depends on that grows with this distance; where there is none, a jump is
+/// near, and a number has one byte.
+fn grown_row(kind: Growth, distance: Option<Distance>) -> RowSize
+    ensures { result ≡ spec.grown_row kind distance }
+{
+    match kind {
+        Growth::Jump(condition) => match distance {
+            None => RowSize::Fixed(near_size(condition)),
+            Some(distance) => RowSize::Jump {
+                conditional: condition.is_some(),
+                distance,
+            },
+        },
+        Growth::Leb128 { signed } => match distance {
+            None => RowSize::Fixed(1),
+            Some(distance) => RowSize::Leb128 { signed, distance },
+        },
+        Growth::Advance => match distance {
+            None => RowSize::Fixed(0),
+            Some(distance) => RowSize::Advance { distance },
+        },
+    }
+}
+
+/// Tells what the size of an item depends on, the row of which has this number, and which has this
+/// index in its section.
+#[derive(Drop)]
+struct SizeInRow<'a> {
+    alloc: Global,
+    rows: RowsIn<'a>,
+    fields: &'a [Field],
+    number: u32,
+    index: u32,
+}
+
+impl FragVisit for SizeInRow<'_> {
+    type Out = Result<RowSize, NoMemory>;
+
+    ghost run_gives = { λ before answer after. IfOk answer
+        (IsRowSize before.rows.count before.number (size.Fixed 0)) };
+
+    ghost fill_gives = { λ before held answer after. IfOk answer
+        (IsRowSize before.rows.count before.number (size.Fixed (held.count * held.size))) };
+
+    ghost align_gives = { λ before held answer after. IfOk answer
+        (IsRowSize before.rows.count before.number (size.Align held.log held.most)) };
+
+    ghost org_gives = { λ before held answer after. IfOk answer
+        (IsRowSize before.rows.count before.number
+        (size.Org (before.number - (before.index - held.from)) held.ahead held.behind)) };
+
+    ghost growing_gives = { λ before held answer after. IfOk answer
+        (IsRowSize before.rows.count before.number (spec.grown_row held.kind
+        (option_and_then (spec.field_distance (told_rows before.rows))
+        (slice_get before.fields.now held.field)))) };
+
+    fn run(&mut self) -> Result<RowSize, NoMemory> {
+        Ok(RowSize::Fixed(0))
+    }
+
+    fn fill(&mut self, held: &Fill) -> Result<RowSize, NoMemory> {
+        Ok(RowSize::Fixed(held.count() * held.size()))
+    }
+
+    fn align(&mut self, held: &Align) -> Result<RowSize, NoMemory> {
+        Ok(RowSize::Align {
+            log: held.log(),
+            most: held.most(),
+        })
+    }
+
+    fn org(&mut self, held: &Org) -> Result<RowSize, NoMemory> {
+        let between = self.index.saturating_sub(held.from());
+        Ok(RowSize::Org {
+            from: self.number.saturating_sub(between),
+            ahead: held.ahead(),
+            behind: held.behind(),
+        })
+    }
+
+    fn growing(&mut self, held: Growing) -> Result<RowSize, NoMemory> {
+        let distance = held_distance(self.alloc, self.rows, self.fields, held.field)?;
+        Ok(grown_row(held.kind, distance))
+    }
+}
+
+/// The row of an item, which has this number, and this index in its section.
+fn row_of(
+    alloc: Global,
+    rows: RowsIn,
+    fields: &[Field],
+    number: u32,
+    index: u32,
+    item: &Frag<Laid>,
+) -> Result<Row, NoMemory>
     requires { item.now.offset ≤ 2 ^ 33 }
-    ensures row { result ≡ spec.row_of item.now }
-    ensures plain { IsPlainRow result }
+    ensures row { IfOk result (λ row. row
+        ≡ spec.row_of (told_rows rows.entry) fields.now number index item.now) }
+    ensures fits { IfOk result (λ row. RowFits rows.entry.count number row) }
 {
-    Row {
+    let mut visitor = SizeInRow {
+        alloc,
+        rows,
+        fields,
+        number,
+        index,
+    };
+    Ok(Row {
         offset: item.offset as u64,
-        size: row_size(&item.content),
-    }
+        size: visit(&item.content, &mut visitor)?,
+    })
 }
 
 /// Puts a row last. One that is too many is refused as want of memory.
-fn push_row(rows: &mut Vec<Row>, row: Row) -> Result<(), NoMemory>
-    requires plain { ArePlain rows.old.items }
-    requires row { IsPlainRow row }
-    ensures rows { OnOk result (rows.new.items ≡ rows.old.items ++ row ∷ []) }
-    ensures plain { OnOk result (ArePlain rows.new.items) }
+fn push_row(made: &mut Vec<Row>, count: u32, row: Row) -> Result<(), NoMemory>
+    requires fit { AllFit count made.old.items }
+    requires row { RowFits count (length made.old.items) row }
+    ensures rows { OnOk result (made.new.items ≡ made.old.items ++ row ∷ []) }
+    ensures fit { OnOk result (AllFit count made.new.items) }
 {
-    if rows.len() >= MOST_ROWS {
+    if made.len() >= MOST_ROWS {
         return Err(AllocError);
     }
-    Ok(rows.push(row)?)
+    Ok(made.push(row)?)
 }
 
-/// Puts the rows of items last.
-fn push_items(rows: &mut Vec<Row>, items: &[Frag<Laid>]) -> Result<(), NoMemory>
-    requires plain { ArePlain rows.old.items }
+/// Puts the rows of items last, the first of which has this index.
+fn push_items(
+    alloc: Global,
+    made: &mut Vec<Row>,
+    rows: RowsIn,
+    fields: &[Field],
+    items: &[Frag<Laid>],
+) -> Result<(), NoMemory>
+    requires fit { AllFit rows.count made.old.items }
+    requires few { length items.now ≤ 2 ^ 28 }
     requires offsets { All (λ item. item.offset ≤ 2 ^ 33) items.now }
-    ensures rows { OnOk result (rows.new.items
-        ≡ rows.old.items ++ spec.item_rows items.now) }
-    ensures plain { OnOk result (ArePlain rows.new.items) }
+    ensures rows { OnOk result (made.new.items ≡ made.old.items ++ spec.item_rows
+        (told_rows rows.entry) fields.now (length made.old.items) 0 items.now) }
+    ensures fit { OnOk result (AllFit rows.entry.count made.new.items) }
 {
-    for item in items {
-        push_row(rows, row_of(item))?;
+    for (index, item) in items.iter().enumerate() {
+        let number = made.len() as u32;
+        let row = row_of(alloc, rows, fields, number, index as u32, item)?;
+        push_row(made, rows.count, row)?;
     }
     Ok(())
 }
 
 /// Puts the rows of a section last.
-fn push_section(rows: &mut Vec<Row>, section: &Section<Laid>) -> Result<(), NoMemory>
-    requires plain { ArePlain rows.old.items }
-    ensures rows { OnOk result (rows.new.items
-        ≡ rows.old.items ++ spec.section_rows section.now) }
-    ensures plain { OnOk result (ArePlain rows.new.items) }
+fn push_section(
+    alloc: Global,
+    made: &mut Vec<Row>,
+    rows: RowsIn,
+    section: &Section<Laid>,
+) -> Result<(), NoMemory>
+    requires fit { AllFit rows.count made.old.items }
+    ensures rows { OnOk result (made.new.items ≡ made.old.items ++ spec.section_rows
+        (told_rows rows.entry) (length made.old.items) section.now) }
+    ensures fit { OnOk result (AllFit rows.entry.count made.new.items) }
 {
     let bytes = section.bytes().len();
-    push_items(rows, section.items())?;
+    push_items(alloc, made, rows, section.fields(), section.items())?;
     let end = Row {
         offset: bytes as u64,
         size: RowSize::End,
     };
-    push_row(rows, end)
+    push_row(made, rows.count, end)
+}
+
+/// The first row of each section, and how many rows there are.
+#[derive(Drop)]
+struct Starts {
+    first: Vec<u32>,
+    count: u32,
+}
+
+/// The row behind those of a section, the first of which is this one.
+fn rows_behind(first: u32, section: &Section<Laid>) -> Result<u32, NoMemory>
+    ensures { IfOk result (λ next. next ≡ first + spec.row_count section.now) }
+{
+    let count = section.items().len() as u32 + 1;
+    first.checked_add(count).ok_or(AllocError)
+}
+
+/// Where the rows of sections begin.
+fn starts_of(alloc: Global, sections: &[Section<Laid>]) -> Result<Starts, NoMemory>
+    ensures starts { IfOk result (λ made. made.first.items ≡ spec.starts_from 0 sections.now) }
+    ensures count { IfOk result (λ made. made.count ≡ spec.all_rows sections.now) }
+{
+    let mut first = Vec::with_capacity(alloc, sections.len())?;
+    let mut count = 0u32;
+    for section in sections {
+        first.push(count)?;
+        count = rows_behind(count, section)?;
+    }
+    Ok(Starts { first, count })
+}
+
+/// The rows of sections.
+fn all_rows(alloc: Global, rows: RowsIn, sections: &[Section<Laid>]) -> Result<Vec<Row>, NoMemory>
+    ensures rows { IfOk result (λ made. made.items
+        ≡ spec.rows_from (told_rows rows.entry) 0 sections.now) }
+    ensures fit { IfOk result (λ made. AllFit rows.entry.count made.items) }
+{
+    let mut made = Vec::new(alloc);
+    for section in sections {
+        push_section(alloc, &mut made, rows, section)?;
+    }
+    Ok(made)
 }
 
 /// The rows of all sections.
-fn rows_of(alloc: Global, sections: &[Section<Laid>]) -> Result<Vec<Row>, NoMemory>
-    ensures rows { IfOk result (λ rows. rows.items ≡ spec.rows_of sections.now) }
-    ensures plain { IfOk result (λ rows. ArePlain rows.items) }
+#[tactic(auto, unfolding(crate::specs::ItemRows::rows_of))]
+fn rows_of(
+    alloc: Global,
+    symbols: &Symbols,
+    sections: &[Section<Laid>],
+) -> Result<Vec<Row>, NoMemory>
+    ensures rows { IfOk result (λ rows. rows.items ≡ spec.rows_of symbols.now sections.now) }
+    ensures fit { IfOk result (λ rows. AllFit (spec.all_rows sections.now) rows.items) }
 {
-    let mut rows = Vec::new(alloc);
-    for section in sections {
-        push_section(&mut rows, section)?;
-    }
-    Ok(rows)
+    let Starts { first, count } = starts_of(alloc, sections)?;
+    let rows = RowsIn {
+        symbols,
+        starts: &first,
+        count,
+    };
+    all_rows(alloc, rows, sections)
 }
 
 /// A plan of the rows of all sections.
-pub(crate) fn plan_of(alloc: Global, sections: &Sections<Laid>) -> Result<RowPlan, NoMemory>
-    ensures rows { IfOk result (λ plan. plan.rows ≡ spec.rows_of sections.now) }
+pub(crate) fn plan_of(
+    alloc: Global,
+    symbols: &Symbols,
+    sections: &Sections<Laid>,
+) -> Result<RowPlan, NoMemory>
+    ensures rows { IfOk result (λ plan. plan.rows ≡ spec.rows_of symbols.now sections.now) }
     ensures few { IfOk result (λ plan. length plan.rows < 2 ^ 32) }
     ensures levels { IfOk result (λ plan. All (λ level. level ≡ 0) plan.levels) }
 {
     few_rows_have_few_bytes();
-    let rows = rows_of(alloc, sections.as_slice())?;
+    let rows = rows_of(alloc, symbols, sections.as_slice())?;
     RowPlan::new(alloc, rows)
 }

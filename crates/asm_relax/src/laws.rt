@@ -1,37 +1,39 @@
 //! What holds of every layout.
 
-ghost use Rattle.std.specs.Prelude.{◌≡◌, true, false, ℕ, ◌+◌, ◌<◌, ◌≤◌, ◌^◌, ◌++◌, List, All, length, map, option_map, slice_get};
-ghost use Rattle.asm_expr.specs.Forms.{Form, wrapped};
+ghost use Rattle.std.specs.Prelude.{◌≡◌, ℕ, ◌+◌, ◌<◌, ◌≤◌, ◌^◌, ◌++◌, List, All, length, map, option_map, slice_get};
+ghost use Rattle.asm_expr.specs.Forms.{wrapped};
 ghost use Rattle.asm_symbols.specs.SymbolMap.{SymbolMap};
-ghost use Rattle.asm_symbols.specs.Assigning.{NoFormLeadsBack};
 ghost use Rattle.asm_frags.specs.Addresses.{item_laid_at};
 ghost use Rattle.asm_frags.specs.KnownExtents.{extent_of};
-ghost use Rattle.asm_relax.specs.Expanding.{replacement, with_replaced, names_assigned, expanded};
 ghost use Rattle.asm_relax.specs.FieldValues.{DistancesLead};
 ghost use Rattle.asm_relax.specs.Final.{shift_in};
-ghost use Rattle.asm_relax.specs.Layout.{laid_by, laid_out, without_addresses, AreSized, HaveSizes, IsInRow};
+ghost use Rattle.asm_relax.specs.Layout.{laid_by, laid_out, without_addresses, AreSized, AreWithin, HaveSizes, IsInRow};
 ghost use Rattle.asm_relax.specs.Placing.{placed_from, placed_section, shift_of};
 ghost use Rattle.asm_relax.specs.Settling.{LaidItem, LaidSections, settled_sections};
 ghost use Rattle.asm_levels.specs.declared.rows.Row.{Row as TheRow};
 ghost use Rattle.asm_levels.specs.Needs.{need, tops};
 ghost use Rattle.level_ranks.specs.Ranks.{IsLayout};
-ghost use Rattle.asm_relax.specs.ItemRows.{levels_of};
+ghost use Rattle.asm_relax.specs.ItemRows.{rows_of, levels_of};
 
 use asm_levels::needs_stay_within_tops;
 use level_ranks::{layouts_are_reached, some_ranking};
 
-/// Whatever the levels of rows, the items of a section stand one behind the other, from address 0 on, and have the sizes
+/// Whatever the levels of rows, up to the highest, the items of a section stand one behind the other, from address 0 on, and have the sizes
 /// that they have there.
 #[tactic(auto, using(crate::proofs::ShiftTail::laid_is_placed, crate::proofs::ShiftTail::laid_is_sized, crate::proofs::ShiftTail::laid_has_sizes, crate::proofs::ShiftTail::laid_in_rows))]
 pub fn items_stand_in_row()
-    ensures placed { (levels : List ℕ) (sections : LaidSections)
-        → map placed_section (laid_by levels sections) ≡ laid_by levels sections }
-    ensures sized { (levels : List ℕ) (sections : LaidSections)
-        → All (λ section. AreSized section.items) (laid_by levels sections) }
-    ensures sizes { (levels : List ℕ) (sections : LaidSections)
-        → All (λ section. HaveSizes section.items) (laid_by levels sections) }
-    ensures rows { (levels : List ℕ) (sections : LaidSections)
-        → All (λ section. IsInRow section.items) (laid_by levels sections) }
+    ensures placed { (symbols : SymbolMap) (levels : List ℕ) (sections : LaidSections)
+        → AreWithin levels (rows_of symbols sections)
+        → map placed_section (laid_by symbols levels sections) ≡ laid_by symbols levels sections }
+    ensures sized { (symbols : SymbolMap) (levels : List ℕ) (sections : LaidSections)
+        → AreWithin levels (rows_of symbols sections)
+        → All (λ section. AreSized section.items) (laid_by symbols levels sections) }
+    ensures sizes { (symbols : SymbolMap) (levels : List ℕ) (sections : LaidSections)
+        → AreWithin levels (rows_of symbols sections)
+        → All (λ section. HaveSizes section.items) (laid_by symbols levels sections) }
+    ensures rows { (symbols : SymbolMap) (levels : List ℕ) (sections : LaidSections)
+        → AreWithin levels (rows_of symbols sections)
+        → All (λ section. IsInRow section.items) (laid_by symbols levels sections) }
 {}
 
 /// The levels by which sections are laid out are those that the one ranking takes.
@@ -52,13 +54,17 @@ pub fn all_else_is_kept()
 {}
 
 /// The items of settled sections stand one behind the other, and have sizes that they may have.
-#[tactic(auto, using(crate::proofs::ShiftTail::laid_is_placed, crate::proofs::ShiftTail::laid_is_sized), unfolding(crate::specs::Settling::settled_sections))]
 pub fn settled_is_placed()
-    ensures placed { (sections : LaidSections)
-        → map placed_section (settled_sections sections) ≡ settled_sections sections }
-    ensures sized { (sections : LaidSections)
-        → All (λ section. AreSized section.items) (settled_sections sections) }
-{}
+    ensures placed { (symbols : SymbolMap) (sections : LaidSections)
+        → map placed_section (settled_sections symbols sections)
+        ≡ settled_sections symbols sections }
+    ensures sized { (symbols : SymbolMap) (sections : LaidSections)
+        → All (λ section. AreSized section.items) (settled_sections symbols sections) }
+{
+    layouts_are_reached();
+    needs_stay_within_tops();
+    some_ranking();
+}
 
 /// A place is moved by the sum of the sizes of the items before it, and so is the end of a section
 /// by that of all.
@@ -82,18 +88,6 @@ pub fn stretches_keep_distance()
         → (extent_of (before ++ more)).breaks ≡ (extent_of before).breaks
         → shift_of (length (before ++ more)) 0 (before ++ more) + (extent_of before).bytes
         ≡ shift_of (length before) 0 (before ++ more) + (extent_of (before ++ more)).bytes }
-{}
-
-/// Where no form leads back to its symbol, an expanded form names no assigned symbol, and is the
-/// sum of the form's terms with each symbol replaced by the expansion of its own form.
-pub fn expansions_are_exact()
-    ensures left { (symbols : SymbolMap) (form : Form) → NoFormLeadsBack symbols.symbols
-        → names_assigned symbols (expanded symbols form) ≡ false }
-    ensures sum { (symbols : SymbolMap) (form : Form) → NoFormLeadsBack symbols.symbols
-        → names_assigned symbols form ≡ true
-        → expanded symbols form ≡ with_replaced (replacement (expanded symbols) symbols) form }
-    ensures none { (symbols : SymbolMap) (form : Form) → names_assigned symbols form ≡ false
-        → expanded symbols form ≡ form }
 {}
 
 /// A distance to a label of its section leads from the end of its instruction to the label.

@@ -2,8 +2,9 @@
 
 ghost use Rattle.std.specs.Prelude.{◌≡◌, ◌+◌, ◌-◌, ◌<◌, ◌≤◌, ◌^◌, IfSome, Some, drop, length, slice_get};
 ghost use Rattle.asm_frags.specs.Addresses.{HasItem, sections_laid_at, changed_at};
-ghost use Rattle.asm_relax.specs.ItemRows.{rows_of};
-ghost use Rattle.asm_relax.specs.Layout.{laid_out_section, laid_out, row_count};
+ghost use Rattle.asm_symbols.specs.SymbolMap.{SymbolMap};
+ghost use Rattle.asm_relax.specs.ItemRows.{row_count, all_rows};
+ghost use Rattle.asm_relax.specs.Layout.{laid_out_section, laid_out};
 ghost use Rattle.asm_relax.specs.Placing.{address_there};
 
 use asm_frags::{Frag, Laid, Section, Sections};
@@ -59,7 +60,7 @@ fn lay_section(sections: &mut Sections<Laid>, number: u32, rows: &RowPlan, first
 /// Sets the addresses and sizes of all items.
 pub(crate) fn lay_all(sections: &mut Sections<Laid>, rows: &RowPlan)
     requires few { length rows.now.rows < 2 ^ 32 }
-    requires rows { rows.now.rows ≡ rows_of sections.old }
+    requires rows { length rows.now.rows ≡ all_rows sections.old }
     ensures { sections.new ≡ laid_out rows.now.shifts sections.old }
 {
     let count = sections.len() as u32;

@@ -1,8 +1,6 @@
 //! The layout of sections: where each item stands, and what the fields hold.
 #![tactic(auto)]
 
-mod expanding;
-mod expansions;
 mod faults;
 mod field_values;
 mod finals;
@@ -14,13 +12,12 @@ mod plan_states;
 mod planning;
 mod range_checks;
 
-pub use expansions::Expansions;
 pub use faults::LayoutFault;
-pub use field_values::{FieldView, counted, held_value, is_suffixed, look_beside};
+pub use field_values::{FieldView, counted, field_address, held_value, is_suffixed, look_beside};
 pub use finals::{FinalView, end_value, final_form, laid_value};
 pub use laws::{
-    all_else_is_kept, distances_lead_to_labels, expansions_are_exact, items_stand_in_row,
-    settled_by_the_ranking, settled_is_placed, sizes_add_up, stretches_keep_distance,
+    all_else_is_kept, distances_lead_to_labels, items_stand_in_row, settled_by_the_ranking,
+    settled_is_placed, sizes_add_up, stretches_keep_distance,
 };
 pub use places::{address_in, address_of, section_size};
 pub use plan_states::PlanState;

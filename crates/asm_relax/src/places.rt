@@ -16,7 +16,7 @@ fn shift_behind(item: &Frag<Laid>) -> u64
 
 /// How far the plain bytes behind so many items are moved.
 #[tactic(auto, unfolding(crate::specs::Final::shift_in))]
-fn shift_in(items: &[Frag<Laid>], before: u64) -> u64
+pub(crate) fn shift_in(items: &[Frag<Laid>], before: u64) -> u64
     ensures { result ≡ spec.shift_in items.now before }
 {
     if before == 0 {

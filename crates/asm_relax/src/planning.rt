@@ -2,7 +2,6 @@
 
 ghost use Rattle.std.specs.Prelude.{◌≡◌};
 
-use crate::expansions::Expansions;
 use crate::faults::LayoutFault;
 use crate::item_rows;
 use crate::laying::lay_all;
@@ -13,6 +12,7 @@ use asm_expr::Linear;
 use asm_frags::{FragFault, Laid, Loose, Sections, Substitution};
 use asm_levels::{RowPlan, needs_stay_within_tops};
 use asm_symbols::Symbols;
+use assigned_forms::Expansions;
 use level_ranks::layouts_are_reached;
 use std::alloc::{AllocError, Global};
 use std::marker::Model;
@@ -28,7 +28,7 @@ struct AssignedExpansion<'a> {
 
 impl<'a> Model for AssignedExpansion<'a> {
     ghost use Rattle.asm_symbols.specs.SymbolMap.{SymbolMap};
-    ghost use Rattle.asm_relax.specs.Expanding.{AreExpansions};
+    ghost use Rattle.assigned_forms.specs.Expanding.{AreExpansions};
 
     ghost Value = { SymbolMap };
 
@@ -38,7 +38,7 @@ impl<'a> Model for AssignedExpansion<'a> {
 }
 
 impl Substitution for AssignedExpansion<'_> {
-    ghost use Rattle.asm_relax.specs.Expanding.{expanded};
+    ghost use Rattle.assigned_forms.specs.Expanding.{expanded};
 
     ghost substitute = { λ symbols form. expanded symbols form };
 
@@ -72,7 +72,7 @@ impl<'a> Model for Plan<'a> {
     ghost view = { λ plan.
         record { map = plan.symbols.now; sections = plan.sections; state = plan.state } };
 
-    ghost invariant = { λ plan. IsPlanFor plan.sections plan.rows plan.state };
+    ghost invariant = { λ plan. IsPlanFor plan.symbols.now plan.sections plan.rows plan.state };
 }
 
 impl<'a> Plan<'a> {
@@ -99,7 +99,7 @@ impl<'a> Plan<'a> {
         let Ok(sections) = sections.substituted(&expansion) else {
             return Err(AllocError);
         };
-        let rows = item_rows::plan_of(alloc, &sections)?;
+        let rows = item_rows::plan_of(alloc, symbols, &sections)?;
         Ok(Plan {
             symbols,
             sections,
@@ -115,16 +115,16 @@ impl<'a> Plan<'a> {
         ensures value { Settles self.new.sections result
             (settled_plan self.old.map self.old.sections) }
         ensures layout { IfOk result (λ done.
-            IsLaidOut self.old.sections self.new.sections done.rounds) }
+            IsLaidOut self.old.map self.old.sections self.new.sections done.rounds) }
         ensures rounds { IfOk result (λ done.
-            done.rounds ≤ 1 + sum (tops (rows_of self.old.sections))) }
+            done.rounds ≤ 1 + sum (tops (rows_of self.old.map self.old.sections))) }
         ensures at_most { IfOk result (λ done. steps.new
-            ≤ steps.old + done.rounds * several (rows_of self.old.sections)) }
-        ensures at_least { steps.old + several (rows_of self.old.sections) ≤ steps.new }
-        ensures sections { self.new.sections ≡ settled_sections self.old.sections }
+            ≤ steps.old + done.rounds * several (rows_of self.old.map self.old.sections)) }
+        ensures at_least { steps.old + several (rows_of self.old.map self.old.sections) ≤ steps.new }
+        ensures sections { self.new.sections ≡ settled_sections self.old.map self.old.sections }
         ensures kept { self.new.map ≡ self.old.map }
-        ensures always { steps.new ≤ steps.old + (1 + sum (tops (rows_of self.old.sections)))
-            * several (rows_of self.old.sections) }
+        ensures always { steps.new ≤ steps.old + (1 + sum (tops (rows_of self.old.map self.old.sections)))
+            * several (rows_of self.old.map self.old.sections) }
         ensures laid { OnOk result (self.new.state ≡ LaidOut) }
         ensures refused { IfErr result (λ fault. self.new.state ≡ Refused) }
     {

@@ -1,15 +1,17 @@
-//! The range checks of a layout: sections that are too large, and then fields that do not hold their values.
+//! The range checks of a layout: sections that are too large, then `.org`s that move back, and then fields that do not
+//! hold their values.
 
-ghost use Rattle.std.specs.Prelude.{◌≡◌, ◌<◌, ◌≤◌, option_map};
+ghost use Rattle.std.specs.Prelude.{◌≡◌, ◌+◌, ◌<◌, ◌≤◌, false, nat_lt, option_map};
 ghost use Rattle.std.specs.List.{position_or_len};
 ghost use Rattle.asm_relax.specs.Faults.{first_of};
-ghost use Rattle.asm_relax.specs.RangeChecks.{is_large, begins_late, first_large, large_section, misfit, field_misfit, section_misfit, first_fault};
+ghost use Rattle.asm_relax.specs.RangeChecks.{origin_shift, moves_back, section_back, is_large, begins_late, first_large, large_section, misfit, field_misfit, section_misfit, first_fault};
 
 use crate::faults::LayoutFault;
 use crate::field_values::held_value;
-use crate::places::section_size;
+use crate::places::{section_size, shift_in};
 use asm_frags::{Field, Frag, Laid, Section, Sections};
 use asm_symbols::Symbols;
+use item_contents::{Align, Fill, FragVisit, Growing, Org, visit};
 
 /// The most bytes of a section.
 const MOST_BYTES: u64 = 1 << 30;
@@ -117,12 +119,103 @@ fn first_misfit(symbols: &Symbols, sections: &Sections<Laid>) -> Option<LayoutFa
     None
 }
 
-/// The first fault: sections that are too large come before all fields.
+/// Tells whether an item of this index and address, one of these items, is an `.org` to a place
+/// before it.
+#[derive(Drop)]
+struct MovesBack<'a> {
+    items: &'a [Frag<Laid>],
+    index: usize,
+    address: u64,
+}
+
+impl FragVisit for MovesBack<'_> {
+    type Out = bool;
+
+    ghost run_gives = { λ before answer after. answer ≡ false };
+
+    ghost fill_gives = { λ before held answer after. answer ≡ false };
+
+    ghost align_gives = { λ before held answer after. answer ≡ false };
+
+    ghost org_gives = { λ before held answer after.
+        answer ≡ nat_lt (origin_shift before.items.now before.index held + held.ahead)
+        (before.address + held.behind) };
+
+    ghost growing_gives = { λ before held answer after. answer ≡ false };
+
+    fn run(&mut self) -> bool {
+        false
+    }
+
+    fn fill(&mut self, _held: &Fill) -> bool {
+        false
+    }
+
+    fn align(&mut self, _held: &Align) -> bool {
+        false
+    }
+
+    fn org(&mut self, held: &Org) -> bool {
+        let between = self.index.saturating_sub(held.from() as usize);
+        let shift = shift_in(self.items, (self.index - between) as u64);
+        let target = u128::from(shift) + u128::from(held.ahead());
+        target < u128::from(self.address) + u128::from(held.behind())
+    }
+
+    fn growing(&mut self, _held: Growing) -> bool {
+        false
+    }
+}
+
+/// Whether the item of this index, one of these, is an `.org` to a place before it.
+fn moves_back(items: &[Frag<Laid>], index: usize, item: &Frag<Laid>) -> bool
+    ensures { result ≡ moves_back items.now index item.now.address item.now.content }
+{
+    let mut visitor = MovesBack {
+        items,
+        index,
+        address: item.address,
+    };
+    visit(&item.content, &mut visitor)
+}
+
+/// The fault of the first item of a section that is an `.org` to a place before it.
+fn section_back(section: &Section<Laid>) -> Option<LayoutFault>
+    ensures { result ≡ section_back section.now }
+{
+    let items = section.items();
+    for (index, item) in items.iter().enumerate() {
+        if moves_back(items, index, item) {
+            return Some(LayoutFault::OrgMovesBackwards { pos: item.pos });
+        }
+    }
+    None
+}
+
+/// The first such fault of all sections.
+fn first_section_back(sections: &[Section<Laid>]) -> Option<LayoutFault>
+    ensures { result ≡ first_of section_back sections.now }
+{
+    for section in sections {
+        let found = section_back(section);
+        if found.is_some() {
+            return found;
+        }
+    }
+    None
+}
+
+/// The first fault: sections that are too large come before `.org`s that move back, and these before
+/// all fields.
 #[tactic(auto, unfolding(crate::specs::RangeChecks::first_fault))]
 pub(crate) fn first_fault(symbols: &Symbols, sections: &Sections<Laid>) -> Option<LayoutFault>
     ensures { result ≡ first_fault symbols.now sections.now }
 {
     let found = first_large_section(sections.as_slice());
+    if found.is_some() {
+        return found;
+    }
+    let found = first_section_back(sections.as_slice());
     if found.is_some() {
         return found;
     }

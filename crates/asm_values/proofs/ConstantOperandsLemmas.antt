@@ -9,7 +9,7 @@ use Rattle.asm_expr.specs.Forms.{constant_form}
 use Rattle.asm_expr.specs.Knowledge.{Knowledge}
 use Rattle.expr_texts.specs.Reading.{reading, read_at}
 use Rattle.asm_expr.specs.Trees.{Tree}
-use Rattle.asm_frags.specs.declared.contents.Content.{Content}
+use Rattle.item_contents.specs.declared.contents.Content.{Content}
 use Rattle.asm_frags.specs.Sections.{put_into}
 use Rattle.asm_frags.specs.Writing.{LooseSection, new_item, item_put}
 use Rattle.asm_operands.specs.Constants.{IsConstant, FindsConstant}

@@ -4,12 +4,13 @@ use Rattle.std.specs.List.{list_all}
 use Rattle.std.proofs.lemmas.List.Folds.{list_all-append}
 use Rattle.asm_base.specs.Refusals.{◌>>=◌}
 use Rattle.asm_base.specs.declared.positions.Pos.{Pos}
-use Rattle.asm_frags.specs.declared.contents.Content.TheVariants.{Run}
+use Rattle.item_contents.specs.declared.contents.Content.TheVariants.{Run}
 use Rattle.asm_frags.specs.declared.faults.FragCause.{FragCause}
 use Rattle.asm_frags.specs.declared.faults.FragCause.TheVariants.{BadSection}
-use Rattle.asm_frags.specs.PlainBytes.{is_zero}
+use Rattle.item_contents.specs.Zeros.{is_zero}
 use Rattle.asm_frags.specs.Sections.{with_section_or_fault, put_into_there, put_into}
-use Rattle.asm_frags.specs.Writing.{LooseItem, LooseSection, is_run, ends_in_run, new_item, takes_zeros_alone, with_item, with_run, with_bytes, bytes_put}
+use Rattle.item_contents.specs.Contents.{is_run}
+use Rattle.asm_frags.specs.Writing.{LooseItem, LooseSection, ends_in_run, new_item, takes_zeros_alone, with_item, with_run, with_bytes, bytes_put}
 use Rattle.asm_operands.specs.declared.place_faults.PlaceCause.{PlaceCause}
 use Rattle.asm_values.specs.ConstantData.{put_any}
 use Rattle.asm_operands.specs.LayerFaults.{of_sections}

@@ -2,7 +2,7 @@
 use Rattle.std.proofs.Common.{◌≡◌, ℕ, zero, suc, Bool, true, false, cond, List, [], ◌∷◌, Some, set, slice_get, refl, ap}
 use Rattle.std.proofs.lemmas.Option.{none-some}
 use Rattle.asm_base.specs.declared.positions.Pos.{Pos}
-use Rattle.asm_frags.specs.declared.contents.Content.TheVariants.{Run}
+use Rattle.item_contents.specs.declared.contents.Content.TheVariants.{Run}
 use Rattle.asm_frags.specs.Writing.{LooseSection, ends_in_run, new_item, with_item, with_run}
 
 module _ {X : Type 0} where

@@ -7,7 +7,7 @@ use Rattle.asm_base.specs.declared.positions.Pos.{Pos}
 use Rattle.asm_expr.specs.Knowledge.{Knowledge}
 use Rattle.asm_expr.specs.Trees.{Tree}
 use Rattle.asm_expr.specs.Forms.{Form}
-use Rattle.asm_frags.specs.declared.contents.Content.{Content}
+use Rattle.item_contents.specs.declared.contents.Content.{Content}
 use Rattle.asm_frags.specs.declared.faults.FragCause.{FragCause}
 use Rattle.asm_frags.specs.declared.fields.FieldSize.{FieldSize}
 use Rattle.asm_frags.specs.Sections.{first_sections, put_into}

@@ -7,10 +7,11 @@ ghost use Rattle.asm_values.specs.DataItems.{cut_notes};
 use crate::stacks::Entered;
 use asm_base::{Note, Noted, Notes, Pos};
 use asm_expr::Linear;
-use asm_frags::{Content, FieldRole, FieldSize, Frag, FragFault, Sections};
+use asm_frags::{FieldRole, FieldSize, Frag, FragFault, Sections};
 use asm_operands::{PlaceCause, PlaceFault};
 use asm_symbols::Spot;
 use asm_uses::{SymbolUses, View, here_name, spot_at};
+use item_contents::Content;
 use std::alloc::{AllocError, Global};
 
 /// What is placed so far.

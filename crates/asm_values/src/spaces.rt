@@ -3,10 +3,10 @@
 use crate::assemblers::Assembler;
 use crate::constant_operands::constant_operands;
 use asm_base::{Pos, Token};
-use asm_frags::Content;
 use asm_operands::{Operands, PlaceFault};
 use asm_uses::Naming;
 use asm_words::{space_of, unit_size, units_of};
+use item_contents::Content;
 
 impl Assembler {
     ghost use Rattle.std.specs.Prelude.{◌≡◌, map};

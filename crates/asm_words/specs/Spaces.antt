@@ -4,8 +4,8 @@ use Rattle.std.specs.Int.{w64, is_power_of_two, trailing_zeros}
 use Rattle.asm_expr.specs.Arithmetic.{is_negative}
 use Rattle.asm_operands.specs.declared.place_faults.PlaceCause.{PlaceCause}
 use Rattle.asm_operands.specs.declared.place_faults.PlaceCause.TheVariants.{OutOfRange}
-use Rattle.asm_frags.specs.declared.contents.Content.{Content}
-use Rattle.asm_frags.specs.declared.contents.Content.TheVariants as content
+use Rattle.item_contents.specs.declared.contents.Content.{Content}
+use Rattle.item_contents.specs.declared.contents.Content.TheVariants as content
 
 -- the most bytes of one piece of space
 abbrev pub most_space : ℕ

@@ -5,8 +5,8 @@ ghost use Rattle.asm_base.specs.Refusals.{GivesBy};
 ghost use Rattle.asm_expr.specs.Arithmetic.{is_negative};
 ghost use Rattle.asm_words.specs.Spaces.{space_of, units_of, unit_size, default_log, said_log, log_of, space_size};
 
-use asm_frags::{Content, Fill};
 use asm_operands::{PlaceCause, PlaceFault};
+use item_contents::{Content, Fill};
 
 /// A size of space for a symbol.
 pub fn space_size(size: u64) -> Result<u64, PlaceFault>

@@ -4,8 +4,8 @@ use Rattle.std.proofs.Math.Nat.{lt-div-mul-add, mod-lt, mul-le-mul_right}
 use Rattle.std.proofs.Math.Seq.{take-append_seam}
 use Rattle.std.proofs.lemmas.List.{length-take-le, take-take}
 use Rattle.std.proofs.lemmas.Nat.{div-add-mod'}
-use Rattle.asm_frags.specs.Contents.{repeated}
-use Rattle.asm_frags.proofs.Repeats.{length-repeated, repeated_alone}
+use Rattle.item_contents.specs.Contents.{repeated}
+use Rattle.item_contents.proofs.Repeats.{length-repeated, repeated_alone}
 use Rattle.elf_file.specs.declared.file_pieces.Piece.{Piece}
 use Rattle.elf_file.specs.Pieces.{piece_bytes, flat}
 
@@ -121,7 +121,7 @@ some_units zero size room below few =
 some_units (suc units) size room below few = omega arith
 
 -- a block that begins with whole units gives the repetition
-pub units_filled : (count size : ℕ) (unit block front rest : List ℕ) → 0 < size → size ≤ 8 → 8 ≤ length block → length unit ≡ size
+pub units_filled : (count size : ℕ) (unit block front rest : List ℕ) → 0 < size → size ≤ 10 → 10 ≤ length block → length unit ≡ size
     → (let units = length block / size in front ≡ repeated units unit
     → repeated count unit ≡ repeated (count / units) (take (units * size) (front ++ rest)) ++ take (count % units * size) (front ++ rest))
 units_filled count size unit block front rest some short room long is =

@@ -1,7 +1,7 @@
 //! The bytes of a file in pieces: bytes that are held, and a held unit that is repeated.
 
 ghost use Rattle.std.specs.Prelude.{◌≡◌, ◌+◌, ◌*◌, ◌<◌, ◌≤◌, ◌++◌, drop, length, take, IfSome};
-ghost use Rattle.asm_frags.specs.Contents.{repeated};
+ghost use Rattle.item_contents.specs.Contents.{repeated};
 ghost use Rattle.elf_file.specs.Pieces.{repeated_size};
 
 use std::alloc::{AllocError, Global};
@@ -55,44 +55,50 @@ pub(crate) struct Blocks {
     pub(crate) rest: usize,
 }
 
-/// A unit of 1 to 8 bytes, repeated.
+/// A unit of 1 to 10 bytes, repeated.
 #[derive(Drop)]
 pub struct Repetition {
-    unit: [u8; 8],
-    size: usize,
+    unit: [u8; 10],
+    size: u8,
     count: u64,
 }
 
 impl Model for Repetition {
     ghost use Rattle.std.specs.Prelude.{ℕ, List, ◌<◌, ◌≤◌, take};
-    ghost use Rattle.asm_frags.specs.Contents.{repeated};
+    ghost use Rattle.item_contents.specs.Contents.{repeated};
 
     ghost Value = { List ℕ };
 
     ghost view = { λ r. repeated r.count (take r.size r.unit) };
 
-    ghost invariant = { λ r. (0 < r.count) × (0 < r.size) × (r.size ≤ 8) };
+    ghost invariant = { λ r. (0 < r.count) × (0 < r.size) × (r.size ≤ 10) };
 }
 
 impl Repetition {
     ghost use Rattle.std.specs.Prelude.{◌≡◌, ◌<◌, ◌≤◌, ◌++◌, length, take, IfSome};
-    ghost use Rattle.asm_frags.specs.Contents.{repeated};
+    ghost use Rattle.item_contents.specs.Contents.{repeated};
 
-    /// The first bytes of the unit `count` times.
-    pub fn new(unit: [u8; 8], size: usize, count: u64) -> Repetition
-        requires some { 0 < size }
-        requires short { size ≤ 8 }
+    /// The unit `count` times.
+    pub fn new(unit: &[u8], count: u64) -> Repetition
+        requires some { 0 < length unit.now }
+        requires short { length unit.now ≤ 10 }
         requires once { 0 < count }
-        ensures { result ≡ repeated count (take size unit) }
+        ensures { result ≡ repeated count unit.now }
     {
-        Repetition { unit, size, count }
+        let mut held = [0; 10];
+        held[..unit.len()].copy_from_slice(unit);
+        Repetition {
+            unit: held,
+            size: unit.len() as u8,
+            count,
+        }
     }
 
     /// How many bytes it stands for, if fewer than 2^64.
     pub(crate) fn len(&self) -> Option<usize>
         ensures { IfSome result (λ n. n ≡ length self.now) }
     {
-        (self.count as usize).checked_mul(self.size)
+        (self.count as usize).checked_mul(self.size as usize)
     }
 
     /// Fills a block of its size.
@@ -100,24 +106,25 @@ impl Repetition {
         requires { length block.old ≡ length self.now }
         ensures { block.new ≡ self.now }
     {
-        fill_units(block, &self.unit[..self.size], self.count as usize);
+        fill_units(block, &self.unit[..self.size as usize], self.count as usize);
     }
 
     /// Fills a block with whole units, and tells how often it is written.
     pub(crate) fn fill(&self, block: &mut [u8]) -> Blocks
-        requires { 8 ≤ length block.old }
+        requires { 10 ≤ length block.old }
         ensures bytes { self.now ≡ repeated result.count (take result.size block.new)
             ++ take result.rest block.new }
         ensures size { result.size ≤ length block.new }
         ensures rest { result.rest ≤ length block.new }
     {
-        let units = block.len() / self.size;
-        let size = units * self.size;
-        fill_units(&mut block[..size], &self.unit[..self.size], units);
+        let length = self.size as usize;
+        let units = block.len() / length;
+        let size = units * length;
+        fill_units(&mut block[..size], &self.unit[..length], units);
         Blocks {
             size,
             count: self.count / units as u64,
-            rest: (self.count % units as u64) as usize * self.size,
+            rest: (self.count % units as u64) as usize * length,
         }
     }
 }
@@ -201,7 +208,7 @@ impl Model for Pieces {
 
 impl Pieces {
     ghost use Rattle.std.specs.Prelude.{◌≡◌, [], ◌∷◌, ◌++◌, OnOk};
-    ghost use Rattle.asm_frags.specs.Contents.{repeated};
+    ghost use Rattle.item_contents.specs.Contents.{repeated};
     ghost use Rattle.elf_file.specs.Pieces.{piece_bytes, flat};
 
     /// No pieces.
@@ -228,7 +235,7 @@ impl Pieces {
         if count == 0 {
             return Ok(());
         }
-        self.put(Piece::Repeated(Repetition::new([0; 8], 1, count)))
+        self.put(Piece::Repeated(Repetition::new(&[0], count)))
     }
 
     /// The list of the pieces.

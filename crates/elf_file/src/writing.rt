@@ -3,7 +3,7 @@
 ghost use Rattle.std.specs.Prelude.{◌≡◌, ℕ, ◌≤◌, [], ◌++◌, length, take, OnErr, OnOk, option_map};
 ghost use Rattle.asm_base.specs.Counts.{HasCause};
 ghost use Rattle.asm_base.specs.Output.{after_write};
-ghost use Rattle.asm_frags.specs.Contents.{repeated};
+ghost use Rattle.item_contents.specs.Contents.{repeated};
 ghost use Rattle.elf_file.specs.Pieces.{piece_bytes, flat, mixed_bytes};
 ghost use Rattle.elf_file.specs.Waiting.{Sends, SendsFront};
 

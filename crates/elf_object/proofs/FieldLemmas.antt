@@ -7,8 +7,7 @@ use Rattle.std.proofs.Math.Nat.{le_of_eq}
 use Rattle.std.proofs.lemmas.List.{at_drop_more, at_drop_all}
 use Rattle.std.proofs.lemmas.Bool.Decides.{nat_tests}
 use Rattle.asm_frags.specs.declared.fields.Field.{Field}
-use Rattle.asm_frags.specs.Fields.{width}
-use Rattle.asm_frags.specs.PlainBytes.{field_end, IsBlank, FieldsStand}
+use Rattle.asm_frags.specs.PlainBytes.{covered, field_end, IsBlank, FieldsStand}
 use Rattle.asm_frags.specs.SectionOf.{SectionOf}
 use Rattle.asm_symbols.specs.SymbolMap.{SymbolMap}
 use Rattle.elf_object.specs.Contents.{fits_behind, field_bytes, filled}
@@ -37,7 +36,7 @@ joined out a b rest = append_assoc (out ++ a) b rest ∙ append_assoc out a (b +
 
 -- a field more is put
 pub fields_step : (map : SymbolMap) (sections : LaidSections) (bytes : List ℕ) (fields : List Field) (i from size : ℕ) (field : Field) (out more last whole : List ℕ)
-    → i < length fields → field ≡ get_or fields i field → size ≡ width field.size → FieldsStand bytes from (drop i fields)
+    → i < length fields → field ≡ get_or fields i field → size ≡ covered field → FieldsStand bytes from (drop i fields)
     → more ≡ out ++ slice_range bytes from field.offset → last ≡ more ++ field_bytes map sections field → out ++ filled map sections bytes from (drop i fields) ≡ whole
     → (field.offset + size ≤ length bytes) × FieldsStand bytes (field.offset + size) (drop (i + 1) fields)
     × (last ++ filled map sections bytes (field.offset + size) (drop (i + 1) fields) ≡ whole)

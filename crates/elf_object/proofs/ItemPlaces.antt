@@ -8,9 +8,9 @@ use Rattle.std.proofs.lemmas.Option.{slice_get-map}
 use Rattle.std.specs.Prelude.{All, take, slice_get, slice_index_or, option_map, unwrap_or, codes}
 use Rattle.asm_expr.specs.Forms.{wrapped}
 use Rattle.asm_frags.specs.declared.fields.Field.{Field}
-use Rattle.asm_frags.specs.Contents.{bytes_of}
-use Rattle.asm_frags.specs.Fields.{width}
-use Rattle.asm_frags.specs.PlainBytes.{field_end, FieldsStand}
+use Rattle.item_contents.specs.declared.contents.Content.{Content}
+use Rattle.item_contents.specs.Contents.{MayHave, bytes_of}
+use Rattle.asm_frags.specs.PlainBytes.{covered, field_end, FieldsStand}
 use Rattle.asm_frags.specs.SectionOf.{SectionOf}
 use Rattle.asm_frags.specs.Addresses.{item_laid_at}
 use Rattle.asm_symbols.specs.SymbolMap.{SymbolMap}
@@ -19,7 +19,7 @@ use Rattle.asm_relax.specs.Final.{shift_in, address_in}
 use Rattle.asm_relax.specs.Placing.{placed_from, placed_section, shift_of}
 use Rattle.asm_relax.specs.Settling.{LaidItem, LaidSections}
 use Rattle.elf_object.specs.declared.relocations.Relocation.{Relocation}
-use Rattle.elf_object.specs.Contents.{field_bytes, plain_bytes, interleaved, section_bytes, relocations_from, relocations_of}
+use Rattle.elf_object.specs.Contents.{field_bytes, item_value, item_bytes, plain_bytes, interleaved, section_bytes, relocations_from, relocations_of}
 use Rattle.elf_symbols.specs.SymbolTable.{symbol_names, symbol_table_of, table_of}
 use Rattle.elf_object.specs.Image.{before_names, file_sections, image_with, image_of}
 use Rattle.elf_object.specs.Naming.{named_of}
@@ -30,7 +30,7 @@ use Rattle.elf_file.specs.Sections.{SectionEntry, file_bytes, symbol_section, st
 use Rattle.elf_object.specs.Sections.{source_section, with_relocations, header_count, next_header, entries_from, header_indices_from, header_indices}
 use Rattle.elf_file.specs.StringTable.{string_table_of}
 use Rattle.elf_file.proofs.FilePlaces.{stands_in, file_stands}
-use Rattle.elf_object.proofs.ItemBytes.{low_length, plain_long}
+use Rattle.elf_object.proofs.ItemBytes.{held_length, plain_long}
 use Rattle.elf_object.proofs.PlainPlaces.{piece_is, inside, plain_stands, value_stands, bytes_between, item_stands, placed_get}
 
 pub get_front : {A : Type 0} (xs ys : List A) (i : ℕ) (x : A) → slice_get xs i ≡ Some x → slice_get (xs ++ ys) i ≡ Some x
@@ -119,63 +119,69 @@ section_stands symbols sections number section filed =
 items_laid : (section : SectionOf LaidItem) → placed_section section ≡ section → placed_from 0 section.items ≡ section.items
 items_laid section laid = ap (λ (s : SectionOf LaidItem). s.items) laid
 
--- what stands in a section whose items are laid out
-in_section : (symbols : SymbolMap) (sections : LaidSections) (number place : ℕ) (section : SectionOf LaidItem) (piece : List ℕ) → IsFiled sections number section
-    → PieceAt (interleaved (plain_bytes symbols sections section) 0 (placed_from 0 section.items)) place piece
-    → PieceAt (image_of symbols sections) (section_offset symbols sections number + place) piece
-unfolding section_bytes
-in_section symbols sections number place section piece filed inner =
-    let outer = section_stands symbols sections number section filed in
-    stands_in (image_of symbols sections) (section_bytes symbols sections section) piece (section_offset symbols sections number) place outer
-    (subst (λ (items : List LaidItem). PieceAt (interleaved (plain_bytes symbols sections section) 0 items) place piece) (items_laid section filed.laid) inner)
+-- items have as many bytes as their sizes say, whatever value they hold
+module _ (sized : (content : Content) (size value : ℕ) → MayHave content size → length (bytes_of content size value) ≡ size) where
+  sized_in : (symbols : SymbolMap) (sections : LaidSections) (section : SectionOf LaidItem) (content : Content) (size : ℕ) → MayHave content size
+      → length (item_bytes symbols sections section content size) ≡ size
+  sized_in symbols sections section content size has = sized content size (item_value symbols sections section content) has
 
--- a piece of the plain bytes that no item parts stands in the object
-piece_between : (symbols : SymbolMap) (sections : LaidSections) (number count offset : ℕ) (section : SectionOf LaidItem) (piece : List ℕ) → IsFiled sections number section
-    → offset + length piece ≤ length section.bytes → PieceAt (plain_bytes symbols sections section) offset piece → IsBetween section.items count offset (offset + length piece)
-    → PieceAt (image_of symbols sections) (section_offset symbols sections number + moved section.items count offset) piece
-piece_between symbols sections number count offset section piece filed within there between =
-    let plain = plain_bytes symbols sections section in
-    let long = plain_long symbols sections section in
-    let stands = bytes_between plain section.items count offset (offset + length piece) (omega arith) (omega arith) filed.sized between in
-    in_section symbols sections number (moved section.items count offset) section piece filed
-    (subst (λ (xs : List ℕ). PieceAt (interleaved plain 0 (placed_from 0 section.items)) (moved section.items count offset) xs) (piece_is plain offset piece there) stands)
+  -- what stands in a section whose items are laid out
+  in_section : (symbols : SymbolMap) (sections : LaidSections) (number place : ℕ) (section : SectionOf LaidItem) (piece : List ℕ) → IsFiled sections number section
+      → PieceAt (interleaved (item_bytes symbols sections section) (plain_bytes symbols sections section) 0 (placed_from 0 section.items)) place piece
+      → PieceAt (image_of symbols sections) (section_offset symbols sections number + place) piece
+  unfolding section_bytes
+  in_section symbols sections number place section piece filed inner =
+      let outer = section_stands symbols sections number section filed in
+      stands_in (image_of symbols sections) (section_bytes symbols sections section) piece (section_offset symbols sections number) place outer
+      (subst (λ (items : List LaidItem). PieceAt (interleaved (item_bytes symbols sections section) (plain_bytes symbols sections section) 0 items) place piece) (items_laid section filed.laid) inner)
 
-pub bytes_stand : BytesStand
-bytes_stand symbols sections number count offset section bytes filed begins is beside between =
-    let within = inside section.bytes offset bytes begins is in
-    let there = plain_stands symbols sections section.bytes section.fields 0 offset (offset + length bytes) [] (plain_bytes symbols sections section) refl refl
-    (omega arith) (omega arith) within beside in
-    piece_between symbols sections number count offset section bytes filed within
-    (subst (λ (xs : List ℕ). PieceAt (plain_bytes symbols sections section) offset xs) is there) between
+  -- a piece of the plain bytes that no item parts stands in the object
+  piece_between : (symbols : SymbolMap) (sections : LaidSections) (number count offset : ℕ) (section : SectionOf LaidItem) (piece : List ℕ) → IsFiled sections number section
+      → offset + length piece ≤ length section.bytes → PieceAt (plain_bytes symbols sections section) offset piece → IsBetween section.items count offset (offset + length piece)
+      → PieceAt (image_of symbols sections) (section_offset symbols sections number + moved section.items count offset) piece
+  piece_between symbols sections number count offset section piece filed within there between =
+      let plain = plain_bytes symbols sections section in
+      let long = plain_long symbols sections section in
+      let stands = bytes_between (item_bytes symbols sections section) (sized_in symbols sections section) plain section.items count offset (offset + length piece) (omega arith) (omega arith) filed.sized between in
+      in_section symbols sections number (moved section.items count offset) section piece filed
+      (subst (λ (xs : List ℕ). PieceAt (interleaved (item_bytes symbols sections section) plain 0 (placed_from 0 section.items)) (moved section.items count offset) xs) (piece_is plain offset piece there) stands)
 
-pub values_stand : ValuesStand
-values_stand symbols sections number index section field filed stand there between =
-    let value = field_bytes symbols sections field in
-    let long : length value ≡ width field.size = low_length field.size (unwrap_or (held_value symbols sections field) 0) in
-    let end : field_end field ≡ field.offset + length value = ap (λ n. field.offset + n) (sym long) in
-    let within = field_inside section.bytes section.fields index 0 field stand there in
-    let found = value_stands symbols sections section.bytes section.fields index 0 field [] (plain_bytes symbols sections section) refl refl stand there in
-    piece_between symbols sections number field.item field.offset section value filed (subst (λ n. n ≤ length section.bytes) end within) found
-    (subst (λ n. IsBetween section.items field.item field.offset n) end between)
-  where
-    field_inside : (bytes : List ℕ) (fields : List Field) (index at : ℕ) (field : Field) → FieldsStand bytes at fields → slice_get fields index ≡ Some field → field_end field ≤ length bytes
-    field_inside bytes [] index at field stand there = absurd cc
-    field_inside bytes (one ∷ fields) zero at field stand there = let same : one ≡ field = cc in subst (λ (f : Field). field_end f ≤ length bytes) same stand.1.within
-    field_inside bytes (one ∷ fields) (suc index) at field stand there = field_inside bytes fields index (field_end one) field stand.2 there
+  pub bytes_stand : BytesStand
+  bytes_stand symbols sections number count offset section bytes filed begins is beside between =
+      let within = inside section.bytes offset bytes begins is in
+      let there = plain_stands symbols sections section.bytes section.fields 0 offset (offset + length bytes) [] (plain_bytes symbols sections section) refl refl
+      (omega arith) (omega arith) within beside in
+      piece_between symbols sections number count offset section bytes filed within
+      (subst (λ (xs : List ℕ). PieceAt (plain_bytes symbols sections section) offset xs) is there) between
 
-pub items_stand : ItemsStand
-items_stand symbols sections number index section item filed there within before =
-    let plain = plain_bytes symbols sections section in
-    let long = plain_long symbols sections section in
-    let place = item.offset + shift_of index 0 section.items in
-    let stands = item_stands plain section.items index item there (omega arith) filed.sized before in
-    let same : item_laid_at place item.size item ≡ item = some_same (sym (placed_get section.items index 0 item there) ∙ ap (λ (xs : List LaidItem). slice_get xs index) (items_laid section filed.laid) ∙ there) in
-    let address : place ≡ item.address = ap (λ (x : LaidItem). x.address) same in
-    in_section symbols sections number item.address section (bytes_of item.content item.size) filed
-    (subst (λ n. PieceAt (interleaved plain 0 (placed_from 0 section.items)) n (bytes_of item.content item.size)) address stands)
-  where
-    some_same : {x y : LaidItem} → Some x ≡ Some y → x ≡ y
-    some_same e = cc
+  pub values_stand : ValuesStand
+  values_stand symbols sections number index section field filed stand there between =
+      let value = field_bytes symbols sections field in
+      let long : length value ≡ covered field = held_length field (unwrap_or (held_value symbols sections field) 0) in
+      let end : field_end field ≡ field.offset + length value = ap (λ n. field.offset + n) (sym long) in
+      let within = field_inside section.bytes section.fields index 0 field stand there in
+      let found = value_stands symbols sections section.bytes section.fields index 0 field [] (plain_bytes symbols sections section) refl refl stand there in
+      piece_between symbols sections number field.item field.offset section value filed (subst (λ n. n ≤ length section.bytes) end within) found
+      (subst (λ n. IsBetween section.items field.item field.offset n) end between)
+    where
+      field_inside : (bytes : List ℕ) (fields : List Field) (index at : ℕ) (field : Field) → FieldsStand bytes at fields → slice_get fields index ≡ Some field → field_end field ≤ length bytes
+      field_inside bytes [] index at field stand there = absurd cc
+      field_inside bytes (one ∷ fields) zero at field stand there = let same : one ≡ field = cc in subst (λ (f : Field). field_end f ≤ length bytes) same stand.1.within
+      field_inside bytes (one ∷ fields) (suc index) at field stand there = field_inside bytes fields index (field_end one) field stand.2 there
+
+  pub items_stand : ItemsStand
+  items_stand symbols sections number index section item filed there within before =
+      let plain = plain_bytes symbols sections section in
+      let long = plain_long symbols sections section in
+      let place = item.offset + shift_of index 0 section.items in
+      let stands = item_stands (item_bytes symbols sections section) (sized_in symbols sections section) plain section.items index item there (omega arith) filed.sized before in
+      let same : item_laid_at place item.size item ≡ item = some_same (sym (placed_get section.items index 0 item there) ∙ ap (λ (xs : List LaidItem). slice_get xs index) (items_laid section filed.laid) ∙ there) in
+      let address : place ≡ item.address = ap (λ (x : LaidItem). x.address) same in
+      in_section symbols sections number item.address section (item_bytes symbols sections section item.content item.size) filed
+      (subst (λ n. PieceAt (interleaved (item_bytes symbols sections section) plain 0 (placed_from 0 section.items)) n (item_bytes symbols sections section item.content item.size)) address stands)
+    where
+      some_same : {x y : LaidItem} → Some x ≡ Some y → x ≡ y
+      some_same e = cc
 
 -- an address less the plain bytes before it, and with others
 unwrapped : (own shift size offset : ℕ) → own ≤ offset → offset + (shift + size) < 2 ^ 64 → wrapped (offset + wrapped (wrapped (own + shift + size) + (2 ^ 64 - own))) ≡ offset + (shift + size)

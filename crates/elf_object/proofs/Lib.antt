@@ -4,6 +4,7 @@ mod FieldLemmas
 mod ItemLemmas
 mod MarkLemmas
 mod MixedLemmas
+mod TakenBytes
 mod ImageLemmas
 mod ItemBytes
 mod PatchLemmas

@@ -3,7 +3,7 @@ use Rattle.std.proofs.Common.{◌≡◌, ℕ, ◌+◌, ◌-◌, ◌<◌, ◌≤�
 use Rattle.std.specs.Prelude.{slice_range}
 use Rattle.std.proofs.lemmas.List.{length-take-le, take-append-le, drop-append-le, drop_all}
 use Rattle.std.proofs.lemmas.List.Sums.{sum_by-cons, sum_by-append}
-use Rattle.asm_frags.specs.Contents.{bytes_of}
+use Rattle.item_contents.specs.declared.contents.Content.{Content}
 use Rattle.asm_relax.specs.Settling.{LaidItem}
 use Rattle.elf_file.specs.declared.file_pieces.Between.{Between}
 use Rattle.elf_file.specs.Pieces.{mixed, held_before}
@@ -54,26 +54,27 @@ take_further bytes from at later =
     let sum : from + (at - from) ≡ at = omega arith in
     ap (λ n. take n bytes) (sym sum) ∙ take-add from (at - from) bytes
 
--- an item more is put
-pub mixed_item : (bytes : List ℕ) (items : List LaidItem) (i from upto : ℕ) (item : LaidItem) (old new : List Between) (whole : List ℕ) → i < length items → item ≡ get_or items i item
-    → upto ≡ reached from item → upto ≤ length bytes → held_before old ≤ from
-    → ((xs : List ℕ) → length xs ≡ upto → mixed xs new ≡ mixed xs old ++ bytes_of item.content item.size)
-    → mixed (take from bytes) old ++ interleaved bytes from (drop i items) ≡ whole → mixed (take upto bytes) new ++ interleaved bytes upto (drop (i + 1) items) ≡ whole
-mixed_item bytes items i from upto item old new whole inside is there within few put before =
-    let later : from ≤ upto = omega (arith, there) in
-    let long : length (take from bytes) ≡ from = length-take-le from bytes (omega arith) in
-    let fewer : held_before old ≤ length (take from bytes) = omega arith in
-    items_step bytes items i from upto item (mixed (take from bytes) old) (mixed (take upto bytes) old) (mixed (take upto bytes) new) whole inside is there
-    (ap (λ (xs : List ℕ). mixed xs old) (take_further bytes from upto later) ∙ mixed_more (take from bytes) (slice_range bytes from upto) old fewer)
-    (put (take upto bytes) (length-take-le upto bytes within)) before
+module _ (held : Content → ℕ → List ℕ) where
+  -- an item more is put
+  pub mixed_item : (bytes : List ℕ) (items : List LaidItem) (i from upto : ℕ) (item : LaidItem) (old new : List Between) (whole : List ℕ) → i < length items → item ≡ get_or items i item
+      → upto ≡ reached from item → upto ≤ length bytes → held_before old ≤ from
+      → ((xs : List ℕ) → length xs ≡ upto → mixed xs new ≡ mixed xs old ++ held item.content item.size)
+      → mixed (take from bytes) old ++ interleaved held bytes from (drop i items) ≡ whole → mixed (take upto bytes) new ++ interleaved held bytes upto (drop (i + 1) items) ≡ whole
+  mixed_item bytes items i from upto item old new whole inside is there within few put before =
+      let later : from ≤ upto = omega (arith, there) in
+      let long : length (take from bytes) ≡ from = length-take-le from bytes (omega arith) in
+      let fewer : held_before old ≤ length (take from bytes) = omega arith in
+      items_step held bytes items i from upto item (mixed (take from bytes) old) (mixed (take upto bytes) old) (mixed (take upto bytes) new) whole inside is there
+      (ap (λ (xs : List ℕ). mixed xs old) (take_further bytes from upto later) ∙ mixed_more (take from bytes) (slice_range bytes from upto) old fewer)
+      (put (take upto bytes) (length-take-le upto bytes within)) before
 
--- all items are put
-pub mixed_end : (bytes : List ℕ) (items : List LaidItem) (i from : ℕ) (between : List Between) (whole : List ℕ) → length items ≤ i → from ≤ length bytes
-    → held_before between ≤ from → mixed (take from bytes) between ++ interleaved bytes from (drop i items) ≡ whole → mixed bytes between ≡ whole
-mixed_end bytes items i from between whole all within few before =
-    let long : length (take from bytes) ≡ from = length-take-le from bytes within in
-    let fewer : held_before between ≤ length (take from bytes) = omega arith in
-    let rest = slice_range bytes from (length bytes) in
-    let split : bytes ≡ take from bytes ++ rest = sym (take_all (length bytes) bytes (omega arith)) ∙ take_further bytes from (length bytes) within in
-    items_end bytes items i from (mixed (take from bytes) between) (mixed bytes between) whole all before
-    (ap (λ (xs : List ℕ). mixed xs between) split ∙ mixed_more (take from bytes) rest between fewer)
+  -- all items are put
+  pub mixed_end : (bytes : List ℕ) (items : List LaidItem) (i from : ℕ) (between : List Between) (whole : List ℕ) → length items ≤ i → from ≤ length bytes
+      → held_before between ≤ from → mixed (take from bytes) between ++ interleaved held bytes from (drop i items) ≡ whole → mixed bytes between ≡ whole
+  mixed_end bytes items i from between whole all within few before =
+      let long : length (take from bytes) ≡ from = length-take-le from bytes within in
+      let fewer : held_before between ≤ length (take from bytes) = omega arith in
+      let rest = slice_range bytes from (length bytes) in
+      let split : bytes ≡ take from bytes ++ rest = sym (take_all (length bytes) bytes (omega arith)) ∙ take_further bytes from (length bytes) within in
+      items_end held bytes items i from (mixed (take from bytes) between) (mixed bytes between) whole all before
+      (ap (λ (xs : List ℕ). mixed xs between) split ∙ mixed_more (take from bytes) rest between fewer)

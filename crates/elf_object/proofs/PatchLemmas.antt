@@ -1,5 +1,5 @@
 -- The values of fields, put in place one after the other.
-use Rattle.std.proofs.Common.{◌≡◌, ℕ, ◌+◌, ◌-◌, ◌<◌, ◌≤◌, List, ◌∷◌, ◌++◌, length, get_or, drop, take, replicate, take-append-drop, length-append, length-drop, refl, sym, ap, ◌∙◌, subst, arith, append_assoc, drop-drop, take-add}
+use Rattle.std.proofs.Common.{◌≡◌, ℕ, ◌+◌, ◌-◌, ◌<◌, ◌≤◌, Bool, true, false, cond, List, [], ◌∷◌, ◌++◌, length, get_or, drop, take, replicate, take-append-drop, length-append, length-drop, refl, sym, ap, ◌∙◌, subst, arith, append_assoc, drop-drop, take-add}
 use Rattle.std.specs.Prelude.{slice_range}
 use Rattle.std.proofs.Math.Seq.{take-append_seam, drop-append_seam}
 use Rattle.std.proofs.lemmas.List.{at_drop_more, at_drop_all, length-take-le}
@@ -8,11 +8,11 @@ use Rattle.asm_frags.specs.declared.fields.Field.{Field}
 use Rattle.asm_frags.specs.declared.fields.FieldSize.{FieldSize}
 use Rattle.asm_frags.specs.declared.fields.FieldSize.TheVariants.{One, Two, Four, Eight}
 use Rattle.asm_frags.specs.Fields.{width, low_bytes}
-use Rattle.asm_frags.specs.PlainBytes.{field_end, FieldsStand}
+use Rattle.asm_frags.specs.PlainBytes.{covered, field_end, FieldsStand}
 use Rattle.asm_symbols.specs.SymbolMap.{SymbolMap}
 use Rattle.asm_relax.specs.Settling.{LaidSections}
-use Rattle.elf_object.specs.Contents.{field_bytes, filled}
-use Rattle.elf_object.proofs.ItemBytes.{low_length}
+use Rattle.elf_object.specs.Contents.{held_bytes, field_bytes, filled}
+use Rattle.elf_object.proofs.ItemBytes.{held_length}
 use Rattle.elf_object.proofs.FieldLemmas.{fields_step}
 
 -- so many of the fields are in place in these bytes, and from the end of the last one on nothing is changed
@@ -30,6 +30,13 @@ zeros_low One = refl
 zeros_low Two = refl
 zeros_low Four = refl
 zeros_low Eight = refl
+
+zeros_held : (field : Field) → replicate (covered field) 0 ≡ held_bytes field 0
+zeros_held field = by field.in_item
+  where
+    by : (b : Bool) → replicate (cond b 0 (width field.size)) 0 ≡ cond b [] (low_bytes field.size 0)
+    by true = refl
+    by false = zeros_low field.size
 
 -- before the first field
 pub none_patched : (map : SymbolMap) (sections : LaidSections) (bytes patched : List ℕ) (fields : List Field) → patched ≡ bytes → FieldsStand bytes 0 fields
@@ -59,12 +66,12 @@ behind patched bytes from at later same =
 -- the next field stands within the bytes, over zeros
 pub next_blank : (map : SymbolMap) (sections : LaidSections) (bytes patched : List ℕ) (fields : List Field) (i : ℕ) (field : Field)
     → i < length fields → field ≡ get_or fields i field → IsPatched map sections bytes fields i patched
-    → (field_end field ≤ length patched) × (slice_range patched field.offset (field_end field) ≡ low_bytes field.size 0)
+    → (field_end field ≤ length patched) × (slice_range patched field.offset (field_end field) ≡ held_bytes field 0)
 next_blank map sections bytes patched fields i field inside is done =
     let here = head_stands map sections bytes patched fields i field inside is done in
     let size = field_end field - field.offset in (
       subst (λ n. field_end field ≤ n) (sym done.long) here.1.within,
-      ap (take size) (behind patched bytes done.from field.offset here.0 done.same) ∙ here.1.zeros ∙ zeros_low field.size,
+      ap (take size) (behind patched bytes done.from field.offset here.0 done.same) ∙ here.1.zeros ∙ zeros_held field,
     )
 
 front_more : (patched bytes : List ℕ) (from at : ℕ) → from ≤ at → drop from patched ≡ drop from bytes → take at patched ≡ take from patched ++ slice_range bytes from at
@@ -83,14 +90,14 @@ one_patched map sections bytes patched new fields i field inside is done put =
     let front = take field.offset patched ++ value in
     let there : end ≤ length patched = subst (λ n. end ≤ n) (sym done.long) here.1.within in
     let first : length (take field.offset patched) ≡ field.offset = length-take-le field.offset patched (omega arith) in
-    let wide : length value ≡ width field.size = low_length field.size _ in
+    let wide : length value ≡ covered field = held_length field _ in
     let size : length front ≡ end = length-append (take field.offset patched) value ∙ rw (first, wide) refl in
     let text : new ≡ front ++ drop end patched = put ∙ sym (append_assoc (take field.offset patched) value (drop end patched)) in
     let before : take end new ≡ front = ap (λ n. take n new) (sym size) ∙ ap (take (length front)) text ∙ take-append_seam front (drop end patched) in
     let after : drop end new ≡ drop end patched = ap (λ n. drop n new) (sym size) ∙ ap (drop (length front)) text ∙ drop-append_seam front (drop end patched) in
     let later : done.from ≤ end = omega (arith, here.0) in
     let more : take field.offset patched ≡ take done.from patched ++ slice_range bytes done.from field.offset = front_more patched bytes done.from field.offset here.0 done.same in
-    let step = fields_step map sections bytes fields i done.from (width field.size) field (take done.from patched) (take field.offset patched) front _ inside is refl done.stand more refl done.left in
+    let step = fields_step map sections bytes fields i done.from (covered field) field (take done.from patched) (take field.offset patched) front _ inside is refl done.stand more refl done.left in
     record {
       from = end;
       within = here.1.within;

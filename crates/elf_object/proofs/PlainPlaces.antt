@@ -9,9 +9,9 @@ use Rattle.std.proofs.lemmas.List.Folds.{drop_split}
 use Rattle.asm_frags.specs.declared.fields.Field.{Field}
 use Rattle.asm_frags.specs.declared.items.Frag.{Frag}
 use Rattle.asm_frags.specs.Addresses.{item_laid_at}
-use Rattle.asm_frags.specs.Contents.{MayHave, bytes_of}
-use Rattle.asm_frags.specs.Fields.{width}
-use Rattle.asm_frags.specs.PlainBytes.{field_end, IsBeside, FieldsStand}
+use Rattle.item_contents.specs.declared.contents.Content.{Content}
+use Rattle.item_contents.specs.Contents.{MayHave}
+use Rattle.asm_frags.specs.PlainBytes.{covered, field_end, IsBeside, FieldsStand}
 use Rattle.asm_symbols.specs.SymbolMap.{SymbolMap}
 use Rattle.asm_relax.specs.FieldValues.{held_value}
 use Rattle.asm_relax.specs.Layout.{AreSized}
@@ -22,7 +22,7 @@ use Rattle.elf_file.specs.Places.{PieceAt}
 use Rattle.elf_object.specs.Places.{IsBetween}
 use Rattle.elf_object.proofs.FieldLemmas.{filled_one}
 use Rattle.elf_file.proofs.FilePlaces.{behind_front}
-use Rattle.elf_object.proofs.ItemBytes.{one_of, both_true, le_from, low_length, length-at}
+use Rattle.elf_object.proofs.ItemBytes.{one_of, both_true, le_from, held_length}
 
 length-slice : (bytes : List ℕ) (from to : ℕ) → from ≤ to → to ≤ length bytes → length (slice_range bytes from to) ≡ to - from
 length-slice bytes from to order inside =
@@ -77,8 +77,8 @@ cut bytes whole front at offset to is long first second within =
     (omega (arith, length-append front (slice_range bytes at offset)))
 
 module _ (symbols : SymbolMap) (laid : LaidSections) (bytes : List ℕ) where
-  value_long : (field : Field) → length (field_bytes symbols laid field) ≡ width field.size
-  value_long field = low_length field.size (unwrap_or (held_value symbols laid field) 0)
+  value_long : (field : Field) → length (field_bytes symbols laid field) ≡ covered field
+  value_long field = held_length field (unwrap_or (held_value symbols laid field) 0)
 
   -- behind a field that fits stands what is left
   past : (field : Field) (rest front whole : List ℕ) (at : ℕ) → at ≤ field.offset → field_end field ≤ length bytes → length front ≡ at
@@ -162,106 +162,107 @@ all_begin : (offset : ℕ) (items : List LaidItem) → All (λ item. offset ≤ 
 all_begin offset [] all = tt
 all_begin offset (item ∷ items) all = All-head (λ item. offset ≤ item.offset) item items all
 
--- up to the first item stand plain bytes
-plain_front : (bytes : List ℕ) (items : List LaidItem) (from offset shift : ℕ) → from ≤ offset → Begin offset items
-    → interleaved bytes from (placed_from shift items) ≡ slice_range bytes from offset ++ interleaved bytes offset (placed_from shift items)
-unfolding interleaved placed_from
-plain_front bytes [] from offset shift order begins = drop_split bytes from offset order
-plain_front bytes (item ∷ items) from offset shift order begins =
-    let low : from ≤ item.offset = omega arith in
-    let one : reached from item ≡ item.offset = max-eq_right low in
-    let other : reached offset item ≡ item.offset = max-eq_right begins in
-    let rest = bytes_of item.content item.size ++ interleaved bytes item.offset (placed_from (shift + item.size) items) in
-    let left : interleaved bytes from (placed_from shift (item ∷ items)) ≡ slice_range bytes from item.offset ++ rest =
-    ap (λ n. slice_range bytes from n ++ (bytes_of item.content item.size ++ interleaved bytes n (placed_from (shift + item.size) items))) one in
-    let right : interleaved bytes offset (placed_from shift (item ∷ items)) ≡ slice_range bytes offset item.offset ++ rest =
-    ap (λ n. slice_range bytes offset n ++ (bytes_of item.content item.size ++ interleaved bytes n (placed_from (shift + item.size) items))) other in
-    left ∙ ap (λ (xs : List ℕ). xs ++ rest) (slice_split bytes from offset item.offset order begins) ∙ append_assoc (slice_range bytes from offset) (slice_range bytes offset item.offset) rest
-    ∙ ap (λ (xs : List ℕ). slice_range bytes from offset ++ xs) (sym right)
-
-module _ {Goal : Type 0} (bytes whole : List ℕ) (offset : ℕ) (within : offset ≤ length bytes) where
-  -- behind the plain bytes of this offset and the items before it stands what is left
-  behind_items : (items : List LaidItem) (count from shift : ℕ) (front : List ℕ) → whole ≡ front ++ interleaved bytes from (placed_from shift items) → length front ≡ from + shift
-      → from ≤ offset → AreSized items → All (λ item. item.offset ≤ offset) (take count items) → Begin offset (drop count items)
-      → ((before : List ℕ) → whole ≡ before ++ interleaved bytes offset (placed_from (shift_of count shift items) (drop count items))
-      → length before ≡ offset + shift_of count shift items → Goal) → Goal
+module _ (held : Content → ℕ → List ℕ) (held_sized : (content : Content) (size : ℕ) → MayHave content size → length (held content size) ≡ size) where
+  -- up to the first item stand plain bytes
+  plain_front : (bytes : List ℕ) (items : List LaidItem) (from offset shift : ℕ) → from ≤ offset → Begin offset items
+      → interleaved held bytes from (placed_from shift items) ≡ slice_range bytes from offset ++ interleaved held bytes offset (placed_from shift items)
   unfolding interleaved placed_from
-  behind_items items zero from shift front is long order sized before begins go =
-      let space = length-slice bytes from offset order within in
-      go (front ++ slice_range bytes from offset)
-      (is ∙ ap (λ (xs : List ℕ). front ++ xs) (plain_front bytes items from offset shift order begins)
-      ∙ sym (append_assoc front (slice_range bytes from offset) (interleaved bytes offset (placed_from shift items))))
-      (omega (arith, length-append front (slice_range bytes from offset)))
-  behind_items [] (suc count) from shift front is long order sized before begins go =
-      let space = length-slice bytes from offset order within in
-      go (front ++ slice_range bytes from offset)
-      (is ∙ ap (λ (xs : List ℕ). front ++ xs) (drop_split bytes from offset order)
-      ∙ sym (append_assoc front (slice_range bytes from offset) (drop offset bytes)))
-      (omega (arith, length-append front (slice_range bytes from offset)))
-  behind_items (item ∷ items) (suc count) from shift front is long order sized before begins go =
-      let upto = reached from item in
-      let held = bytes_of item.content item.size in
-      let plain = slice_range bytes from upto in
-      let rest = interleaved bytes upto (placed_from (shift + item.size) items) in
-      let low : from ≤ upto = low_of from item.offset in
-      let high : upto ≤ offset = high_of from item.offset offset order (All-head (λ item. item.offset ≤ offset) item (take count items) before) in
-      let first = length-slice bytes from upto low (omega arith) in
-      let second = length-at item.content item.size (All-head (λ item. MayHave item.content item.size) item items sized) in
-      behind_items items count upto (shift + item.size) ((front ++ plain) ++ held)
-      (is ∙ sym (append_assoc front plain (held ++ rest)) ∙ sym (append_assoc (front ++ plain) held rest))
-      (omega (arith, length-append (front ++ plain) held, length-append front plain)) high
-      (All-tail (λ item. MayHave item.content item.size) item items sized) (All-tail (λ item. item.offset ≤ offset) item (take count items) before) begins go
-    where
-      low_of : (a b : ℕ) → a ≤ max a b
-      low_of a b = omega arith
+  plain_front bytes [] from offset shift order begins = drop_split bytes from offset order
+  plain_front bytes (item ∷ items) from offset shift order begins =
+      let low : from ≤ item.offset = omega arith in
+      let one : reached from item ≡ item.offset = max-eq_right low in
+      let other : reached offset item ≡ item.offset = max-eq_right begins in
+      let rest = held item.content item.size ++ interleaved held bytes item.offset (placed_from (shift + item.size) items) in
+      let left : interleaved held bytes from (placed_from shift (item ∷ items)) ≡ slice_range bytes from item.offset ++ rest =
+      ap (λ n. slice_range bytes from n ++ (held item.content item.size ++ interleaved held bytes n (placed_from (shift + item.size) items))) one in
+      let right : interleaved held bytes offset (placed_from shift (item ∷ items)) ≡ slice_range bytes offset item.offset ++ rest =
+      ap (λ n. slice_range bytes offset n ++ (held item.content item.size ++ interleaved held bytes n (placed_from (shift + item.size) items))) other in
+      left ∙ ap (λ (xs : List ℕ). xs ++ rest) (slice_split bytes from offset item.offset order begins) ∙ append_assoc (slice_range bytes from offset) (slice_range bytes offset item.offset) rest
+      ∙ ap (λ (xs : List ℕ). slice_range bytes from offset ++ xs) (sym right)
 
-      high_of : (a b c : ℕ) → a ≤ c → b ≤ c → max a b ≤ c
-      high_of a b c first second = omega arith
+  module _ {Goal : Type 0} (bytes whole : List ℕ) (offset : ℕ) (within : offset ≤ length bytes) where
+    -- behind the plain bytes of this offset and the items before it stands what is left
+    behind_items : (items : List LaidItem) (count from shift : ℕ) (front : List ℕ) → whole ≡ front ++ interleaved held bytes from (placed_from shift items) → length front ≡ from + shift
+        → from ≤ offset → AreSized items → All (λ item. item.offset ≤ offset) (take count items) → Begin offset (drop count items)
+        → ((before : List ℕ) → whole ≡ before ++ interleaved held bytes offset (placed_from (shift_of count shift items) (drop count items))
+        → length before ≡ offset + shift_of count shift items → Goal) → Goal
+    unfolding interleaved placed_from
+    behind_items items zero from shift front is long order sized before begins go =
+        let space = length-slice bytes from offset order within in
+        go (front ++ slice_range bytes from offset)
+        (is ∙ ap (λ (xs : List ℕ). front ++ xs) (plain_front bytes items from offset shift order begins)
+        ∙ sym (append_assoc front (slice_range bytes from offset) (interleaved held bytes offset (placed_from shift items))))
+        (omega (arith, length-append front (slice_range bytes from offset)))
+    behind_items [] (suc count) from shift front is long order sized before begins go =
+        let space = length-slice bytes from offset order within in
+        go (front ++ slice_range bytes from offset)
+        (is ∙ ap (λ (xs : List ℕ). front ++ xs) (drop_split bytes from offset order)
+        ∙ sym (append_assoc front (slice_range bytes from offset) (drop offset bytes)))
+        (omega (arith, length-append front (slice_range bytes from offset)))
+    behind_items (item ∷ items) (suc count) from shift front is long order sized before begins go =
+        let upto = reached from item in
+        let own = held item.content item.size in
+        let plain = slice_range bytes from upto in
+        let rest = interleaved held bytes upto (placed_from (shift + item.size) items) in
+        let low : from ≤ upto = low_of from item.offset in
+        let high : upto ≤ offset = high_of from item.offset offset order (All-head (λ item. item.offset ≤ offset) item (take count items) before) in
+        let first = length-slice bytes from upto low (omega arith) in
+        let second = held_sized item.content item.size (All-head (λ item. MayHave item.content item.size) item items sized) in
+        behind_items items count upto (shift + item.size) ((front ++ plain) ++ own)
+        (is ∙ sym (append_assoc front plain (own ++ rest)) ∙ sym (append_assoc (front ++ plain) own rest))
+        (omega (arith, length-append (front ++ plain) own, length-append front plain)) high
+        (All-tail (λ item. MayHave item.content item.size) item items sized) (All-tail (λ item. item.offset ≤ offset) item (take count items) before) begins go
+      where
+        low_of : (a b : ℕ) → a ≤ max a b
+        low_of a b = omega arith
 
-begin_low : (low high : ℕ) (items : List LaidItem) → low ≤ high → Begin high items → Begin low items
-begin_low low high [] order begins = tt
-begin_low low high (item ∷ items) order begins = omega arith
+        high_of : (a b c : ℕ) → a ≤ c → b ≤ c → max a b ≤ c
+        high_of a b c first second = omega arith
 
--- plain bytes that no item parts stand behind the items before them
-pub bytes_between : (bytes : List ℕ) (items : List LaidItem) (count offset to : ℕ) → offset ≤ to → to ≤ length bytes → AreSized items → IsBetween items count offset to
-    → PieceAt (interleaved bytes 0 (placed_from 0 items)) (offset + shift_of count 0 items) (slice_range bytes offset to)
-bytes_between bytes items count offset to order within sized between =
-    let whole = interleaved bytes 0 (placed_from 0 items) in
-    let left = drop count items in
-    let moved = shift_of count 0 items in
-    behind_items bytes whole offset (omega arith) items count 0 0 [] refl refl (omega arith) sized between.before
-    (begin_low offset to left order (all_begin to left between.behind))
-    (λ before is long. behind_front whole before (slice_range bytes offset to) (interleaved bytes to (placed_from moved left)) (offset + moved)
-    (is ∙ ap (λ (xs : List ℕ). before ++ xs) (plain_front bytes left offset to moved order (all_begin to left between.behind))) long)
+  begin_low : (low high : ℕ) (items : List LaidItem) → low ≤ high → Begin high items → Begin low items
+  begin_low low high [] order begins = tt
+  begin_low low high (item ∷ items) order begins = omega arith
 
--- the item of an index begins what is left behind those before it
-drop_at_item : (items : List LaidItem) (index : ℕ) (item : LaidItem) → slice_get items index ≡ Some item → drop index items ≡ item ∷ drop (suc index) items
-drop_at_item [] index item there = absurd cc
-drop_at_item (one ∷ items) zero item there = let same : one ≡ item = cc in ap (λ x. x ∷ items) same
-drop_at_item (one ∷ items) (suc index) item there = drop_at_item items index item there
+  -- plain bytes that no item parts stand behind the items before them
+  pub bytes_between : (bytes : List ℕ) (items : List LaidItem) (count offset to : ℕ) → offset ≤ to → to ≤ length bytes → AreSized items → IsBetween items count offset to
+      → PieceAt (interleaved held bytes 0 (placed_from 0 items)) (offset + shift_of count 0 items) (slice_range bytes offset to)
+  bytes_between bytes items count offset to order within sized between =
+      let whole = interleaved held bytes 0 (placed_from 0 items) in
+      let left = drop count items in
+      let moved = shift_of count 0 items in
+      behind_items bytes whole offset (omega arith) items count 0 0 [] refl refl (omega arith) sized between.before
+      (begin_low offset to left order (all_begin to left between.behind))
+      (λ before is long. behind_front whole before (slice_range bytes offset to) (interleaved held bytes to (placed_from moved left)) (offset + moved)
+      (is ∙ ap (λ (xs : List ℕ). before ++ xs) (plain_front bytes left offset to moved order (all_begin to left between.behind))) long)
 
--- the bytes of an item stand at its address
-pub item_stands : (bytes : List ℕ) (items : List LaidItem) (index : ℕ) (item : LaidItem) → slice_get items index ≡ Some item → item.offset ≤ length bytes
-    → AreSized items → All (λ other. other.offset ≤ item.offset) (take index items)
-    → PieceAt (interleaved bytes 0 (placed_from 0 items)) (item.offset + shift_of index 0 items) (bytes_of item.content item.size)
-unfolding interleaved placed_from
-item_stands bytes items index item there within sized before =
-    let whole = interleaved bytes 0 (placed_from 0 items) in
-    let left = drop (suc index) items in
-    let shift = shift_of index 0 items in
-    let address = item.offset + shift in
-    let head = drop_at_item items index item there in
-    let upto : reached item.offset item ≡ item.offset = max-eq_left (omega arith) in
-    let none : item.offset - item.offset ≡ 0 = omega arith in
-    let held = bytes_of item.content item.size in
-    let rest = interleaved bytes item.offset (placed_from (shift + item.size) left) in
-    let first : interleaved bytes item.offset (placed_from shift (item ∷ left)) ≡ held ++ rest =
-    ap (λ n. slice_range bytes item.offset n ++ (held ++ interleaved bytes n (placed_from (shift + item.size) left))) upto
-    ∙ ap (λ n. take n (drop item.offset bytes) ++ (held ++ rest)) none in
-    behind_items bytes whole item.offset within items index 0 0 [] refl refl (omega arith) sized before
-    (rw head (omega arith))
-    (λ front is long. behind_front whole front held rest address
-    (is ∙ ap (λ (xs : List LaidItem). front ++ interleaved bytes item.offset (placed_from shift xs)) head ∙ ap (λ (xs : List ℕ). front ++ xs) first) long)
+  -- the item of an index begins what is left behind those before it
+  drop_at_item : (items : List LaidItem) (index : ℕ) (item : LaidItem) → slice_get items index ≡ Some item → drop index items ≡ item ∷ drop (suc index) items
+  drop_at_item [] index item there = absurd cc
+  drop_at_item (one ∷ items) zero item there = let same : one ≡ item = cc in ap (λ x. x ∷ items) same
+  drop_at_item (one ∷ items) (suc index) item there = drop_at_item items index item there
+
+  -- the bytes of an item stand at its address
+  pub item_stands : (bytes : List ℕ) (items : List LaidItem) (index : ℕ) (item : LaidItem) → slice_get items index ≡ Some item → item.offset ≤ length bytes
+      → AreSized items → All (λ other. other.offset ≤ item.offset) (take index items)
+      → PieceAt (interleaved held bytes 0 (placed_from 0 items)) (item.offset + shift_of index 0 items) (held item.content item.size)
+  unfolding interleaved placed_from
+  item_stands bytes items index item there within sized before =
+      let whole = interleaved held bytes 0 (placed_from 0 items) in
+      let left = drop (suc index) items in
+      let shift = shift_of index 0 items in
+      let address = item.offset + shift in
+      let head = drop_at_item items index item there in
+      let upto : reached item.offset item ≡ item.offset = max-eq_left (omega arith) in
+      let none : item.offset - item.offset ≡ 0 = omega arith in
+      let own = held item.content item.size in
+      let rest = interleaved held bytes item.offset (placed_from (shift + item.size) left) in
+      let first : interleaved held bytes item.offset (placed_from shift (item ∷ left)) ≡ own ++ rest =
+      ap (λ n. slice_range bytes item.offset n ++ (own ++ interleaved held bytes n (placed_from (shift + item.size) left))) upto
+      ∙ ap (λ n. take n (drop item.offset bytes) ++ (own ++ rest)) none in
+      behind_items bytes whole item.offset within items index 0 0 [] refl refl (omega arith) sized before
+      (rw head (omega arith))
+      (λ front is long. behind_front whole front own rest address
+      (is ∙ ap (λ (xs : List LaidItem). front ++ interleaved held bytes item.offset (placed_from shift xs)) head ∙ ap (λ (xs : List ℕ). front ++ xs) first) long)
 
 -- a laid out item has the address behind its plain bytes and the items before it
 pub placed_get : {P : Type 0} (items : List (Frag P ℕ)) (index shift : ℕ) (item : Frag P ℕ) → slice_get items index ≡ Some item

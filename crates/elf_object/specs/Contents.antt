@@ -1,11 +1,13 @@
 -- What the sections of an object hold: plain bytes with the values of fields in place, the bytes of items between them, and the relocations of the other fields.
-use Rattle.std.specs.Prelude.{ℕ, ◌+◌, ◌==◌, ◌&&◌, ◌||◌, not, max, nat_le, Bool, true, false, List, [], ◌∷◌, ◌++◌, length, drop, slice_range, filter_map, is_some, unwrap_or, if◌then◌else◌}
+use Rattle.std.specs.Prelude.{ℕ, ◌+◌, ◌==◌, ◌&&◌, ◌||◌, not, max, nat_le, Bool, true, false, List, [], ◌∷◌, ◌++◌, length, drop, slice_get, slice_range, filter_map, Option, None, Some, is_some, unwrap_or, if◌then◌else◌}
+use Rattle.std.specs.Option.{option_and_then}
 use Rattle.asm_frags.specs.declared.fields.Field.{Field}
-use Rattle.asm_frags.specs.Contents.{bytes_of}
+use Rattle.item_contents.specs.declared.contents.Content.{Content}
+use Rattle.item_contents.specs.Contents.{held_field, bytes_of}
 use Rattle.asm_frags.specs.PlainBytes.{field_end}
 use Rattle.asm_frags.specs.Fields.{low_bytes}
 use Rattle.asm_frags.specs.SectionOf.{SectionOf}
-use Rattle.asm_frags.specs.Writing.{is_run}
+use Rattle.item_contents.specs.Contents.{is_run}
 use Rattle.asm_symbols.specs.SymbolMap.{SymbolMap}
 use Rattle.asm_relax.specs.FieldValues.{held_value}
 use Rattle.asm_relax.specs.Settling.{LaidItem, LaidSections}
@@ -13,9 +15,13 @@ use Rattle.elf_file.specs.Sections.{no_bits}
 use Rattle.elf_object.specs.declared.relocations.Relocation.{Relocation}
 use Rattle.elf_object.specs.Relocations.{field_relocation}
 
--- the bytes of a field: its value, or zeros where it has none
+-- the plain bytes of a field with this value: none where it stands in an item
+abbrev pub held_bytes : Field → ℕ → List ℕ
+held_bytes field value = if field.in_item then [] else low_bytes field.size value
+
+-- the plain bytes of a field: its value, or zeros where it has none
 abbrev pub field_bytes : SymbolMap → LaidSections → Field → List ℕ
-field_bytes map sections field = low_bytes field.size (unwrap_or (held_value map sections field) 0)
+field_bytes map sections field = held_bytes field (unwrap_or (held_value map sections field) 0)
 
 -- the field begins at this offset or behind it, and ends within the bytes
 abbrev pub fits_behind : List ℕ → ℕ → Field → Bool
@@ -36,11 +42,24 @@ plain_bytes map sections section = filled map sections section.bytes 0 section.f
 abbrev pub reached : ℕ → LaidItem → ℕ
 reached from item = max from item.offset
 
--- what stands from this offset of the plain bytes on: the bytes of each item at its address, behind the plain bytes before it
-unfoldable pub interleaved : List ℕ → ℕ → List LaidItem → List ℕ
-interleaved bytes from [] = drop from bytes
-interleaved bytes from (item ∷ items) =
-    slice_range bytes from (reached from item) ++ (bytes_of item.content item.size ++ interleaved bytes (reached from item) items)
+-- the value of a field, where it is there and has one, and 0 where not
+abbrev pub value_or_zero : SymbolMap → LaidSections → Option Field → ℕ
+value_or_zero map sections None = 0
+value_or_zero map sections (Some field) = unwrap_or (held_value map sections field) 0
+
+-- the value that an item of this section holds: that of its field
+abbrev pub item_value : SymbolMap → LaidSections → SectionOf LaidItem → Content → ℕ
+item_value map sections section content = value_or_zero map sections (option_and_then (slice_get section.fields) (held_field content))
+
+-- the bytes of an item of this section, with this size
+abbrev pub item_bytes : SymbolMap → LaidSections → SectionOf LaidItem → Content → ℕ → List ℕ
+item_bytes map sections section content size = bytes_of content size (item_value map sections section content)
+
+-- what stands from this offset of the plain bytes on: the bytes that each item holds at its address, behind the plain bytes before it
+unfoldable pub interleaved : (Content → ℕ → List ℕ) → List ℕ → ℕ → List LaidItem → List ℕ
+interleaved held bytes from [] = drop from bytes
+interleaved held bytes from (item ∷ items) =
+    slice_range bytes from (reached from item) ++ (held item.content item.size ++ interleaved held bytes (reached from item) items)
 
 -- no item but one run: the plain bytes are all
 abbrev pub is_one_run : List LaidItem → Bool
@@ -50,7 +69,7 @@ is_one_run (item ∷ next ∷ items) = false
 
 -- the bytes of a section
 unfoldable pub section_bytes : SymbolMap → LaidSections → SectionOf LaidItem → List ℕ
-section_bytes map sections section = interleaved (plain_bytes map sections section) 0 section.items
+section_bytes map sections section = interleaved (item_bytes map sections section) (plain_bytes map sections section) 0 section.items
 
 -- the field of the section of this number has neither a value nor a relocation
 abbrev pub is_lost : SymbolMap → LaidSections → ℕ → SectionOf LaidItem → Field → Bool

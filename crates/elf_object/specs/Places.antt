@@ -1,7 +1,6 @@
 -- Where the bytes of sections, of their fields and of their items stand in the file.
 use Rattle.std.specs.Prelude.{◌≡◌, ℕ, ◌+◌, ◌-◌, ◌^◌, ◌<◌, ◌≤◌, ◌==◌, false, List, All, length, take, drop, Some, slice_get, slice_index_or, slice_range}
 use Rattle.asm_frags.specs.declared.fields.Field.{Field}
-use Rattle.asm_frags.specs.Contents.{bytes_of}
 use Rattle.asm_frags.specs.PlainBytes.{field_end, IsBeside, FieldsStand}
 use Rattle.asm_frags.specs.SectionOf.{SectionOf}
 use Rattle.asm_symbols.specs.SymbolMap.{SymbolMap}
@@ -10,7 +9,7 @@ use Rattle.asm_relax.specs.Layout.{AreSized}
 use Rattle.asm_relax.specs.Placing.{placed_section, shift_of}
 use Rattle.asm_relax.specs.Settling.{LaidItem, LaidSections}
 use Rattle.elf_file.specs.Sections.{no_bits}
-use Rattle.elf_object.specs.Contents.{field_bytes, relocations_of}
+use Rattle.elf_object.specs.Contents.{field_bytes, item_bytes, relocations_of}
 use Rattle.elf_object.specs.Sections.{header_indices}
 use Rattle.elf_file.specs.Image.{header_end}
 use Rattle.elf_file.specs.Places.{PieceAt, body_offset}
@@ -44,7 +43,7 @@ BytesStand = (symbols : SymbolMap) (sections : LaidSections) (number count offse
     → All (IsBeside offset (offset + length bytes)) section.fields → IsBetween section.items count offset (offset + length bytes)
     → PieceAt (image_of symbols sections) (section_offset symbols sections number + moved section.items count offset) bytes
 
--- the value of a field stands in the object at its place
+-- the value of a field over plain bytes stands in the object at its place
 abbrev pub ValuesStand : Type 0
 ValuesStand = (symbols : SymbolMap) (sections : LaidSections) (number index : ℕ) (section : SectionOf LaidItem) (field : Field)
     → IsFiled sections number section → FieldsStand section.bytes 0 section.fields → slice_get section.fields index ≡ Some field
@@ -56,7 +55,7 @@ abbrev pub ItemsStand : Type 0
 ItemsStand = (symbols : SymbolMap) (sections : LaidSections) (number index : ℕ) (section : SectionOf LaidItem) (item : LaidItem)
     → IsFiled sections number section → slice_get section.items index ≡ Some item → item.offset ≤ length section.bytes
     → All (λ other. other.offset ≤ item.offset) (take index section.items)
-    → PieceAt (image_of symbols sections) (section_offset symbols sections number + item.address) (bytes_of item.content item.size)
+    → PieceAt (image_of symbols sections) (section_offset symbols sections number + item.address) (item_bytes symbols sections section item.content item.size)
 
 -- the place of a plain byte behind so many items is its address, the one that labels and relocations have, where addresses do not wrap
 abbrev pub PlacesAreAddresses : Type 0

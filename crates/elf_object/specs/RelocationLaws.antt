@@ -6,8 +6,8 @@ use Rattle.asm_frags.specs.declared.fields.Field.{Field}
 use Rattle.asm_frags.specs.Fields.{own_place}
 use Rattle.asm_frags.specs.SectionOf.{SectionOf}
 use Rattle.asm_symbols.specs.SymbolMap.{SymbolMap}
-use Rattle.asm_relax.specs.FieldValues.{is_suffixed, told_in_field, counted_bytes}
-use Rattle.asm_relax.specs.Final.{address_of, final_told}
+use Rattle.asm_relax.specs.FieldValues.{is_suffixed, field_address, told_in_field, counted_bytes}
+use Rattle.asm_relax.specs.Final.{final_told}
 use Rattle.asm_relax.specs.Settling.{LaidItem, LaidSections}
 use Rattle.elf_object.specs.declared.relocations.Relocation.{Relocation}
 use Rattle.elf_object.specs.declared.relocations.RelocationKind.{RelocationKind}
@@ -48,7 +48,7 @@ module _ (begins given : ℕ → ℕ) (map : SymbolMap) (sections : LaidSections
 
 -- the place of the field stands where its section begins, and so far behind that
 abbrev pub PlaceStands : (ℕ → ℕ) → (ℕ → ℕ) → LaidSections → Field → Type 0
-PlaceStands begins given sections field = given own_place ≡ begins field.section + address_of sections field.section field.item field.offset
+PlaceStands begins given sections field = given own_place ≡ begins field.section + field_address sections field
 
 -- wherever sections begin and symbols stand, what the linker makes of the relocation of a field without a suffix is the value of the field's form,
 -- less what its kind counts from

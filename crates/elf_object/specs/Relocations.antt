@@ -12,6 +12,7 @@ use Rattle.asm_frags.specs.declared.roles.FieldKind.TheVariants as field
 use Rattle.asm_frags.specs.declared.roles.FieldRole.{FieldRole}
 use Rattle.asm_frags.specs.declared.roles.Suffix.{Suffix}
 use Rattle.asm_frags.specs.declared.roles.Suffix.TheVariants as suffix
+use Rattle.asm_frags.specs.Fields.{width}
 use Rattle.asm_frags.specs.SectionOf.{SectionOf}
 use Rattle.asm_symbols.specs.declared.entries.Symbol.{Symbol}
 use Rattle.asm_symbols.specs.declared.entries.Meaning.{Meaning}
@@ -80,6 +81,7 @@ plain_kind relative field.Plain local size = Some (sized_kind relative size)
 plain_kind relative field.Signed local size = Some (signed_kind relative size)
 plain_kind relative field.Address local size = if relative then Some (sized_kind true size) else None
 plain_kind relative field.Branch local size = if relative then Some (branch_kind local size) else None
+plain_kind relative field.Number local size = None
 
 -- the field has 4 bytes
 abbrev pub is_four : FieldSize → Bool
@@ -94,6 +96,7 @@ entry_kind relative field.Plain size kind = None
 entry_kind relative field.Signed size kind = None
 entry_kind relative field.Address size kind = if relative && is_four size then Some kind else None
 entry_kind relative field.Branch size kind = None
+entry_kind relative field.Number size kind = None
 
 -- the distance of a branch to an entry of the procedure linkage table
 abbrev pub linkage_kind : Bool → FieldKind → FieldSize → Option RelocationKind
@@ -101,6 +104,7 @@ linkage_kind relative field.Plain size = None
 linkage_kind relative field.Signed size = None
 linkage_kind relative field.Address size = None
 linkage_kind relative field.Branch size = if relative && is_four size then Some Plt32 else None
+linkage_kind relative field.Number size = None
 
 -- an offset from the thread pointer, which is no distance
 abbrev pub offset_kind : Bool → FieldKind → FieldSize → Option RelocationKind
@@ -108,6 +112,7 @@ offset_kind relative field.Plain size = if not relative && is_four size then Som
 offset_kind relative field.Signed size = if not relative && is_four size then Some TpOff32 else None
 offset_kind relative field.Address size = None
 offset_kind relative field.Branch size = None
+offset_kind relative field.Number size = None
 
 -- the kind by what stands behind the symbol
 abbrev pub kind_by : Suffix → Bool → FieldKind → Bool → FieldSize → Option RelocationKind
@@ -221,9 +226,10 @@ relocation_with place field found kind = record { offset = place; kind = kind; t
 abbrev pub relocation : ℕ → Field → Reference → Option Relocation
 relocation place field found = option_map (relocation_with place field found) (kind_for found.relative field.role found.local field.size)
 
--- the address of a field in its section
+-- the address of a field in its section: that of its place, or, where the field stands in an item, of the last bytes of that, which end at its place
 abbrev pub field_place : SectionOf LaidItem → Field → ℕ
-field_place section field = address_in section.items field.item field.offset
+field_place section field =
+    if field.in_item then less (address_in section.items field.item field.offset) (width field.size) else address_in section.items field.item field.offset
 
 -- the relocation of a field of the section of this number
 unfoldable pub field_relocation : SymbolMap → LaidSections → ℕ → SectionOf LaidItem → Field → Option Relocation

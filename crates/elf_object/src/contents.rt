@@ -3,12 +3,11 @@
 
 ghost use Rattle.std.specs.Prelude.{◌≡◌, ℕ, List, ◌+◌, ◌≤◌, [], ◌++◌, None, false, All, drop, filter_map, length, map, replicate, slice_range, take, unwrap_or, IfErr, IfOk, OnOk};
 ghost use Rattle.std.specs.Option.{option_to_list};
-ghost use Rattle.asm_frags.specs.Contents.{bytes_of, fill_bytes};
 ghost use Rattle.asm_frags.specs.Fields.{low_bytes, width};
 ghost use Rattle.asm_frags.specs.PlainBytes.{field_end};
 ghost use Rattle.elf_object.specs.Contents as spec;
 ghost use Rattle.elf_object.specs.Faults.{IsDue, IsLostAt, fields_fault, field_fault_in, field_fault_from};
-ghost use Rattle.elf_file.specs.Pieces.{held_before, mixed, mixed_bytes};
+ghost use Rattle.elf_file.specs.Pieces.{mixed_bytes};
 ghost use Rattle.elf_object.specs.Relocations.{field_relocation};
 ghost use Rattle.elf_file.specs.Sections.{stored};
 ghost use Rattle.elf_object.specs.Sections.{source_section};
@@ -16,14 +15,14 @@ ghost use Rattle.elf_file.specs.Views.{content_view};
 ghost use Rattle.elf_object.specs.Views.{held_entry, relocations_in};
 
 use crate::faults::{ObjectCause, ObjectFault};
+use crate::mixing::Mixing;
 use crate::references::field_relocation;
 use crate::relocations::Relocation;
-use asm_frags::{
-    Align, Content, Field, FieldSize, Fill, Frag, FragVisit, Laid, SHT_NOBITS, Section, visit,
-};
+use asm_frags::{Field, FieldSize, Frag, Laid, SHT_NOBITS, Section};
 use asm_relax::{held_value, section_size};
-use elf_file::{Between, Body, Mixed, Repetition};
+use elf_file::{Body, Mixed};
 use elf_symbols::Placement;
+use item_contents::{Content, put_bytes};
 use std::alloc::{AllocError, Global};
 
 /// The plain bytes of a section with the values of its fields, and the relocations of the others.
@@ -45,6 +44,17 @@ fn put_low(bytes: &mut [u8], offset: usize, size: FieldSize, value: u64)
     bytes[offset..end].copy_from_slice(&low[..size.bytes()]);
 }
 
+/// Puts the value of a field in place, unless it stands in an item.
+fn put_value(bytes: &mut [u8], field: &Field, value: u64)
+    requires { field_end field.now ≤ length bytes.old }
+    ensures { bytes.new ≡ take field.now.offset bytes.old
+        ++ (spec.held_bytes field.now value ++ drop (field_end field.now) bytes.old) }
+{
+    if !field.in_item {
+        put_low(bytes, field.offset, field.size, value);
+    }
+}
+
 /// Puts the value of a field of the section of this number in place, or appends its relocation.
 fn put_field(
     alloc: Global,
@@ -56,7 +66,7 @@ fn put_field(
 ) -> Result<(), ObjectFault>
     requires within { field_end field.now ≤ length out.old.bytes.items }
     requires blank { slice_range out.old.bytes.items field.now.offset (field_end field.now)
-        ≡ low_bytes field.now.size 0 }
+        ≡ spec.held_bytes field.now 0 }
     ensures bytes { OnOk result (out.new.bytes.items ≡ take field.now.offset out.old.bytes.items
         ++ (spec.field_bytes at.entry.symbols.now at.entry.sections.now field.now
         ++ drop (field_end field.now) out.old.bytes.items)) }
@@ -70,7 +80,7 @@ fn put_field(
         number section.now field.now) fault) }
 {
     if let Some(value) = held_value(at.symbols, at.sections, field) {
-        put_low(&mut out.bytes, field.offset, field.size, value);
+        put_value(&mut out.bytes, field, value);
         return Ok(());
     }
     match field_relocation(alloc, at, number, section, field)? {
@@ -110,91 +120,44 @@ fn file_fields(
     Ok(out)
 }
 
-/// Tells the bytes of an item of this size.
-#[derive(Drop)]
-struct ItemRepetition {
-    size: u64,
-}
-
-impl FragVisit for ItemRepetition {
-    type Out = Option<Repetition>;
-
-    ghost run_gives = { λ before answer after. unwrap_or answer [] ≡ [] };
-
-    ghost fill_gives = { λ before held answer after. unwrap_or answer [] ≡ fill_bytes held };
-
-    ghost align_gives = { λ before held answer after.
-        unwrap_or answer [] ≡ replicate before.size 0 };
-
-    fn run(&mut self) -> Option<Repetition> {
-        None
-    }
-
-    fn fill(&mut self, held: &Fill) -> Option<Repetition> {
-        if held.count() * held.size() == 0 {
-            return None;
-        }
-        Some(Repetition::new(held.unit(), held.size() as usize, held.count()))
-    }
-
-    fn align(&mut self, _held: &Align) -> Option<Repetition> {
-        if self.size == 0 {
-            return None;
-        }
-        Some(Repetition::new([0; 8], 1, self.size))
-    }
-}
-
-/// The bytes of an item of this size, if it has any.
-fn repetition_of(content: &Content, size: u64) -> Option<Repetition>
-    ensures { unwrap_or result [] ≡ bytes_of content.now size }
+/// The value that an item of this section holds, if it holds any.
+fn item_value(at: Placement, section: &Section<Laid>, content: &Content) -> u64
+    ensures { result ≡ spec.item_value at.entry.symbols.now at.entry.sections.now section.now
+        content.now }
 {
-    let mut visitor = ItemRepetition { size };
-    visit(content, &mut visitor)
-}
-
-/// Puts the bytes of an item behind so many plain bytes, of which `last` stand before the last
-/// repetition, and answers how many stand before the last one then.
-fn put_item(
-    between: &mut Vec<Between>,
-    last: usize,
-    upto: usize,
-    item: &Frag<Laid>,
-) -> Result<usize, AllocError>
-    requires before { held_before between.old.items ≡ last }
-    requires later { last ≤ upto }
-    ensures before { IfOk result (λ now. held_before between.new.items ≡ now) }
-    ensures later { IfOk result (λ now. now ≤ upto) }
-    ensures bytes { OnOk result ((bytes : List ℕ) → length bytes ≡ upto
-        → mixed bytes between.new.items
-        ≡ mixed bytes between.old.items ++ bytes_of item.now.content item.now.size) }
-{
-    match repetition_of(&item.content, item.size) {
-        Some(repetition) => {
-            between.push(Between {
-                held: upto - last,
-                repetition,
-            })?;
-            Ok(upto)
-        }
-        None => Ok(last),
+    let Some(index) = content.field() else {
+        return 0;
+    };
+    match section.fields().get(index) {
+        Some(field) => held_value(at.symbols, at.sections, field).unwrap_or(0),
+        None => 0,
     }
 }
 
-/// The plain bytes with the bytes of these items between them.
+/// The plain bytes with the bytes of the items of this section between them.
 #[tactic(auto, unfolding(crate::specs::Contents::interleaved))]
-fn interleaved(alloc: Global, bytes: Vec<u8>, items: &[Frag<Laid>]) -> Result<Mixed, AllocError>
-    requires { All (λ item. item.offset ≤ length bytes.items) items.now }
-    ensures { IfOk result (λ all. mixed_bytes all ≡ spec.interleaved bytes.items 0 items.now) }
+fn interleaved(
+    alloc: Global,
+    at: Placement,
+    section: &Section<Laid>,
+    bytes: Vec<u8>,
+) -> Result<Mixed, AllocError>
+    requires { length bytes.items ≡ length section.now.bytes }
+    ensures { IfOk result (λ all. mixed_bytes all ≡ spec.interleaved
+        (spec.item_bytes at.entry.symbols.now at.entry.sections.now section.now) bytes.items 0
+        section.now.items) }
 {
-    let mut between = Vec::with_capacity(alloc, items.len())?;
-    let mut last = 0;
-    let mut from = 0;
+    let items = section.items();
+    let mut mixing = Mixing::new(alloc, items.len())?;
     for item in items {
-        from = from.max(item.offset);
-        last = put_item(&mut between, last, from, item)?;
+        mixing.reach(item.offset);
+        let value = item_value(at, section, &item.content);
+        put_bytes(&item.content, item.size, value, &mut mixing)?;
     }
-    Ok(Mixed { bytes, between })
+    Ok(Mixed {
+        bytes,
+        between: mixing.into_between(),
+    })
 }
 
 /// Whether no item but one run is there, so that the plain bytes are all.
@@ -203,22 +166,27 @@ fn is_one_run(items: &[Frag<Laid>]) -> bool
 {
     match items {
         [] => true,
-        [item] => matches!(&item.content, Content::Run),
+        [item] => item.content.is_run(),
         _ => false,
     }
 }
 
 /// What a section holds that has these plain bytes.
-fn with_items(alloc: Global, section: &Section<Laid>, bytes: Vec<u8>) -> Result<Body, AllocError>
+fn with_items(
+    alloc: Global,
+    at: Placement,
+    section: &Section<Laid>,
+    bytes: Vec<u8>,
+) -> Result<Body, AllocError>
     requires { length bytes.items ≡ length section.now.bytes }
-    ensures { IfOk result (λ body. content_view body
-        ≡ stored (spec.interleaved bytes.items 0 section.now.items)) }
+    ensures { IfOk result (λ body. content_view body ≡ stored (spec.interleaved
+        (spec.item_bytes at.entry.symbols.now at.entry.sections.now section.now) bytes.items 0
+        section.now.items)) }
 {
-    let items = section.items();
-    if is_one_run(items) {
+    if is_one_run(section.items()) {
         return Ok(Body::Bytes(bytes));
     }
-    Ok(Body::Mixed(interleaved(alloc, bytes, items)?))
+    Ok(Body::Mixed(interleaved(alloc, at, section, bytes)?))
 }
 
 /// A section of the source with what it holds, and its relocations.
@@ -258,7 +226,7 @@ fn held_section<'a>(
     let Filed { bytes, relocations } = file_fields(alloc, at, number, section)?;
     Ok(HeldSection {
         source: section,
-        body: with_items(alloc, section, bytes)?,
+        body: with_items(alloc, at, section, bytes)?,
         relocations,
     })
 }

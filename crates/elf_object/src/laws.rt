@@ -4,25 +4,30 @@ ghost use Rattle.elf_object.specs.Places.{BytesStand, ValuesStand, ItemsStand, P
 ghost use Rattle.elf_object.specs.RelocationLaws.{RelocationsMeanForms};
 ghost use Rattle.elf_object.specs.TableLaws.{LocalsFirst, TargetsStand};
 
+use item_contents::bytes_are_sized;
+
 /// Where a section is laid out, plain bytes beside all fields, and between items, stand in the object as
 /// they were written, moved by the items before them.
-#[tactic(auto, using(crate::proofs::ItemPlaces::bytes_stand))]
 pub fn bytes_stand()
     ensures { BytesStand }
-{}
+{
+    bytes_are_sized();
+}
 
 /// Where a section is laid out, the value of a field stands in the object at its place.
-#[tactic(auto, using(crate::proofs::ItemPlaces::values_stand))]
 pub fn values_stand()
     ensures { ValuesStand }
-{}
+{
+    bytes_are_sized();
+}
 
 /// Where a section is laid out, the bytes of an item stand in the object at its address behind the
 /// beginning of its section.
-#[tactic(auto, using(crate::proofs::ItemPlaces::items_stand))]
 pub fn items_stand()
     ensures { ItemsStand }
-{}
+{
+    bytes_are_sized();
+}
 
 /// The place of a plain byte of a laid out section is the address that labels and relocations have,
 /// where addresses do not wrap.

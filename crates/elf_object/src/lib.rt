@@ -4,6 +4,7 @@
 mod contents;
 mod faults;
 mod laws;
+mod mixing;
 mod naming;
 mod object;
 mod references;

@@ -2,7 +2,7 @@
 
 ghost use Rattle.std.specs.Prelude.{◌≡◌, map, IfOk};
 ghost use Rattle.asm_base.specs.Refusals.{Returns};
-ghost use Rattle.asm_relax.specs.Expanding.{AreExpansions};
+ghost use Rattle.assigned_forms.specs.Expanding.{AreExpansions};
 ghost use Rattle.elf_object.specs.Image.{image_with};
 ghost use Rattle.elf_object.specs.Objects.{object_of};
 ghost use Rattle.elf_object.specs.Sections.{source_section};
@@ -15,8 +15,8 @@ use crate::searching::{size_fault, undefined_fault};
 use crate::sections::{file_sections, headers_of};
 use asm_base::{Failed, NoMemory, Output};
 use asm_frags::{Laid, Sections};
-use asm_relax::Expansions;
 use asm_symbols::Symbols;
+use assigned_forms::Expansions;
 use elf_file::{ElfFile, laid_file, string_section, symbol_section};
 use elf_symbols::{Placement, list_symbols, symbol_table};
 use std::alloc::Global;

@@ -307,6 +307,19 @@ fn relocation_of(place: u64, field: &Field, found: Reference) -> Option<Relocati
     }
 }
 
+/// The address of a field in its section: that of its place, or, where the field stands in an item,
+/// of the last bytes of that, which end at its place.
+fn field_place(section: &Section<Laid>, field: &Field) -> u64
+    ensures { result ≡ spec.field_place section.now field.now }
+{
+    let place = address_in(section, field.item as u64, field.offset as u64);
+    if field.in_item {
+        place.wrapping_sub(field.size.bytes() as u64)
+    } else {
+        place
+    }
+}
+
 /// The relocation of a field of the section of this number, which has no value.
 #[tactic(auto, unfolding(crate::specs::Relocations::field_relocation))]
 pub(crate) fn field_relocation(
@@ -321,7 +334,7 @@ pub(crate) fn field_relocation(
         ≡ spec.field_relocation at.entry.symbols.now at.entry.sections.now number section.now
         field.now) }
 {
-    let place = address_in(section, field.item as u64, field.offset as u64);
+    let place = field_place(section, field);
     match reference_of(alloc, at, number, place, field)? {
         Some(found) => Ok(relocation_of(place, field, found)),
         None => Ok(None),

@@ -113,7 +113,7 @@ fn plain_kind(
         FieldKind::Signed => Some(signed_kind(relative, size)),
         FieldKind::Address if relative => Some(sized_kind(true, size)),
         FieldKind::Branch if relative => Some(branch_kind(local, size)),
-        _ => None,
+        FieldKind::Address | FieldKind::Branch | FieldKind::Number => None,
     }
 }
 

@@ -2,14 +2,14 @@
 
 ghost use Rattle.std.specs.Prelude.{◌≡◌, ◌≤◌, length, IfOk};
 ghost use Rattle.std.specs.List.{position_or_len};
-ghost use Rattle.asm_relax.specs.Expanding.{AreExpansions};
+ghost use Rattle.assigned_forms.specs.Expanding.{AreExpansions};
 ghost use Rattle.elf_object.specs.Faults as spec;
 
 use crate::faults::ObjectCause;
 use asm_base::NoMemory;
 use asm_expr::BoxedForm;
-use asm_relax::Expansions;
 use asm_symbols::{Meaning, Symbol};
+use assigned_forms::Expansions;
 use elf_symbols::{Placement, is_file_local, size_value};
 use std::alloc::Global;
 

@@ -9,11 +9,11 @@ use Rattle.asm_expr.specs.Settled.{settled}
 use Rattle.asm_frags.specs.declared.fields.Field.{Field}
 use Rattle.asm_frags.specs.declared.fields.FieldSize.{FieldSize}
 use Rattle.asm_frags.specs.declared.roles.FieldRole.{FieldRole}
-use Rattle.asm_frags.specs.Fields.{is_distance}
+use Rattle.asm_frags.specs.Fields.{width, is_distance}
 use Rattle.asm_frags.specs.SectionOf.{SectionOf}
 use Rattle.asm_symbols.specs.SymbolMap.{SymbolMap}
 use Rattle.asm_relax.specs.FieldValues.{told_beside, told_in_field, less, counted_bytes, counted}
-use Rattle.asm_relax.specs.Final.{shift_in}
+use Rattle.asm_relax.specs.Final.{shift_in, address_in}
 use Rattle.asm_relax.specs.Settling.{LaidItem, LaidSections}
 use Rattle.elf_object.specs.declared.references.Reference.{Reference}
 use Rattle.elf_object.specs.declared.references.SymbolReference.{SymbolReference}
@@ -69,6 +69,11 @@ counted_small : (size : FieldSize) (role : FieldRole) (value : ℕ) → value < 
 counted_small size role value low =
     either_small (is_distance role.kind) (less value (counted_bytes size role)) value (small (value + (2 ^ 64 - counted_bytes size role))) low
 
+place_small : (section : SectionOf LaidItem) (field : Field) → field_place section field < 2 ^ 64
+place_small section field =
+    let place = address_in section.items field.item field.offset in
+    either_small field.in_item (less place (width field.size)) place (small (place + (2 ^ 64 - width field.size))) (small (field.offset + shift_in section.items field.item))
+
 field_fits : (map : SymbolMap) (sections : LaidSections) (number : ℕ) (section : SectionOf LaidItem) (field : Field) (r : Relocation)
     → field_relocation map sections number section field ≡ Some r → RelocationFits r
 unfolding field_relocation
@@ -78,7 +83,7 @@ field_fits map sections number section field r is =
     option_and_then_some (relocation place field) (final_reference map sections number place field) r is
     (λ found there same. mapped (relocation_with place field found) (kind_for found.relative field.role found.local field.size) r same (λ kind chosen made_so.
     subst RelocationFits made_so (record {
-      offset = small (field.offset + shift_in section.items field.item);
+      offset = place_small section field;
       addend = counted_small field.size field.role found.addend (terms_small map sections number place field made.terms made.constant found there);
     })))
 

@@ -1,7 +1,7 @@
 //! The entries of the symbol table (gABI, chapter 4, "Symbol Table").
 
 ghost use Rattle.std.specs.Prelude.{◌≡◌, ◌<◌, IfOk, option_map};
-ghost use Rattle.asm_relax.specs.Expanding.{AreExpansions};
+ghost use Rattle.assigned_forms.specs.Expanding.{AreExpansions};
 ghost use Rattle.elf_symbols.specs.SymbolTable as spec;
 ghost use Rattle.elf_symbols.specs.Views.{symbol_view};
 
@@ -13,8 +13,8 @@ use crate::symbol_values::{
 use asm_base::NoMemory;
 use asm_expr::{Linear, Name};
 use asm_frags::{Laid, Sections};
-use asm_relax::Expansions;
 use asm_symbols::{Binding, Kind, Symbol, Visibility};
+use assigned_forms::Expansions;
 use elf_file::elf_symbol;
 use std::alloc::Global;
 

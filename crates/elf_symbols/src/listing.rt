@@ -1,7 +1,7 @@
 //! The symbols of the table in their order (gABI, chapter 4, "Symbol Table").
 
 ghost use Rattle.std.specs.Prelude.{◌≡◌, ◌++◌, [], ◌∷◌, true, false, length, map, option_map, IfOk, OnOk};
-ghost use Rattle.asm_relax.specs.Expanding.{AreExpansions};
+ghost use Rattle.assigned_forms.specs.Expanding.{AreExpansions};
 ghost use Rattle.elf_symbols.specs.Numbers.{first_other, numbers_of, standing_of};
 ghost use Rattle.elf_symbols.specs.SymbolTable as spec;
 ghost use Rattle.elf_symbols.specs.Views.{symbol_view, named_view, numbers_view};
@@ -12,8 +12,8 @@ use crate::symbol_values::Placement;
 use crate::targets::Named;
 use asm_base::NoMemory;
 use asm_expr::Name;
-use asm_relax::Expansions;
 use asm_symbols::Symbol;
+use assigned_forms::Expansions;
 use std::alloc::{AllocError, Global};
 
 /// Puts the entry of a symbol last in its part of the table, if it stands there.

@@ -2,7 +2,7 @@
 
 ghost use Rattle.std.specs.Prelude.{◌≡◌, IfOk};
 ghost use Rattle.asm_expr.specs.Knowledge.{told_by};
-ghost use Rattle.asm_relax.specs.Expanding.{AreExpansions};
+ghost use Rattle.assigned_forms.specs.Expanding.{AreExpansions};
 ghost use Rattle.asm_relax.specs.Final.{field_value};
 ghost use Rattle.elf_symbols.specs.FileLocals.{is_file_local};
 ghost use Rattle.elf_symbols.specs.SymbolValues as spec;
@@ -10,8 +10,9 @@ ghost use Rattle.elf_symbols.specs.SymbolValues as spec;
 use asm_base::NoMemory;
 use asm_expr::{Known, Linear, Look, Name};
 use asm_frags::{Laid, Section, SectionFlags, Sections};
-use asm_relax::{Expansions, FinalView, address_of, end_value, final_form};
+use asm_relax::{FinalView, address_of, end_value, final_form};
 use asm_symbols::{Binding, Meaning, Spot, Symbols};
+use assigned_forms::Expansions;
 use bitflags::Flags;
 use std::alloc::Global;
 

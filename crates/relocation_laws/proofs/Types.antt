@@ -107,6 +107,7 @@ plain_right false field.Address local size found e = absurd cc
 plain_right true field.Branch local size found e =
     chosen_right (IsRight suffix.Absent (is_led_by field.Branch size local) true field.Branch size) (branch_kind local size) found e (branch_right local size)
 plain_right false field.Branch local size found e = absurd cc
+plain_right taken field.Number local size found e = absurd cc
 
 linkage_right : (led taken : Bool) (kind : FieldKind) (size : FieldSize) (found : RelocationKind) → linkage_kind taken kind size ≡ Some found → IsRight suffix.Plt led taken kind size found
 linkage_right led true field.Branch Four found e = chosen_right (IsRight suffix.Plt led true field.Branch Four) Plt32 found e (refl, refl, refl, refl)
@@ -117,6 +118,7 @@ linkage_right led false field.Branch size found e = absurd cc
 linkage_right led taken field.Plain size found e = absurd cc
 linkage_right led taken field.Signed size found e = absurd cc
 linkage_right led taken field.Address size found e = absurd cc
+linkage_right led taken field.Number size found e = absurd cc
 
 -- an entry of the global offset table stands at a distance from rip
 entry_right : (behind : Suffix) (led taken : Bool) (kind : FieldKind) (size : FieldSize) (entry found : RelocationKind) → IsRight behind led true field.Address Four entry
@@ -129,6 +131,7 @@ entry_right behind led false field.Address size entry found is e = absurd cc
 entry_right behind led taken field.Plain size entry found is e = absurd cc
 entry_right behind led taken field.Signed size entry found is e = absurd cc
 entry_right behind led taken field.Branch size entry found is e = absurd cc
+entry_right behind led taken field.Number size entry found is e = absurd cc
 
 offset_right : (led taken : Bool) (kind : FieldKind) (size : FieldSize) (found : RelocationKind) → offset_kind taken kind size ≡ Some found → IsRight suffix.TpOff led taken kind size found
 offset_right led false field.Plain Four found e = chosen_right (IsRight suffix.TpOff led false field.Plain Four) TpOff32 found e (refl, refl, refl, refl)
@@ -143,6 +146,7 @@ offset_right led false field.Signed Eight found e = absurd cc
 offset_right led true field.Signed size found e = absurd cc
 offset_right led taken field.Address size found e = absurd cc
 offset_right led taken field.Branch size found e = absurd cc
+offset_right led taken field.Number size found e = absurd cc
 
 -- each kind that a field can have is right for it
 pub kind_right : (behind : Suffix) (taken : Bool) (kind : FieldKind) (local : Bool) (size : FieldSize) (found : RelocationKind) → kind_by behind taken kind local size ≡ Some found
@@ -158,6 +162,7 @@ pub no_distance : (behind : Suffix) (kind : FieldKind) (local : Bool) (size : Fi
     → is_distance kind ≡ false
 no_distance behind field.Plain local size found e = refl
 no_distance behind field.Signed local size found e = refl
+no_distance behind field.Number local size found e = refl
 no_distance suffix.Absent field.Address local size found e = absurd cc
 no_distance suffix.Plt field.Address local size found e = absurd cc
 no_distance suffix.GotPcRel field.Address local size found e = absurd cc
@@ -190,6 +195,7 @@ sign_held field.Plain size value low = (fits_both size value low).0
 sign_held field.Signed size value low = (fits_both size value low).1
 sign_held field.Address size value low = (fits_both size value low).1
 sign_held field.Branch size value low = (fits_both size value low).1
+sign_held field.Number size value low = refl
 
 pub verified_held : (check : Check) (kind : FieldKind) (size : FieldSize) (value : ℕ) → is_alike check kind ≡ true → IsVerified check (width size) value → holds kind size value ≡ true
 verified_held unsaid kind size value alike none = absurd none
@@ -197,6 +203,7 @@ verified_held zero_extended field.Plain size value alike low = fits_plain size v
 verified_held zero_extended field.Signed size value alike low = absurd cc
 verified_held zero_extended field.Address size value alike low = absurd cc
 verified_held zero_extended field.Branch size value alike low = absurd cc
+verified_held zero_extended field.Number size value alike low = refl
 verified_held sign_extended kind size value alike low = sign_held kind size value low
 
 -- a check extends the field by its sign exactly where the processor does

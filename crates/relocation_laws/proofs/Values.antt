@@ -17,7 +17,7 @@ use Rattle.asm_symbols.specs.declared.entries.Symbol.{Symbol}
 use Rattle.asm_symbols.specs.declared.entries.Meaning.{Meaning}
 use Rattle.asm_symbols.specs.declared.entries.Meaning.TheVariants as meaning
 use Rattle.asm_symbols.specs.SymbolMap.{SymbolMap}
-use Rattle.asm_relax.specs.FieldValues.{is_linked, place_label, place_told, told_beside, told_in_field, less, counted_bytes, counted}
+use Rattle.asm_relax.specs.FieldValues.{is_linked, field_address, place_label, place_told, told_beside, told_in_field, less, counted_bytes, counted}
 use Rattle.asm_relax.specs.Final.{address_in, address_of, final_meaning, final_told}
 use Rattle.asm_relax.specs.Settling.{LaidItem, LaidSections}
 use Rattle.elf_object.specs.declared.references.SymbolReference.{SymbolReference}
@@ -67,7 +67,7 @@ module _ (begins given : ℕ → ℕ) (map : SymbolMap) (sections : LaidSections
       let differs : (index == own_place) ≡ false = grind (arith, nat_tests) in
       rw differs refl
 
-  place_worth : (b : Bool) → value_by begins given own_place (cond b absent (place_label sections field)) ≡ begins field.section + address_of sections field.section field.item field.offset
+  place_worth : (b : Bool) → value_by begins given own_place (cond b absent (place_label sections field)) ≡ begins field.section + field_address sections field
   place_worth true = stands
   place_worth false = refl
 
@@ -95,7 +95,7 @@ module _ (begins given : ℕ → ℕ) (map : SymbolMap) (sections : LaidSections
           let same : from ≡ own_place = grind (arith, nat_tests) in
           let there = own_by (place_label sections field) address e in
           let worth_so = place_worth (is_linked map field) in
-          let end : begins field.section + address_of sections field.section field.item field.offset ≡ begins number + address = ap (λ t. value_by begins given 0 t) there in
+          let end : begins field.section + field_address sections field ≡ begins number + address = ap (λ t. value_by begins given 0 t) there in
           ap (λ i. value_by begins given i (place_told map sections field)) same ∙ worth_so ∙ end
       by false test e = ap (value_by begins given from) (own_by (final_told map sections from) address e)
 
@@ -115,6 +115,10 @@ module _ (begins given : ℕ → ℕ) (map : SymbolMap) (sections : LaidSections
       by : (o : Option (SectionOf LaidItem)) → option_map_or (λ found. address_in found.items item offset) o 0 < 2 ^ 64
       by None = omega arith
       by (Some found) = omega arith
+
+  field_low : (b : Bool) → cond b (less (address_of sections field.section field.item field.offset) (width field.size)) (address_of sections field.section field.item field.offset) < 2 ^ 64
+  field_low true = omega arith
+  field_low false = address_low field.section field.item field.offset
 
   -- a label's address has 64 bits
   abbrev Low : Told → Type 0
@@ -143,7 +147,7 @@ module _ (begins given : ℕ → ℕ) (map : SymbolMap) (sections : LaidSections
   from_low from address is = by (from == own_place) is
     where
       by : (b : Bool) → own_address number (cond b (place_label sections field) (final_told map sections from)) ≡ Some address → address < 2 ^ 64
-      by true e = subst Low (own_by (place_label sections field) address e) (address_low field.section field.item field.offset)
+      by true e = subst Low (own_by (place_label sections field) address e) (field_low field.in_item)
       by false e = subst Low (own_by (final_told map sections from) address e) (final_low from)
 
   -- WHAT IS LEFT OF THE FORM

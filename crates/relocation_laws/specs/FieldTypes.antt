@@ -2,14 +2,13 @@
 use Rattle.std.specs.Prelude.{◌≡◌, ◌≢◌, ℕ, ◌-◌, ◌*◌, ◌^◌, ◌<◌, ◌≤◌, ◌⊎◌, Bool, true, false, Some}
 use Rattle.asm_frags.specs.declared.fields.Field.{Field}
 use Rattle.asm_frags.specs.declared.roles.FieldKind.{FieldKind}
-use Rattle.asm_frags.specs.declared.roles.FieldKind.TheVariants.{Plain, Signed, Address, Branch}
+use Rattle.asm_frags.specs.declared.roles.FieldKind.TheVariants.{Plain, Signed, Address, Branch, Number}
 use Rattle.asm_frags.specs.Fields.{width, holds}
 use Rattle.asm_frags.specs.SectionOf.{SectionOf}
 use Rattle.asm_symbols.specs.SymbolMap.{SymbolMap}
-use Rattle.asm_relax.specs.Final.{address_in}
 use Rattle.asm_relax.specs.Settling.{LaidItem, LaidSections}
 use Rattle.elf_object.specs.declared.relocations.Relocation.{Relocation}
-use Rattle.elf_object.specs.Relocations.{kind_number, field_relocation}
+use Rattle.elf_object.specs.Relocations.{kind_number, field_place, field_relocation}
 use Rattle.relocation_laws.specs.RelocationTypes.{Check, unsaid, zero_extended, sign_extended, RelocationType, relocation_type}
 
 -- the processor extends the field by its sign: an immediate, a displacement or a distance
@@ -18,6 +17,7 @@ is_sign_extended Plain = false
 is_sign_extended Signed = true
 is_sign_extended Address = true
 is_sign_extended Branch = true
+is_sign_extended Number = false
 
 -- the linker has verified the value, a number modulo 2 ^ 64, for a field of so many bytes; without a check it verifies
 -- none
@@ -38,7 +38,7 @@ pub record Suits (field : Field) (row : RelocationType) : Type 0 where
 pub record IsTyped (section : SectionOf LaidItem) (field : Field) (r : Relocation) (row : RelocationType) : Type 0 where
   pub numbered : relocation_type (kind_number r.kind) ≡ Some row
   pub suits : Suits field row
-  pub place : r.offset ≡ address_in section.items field.item field.offset
+  pub place : r.offset ≡ field_place section field
 
 -- each relocation has a type of the table, which suits its field
 abbrev pub RelocationsSuitFields : Type 0

@@ -21,6 +21,7 @@ is_branch field.Plain = false
 is_branch field.Signed = false
 is_branch field.Address = false
 is_branch field.Branch = true
+is_branch field.Number = false
 
 -- a branch of four bytes to a symbol that is not local: the linker may lead it through the procedure linkage table
 abbrev pub is_led : Field → Symbol → Bool

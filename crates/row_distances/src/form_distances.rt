@@ -1,9 +1,11 @@
 //! From linear forms to the distances of rows.
 
-ghost use Rattle.std.specs.Prelude.{◌≡◌, ◌+◌, ◌<◌, ◌≤◌, ◌^◌, ℕ, List, All, IfOk, IfSome, OnOk, length, sum_by};
-ghost use Rattle.asm_levels.specs.Distances.{DistanceStands, times_shift};
-ghost use Rattle.row_distances.specs.FormDistances.{IsMovedBy, IsPairBy, IsDistanceOf, term_moved};
-ghost use Rattle.row_distances.specs.Places as spec;
+ghost use Rattle.std.specs.Prelude.{◌≡◌, ◌<◌, ◌^◌, ◌++◌, [], ℕ, List, IfOk, OnOk};
+ghost use Rattle.asm_expr.specs.Forms.{Form};
+ghost use Rattle.asm_levels.specs.declared.distances.Distance.TheVariants as distance;
+ghost use Rattle.asm_symbols.specs.SymbolMap.{SymbolMap};
+ghost use Rattle.row_distances.specs.declared.places.OwnPlace.{OwnPlace as TheOwnPlace};
+ghost use Rattle.row_distances.specs.FormDistances as spec;
 
 use crate::places::{RowView, place_of, row_at};
 use asm_base::NoMemory;
@@ -12,22 +14,25 @@ use asm_levels::{Distance, RowTerm, RowTerms};
 use std::alloc::Global;
 
 /// The row that moves a symbol, if it is one of so many.
-fn row_of(view: RowView, symbol: SymId, count: usize) -> Option<u32>
-    requires few { count ≤ 2 ^ 32 }
-    ensures row { result ≡ spec.row_for view.entry.starts.now
-        (spec.place_of view.entry.symbols.now view.entry.own symbol) count }
-    ensures within { IfSome result (λ row. row < count) }
+fn row_of(view: RowView, symbol: SymId, count: u32) -> Option<u32>
+    ensures { result ≡ spec.row_of view.entry.symbols.now view.entry.own view.entry.starts.now
+        count symbol }
 {
     let place = place_of(view, symbol)?;
     row_at(view.starts, place, count)
 }
 
-/// The distance of two symbols, one ahead and one behind.
-fn pair(view: RowView, count: usize, number: u64, ahead: SymId, behind: SymId) -> Option<Distance>
-    requires few { count ≤ 2 ^ 32 }
-    ensures value { IfSome result (λ distance. IsPairBy view.entry.symbols.now view.entry.own
-        view.entry.starts.now count number ahead behind distance) }
-    ensures stands { IfSome result (λ distance. DistanceStands count distance) }
+/// The distance of two symbols, one ahead and one behind, where rows move both.
+fn between_rows(
+    view: RowView,
+    count: u32,
+    number: u64,
+    ahead: SymId,
+    behind: SymId,
+) -> Option<Distance>
+    ensures { result ≡ spec.between_rows number
+        (spec.row_of view.entry.symbols.now view.entry.own view.entry.starts.now count ahead)
+        (spec.row_of view.entry.symbols.now view.entry.own view.entry.starts.now count behind) }
 {
     let ahead = row_of(view, ahead, count)?;
     let behind = row_of(view, behind, count)?;
@@ -39,19 +44,19 @@ fn pair(view: RowView, count: usize, number: u64, ahead: SymId, behind: SymId) -
 }
 
 /// The distance of two terms, of which one counts once and the other minus once.
-fn between(view: RowView, count: usize, number: u64, terms: &[Term]) -> Option<Distance>
-    requires few { count ≤ 2 ^ 32 }
-    ensures value { IfSome result (λ distance. IsMovedBy view.entry.symbols.now view.entry.own
-        view.entry.starts.now count number terms.now distance) }
-    ensures stands { IfSome result (λ distance. DistanceStands count distance) }
+fn between_terms(view: RowView, count: u32, number: u64, terms: &[Term]) -> Option<Distance>
+    ensures { result ≡ spec.between_terms view.entry.symbols.now view.entry.own
+        view.entry.starts.now count number terms.now }
 {
     let [one, other] = terms else {
         return None;
     };
-    match (one.coefficient, other.coefficient) {
-        (1, u64::MAX) => pair(view, count, number, one.symbol, other.symbol),
-        (u64::MAX, 1) => pair(view, count, number, other.symbol, one.symbol),
-        _ => None,
+    if one.coefficient == 1 && other.coefficient == u64::MAX {
+        between_rows(view, count, number, one.symbol, other.symbol)
+    } else if one.coefficient == u64::MAX && other.coefficient == 1 {
+        between_rows(view, count, number, other.symbol, one.symbol)
+    } else {
+        None
     }
 }
 
@@ -60,15 +65,11 @@ fn push_term(
     rows: &mut Vec<RowTerm>,
     view: RowView,
     term: &Term,
-    count: usize,
+    count: u32,
 ) -> Result<(), NoMemory>
-    requires few { count ≤ 2 ^ 32 }
-    requires rows { All (λ held. held.row < count) rows.old.items }
-    ensures rows { OnOk result (All (λ held. held.row < count) rows.new.items) }
-    ensures sum { OnOk result ((shifts : List ℕ) → length shifts ≡ count
-        → sum_by (times_shift shifts) rows.new.items
-        ≡ sum_by (times_shift shifts) rows.old.items
-        + term_moved view.entry.symbols.now view.entry.own view.entry.starts.now shifts term.now) }
+    ensures { OnOk result (rows.new.items ≡ rows.old.items ++ spec.with_row term.now
+        (spec.row_of view.entry.symbols.now view.entry.own view.entry.starts.now count
+        term.now.symbol) []) }
 {
     if let Some(row) = row_of(view, term.symbol, count) {
         rows.push(RowTerm {
@@ -81,17 +82,17 @@ fn push_term(
 
 /// The distance of any terms.
 #[inline(never)]
+#[tactic(auto, using(crate::proofs::RowLemmas::terms_more), unfolding(crate::specs::FormDistances::moved_terms))]
 fn sum(
     alloc: Global,
     view: RowView,
-    count: usize,
+    count: u32,
     number: u64,
     terms: &[Term],
 ) -> Result<Distance, NoMemory>
-    requires few { count ≤ 2 ^ 32 }
-    ensures value { IfOk result (λ distance. IsMovedBy view.entry.symbols.now view.entry.own
-        view.entry.starts.now count number terms.now distance) }
-    ensures stands { IfOk result (λ distance. DistanceStands count distance) }
+    ensures { IfOk result (λ found. found ≡ distance.Sum number
+        (spec.moved_terms view.entry.symbols.now view.entry.own view.entry.starts.now count
+        terms.now)) }
 {
     let mut rows = Vec::with_capacity(alloc, terms.len())?;
     for term in terms {
@@ -107,16 +108,14 @@ fn sum(
 fn moved_distance(
     alloc: Global,
     view: RowView,
-    count: usize,
+    count: u32,
     number: u64,
     terms: &[Term],
 ) -> Result<Distance, NoMemory>
-    requires few { count ≤ 2 ^ 32 }
-    ensures value { IfOk result (λ distance. IsMovedBy view.entry.symbols.now view.entry.own
-        view.entry.starts.now count number terms.now distance) }
-    ensures stands { IfOk result (λ distance. DistanceStands count distance) }
+    ensures { IfOk result (λ distance. distance ≡ spec.moved_distance view.entry.symbols.now
+        view.entry.own view.entry.starts.now count number terms.now) }
 {
-    match between(view, count, number, terms) {
+    match between_terms(view, count, number, terms) {
         Some(distance) => Ok(distance),
         None => sum(alloc, view, count, number, terms),
     }
@@ -124,22 +123,29 @@ fn moved_distance(
 
 /// The distance that an expanded form comes to, however far each of `count` rows is moved: none where its symbols do
 /// not cancel. Only a sum that is no difference of two symbols takes memory.
+#[tactic(auto, unfolding(crate::specs::FormDistances::distance_of))]
 pub fn distance_of(
     alloc: Global,
     view: RowView,
-    count: usize,
+    count: u32,
     form: &Linear,
 ) -> Result<Option<Distance>, NoMemory>
-    requires few { count ≤ 2 ^ 32 }
-    ensures distance { IfOk result (λ found. IsDistanceOf view.entry.symbols.now view.entry.own
-        view.entry.starts.now count form.now found) }
-    ensures stands { IfOk result (λ found.
-        IfSome found (λ distance. DistanceStands count distance)) }
+    ensures { IfOk result (λ found. found ≡ spec.distance_of view.entry.symbols.now view.entry.own
+        view.entry.starts.now count form.now) }
 {
-    // A constant is a number of 64 bits.
-    let _constant = form.constant();
     match settled_value(&view, form) {
         Some(number) => Ok(Some(moved_distance(alloc, view, count, number, form.terms())?)),
         None => Ok(None),
     }
 }
+
+/// However far the rows are moved, the distance of a form is its value there, and where there is no distance, the form has
+/// no value, wherever the rows are. It names rows that are there.
+#[tactic(auto, using(crate::proofs::RowLemmas::distance_is, crate::proofs::RowLemmas::distance_stands))]
+pub fn distances_are_values()
+    ensures value { (symbols : SymbolMap) (own : TheOwnPlace) (starts : List ℕ) (count : ℕ)
+        (made : Form) → made.constant < 2 ^ 64 → spec.IsDistanceOf symbols own starts count made
+        (spec.distance_of symbols own starts count made) }
+    ensures stands { (symbols : SymbolMap) (own : TheOwnPlace) (starts : List ℕ) (count : ℕ)
+        (made : Form) → spec.NamesFew count (spec.distance_of symbols own starts count made) }
+{}

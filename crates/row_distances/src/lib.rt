@@ -4,5 +4,5 @@
 mod form_distances;
 mod places;
 
-pub use form_distances::distance_of;
+pub use form_distances::{distance_of, distances_are_values};
 pub use places::{OwnPlace, Place, RowView};

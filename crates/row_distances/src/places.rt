@@ -1,6 +1,6 @@
 //! Where symbols stand among rows.
 
-ghost use Rattle.std.specs.Prelude.{◌≡◌, ◌<◌, ◌≤◌, ◌^◌, IfSome};
+ghost use Rattle.std.specs.Prelude.{◌≡◌};
 ghost use Rattle.asm_expr.specs.Knowledge.{told_by};
 ghost use Rattle.row_distances.specs.Places as spec;
 
@@ -89,17 +89,15 @@ impl Known for RowView<'_> {
 }
 
 /// The row that moves a place, if it is one of so many.
-pub(crate) fn row_at(starts: &[u32], place: Place, count: usize) -> Option<u32>
-    requires few { count ≤ 2 ^ 32 }
-    ensures row { result ≡ spec.row_among starts.now place count }
-    ensures within { IfSome result (λ row. row < count) }
+pub(crate) fn row_at(starts: &[u32], place: Place, count: u32) -> Option<u32>
+    ensures { result ≡ spec.row_among starts.now place count }
 {
     let first = match starts.get(place.section as usize) {
         Some(first) => u64::from(*first),
         None => 0,
     };
     let row = first.checked_add(place.item)?;
-    if row < count as u64 {
+    if row < u64::from(count) {
         Some(row as u32)
     } else {
         None

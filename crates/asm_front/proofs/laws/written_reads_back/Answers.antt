@@ -1,6 +1,13 @@
 use Rattle.asm_front.proofs.CodesInObject.{reads_back}
+use Rattle.asm_front.proofs.LaidItems.{AreSettled}
 use Rattle.asm_front.proofs.laws.written_reads_back.Goals as goal
 
 pub returns : goal.returns
 returns c =
-    reads_back (record { placed = c.settled_is_placed.ensures.placed; sized = c.settled_is_placed.ensures.sized }) c.read_one_way.ensures c.bare_codes_read.ensures.read c.bare_codes_read.ensures.stand c.encodings_are_codes.ensures.fields c.encodings_are_codes.ensures.notes
+    let settled : AreSettled = record {
+      placed = c.settled_is_placed.ensures.placed;
+      sized = c.settled_is_placed.ensures.sized;
+      bytes = c.bytes_stand.ensures;
+      values = c.values_stand.ensures;
+    } in
+    reads_back settled c.read_one_way.ensures c.bare_codes_read.ensures.read c.bare_codes_read.ensures.stand c.encodings_are_codes.ensures.fields c.encodings_are_codes.ensures.notes

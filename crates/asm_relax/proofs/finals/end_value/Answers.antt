@@ -2,7 +2,7 @@
 use Rattle.std.proofs.Common.{◌≡◌, [], sym, ap, ◌∙◌, arith}
 use Rattle.std.proofs.lemmas.List.{nil_from_length}
 use Rattle.asm_relax.specs.Final.{laid_value}
-use Rattle.asm_relax.proofs.ExpandingLemmas.{expanded_number}
+use Rattle.assigned_forms.proofs.ExpandingLemmas.{expanded_number}
 use Rattle.asm_relax.proofs.finals.end_value.Goals as goal
 
 pub returns-in_default : goal.returns-in_default

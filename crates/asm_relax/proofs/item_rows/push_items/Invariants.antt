@@ -1,11 +1,13 @@
 -- The rows of the items so far stand last.
-use Rattle.std.proofs.Common.{◌≡◌, ◌++◌, drop}
+use Rattle.std.proofs.Common.{◌≡◌, ◌+◌, ◌++◌, length, drop}
 use Rattle.asm_relax.specs.ItemRows.{item_rows}
-use Rattle.asm_relax.specs.RowBounds.{ArePlain}
+use Rattle.asm_relax.specs.RowViews.{told_rows}
+use Rattle.asm_relax.specs.RowBounds.{AllFit}
 use Rattle.asm_relax.proofs.item_rows.push_items.Given as goal
 
-abbrev pub invariant-loop-item : goal.invariant-loop-item
-invariant-loop-item l = record {
-  rows : l.rows.items ++ item_rows (drop l.item-index l.items) ≡ l.fn.rows.items ++ item_rows l.items;
-  plain : ArePlain l.rows.items;
+abbrev pub invariant-loop-index : goal.invariant-loop-index
+invariant-loop-index l = record {
+  rows : l.made.items ++ item_rows (told_rows l.rows) l.fields (length l.made.items) l.index (drop l.index l.items)
+      ≡ l.fn.made.items ++ item_rows (told_rows l.rows) l.fields (length l.fn.made.items) 0 l.items;
+  fit : AllFit l.rows.count l.made.items;
 }

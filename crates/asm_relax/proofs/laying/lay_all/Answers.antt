@@ -2,10 +2,10 @@
 use Rattle.std.proofs.Common.{◌≡◌, ℕ, suc, ◌+◌, ◌<◌, List, Some, length, drop, ap, ◌∙◌, arith}
 use Rattle.std.specs.Prelude.{slice_get}
 use Rattle.asm_frags.specs.Addresses.{changed_at}
-use Rattle.asm_levels.specs.declared.rows.Row.{Row}
-use Rattle.asm_relax.specs.Layout.{laid_out_section, row_count}
+use Rattle.asm_relax.specs.ItemRows.{row_count}
+use Rattle.asm_relax.specs.Layout.{laid_out_section}
 use Rattle.asm_relax.specs.Settling.{LaidSections}
-use Rattle.asm_relax.proofs.LayingLemmas.{there_is, first_row, laid_front, front_next, front_get, front_all, row_next, rows_long}
+use Rattle.asm_relax.proofs.LayingLemmas.{there_is, first_row, laid_front, front_next, front_get, front_all, row_next, row_inside}
 use Rattle.asm_relax.proofs.laying.lay_all.Goals as goal
 
 pub lay_section-first-requires-clause-rows : goal.lay_section-first-requires-clause-rows
@@ -18,8 +18,8 @@ lay_section-first-requires-clause-rows c =
     let there : slice_get c.loop-number.sections number ≡ Some found.0 =
     ap (λ (all : LaidSections). slice_get all number) c.loop-number.invariant.sections ∙ front_get number shifts old ∙ found.1 in
     let first = c.loop-number.invariant.first in
-    let rows : length c.args.rows.now.rows ≡ length _ = ap (λ (all : List Row). length all) c.requires.rows in
-    let long = rows_long number old found.0 found.1 in
+    let rows = c.requires.rows in
+    let long = row_inside number old found.0 found.1 in
     rw there (omega (arith, first, rows, long))
 
 pub loop-number-preserved : goal.loop-number-preserved

@@ -1,6 +1,6 @@
 -- The units so far stand in front.
 use Rattle.std.proofs.Common.{◌≡◌, ◌<◌, ◌≤◌, ◌-◌, ◌*◌, length, take}
-use Rattle.asm_frags.specs.Contents.{repeated}
+use Rattle.item_contents.specs.Contents.{repeated}
 use Rattle.elf_file.proofs.file_pieces.double_units.Given as goal
 
 abbrev pub invariant-units : goal.invariant-units

@@ -1,7 +1,7 @@
 -- The bytes are written so often, and no call failed.
 use Rattle.std.proofs.Common.{◌≡◌, option_map}
 use Rattle.asm_base.specs.Output.{after_write}
-use Rattle.asm_frags.specs.Contents.{repeated}
+use Rattle.item_contents.specs.Contents.{repeated}
 use Rattle.elf_file.proofs.writing.write_repeated.Given as goal
 
 abbrev pub invariant-loop-i : goal.invariant-loop-i

@@ -1,6 +1,6 @@
 -- Behind the blocks stands the front of one.
 use Rattle.std.proofs.Common.{◌++◌, [], List, ℕ, take, sym, ap, ◌∙◌, append-nil}
-use Rattle.asm_frags.specs.Contents.{repeated}
+use Rattle.item_contents.specs.Contents.{repeated}
 use Rattle.elf_file.proofs.ObjectLemmas.{front_written}
 use Rattle.elf_file.proofs.writing.write_repetition.Goals as goal
 

@@ -1,13 +1,13 @@
 -- The bytes so far, and those from here on, are all.
 use Rattle.std.proofs.Common.{◌≡◌, ◌≤◌, ◌++◌, length, drop, take}
-use Rattle.elf_object.specs.Contents.{interleaved}
-use Rattle.elf_file.specs.Pieces.{mixed, held_before}
+use Rattle.elf_object.specs.Contents.{item_bytes, interleaved}
+use Rattle.elf_file.specs.Pieces.{mixed}
 use Rattle.elf_object.proofs.contents.interleaved.Given as goal
 
 abbrev pub invariant-loop-item : goal.invariant-loop-item
 invariant-loop-item l = record {
-  before : held_before l.between.items ≡ l.last;
-  later : l.last ≤ l.from;
-  within : l.from ≤ length l.bytes.items;
-  left : mixed (take l.from l.bytes.items) l.between.items ++ interleaved l.bytes.items l.from (drop l.item-index l.items) ≡ interleaved l.bytes.items 0 l.items;
+  within : l.mixing.upto ≤ length l.bytes.items;
+  left : mixed (take l.mixing.upto l.bytes.items) l.mixing.between
+      ++ interleaved (item_bytes l.at.symbols.now l.at.sections.now l.section) l.bytes.items l.mixing.upto (drop l.item-index l.items)
+      ≡ interleaved (item_bytes l.at.symbols.now l.at.sections.now l.section) l.bytes.items 0 l.section.items;
 }

@@ -1,9 +1,9 @@
 -- A field with a value has no relocation, and one with a relocation stays zeros.
 use Rattle.std.proofs.Common.{◌≡◌, None, sym, ap, ◌∙◌, arith, append-nil}
 use Rattle.std.specs.Prelude.{unwrap_or}
-use Rattle.asm_frags.specs.Fields.{low_bytes}
 use Rattle.asm_frags.specs.PlainBytes.{field_end}
 use Rattle.asm_relax.specs.FieldValues.{held_value}
+use Rattle.elf_object.specs.Contents.{held_bytes}
 use Rattle.elf_object.proofs.FieldLemmas.{valued}
 use Rattle.elf_object.proofs.PatchLemmas.{blank_stays}
 use Rattle.elf_object.proofs.contents.put_field.Goals as goal
@@ -18,4 +18,4 @@ returns-in_ok-push-in-Some-2-clause-bytes c =
     let field = c.args.field.now in
     let none : held_value c.args.at.symbols.now c.args.at.sections.now field ≡ None = sym c.held_value.ensures ∙ c.in_default.is in
     blank_stays c.args.out.now.bytes.items field.offset (field_end field) _ (omega arith)
-    (c.requires.blank ∙ ap (λ v. low_bytes field.size (unwrap_or v 0)) (sym none))
+    (c.requires.blank ∙ ap (λ v. held_bytes field (unwrap_or v 0)) (sym none))

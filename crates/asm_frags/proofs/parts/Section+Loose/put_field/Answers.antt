@@ -1,5 +1,5 @@
 -- The new field stands over zeros, and a new run stands behind the bytes that were there.
-use Rattle.std.proofs.Common.{◌≡◌, ◌+◌, ◌^◌, ◌≤◌, [], ◌∷◌, ◌++◌, length, replicate, rules}
+use Rattle.std.proofs.Common.{false, ◌≡◌, ◌+◌, ◌^◌, ◌≤◌, [], ◌∷◌, ◌++◌, length, replicate, rules}
 use Rattle.asm_frags.specs.declared.fields.Field.{Field}
 use Rattle.asm_frags.specs.Fields.{width}
 use Rattle.asm_frags.specs.SoundItems.{AreBehind}
@@ -10,7 +10,7 @@ use Rattle.asm_frags.proofs.parts.Section+Loose.put_field.Goals.{then-not-ends_i
 pub invariant_of-self-2 : goal.invariant_of-self-2
 invariant_of-self-2 c =
     let bytes = c.self.inside.bytes.items in
-    let field : Field = record { pos = c.args.pos; item = c.len-item.result; offset = c.len-offset.result; section = c.args.number; size = c.args.size; role = c.args.role; form = c.args.form } in
+    let field : Field = record { pos = c.args.pos; item = c.len-item.result; offset = c.len-offset.result; section = c.args.number; size = c.args.size; role = c.args.role; in_item = false; form = c.args.form } in
     let small : length bytes + width c.args.size ≤ 2 ^ 33 = search rules in
     let at : c.len-offset.result ≡ length bytes = search rules in
     elim c.if-not-ends_in_run.branch [

@@ -1,0 +1,21 @@
+-- The section keeps its name, and its answer is that of all sections.
+use Rattle.std.proofs.Common.{◌≡◌, ◌<◌, Some, length, slice_get, sym, ◌∙◌, ap}
+use Rattle.std.proofs.lemmas.Option.{slice_get-get_or}
+use Rattle.asm_frags.specs.Writing.{growing_put}
+use Rattle.asm_frags.proofs.NamedLemmas.{replaced_there}
+use Rattle.asm_frags.proofs.PushLemmas.{growing_name, put_changes}
+use Rattle.asm_frags.proofs.section_list.Sections+Loose.push_growing.Goals as goal
+
+pub invariant_of-self : goal.invariant_of-self
+invariant_of-self c =
+    let old = c.index_mut-held.result.now in
+    let named : c.put_growing.new.self.name ≡ old.name = growing_name old c.put_growing.new.self c.put_growing.result c.args.pos c.args.section c.args.kind c.args.suffix c.args.form c.put_growing.ensures in
+    replaced_there _ c.self.inside.sections.items c.args.section c.put_growing.new.self old c.self.invariant (named ∙ ap (λ s. s.name) c.index_mut-held.ensures.value)
+
+pub returns : goal.returns
+returns c =
+    let old = c.index_mut-held.result.now in
+    let within : c.args.section < length c.self.inside.sections.items = rw c.self.view_is c.requires in
+    let found : slice_get c.self.inside.sections.items c.args.section ≡ Some old = slice_get-get_or c.self.inside.sections.items c.args.section old within ∙ ap Some (sym c.index_mut-held.ensures.value) in
+    let changed = put_changes (growing_put c.args.pos c.args.section c.args.kind c.args.suffix c.args.form) c.self.inside.sections.items c.args.section old c.put_growing.new.self old c.put_growing.result found c.index_mut-held.ensures.value c.put_growing.ensures in
+    rw (← c.self.view_is) changed

@@ -1,9 +1,0 @@
--- The symbol has its form, or is the first of those on the way.
-use Rattle.asm_relax.proofs.WayLemmas.{IsFilling, left_to_do}
-use Rattle.asm_relax.proofs.expanding.MadeForms.fill_from.Given as goal
-
-abbrev pub invariant-way : goal.invariant-way
-invariant-way l = IsFilling l.symbols l.initial.self l.self l.way.items l.at
-
-abbrev pub decreases-way : goal.decreases-way
-decreases-way l = left_to_do l.symbols l.self l.way.items

@@ -1,6 +1,0 @@
--- The expanded forms of the symbols before this one are there.
-use Rattle.asm_relax.proofs.ExpansionLemmas.{AreUpTo}
-use Rattle.asm_relax.proofs.expanding.MadeForms.new.Given as goal
-
-abbrev pub invariant-loop-at : goal.invariant-loop-at
-invariant-loop-at l = AreUpTo l.symbols l.made l.at

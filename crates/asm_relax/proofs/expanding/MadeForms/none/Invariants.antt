@@ -1,7 +1,0 @@
--- As many symbols as were counted have none.
-use Rattle.std.proofs.Common.{◌≡◌, replicate}
-use Rattle.asm_relax.specs.declared.expanding.Expansion.TheVariants.{Absent}
-use Rattle.asm_relax.proofs.expanding.MadeForms.none.Given as goal
-
-abbrev pub invariant-loop : goal.invariant-loop
-invariant-loop l = l.forms.items ≡ replicate l.counter Absent

@@ -1,0 +1,6 @@
+-- The proofs of this crate.
+pub mod RankLemmas
+pub mod ExpandingLemmas
+pub mod ExpansionLemmas
+pub mod OwnForms
+pub mod WayLemmas

@@ -1,0 +1,4 @@
+-- The definitions that contracts cite, in reading order.
+pub mod Expanding
+pub mod Expansions
+pub mod FoundForms

@@ -1,0 +1,6 @@
+-- Items have as many bytes as their sizes say.
+use Rattle.elf_object.proofs.ItemPlaces.{values_stand}
+use Rattle.elf_object.proofs.laws.values_stand.Goals as goal
+
+pub returns : goal.returns
+returns c = values_stand c.bytes_are_sized.ensures
