@@ -14,12 +14,15 @@ use Rattle.item_contents.specs.declared.contents.Content.{Content}
 use Rattle.item_contents.specs.declared.contents.Content.TheVariants.{Run, Fill, Align, Org, Growing}
 use Rattle.item_contents.specs.Contents.{unit_of, repeated, bytes_of, alignment_of, is_known_zeros}
 
+-- so many units of a size and a value
 fill : ℕ → ℕ → ℕ → Content
 fill count size value = Fill (record { count = count; size = size; value = value })
 
+-- an alignment to a multiple of 4, of any padding up to that
 align : Padding → Content
 align padding = Align (record { log = 2; most = 4; padding = padding })
 
+-- what grows with the value of the first field
 growing : Growth → Content
 growing kind = Growing (record { kind = kind; field = 0 })
 

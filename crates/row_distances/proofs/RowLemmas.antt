@@ -63,6 +63,7 @@ terms_more rows term None later = sym (append_assoc rows [] later)
 terms_more rows term (Some row) later = sym (append_assoc rows (record { coefficient = term.coefficient; row = row } ∷ []) later)
 
 module _ (map' : SymbolMap) (own : OwnPlace) (starts : List ℕ) (count : ℕ) where
+  -- the distance is the number and how far the symbols of the terms are moved
   abbrev Moves : ℕ → List Term → Distance → Type 0
   Moves number terms distance = IsMovedBy map' own starts count number terms distance
 
