@@ -1,6 +1,6 @@
 -- Symbols are moved as far as their rows.
-use Rattle.std.proofs.Common.{◌≡◌, ℕ, zero, suc, ◌+◌, ◌-◌, ◌*◌, ◌%◌, ◌^◌, ◌<◌, ◌≤◌, ◌==◌, ◌&&◌, Bool, true, false, cond, nat_lt, List, [], ◌∷◌, ◌++◌, Option, Some, None, length, refl, sym, ap, ◌∙◌, arith, append_assoc}
-use Rattle.std.specs.Prelude.{All, IfSome, sum_by, slice_index, option_map}
+use Rattle.std.proofs.Common.{◌≡◌, ℕ, ◌+◌, ◌-◌, ◌*◌, ◌%◌, ◌^◌, ◌<◌, ◌==◌, ◌&&◌, Bool, true, false, cond, nat_lt, List, [], ◌∷◌, ◌++◌, Option, Some, None, length, refl, sym, ap, ◌∙◌, arith, append_assoc}
+use Rattle.std.specs.Prelude.{All, sum_by, slice_index, option_map}
 use Rattle.std.proofs.lemmas.Bool.Decides.{nat_tests}
 use Rattle.std.proofs.lemmas.List.{get_or_past}
 use Rattle.std.proofs.lemmas.List.Sums.{sum_by-cons}
@@ -15,7 +15,7 @@ use Rattle.asm_levels.specs.Distances.{distance_value, times_shift, DistanceStan
 use Rattle.row_distances.specs.declared.places.Place.{Place}
 use Rattle.row_distances.specs.declared.places.OwnPlace.{OwnPlace}
 use Rattle.row_distances.specs.Places.{place_of, row_at, row_for, moved_by}
-use Rattle.row_distances.specs.FormDistances.{value_among, term_moved, terms_moved, IsMovedBy, IsDistanceOf, NamesFew, with_row, between_rows, or_else, row_of, moved_terms, pair_distance, between_terms, moved_distance, distance_of}
+use Rattle.row_distances.specs.FormDistances.{value_among, term_moved, terms_moved, IsMovedBy, IsDistanceOf, NamesFew, with_row, between_rows, or_else, row_of, moved_terms, moved_distance, distance_of}
 use Rattle.row_distances.proofs.LinearLemmas.{value_moved}
 
 module _ (starts shifts : List ℕ) (count : ℕ) where
@@ -49,10 +49,12 @@ module _ (starts shifts : List ℕ) (count : ℕ) where
 apart : (number ahead behind : ℕ) → behind < 2 ^ 64 → (number + ahead + (2 ^ 64 - behind)) % 2 ^ 64 ≡ (number + (ahead + (2 ^ 64 - 1) * behind)) % 2 ^ 64
 apart number ahead behind small = omega arith
 
-is_number : (coefficient n : ℕ) → (coefficient == n) ≡ true → coefficient ≡ n
+-- a number that passes the test for another is that one
+pub is_number : (coefficient n : ℕ) → (coefficient == n) ≡ true → coefficient ≡ n
 is_number coefficient n e = grind (arith, nat_tests)
 
-both_true : (a b : Bool) → (a && b) ≡ true → (a ≡ true) × (b ≡ true)
+-- where both of two tests pass, each does
+pub both_true : (a b : Bool) → (a && b) ≡ true → (a ≡ true) × (b ≡ true)
 both_true true true both = (refl, refl)
 both_true true false both = absurd cc
 both_true false b both = absurd cc

@@ -1,13 +1,16 @@
 //! From linear forms to the distances of rows.
 
-ghost use Rattle.std.specs.Prelude.{◌≡◌, ◌<◌, ◌^◌, ◌++◌, [], ℕ, List, IfOk, OnOk};
+ghost use Rattle.std.specs.Prelude.{◌≡◌, ◌<◌, ◌^◌, ◌++◌, [], ℕ, List, None, Some, IfOk, OnOk};
 ghost use Rattle.asm_expr.specs.Forms.{Form};
 ghost use Rattle.asm_levels.specs.declared.distances.Distance.TheVariants as distance;
 ghost use Rattle.asm_symbols.specs.SymbolMap.{SymbolMap};
 ghost use Rattle.row_distances.specs.declared.places.OwnPlace.{OwnPlace as TheOwnPlace};
 ghost use Rattle.row_distances.specs.FormDistances as spec;
+ghost use Rattle.row_distances.specs.Pairs as pairs;
+ghost use Rattle.row_distances.specs.Places.{row_among};
 
-use crate::places::{RowView, place_of, row_at};
+use crate::pairs::{Pair, pair_of};
+use crate::places::{Place, RowView, place_of, row_at};
 use asm_base::NoMemory;
 use asm_expr::{Linear, SymId, Term, settled_value};
 use asm_levels::{Distance, RowTerm, RowTerms};
@@ -20,44 +23,6 @@ fn row_of(view: RowView, symbol: SymId, count: u32) -> Option<u32>
 {
     let place = place_of(view, symbol)?;
     row_at(view.starts, place, count)
-}
-
-/// The distance of two symbols, one ahead and one behind, where rows move both.
-fn between_rows(
-    view: RowView,
-    count: u32,
-    number: u64,
-    ahead: SymId,
-    behind: SymId,
-) -> Option<Distance>
-    ensures { result ≡ spec.between_rows number
-        (spec.row_of view.entry.symbols.now view.entry.own view.entry.starts.now count ahead)
-        (spec.row_of view.entry.symbols.now view.entry.own view.entry.starts.now count behind) }
-{
-    let ahead = row_of(view, ahead, count)?;
-    let behind = row_of(view, behind, count)?;
-    Some(Distance::Between {
-        number,
-        ahead,
-        behind,
-    })
-}
-
-/// The distance of two terms, of which one counts once and the other minus once.
-fn between_terms(view: RowView, count: u32, number: u64, terms: &[Term]) -> Option<Distance>
-    ensures { result ≡ spec.between_terms view.entry.symbols.now view.entry.own
-        view.entry.starts.now count number terms.now }
-{
-    let [one, other] = terms else {
-        return None;
-    };
-    if one.coefficient == 1 && other.coefficient == u64::MAX {
-        between_rows(view, count, number, one.symbol, other.symbol)
-    } else if one.coefficient == u64::MAX && other.coefficient == 1 {
-        between_rows(view, count, number, other.symbol, one.symbol)
-    } else {
-        None
-    }
 }
 
 /// Appends the row of a term. One that is no row is not moved.
@@ -104,26 +69,77 @@ fn sum(
     })
 }
 
-/// The distance of a number and terms.
-fn moved_distance(
+/// The distance that an expanded form of no pair comes to: a sum, if its symbols cancel.
+#[inline(never)]
+#[tactic(auto, unfolding(crate::specs::FormDistances::distance_of))]
+fn sum_distance(
     alloc: Global,
     view: RowView,
     count: u32,
-    number: u64,
-    terms: &[Term],
-) -> Result<Distance, NoMemory>
-    ensures { IfOk result (λ distance. distance ≡ spec.moved_distance view.entry.symbols.now
-        view.entry.own view.entry.starts.now count number terms.now) }
+    form: &Linear,
+) -> Result<Option<Distance>, NoMemory>
+    requires { pairs.pair_of form.now.terms ≡ None }
+    ensures { IfOk result (λ found. found ≡ spec.distance_of view.entry.symbols.now view.entry.own
+        view.entry.starts.now count form.now) }
 {
-    match between_terms(view, count, number, terms) {
-        Some(distance) => Ok(distance),
-        None => sum(alloc, view, count, number, terms),
+    match settled_value(&view, form) {
+        Some(number) => Ok(Some(sum(alloc, view, count, number, form.terms())?)),
+        None => Ok(None),
+    }
+}
+
+/// The distance of a number and two places, one ahead and one behind, where rows move both.
+fn between_places(
+    starts: &[u32],
+    count: u32,
+    number: u64,
+    ahead: Place,
+    behind: Place,
+) -> Option<Distance>
+    ensures { result ≡ spec.between_rows number (row_among starts.now ahead count)
+        (row_among starts.now behind count) }
+{
+    let ahead = row_at(starts, ahead, count)?;
+    let behind = row_at(starts, behind, count)?;
+    Some(Distance::Between {
+        number,
+        ahead,
+        behind,
+    })
+}
+
+/// The distance that an expanded form of a pair comes to. Each of the two symbols is looked up once.
+#[tactic(auto, using(crate::proofs::PairLemmas::no_place_ahead, crate::proofs::PairLemmas::no_place_behind, crate::proofs::PairLemmas::two_sections, crate::proofs::PairLemmas::rows_between, crate::proofs::PairLemmas::no_rows_between))]
+fn pair_distance(
+    alloc: Global,
+    view: RowView,
+    count: u32,
+    form: &Linear,
+    pair: Pair,
+) -> Result<Option<Distance>, NoMemory>
+    requires { pairs.pair_of form.now.terms ≡ Some pair }
+    ensures { IfOk result (λ found. found ≡ spec.distance_of view.entry.symbols.now view.entry.own
+        view.entry.starts.now count form.now) }
+{
+    let Some(ahead) = place_of(view, pair.ahead) else {
+        return Ok(None);
+    };
+    let Some(behind) = place_of(view, pair.behind) else {
+        return Ok(None);
+    };
+    if ahead.section != behind.section {
+        return Ok(None);
+    }
+    let apart = ahead.offset.wrapping_sub(behind.offset);
+    let number = form.constant().wrapping_add(apart);
+    match between_places(view.starts, count, number, ahead, behind) {
+        Some(distance) => Ok(Some(distance)),
+        None => Ok(Some(sum(alloc, view, count, number, form.terms())?)),
     }
 }
 
 /// The distance that an expanded form comes to, however far each of `count` rows is moved: none where its symbols do
 /// not cancel. Only a sum that is no difference of two symbols takes memory.
-#[tactic(auto, unfolding(crate::specs::FormDistances::distance_of))]
 pub fn distance_of(
     alloc: Global,
     view: RowView,
@@ -133,9 +149,9 @@ pub fn distance_of(
     ensures { IfOk result (λ found. found ≡ spec.distance_of view.entry.symbols.now view.entry.own
         view.entry.starts.now count form.now) }
 {
-    match settled_value(&view, form) {
-        Some(number) => Ok(Some(moved_distance(alloc, view, count, number, form.terms())?)),
-        None => Ok(None),
+    match pair_of(form.terms()) {
+        Some(pair) => pair_distance(alloc, view, count, form, pair),
+        None => sum_distance(alloc, view, count, form),
     }
 }
 

@@ -2,6 +2,7 @@
 #![tactic(auto)]
 
 mod form_distances;
+mod pairs;
 mod places;
 
 pub use form_distances::{distance_of, distances_are_values};
