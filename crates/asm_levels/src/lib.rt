@@ -19,5 +19,6 @@ pub use laws::{
     advances_hold_their_distance, few_rows_have_few_bytes, groups_hold_their_number,
     needs_stay_within_tops, padding_is_least, rows_stand_in_row, short_jumps_hold_a_signed_byte,
 };
+pub use needs::leb128_level;
 pub use plans::RowPlan;
 pub use rows::{Row, RowSize};

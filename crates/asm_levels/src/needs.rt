@@ -37,7 +37,8 @@ static SIGNED_LIMITS: [u64; 9] = [
 /// How many of at most nine limits the value has reached.
 fn limits_reached(value: u64, limits: &[u64]) -> u8
     requires { length limits.now ≤ 9 }
-    ensures { result ≡ spec.limits_reached value limits.now }
+    ensures value { result ≡ spec.limits_reached value limits.now }
+    ensures within { result ≤ 9 }
 {
     for (index, limit) in limits.iter().enumerate() {
         if value < *limit {
@@ -49,7 +50,8 @@ fn limits_reached(value: u64, limits: &[u64]) -> u8
 
 #[tactic(auto, unfolding(crate::specs::Needs::unsigned_level))]
 fn unsigned_level(value: u64) -> u8
-    ensures { result ≡ spec.unsigned_level value }
+    ensures value { result ≡ spec.unsigned_level value }
+    ensures within { result ≤ 9 }
 {
     limits_reached(value, &UNSIGNED_LIMITS)
 }
@@ -67,13 +69,16 @@ fn without_sign(value: u64) -> u64
 
 #[tactic(auto, unfolding(crate::specs::Needs::signed_level))]
 fn signed_level(value: u64) -> u8
-    ensures { result ≡ spec.signed_level value }
+    ensures value { result ≡ spec.signed_level value }
+    ensures within { result ≤ 9 }
 {
     limits_reached(without_sign(value), &SIGNED_LIMITS)
 }
 
-fn leb128_level(signed: bool, value: u64) -> u8
-    ensures { result ≡ spec.leb128_level signed value }
+/// How many groups of seven bits a number takes besides the first, from 0 to 9 (DWARF 5, section 7.6).
+pub fn leb128_level(signed: bool, value: u64) -> u8
+    ensures value { result ≡ spec.leb128_level signed value }
+    ensures within { result ≤ 9 }
 {
     if signed {
         signed_level(value)

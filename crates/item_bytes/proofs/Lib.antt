@@ -3,3 +3,4 @@ pub mod PushingLemmas
 pub mod ReadingLemmas
 pub mod FillingLemmas
 pub mod JumpLemmas
+pub mod ConditionLemmas

@@ -1,7 +1,8 @@
 -- Jumps in their short and their near form (Intel SDM, volume 2, `JMP`, `Jcc` and appendix B).
-use Rattle.std.specs.Prelude.{ℕ, ◌+◌, ◌-◌, ◌*◌, ◌%◌, ◌^◌, nat_lt, Bool, true, false, Option, Some, None, List, [], ◌∷◌, length, drop, if◌then◌else◌}
+use Rattle.std.specs.Prelude.{ℕ, ◌+◌, ◌-◌, ◌*◌, ◌%◌, ◌^◌, nat_lt, Bool, true, false, Option, Some, None, List, [], ◌∷◌, length, drop, slice_get, if◌then◌else◌}
 use Rattle.std.specs.Int.{to_le_bytes, from_le_bytes, w8, w32}
 use Rattle.item_bytes.specs.declared.jumps.Condition.{Condition}
+use Rattle.item_bytes.specs.declared.jumps.TheConstants.{CONDITIONS}
 use Rattle.item_bytes.specs.declared.jumps.Condition.TheVariants.{Overflow, NoOverflow, Below, AboveOrEqual, Equal, NotEqual, BelowOrEqual, Above, Sign, NoSign, Parity, NoParity, Less, GreaterOrEqual, LessOrEqual, Greater}
 
 -- the condition test field
@@ -22,6 +23,14 @@ number_of Less = 12
 number_of GreaterOrEqual = 13
 number_of LessOrEqual = 14
 number_of Greater = 15
+
+-- the conditions, by their numbers
+unfoldable pub the_conditions : List Condition
+the_conditions = CONDITIONS
+
+-- the condition of this number, if it is below 16
+abbrev pub condition_of : ℕ → Option Condition
+condition_of number = slice_get the_conditions number
 
 -- there is a condition
 abbrev pub is_conditional : Option Condition → Bool

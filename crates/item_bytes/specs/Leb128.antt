@@ -1,5 +1,6 @@
 -- Numbers in groups of 7 bits, the lowest first (DWARF 5, section 7.6).
 use Rattle.std.specs.Prelude.{ℕ, zero, suc, ◌+◌, ◌-◌, ◌*◌, ◌/◌, ◌%◌, ◌^◌, ◌&&◌, nat_le, nat_lt, Bool, Option, Some, None, List, [], ◌∷◌, option_map, if◌then◌else◌}
+use Rattle.asm_levels.specs.Needs.{leb128_level}
 
 -- what fills up a number modulo 2^64 from bit 57 on: its sign, where it has one
 abbrev pub filling : Bool → ℕ → ℕ
@@ -15,6 +16,10 @@ leb128_bytes signed value zero = []
 leb128_bytes signed value (suc zero) = (value % 2 ^ 7) ∷ []
 leb128_bytes signed value (suc (suc groups)) =
     (2 ^ 7 + value % 2 ^ 7) ∷ leb128_bytes signed (groups_above signed value) (suc groups)
+
+-- the number in as few groups as hold it
+abbrev pub least_leb128 : Bool → ℕ → List ℕ
+least_leb128 signed value = leb128_bytes signed value (leb128_level signed value + 1)
 
 -- what the last group stands for, modulo 2^64: bit 6 is the sign of a signed number
 abbrev pub last_group : Bool → ℕ → ℕ

@@ -1,6 +1,6 @@
 //! Jumps, in their short and their near form.
 
-ghost use Rattle.std.specs.Prelude.{◌≡◌, ◌<◌, ◌^◌, ℕ, Bool, Option, All, length, true, false, if◌then◌else◌};
+ghost use Rattle.std.specs.Prelude.{◌≡◌, ◌<◌, ◌^◌, ℕ, Bool, Option, Some, All, length, true, false, if◌then◌else◌};
 ghost use Rattle.asm_levels.specs.Sizes.{jump_size};
 ghost use Rattle.asm_levels.specs.Needs.{IsSignedWithin};
 ghost use Rattle.item_bytes.specs.Jumps as spec;
@@ -73,6 +73,44 @@ impl Condition {
     }
 }
 
+/// The conditions, by their numbers.
+pub static CONDITIONS: [Condition; 16] = [
+    Condition::Overflow,
+    Condition::NoOverflow,
+    Condition::Below,
+    Condition::AboveOrEqual,
+    Condition::Equal,
+    Condition::NotEqual,
+    Condition::BelowOrEqual,
+    Condition::Above,
+    Condition::Sign,
+    Condition::NoSign,
+    Condition::Parity,
+    Condition::NoParity,
+    Condition::Less,
+    Condition::GreaterOrEqual,
+    Condition::LessOrEqual,
+    Condition::Greater,
+];
+
+/// The conditions, as a slice.
+#[tactic(auto, unfolding(crate::specs::Jumps::the_conditions))]
+fn conditions() -> &'static [Condition]
+    ensures { result.now ≡ spec.the_conditions }
+{
+    &CONDITIONS
+}
+
+/// The condition of this number, if it is below 16.
+pub fn condition_of(number: u8) -> Option<Condition>
+    ensures { result ≡ spec.condition_of number }
+{
+    match conditions().get(number as usize) {
+        Some(condition) => Some(*condition),
+        None => None,
+    }
+}
+
 /// A jump of an opcode of one byte and a distance of one byte.
 fn short_jump(condition: Option<Condition>, distance: u64) -> ArrayVec<u8, 6>
     ensures { result.items ≡ spec.short_jump condition distance }
@@ -113,6 +151,13 @@ pub fn jump(condition: Option<Condition>, near: bool, distance: u64) -> ArrayVec
         short_jump(condition, distance)
     }
 }
+
+/// Each condition is the one of its number.
+#[tactic(auto, using(crate::proofs::ConditionLemmas::numbered))]
+pub fn conditions_have_numbers()
+    ensures { (condition : TheCondition)
+        → spec.condition_of (spec.number_of condition) ≡ Some condition }
+{}
 
 /// A jump has the size of its level, and its last byte or four give the distance back that they hold.
 #[tactic(auto, unfolding(crate::specs::Jumps::jump_bytes, crate::specs::Jumps::jump_distance))]

@@ -8,8 +8,8 @@ mod no_operations;
 mod numbers;
 
 pub use advances::{advance, advance_reads_back};
-pub use jumps::{Condition, jump, jump_reads_back};
+pub use jumps::{Condition, condition_of, conditions_have_numbers, jump, jump_reads_back};
 pub use no_operations::{
     NoOperationParts, no_operation, no_operation_parts, no_operations_have_their_size,
 };
-pub use numbers::{leb128, leb128_reads_back};
+pub use numbers::{least_leb128, leb128, leb128_reads_back};

@@ -5,6 +5,7 @@ ghost use Rattle.asm_levels.specs.Needs.{leb128_level};
 ghost use Rattle.item_bytes.specs.Leb128 as spec;
 
 use arrayvec::ArrayVec;
+use asm_levels::leb128_level;
 
 /// The highest seven bits, which a negative number is filled up with.
 const SIGN_GROUP: u64 = 0x7f << 57;
@@ -36,6 +37,13 @@ pub fn leb128(signed: bool, value: u64, groups: usize) -> ArrayVec<u8, 10>
     }
     bytes.push((above % (1 << 7)) as u8);
     bytes
+}
+
+/// The number in as few groups as hold it.
+pub fn least_leb128(signed: bool, value: u64) -> ArrayVec<u8, 10>
+    ensures { result.items ≡ spec.least_leb128 signed value }
+{
+    leb128(signed, value, leb128_level(signed, value) as usize + 1)
 }
 
 /// What is read from so many groups that hold a number is this number, and what stands behind them.
