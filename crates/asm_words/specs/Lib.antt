@@ -2,6 +2,7 @@
 pub mod Slots
 pub mod Directives
 pub mod Spaces
+pub mod Paddings
 pub mod SectionWords
 pub mod SaidWords
 pub mod SectionDefaults

@@ -24,6 +24,15 @@ pub enum SymbolAttribute {
     See(Visibility),
 }
 
+/// What an alignment is said by.
+#[derive(Clone, Copy)]
+pub enum AlignedBy {
+    /// The exponent of a power of two.
+    Exponent,
+    /// A number of bytes, which is a power of two.
+    Bytes,
+}
+
 /// What a directive does; several names may have one.
 #[derive(Clone, Copy)]
 pub enum Directive {
@@ -31,9 +40,15 @@ pub enum Directive {
     Data(FieldSize),
     /// Strings, with a zero byte behind each or without.
     Strings { ended: bool },
+    /// Numbers in groups of seven bits, signed or not.
+    Leb128 { signed: bool },
     Zero,
     Skip,
     Fill,
+    /// Padding up to a multiple of a power of two.
+    Align(AlignedBy),
+    /// Bytes up to a place.
+    Org,
     /// Items go into this section.
     Enter(InitialSection),
     Section,
@@ -74,7 +89,7 @@ macro_rules! directives {
 
 /// The names of the GNU as manual, chapter 7, "Assembler Directives".
 #[rattlefmt::skip]
-pub static DIRECTIVES: [DirectiveRow; 40] = directives! {
+pub static DIRECTIVES: [DirectiveRow; 46] = directives! {
     b".byte       " 5  Directive::Data(FieldSize::One);
     b".long       " 5  Directive::Data(FieldSize::Four);
     b".quad       " 5  Directive::Data(FieldSize::Eight);
@@ -88,10 +103,16 @@ pub static DIRECTIVES: [DirectiveRow; 40] = directives! {
     b".ascii      " 6  Directive::Strings { ended: false };
     b".asciz      " 6  Directive::Strings { ended: true };
     b".string     " 7  Directive::Strings { ended: true };
+    b".uleb128    " 8  Directive::Leb128 { signed: false };
+    b".sleb128    " 8  Directive::Leb128 { signed: true };
     b".zero       " 5  Directive::Zero;
     b".skip       " 5  Directive::Skip;
     b".space      " 6  Directive::Skip;
     b".fill       " 5  Directive::Fill;
+    b".p2align    " 8  Directive::Align(AlignedBy::Exponent);
+    b".align      " 6  Directive::Align(AlignedBy::Bytes);
+    b".balign     " 7  Directive::Align(AlignedBy::Bytes);
+    b".org        " 4  Directive::Org;
     b".text       " 5  Directive::Enter(InitialSection::Text);
     b".data       " 5  Directive::Enter(InitialSection::Data);
     b".bss        " 4  Directive::Enter(InitialSection::Bss);
@@ -120,14 +141,14 @@ pub static DIRECTIVES: [DirectiveRow; 40] = directives! {
 /// The number of the row of each slot, or 255 where no name has the slot.
 #[rattlefmt::skip]
 pub static DIRECTIVE_SLOTS: [u8; 128] = [
-     23, 255, 255, 255, 255, 255,   0, 255, 255,  11,  39, 255, 255, 255, 255,   2,
-    255, 255, 255, 255, 255,   5, 255,  32,  31, 255, 255, 255,   1,  15, 255, 255,
-      4, 255, 255,  10, 255, 255, 255, 255, 255, 255, 255, 255,  29, 255, 255,  12,
-    255, 255, 255, 255,  16, 255, 255,  36, 255, 255, 255,  24, 255, 255, 255,  26,
-     27,  25, 255, 255, 255, 255,  37, 255, 255, 255, 255, 255, 255, 255,  28,  30,
-    255, 255, 255, 255,  19, 255, 255, 255, 255,  14,  13, 255,   7, 255,   8,  20,
-    255,   6,   9,  34, 255, 255, 255, 255, 255, 255, 255,  33, 255,  38,  22, 255,
-     18, 255,  17, 255,  21,  35, 255,   3, 255, 255, 255, 255, 255, 255, 255, 255,
+     41,  24,  39, 255,   3,  23, 255, 255, 255,  18, 255, 255,  30,  31, 255,  42,
+    255, 255, 255,  36, 255, 255,  33, 255,  20, 255, 255,  21, 255, 255, 255,  32,
+    255, 255,  43, 255, 255, 255, 255,  34,  11, 255, 255, 255, 255,   0, 255, 255,
+    255, 255, 255, 255, 255,  45,  14, 255,  19, 255,  13,  28,  27, 255,  26,   2,
+    255, 255,  35, 255, 255, 255, 255, 255, 255, 255, 255,   5, 255, 255,   7,  38,
+     17,  37,   8,  16,  25,  15,   4, 255, 255,   1,   9, 255,  10, 255,  22, 255,
+    255, 255, 255, 255, 255, 255, 255, 255, 255,  12, 255, 255, 255, 255,   6, 255,
+     44, 255,  40, 255, 255,  29, 255, 255, 255, 255, 255, 255, 255, 255, 255, 255,
 ];
 
 /// The table.

@@ -2,6 +2,7 @@
 #![tactic(auto)]
 
 mod directives;
+mod paddings;
 mod section_defaults;
 mod section_operands;
 mod slots;
@@ -9,9 +10,10 @@ mod space_sizes;
 mod symbol_kinds;
 
 pub use directives::{
-    DIRECTIVE_SLOTS, DIRECTIVES, Directive, DirectiveRow, InitialSection, SymbolAttribute,
-    directive_of, directives_apart, directives_are_whole,
+    AlignedBy, DIRECTIVE_SLOTS, DIRECTIVES, Directive, DirectiveRow, InitialSection,
+    SymbolAttribute, directive_of, directives_apart, directives_are_whole,
 };
+pub use paddings::{align_of, org_of};
 pub use section_defaults::{DefaultHeader, default_header};
 pub use section_operands::{SectionWords, said_flags, said_kind, says_merge, section_words};
 pub use space_sizes::{is_negative, log_of, space_of, space_size, unit_size, units_of};

@@ -20,7 +20,7 @@ pub fn space_size(size: u64) -> Result<u64, PlaceFault>
 }
 
 /// The most bytes of one piece of space.
-const MOST_SPACE: u64 = 1 << 30;
+pub(crate) const MOST_SPACE: u64 = 1 << 30;
 
 /// Whether a number modulo 2^64 is below 0.
 pub fn is_negative(number: u64) -> bool
@@ -93,7 +93,7 @@ fn default_log(size: u64) -> u8
 
 /// The power of two of an alignment that is said.
 #[tactic(auto, unfolding(crate::specs::Spaces::said_log))]
-fn said_log(alignment: u64) -> Result<u8, PlaceFault>
+pub(crate) fn said_log(alignment: u64) -> Result<u8, PlaceFault>
     ensures value { GivesBy (λ log. log) result (said_log alignment) }
     ensures within { IfOk result (λ log. log ≤ 30) }
 {
