@@ -1,10 +1,10 @@
 -- Where the distance to a label leads.
-use Rattle.std.proofs.Common.{◌≡◌, ℕ, ◌+◌, ◌-◌, ◌*◌, ◌^◌, ◌==◌, ◌<◌, true, false, cond, List, [], ◌∷◌, Some, refl, ap, ◌∙◌, arith}
+use Rattle.std.proofs.Common.{◌≡◌, ℕ, ◌+◌, ◌-◌, ◌*◌, ◌^◌, ◌==◌, ◌<◌, true, false, cond, List, [], ◌∷◌, Some, refl, sym, ap, ◌∙◌, arith}
 use Rattle.std.specs.Prelude.{option_map}
 use Rattle.std.proofs.lemmas.Bool.Decides.{nat_tests}
-use Rattle.asm_expr.specs.Forms.{Form, wrapped, term_of, constant_form}
+use Rattle.asm_expr.specs.Forms.{Form, wrapped, term_of}
 use Rattle.asm_expr.specs.Knowledge.{Told, absent, label}
-use Rattle.asm_expr.specs.Settled.{settled, put_all, constant_left}
+use Rattle.asm_expr.specs.Settled.{settled, constant_left}
 use Rattle.asm_symbols.specs.SymbolMap.{SymbolMap}
 use Rattle.asm_frags.specs.declared.fields.Field.{Field}
 use Rattle.asm_frags.specs.declared.fields.FieldSize.{FieldSize}
@@ -14,6 +14,7 @@ use Rattle.asm_frags.specs.Fields.{width, own_place}
 use Rattle.asm_frags.specs.SectionOf.{SectionOf}
 use Rattle.asm_relax.specs.Final.{final_told}
 use Rattle.asm_relax.specs.FieldValues.{is_linked, field_address, place_label, place_told, told_in_field, less, counted, held_value, instruction_end, DistancesLead}
+use Rattle.asm_relax.proofs.PairLemmas.{beside_is}
 
 -- a symbol and a number, less another symbol
 abbrev both_of : ℕ → ℕ → ℕ → Form
@@ -24,11 +25,10 @@ abbrev left_of : ℕ → ℕ → ℕ → ℕ
 left_of at origin number = wrapped (wrapped (number + wrapped (1 * at)) + wrapped ((2 ^ 64 - 1) * origin))
 
 both_cancel : (told : ℕ → Told) (stretch at origin one other number : ℕ) → told one ≡ label stretch at → told other ≡ label stretch origin
-    → settled told (both_of one other number) ≡ constant_form (left_of at origin number)
-unfolding settled put_all
+    → constant_left (settled told (both_of one other number)) ≡ Some (left_of at origin number)
 both_cancel told stretch at origin one other number is also =
     let same : (stretch == stretch) ≡ true = grind (arith, nat_tests) in
-    rw (is, also, same) refl
+    sym (beside_is told number (term_of one 1) (term_of other (2 ^ 64 - 1)) refl (omega arith) stretch at is (label stretch origin) also) ∙ (rw same refl)
 
 module _ {P : Type 0} (map : SymbolMap) (sections : List (SectionOf (Frag P ℕ))) (field : Field) where
   told_else : (symbol : ℕ) → (symbol == own_place) ≡ false → told_in_field map sections field symbol ≡ final_told map sections symbol
@@ -55,14 +55,14 @@ distances_lead map sections field symbol number address is free differs there =
     let told = told_in_field map sections field in
     let taken = width field.size + field.role.behind in
     let value = left_of address place number in
-    let made : settled told field.form ≡ constant_form value =
-    ap (settled told) is.form ∙ both_cancel told field.section address place symbol own_place number (told_else map sections field symbol differs ∙ there) (told_own map sections field free) in
+    let made : constant_left (settled told field.form) ≡ Some value =
+    ap (λ (f : Form). constant_left (settled told f)) is.form ∙ both_cancel told field.section address place symbol own_place number (told_else map sections field symbol differs ∙ there) (told_own map sections field free) in
     let counts : counted field.size field.role value ≡ less value taken =
     ap (λ b. cond b (less value (cond b taken 0)) value) is.kind in
     let low = short field.size in
     let small : taken < 2 ^ 64 = let behind = is.behind in omega arith in (
       less value taken,
-      ap (λ (f : Form). option_map (counted field.size field.role) (constant_left f)) made ∙ ap Some counts,
+      ap (option_map (counted field.size field.role)) made ∙ ap Some counts,
       ap (λ n. wrapped (n + less value taken)) (let e : instruction_end sections field ≡ place + taken = omega arith in e)
           ∙ leads address place number taken small,
     )

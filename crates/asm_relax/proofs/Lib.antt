@@ -1,4 +1,5 @@
 -- The proofs of this crate.
+pub mod PairLemmas
 pub mod DistanceLemmas
 pub mod Changes
 pub mod RowFitting

@@ -1,8 +1,8 @@
 -- The meaning of symbols and the values of forms at the addresses of a layout.
-use Rattle.std.specs.Prelude.{ℕ, ◌+◌, ◌-◌, ◌^◌, ◌==◌, List, length, Option, slice_get, if◌then◌else◌}
+use Rattle.std.specs.Prelude.{ℕ, ◌+◌, ◌-◌, ◌*◌, ◌^◌, ◌==◌, ◌&&◌, List, length, Option, None, Some, slice_get, if◌then◌else◌}
 use Rattle.std.specs.Option.{option_map_or}
 use Rattle.asm_expr.specs.Forms.{Form, wrapped}
-use Rattle.asm_expr.specs.Knowledge.{Told, absent, label}
+use Rattle.asm_expr.specs.Knowledge.{Told, absent, constant, label, form}
 use Rattle.asm_expr.specs.Settled.{settled, constant_left}
 use Rattle.asm_symbols.specs.declared.entries.Meaning.{Meaning}
 use Rattle.asm_symbols.specs.declared.entries.Meaning.TheVariants as meaning
@@ -42,7 +42,7 @@ final_meaning sections meaning.Undefined = absent
 final_meaning sections (meaning.Label spot) = spot_told sections spot
 final_meaning sections (meaning.Common size align) = absent
 final_meaning sections (meaning.Space spot) = spot_told sections spot
-final_meaning sections (meaning.Assigned form) = absent
+final_meaning sections (meaning.Assigned other) = absent
 
 -- what the symbol at this index is known as in the layout, and nothing where there is none
 unfoldable pub final_told : {P : Type 0} → SymbolMap → List (SectionOf (Frag P ℕ)) → ℕ → Told
@@ -51,6 +51,15 @@ final_told map sections index = option_map_or (λ symbol. final_meaning sections
 -- a form in the layout: assigned symbols are expanded, and labels of one section that cancel are replaced by their addresses
 unfoldable pub final_form : {P : Type 0} → SymbolMap → List (SectionOf (Frag P ℕ)) → Form → Form
 final_form map sections made = settled (final_told map sections) (expanded map made)
+
+-- the value of a number, a label that counts so often, and another symbol that is known as this and counts so often: both cancel where that is a label of
+-- the same stretch, and the one counts as often as minus the other
+abbrev pub beside_label : ℕ → ℕ → ℕ → ℕ → ℕ → Told → Option ℕ
+beside_label number count at stretch other absent = None
+beside_label number count at stretch other (constant value) = None
+beside_label number count at stretch other (form made) = None
+beside_label number count at stretch other (label others origin) =
+    if (others == stretch) && (wrapped (count + other) == 0) then Some (wrapped (wrapped (number + wrapped (count * at)) + wrapped (other * origin))) else None
 
 -- the value in the layout of an expanded form, where all of its symbols cancel
 unfoldable pub laid_value : {P : Type 0} → SymbolMap → List (SectionOf (Frag P ℕ)) → Form → Option ℕ

@@ -1,11 +1,12 @@
 //! The values of fields in a layout.
 
-ghost use Rattle.std.specs.Prelude.{◌≡◌};
+ghost use Rattle.std.specs.Prelude.{◌≡◌, [], ◌∷◌, IsTrue};
+ghost use Rattle.asm_expr.specs.Forms.{is_kept};
 ghost use Rattle.asm_expr.specs.Knowledge.{told_by};
 ghost use Rattle.asm_expr.specs.Settled.{constant_left, settled};
 ghost use Rattle.asm_relax.specs.FieldValues.{is_suffixed, is_weak, is_of_weak, names_weak, is_linked, field_address, place_label, place_told, told_beside, told_in_field, counted_bytes, counted, held_value};
 
-use crate::finals::{cannot_cancel, constant_left, final_look};
+use crate::finals::{beside_label, cannot_cancel, constant_left, final_look};
 use crate::places::address_of;
 use asm_expr::{Known, Linear, Look, SymId, Term, Written, settled_value};
 use asm_frags::{Field, FieldRole, FieldSize, Laid, Sections, Suffix, own_place};
@@ -76,6 +77,7 @@ pub fn field_address(sections: &Sections<Laid>, field: &Field) -> u64
 }
 
 /// The place of a field, as a label of its section.
+#[inline(always)]
 fn place_label<'a>(sections: &Sections<Laid>, field: &Field) -> Look<'a>
     ensures { told_by result ≡ place_label sections.now field.now }
 {
@@ -162,9 +164,9 @@ pub fn counted(size: FieldSize, role: FieldRole, value: u64) -> u64
     }
 }
 
-/// The value of the form of a field in which labels may cancel.
+/// The value of the form of a field that has many terms.
 #[inline(never)]
-fn settled_in_field(symbols: &Symbols, sections: &Sections<Laid>, field: &Field) -> Option<u64>
+fn many_in_field(symbols: &Symbols, sections: &Sections<Laid>, field: &Field) -> Option<u64>
     ensures { result ≡ constant_left (settled (told_in_field symbols.now sections.now field.now)
         field.now.form) }
 {
@@ -176,6 +178,68 @@ fn settled_in_field(symbols: &Symbols, sections: &Sections<Laid>, field: &Field)
     settled_value(&view, &field.form)
 }
 
+/// What the place of a field is known as whose form has these two terms.
+#[inline(always)]
+fn place_beside<'a>(
+    symbols: &Symbols,
+    sections: &Sections<Laid>,
+    field: &Field,
+    one: &Term,
+    other: &Term,
+) -> Look<'a>
+    requires { field.now.form.terms ≡ one.now ∷ other.now ∷ [] }
+    ensures { told_by result ≡ place_told symbols.now sections.now field.now }
+{
+    if is_suffixed(field.role.suffix) || is_of_weak(symbols, one) || is_of_weak(symbols, other) {
+        return Look::Absent;
+    }
+    place_label(sections, field)
+}
+
+/// What the symbol is known as in the form of a field that has these two terms.
+#[tactic(auto, unfolding(crate::specs::FieldValues::told_in_field))]
+#[inline(always)]
+fn look_in_pair<'a>(
+    symbols: &Symbols,
+    sections: &Sections<Laid>,
+    field: &Field,
+    one: &Term,
+    other: &Term,
+    symbol: SymId,
+) -> Look<'a>
+    requires { field.now.form.terms ≡ one.now ∷ other.now ∷ [] }
+    ensures { told_by result ≡ told_in_field symbols.now sections.now field.now symbol }
+{
+    if symbol.index() == own_place().index() {
+        return place_beside(symbols, sections, field, one, other);
+    }
+    final_look(symbols, sections, symbol)
+}
+
+/// The value of the form of a field that has these two terms.
+#[inline(always)]
+fn pair_in_field(
+    symbols: &Symbols,
+    sections: &Sections<Laid>,
+    field: &Field,
+    one: &Term,
+    other: &Term,
+) -> Option<u64>
+    requires terms { field.now.form.terms ≡ one.now ∷ other.now ∷ [] }
+    requires kept { IsTrue (is_kept one.now) }
+    ensures { result ≡ constant_left (settled (told_in_field symbols.now sections.now field.now)
+        field.now.form) }
+{
+    match look_in_pair(symbols, sections, field, one, other, one.symbol) {
+        Look::Label { stretch, at } => {
+            let known = look_in_pair(symbols, sections, field, one, other, other.symbol);
+            let (count, others) = (one.coefficient, other.coefficient);
+            beside_label(field.form.constant(), count, at, stretch, others, known)
+        }
+        _ => None,
+    }
+}
+
 /// The value of the form of a field, where all of its symbols cancel. It does not look at a symbol
 /// that stands alone, which never cancels.
 #[inline(always)]
@@ -183,10 +247,14 @@ fn form_value(symbols: &Symbols, sections: &Sections<Laid>, field: &Field) -> Op
     ensures { result ≡ constant_left (settled (told_in_field symbols.now sections.now field.now)
         field.now.form) }
 {
-    if cannot_cancel(field.form.terms()) {
+    let terms = field.form.terms();
+    if let [one, other] = terms {
+        return pair_in_field(symbols, sections, field, one, other);
+    }
+    if cannot_cancel(terms) {
         return constant_left(&field.form);
     }
-    settled_in_field(symbols, sections, field)
+    many_in_field(symbols, sections, field)
 }
 
 /// The value in a layout of a field whose form is expanded, where all of its symbols cancel. It

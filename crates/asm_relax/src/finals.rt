@@ -1,10 +1,11 @@
 //! The meaning of symbols and the values of forms at the addresses of a layout.
 
-ghost use Rattle.std.specs.Prelude.{◌≡◌, IfOk};
+ghost use Rattle.std.specs.Prelude.{◌≡◌, [], ◌∷◌, IfOk, IsTrue};
+ghost use Rattle.asm_expr.specs.Forms.{is_kept};
 ghost use Rattle.asm_expr.specs.Knowledge.{told_by};
 ghost use Rattle.asm_expr.specs.Settled.{cannot_cancel, constant_left};
 ghost use Rattle.assigned_forms.specs.Expanding.{AreExpansions};
-ghost use Rattle.asm_relax.specs.Final.{spot_told, final_meaning, final_told, final_form, laid_value, field_value};
+ghost use Rattle.asm_relax.specs.Final.{spot_told, final_meaning, final_told, final_form, beside_label, laid_value, field_value};
 
 use crate::places::address_of;
 use asm_base::NoMemory;
@@ -99,6 +100,64 @@ pub fn final_form(
     }
 }
 
+/// The value of a number, a label that counts so often, and another symbol that is known as this and counts so often:
+/// both cancel where that is a label of the same stretch, and the one counts as often as minus the other.
+#[inline(always)]
+pub(crate) fn beside_label(
+    number: u64,
+    count: u64,
+    at: u64,
+    stretch: u64,
+    other: u64,
+    known: Look,
+) -> Option<u64>
+    ensures { result ≡ beside_label number count at stretch other (told_by known.entry) }
+{
+    let Look::Label {
+        stretch: others,
+        at: origin,
+    } = known
+    else {
+        return None;
+    };
+    if others != stretch || count.wrapping_add(other) != 0 {
+        return None;
+    }
+    let first = number.wrapping_add(count.wrapping_mul(at));
+    Some(first.wrapping_add(other.wrapping_mul(origin)))
+}
+
+/// The value in a layout of a form of these two terms.
+fn pair_value(
+    symbols: &Symbols,
+    sections: &Sections<Laid>,
+    form: &Linear,
+    one: &Term,
+    other: &Term,
+) -> Option<u64>
+    requires terms { form.now.terms ≡ one.now ∷ other.now ∷ [] }
+    requires kept { IsTrue (is_kept one.now) }
+    ensures { result ≡ laid_value symbols.now sections.now form.now }
+{
+    match final_look(symbols, sections, one.symbol) {
+        Look::Label { stretch, at } => {
+            let known = final_look(symbols, sections, other.symbol);
+            let (count, others) = (one.coefficient, other.coefficient);
+            beside_label(form.constant(), count, at, stretch, others, known)
+        }
+        _ => None,
+    }
+}
+
+/// The value in a layout of a form of many terms.
+#[tactic(auto, unfolding(crate::specs::Final::laid_value))]
+#[inline(never)]
+fn many_value(symbols: &Symbols, sections: &Sections<Laid>, form: &Linear) -> Option<u64>
+    ensures { result ≡ laid_value symbols.now sections.now form.now }
+{
+    settled_value(&FinalView { symbols, sections }, form)
+}
+
 /// Whether nothing can cancel in the terms: there is none, or one that counts.
 pub(crate) fn cannot_cancel(terms: &[Term]) -> bool
     ensures { result ≡ cannot_cancel terms.now }
@@ -127,10 +186,14 @@ pub(crate) fn constant_left(form: &Linear) -> Option<u64>
 pub fn laid_value(symbols: &Symbols, sections: &Sections<Laid>, form: &Linear) -> Option<u64>
     ensures { result ≡ laid_value symbols.now sections.now form.now }
 {
-    if cannot_cancel(form.terms()) {
+    let terms = form.terms();
+    if let [one, other] = terms {
+        return pair_value(symbols, sections, form, one, other);
+    }
+    if cannot_cancel(terms) {
         return constant_left(form);
     }
-    settled_value(&FinalView { symbols, sections }, form)
+    many_value(symbols, sections, form)
 }
 
 /// The value of a form at the end, where it has one: assigned symbols are expanded in it. A number

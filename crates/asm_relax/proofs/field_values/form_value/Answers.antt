@@ -10,4 +10,4 @@ returns-then-cannot_cancel c =
     let field = c.args.field.now in
     let told = told_in_field c.args.symbols.now c.args.sections.now field in
     c.constant_left.ensures
-    ∙ ap constant_left (stays told field.form (sym (ap cannot_cancel c.terms.ensures.terms) ∙ sym c.cannot_cancel.ensures ∙ c.if-cannot_cancel.true))
+    ∙ ap constant_left (stays told field.form (sym (ap cannot_cancel c.terms-terms.ensures.terms) ∙ sym c.cannot_cancel.ensures ∙ c.if-cannot_cancel.true))

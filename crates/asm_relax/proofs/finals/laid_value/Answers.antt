@@ -10,4 +10,4 @@ unfolding laid_value
 returns-then-cannot_cancel c =
     let form = c.args.form.now in
     c.constant_left.ensures
-    ∙ ap constant_left (stays (final_told c.args.symbols.now c.args.sections.now) form (sym (ap cannot_cancel c.terms.ensures.terms) ∙ sym c.cannot_cancel.ensures ∙ c.if-cannot_cancel.true))
+    ∙ ap constant_left (stays (final_told c.args.symbols.now c.args.sections.now) form (sym (ap cannot_cancel c.terms-terms.ensures.terms) ∙ sym c.cannot_cancel.ensures ∙ c.if-cannot_cancel.true))
