@@ -9,3 +9,7 @@ pub mod FirstLemmas
 pub mod SettlingLemmas
 pub mod LawLemmas
 pub mod StretchLemmas
+pub mod ShiftedForms
+pub mod PlaceLemmas
+pub mod ItemValueLemmas
+pub mod RoomLemmas

@@ -8,8 +8,7 @@ use Rattle.item_bytes.specs.Jumps.{is_conditional}
 use Rattle.item_contents.specs.declared.kinds.Growth.{Growth}
 use Rattle.item_contents.specs.declared.kinds.Growth.TheVariants as growth
 use Rattle.asm_levels.specs.declared.distances.Distance.{Distance}
-use Rattle.asm_levels.specs.declared.rows.RowSize.{RowSize}
-use Rattle.asm_levels.specs.declared.rows.RowSize.TheVariants.{Fixed, Align, Org, Jump, Leb128, Advance, End}
+use Rattle.asm_levels.specs.declared.rows.RowSize.TheVariants.{Fixed, Align, Org, End}
 use Rattle.asm_levels.specs.declared.rows.Row.{Row}
 use Rattle.asm_levels.specs.Sizes.{near_size, most_bytes}
 use Rattle.asm_levels.specs.Standing.{RowStands, AllStand}

@@ -37,7 +37,8 @@ levels_ranked reached within ranked rows =
 
 module _ (reached : AreReached) (within : (rows : List Row) → NeedsWithin (need rows) (tops rows)) (ranked : (need' : List ℕ → List ℕ) (tops' : List ℕ) → (ranks : Ranks) × IsRanking need' tops' ranks)
     (symbols : SymbolMap) (sections : LaidSections) where
-  settled_within : AreWithin (levels_of (rows_of symbols sections)) (rows_of symbols sections)
+  -- no level of the layout is above its row's highest
+  pub settled_within : AreWithin (levels_of (rows_of symbols sections)) (rows_of symbols sections)
   settled_within =
       let (rounds, layout) = levels_ranked reached within ranked (rows_of symbols sections) in
       ranked_within (rows_of symbols sections) (levels_of (rows_of symbols sections)) rounds layout

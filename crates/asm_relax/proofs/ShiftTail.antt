@@ -1,5 +1,5 @@
 -- How far the rows of sections are moved, from one row on.
-use Rattle.std.proofs.Common.{◌≡◌, ℕ, suc, ◌+◌, ◌-◌, ◌<◌, ◌≤◌, List, [], ◌∷◌, ◌++◌, length, map, drop, refl, sym, ap, ◌∙◌, subst, arith, append_assoc}
+use Rattle.std.proofs.Common.{◌≡◌, ℕ, suc, ◌+◌, ◌-◌, ◌≤◌, List, [], ◌∷◌, ◌++◌, length, map, drop, refl, sym, ap, ◌∙◌, subst, arith, append_assoc}
 use Rattle.std.specs.Prelude.{Option, None, Some, is_some, count_by, slice_get, slice_index, All}
 use Rattle.std.specs.Option.{option_and_then}
 use Rattle.std.proofs.lemmas.List.{append-nil}
@@ -110,6 +110,16 @@ taken_within (numbers ∷ ranks) (row ∷ rows) same =
 pub ranked_within : (rows : List Row) (levels : List ℕ) (rounds : ℕ) → IsLayout (need rows) (tops rows) levels rounds → AreWithin levels rows
 ranked_within rows levels rounds layout = subst (λ (all : List ℕ). AreWithin all rows) (sym layout.taken) (taken_within layout.ranks rows layout.ranking.levels)
 
+-- the row of each item is moved as far as the one before it or farther
+abbrev pub Rise : {P : Type 0} → List ℕ → List (Frag P ℕ) → Type 0
+Rise shifts [] = Unit {0}
+Rise shifts (item ∷ items) = (slice_index shifts 0 ≤ slice_index shifts 1) × Rise (drop 1 shifts) items
+
+-- so are those of each section, the first of which is not moved
+abbrev pub AllRise : {P : Type 0} → List ℕ → List (SectionOf (Frag P ℕ)) → Type 0
+AllRise shifts [] = Unit {0}
+AllRise shifts (section ∷ sections) = (slice_index shifts 0 ≡ 0) × Rise shifts section.items × AllRise (drop (row_count section) shifts) sections
+
 module _ (all : RowsIn) (fields : List Field) where
   no_end : (number index : ℕ) (held : Content) → NotEnd (row_size all fields number index held)
   no_end number index content.Run = tt
@@ -190,6 +200,18 @@ module _ {P : Type 0} (all : RowsIn) (fields : List Field) where
       subst (λ (m : ℕ). AreLaid shift (item_laid_at (item.offset + shift) (m - shift) item ∷ laid_from rest items)) (sym head)
       (one_more shift (next - shift) item (laid_from rest items) has moved)
 
+  -- each of these is moved as far as the one before it or farther
+  items_rise : (done : List ℕ) (shift number index : ℕ) (items : List (Frag P ℕ)) (mark : Row) (more : List Row) (levels : List ℕ)
+      → Rise (tail_from done shift (these number index items ++ mark ∷ more) levels) items
+  items_rise done shift number index [] mark more levels = tt
+  items_rise done shift number index (item ∷ items) mark more levels =
+      let next = next_of done shift number index item (slice_index levels 0) in
+      let is : next ≡ shift + bytes_there done shift number index item (slice_index levels 0) = next_is done shift number index item (slice_index levels 0) in
+      let head = head_is (done ++ shift ∷ []) next (number + 1) (index + 1) items mark more (drop 1 levels) in (
+        rw head (omega arith),
+        items_rise (done ++ shift ∷ []) next (number + 1) (index + 1) items mark more (drop 1 levels),
+      )
+
   behind_items : (done : List ℕ) (shift number index : ℕ) (items : List (Frag P ℕ)) (section : SectionOf (Frag P ℕ)) (more : List Row) (levels : List ℕ)
       → AreWithin levels (these number index items ++ end_of section ∷ more)
       → Behind (drop (length items + 1) (tail_from done shift (these number index items ++ end_of section ∷ more) levels)) more
@@ -236,6 +258,21 @@ module _ {P : Type 0} (all : RowsIn) where
       subst (λ (rows : List Row). AllLaid (laid_out (tail_from done 0 rows levels) (section ∷ sections))) (sym joined)
       (section_more (laid_out_section shifts section) (laid_out (drop (row_count section) shifts) sections) items behind)
 
+  all_rise : (done levels : List ℕ) (first : ℕ) (sections : List (SectionOf (Frag P ℕ))) → AreWithin levels (rows_from all first sections)
+      → AllRise (tail_from done 0 (rows_from all first sections) levels) sections
+  all_rise done levels first [] within = tt
+  all_rise done levels first (section ∷ sections) within =
+      let more = rows_from all (first + row_count section) sections in
+      let own = item_rows all section.fields first 0 section.items in
+      let joined : section_rows all first section ++ more ≡ own ++ end_of section ∷ more = append_assoc own (end_of section ∷ []) more in
+      let low : AreWithin levels (own ++ end_of section ∷ more) = subst (λ (rows : List Row). AreWithin levels rows) joined within in
+      let (later, rest, is, fine) = behind_items all section.fields done 0 first 0 section.items section more levels low in
+      subst (λ (rows : List Row). AllRise (tail_from done 0 rows levels) (section ∷ sections)) (sym joined) (
+        head_is all section.fields done 0 first 0 section.items (end_of section) more levels,
+        items_rise all section.fields done 0 first 0 section.items (end_of section) more levels,
+        subst (λ (xs : List ℕ). AllRise xs sections) (sym is) (all_rise later rest (first + row_count section) sections fine),
+      )
+
 module _ {P : Type 0} (symbols : SymbolMap) (levels : List ℕ) (sections : List (SectionOf (Frag P ℕ))) (within : AreWithin levels (rows_of symbols sections)) where
   laid_by_all : AllLaid (rows_in symbols sections) (laid_by symbols levels sections)
   unfolding laid_by rows_of
@@ -257,3 +294,17 @@ module _ {P : Type 0} (symbols : SymbolMap) (levels : List ℕ) (sections : List
   -- in each section from its beginning on
   pub laid_in_rows : All (λ section. IsInRow section.items) (laid_by symbols levels sections)
   laid_in_rows = laid_by_all.rows
+
+  -- no row of a section is moved less than the one before it, and the first one is not moved
+  pub rows_rise : AllRise (shifts_of (rows_of symbols sections) levels) sections
+  unfolding rows_of
+  rows_rise = subst (λ (shifts : List ℕ). AllRise shifts sections) (sym (shifts_are (rows_of symbols sections) levels))
+      (all_rise (rows_in symbols sections) [] levels 0 sections within)
+
+-- there are as many shifts as rows
+tail_long : (done : List ℕ) (shift : ℕ) (rows : List Row) (levels : List ℕ) → length (tail_from done shift rows levels) ≡ length rows
+tail_long done shift [] levels = refl
+tail_long done shift (row ∷ rows) levels = ap suc (tail_long (done ++ shift ∷ []) (shift_behind (done ++ shift ∷ []) row (slice_index levels 0) shift) rows (drop 1 levels))
+
+pub shifts_long : (rows : List Row) (levels : List ℕ) → length (shifts_of rows levels) ≡ length rows
+shifts_long rows levels = ap (λ (shifts : List ℕ). length shifts) (shifts_are rows levels) ∙ tail_long [] 0 rows levels

@@ -1,5 +1,5 @@
 -- The layout of sections by how far their rows are moved.
-use Rattle.std.specs.Prelude.{◌≡◌, ℕ, ◌+◌, ◌-◌, ◌*◌, ◌^◌, ◌≤◌, List, [], ◌∷◌, All, length, map, drop, Some, slice_get, slice_index}
+use Rattle.std.specs.Prelude.{◌≡◌, ℕ, ◌+◌, ◌-◌, ◌*◌, ◌^◌, ◌≤◌, List, [], ◌∷◌, All, map, drop, Some, slice_get, slice_index}
 use Rattle.item_contents.specs.declared.contents.Content.{Content}
 use Rattle.item_contents.specs.declared.contents.Content.TheVariants.{Run, Fill, Align, Org, Growing}
 use Rattle.asm_symbols.specs.SymbolMap.{SymbolMap}

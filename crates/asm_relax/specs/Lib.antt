@@ -9,3 +9,4 @@ pub mod Faults
 pub mod RangeChecks
 pub mod RowBounds
 pub mod Settling
+pub mod ItemValues

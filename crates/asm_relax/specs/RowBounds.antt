@@ -6,7 +6,7 @@ use Rattle.asm_frags.specs.SectionOf.{SectionOf}
 use Rattle.asm_levels.specs.declared.rows.RowSize.{RowSize}
 use Rattle.asm_levels.specs.declared.rows.Row.{Row}
 use Rattle.asm_levels.specs.Sizes.{most_bytes}
-use Rattle.asm_levels.specs.Standing.{AlignStands, OrgStands, NamesRows, RowStands}
+use Rattle.asm_levels.specs.Standing.{AlignStands, OrgStands, NamesRows}
 use Rattle.asm_levels.specs.Plans as levels
 use Rattle.asm_relax.specs.declared.plan_states.PlanState.{PlanState}
 use Rattle.asm_relax.specs.declared.plan_states.PlanState.TheVariants.{Fresh, LaidOut, Refused}

@@ -7,6 +7,7 @@ ghost use Rattle.asm_frags.specs.Addresses.{item_laid_at};
 ghost use Rattle.asm_frags.specs.KnownExtents.{extent_of};
 ghost use Rattle.asm_relax.specs.FieldValues.{DistancesLead};
 ghost use Rattle.asm_relax.specs.Final.{shift_in};
+ghost use Rattle.asm_relax.specs.ItemValues.{HoldTheirDistances, HoldWhereSettled, HaveRoom};
 ghost use Rattle.asm_relax.specs.Layout.{laid_by, laid_out, without_addresses, AreSized, AreWithin, HaveSizes, IsInRow};
 ghost use Rattle.asm_relax.specs.Placing.{placed_from, placed_section, shift_of};
 ghost use Rattle.asm_relax.specs.Settling.{LaidItem, LaidSections, settled_sections};
@@ -15,8 +16,13 @@ ghost use Rattle.asm_levels.specs.Needs.{need, tops};
 ghost use Rattle.level_ranks.specs.Ranks.{IsLayout};
 ghost use Rattle.asm_relax.specs.ItemRows.{rows_of, levels_of};
 
-use asm_levels::needs_stay_within_tops;
+use asm_expr::whole_stretches_cancel;
+use asm_levels::{
+    advances_hold_their_distance, groups_hold_their_number, needs_stay_within_tops,
+    short_jumps_hold_a_signed_byte,
+};
 use level_ranks::{layouts_are_reached, some_ranking};
+use row_distances::distances_are_values;
 
 /// Whatever the levels of rows, up to the highest, the items of a section stand one behind the other, from address 0 on, and have the sizes
 /// that they have there.
@@ -94,3 +100,28 @@ pub fn stretches_keep_distance()
 pub fn distances_lead_to_labels()
     ensures { DistancesLead }
 {}
+
+/// Whatever the levels of the rows, what a field in an item holds in the object is the distance of the
+/// item's row, and where the row has no distance, the field has no value. A jump counts its distance
+/// from its end, and its field begins before that.
+pub fn fields_hold_their_distances()
+    ensures levels { HoldTheirDistances }
+    ensures settled { HoldWhereSettled }
+{
+    whole_stretches_cancel();
+    distances_are_values();
+    layouts_are_reached();
+    needs_stay_within_tops();
+    some_ranking();
+}
+
+/// An item, the row of which needs no more than its level, has room at that level for the value that
+/// the object holds in it.
+pub fn items_have_room_for_their_values()
+    ensures { HaveRoom }
+{
+    fields_hold_their_distances();
+    short_jumps_hold_a_signed_byte();
+    groups_hold_their_number();
+    advances_hold_their_distance();
+}

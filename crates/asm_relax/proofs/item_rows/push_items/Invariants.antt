@@ -1,5 +1,5 @@
 -- The rows of the items so far stand last.
-use Rattle.std.proofs.Common.{◌≡◌, ◌+◌, ◌++◌, length, drop}
+use Rattle.std.proofs.Common.{◌≡◌, ◌++◌, length, drop}
 use Rattle.asm_relax.specs.ItemRows.{item_rows}
 use Rattle.asm_relax.specs.RowViews.{told_rows}
 use Rattle.asm_relax.specs.RowBounds.{AllFit}

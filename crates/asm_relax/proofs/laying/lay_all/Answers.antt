@@ -1,5 +1,5 @@
 -- The next section stands where its rows do.
-use Rattle.std.proofs.Common.{◌≡◌, ℕ, suc, ◌+◌, ◌<◌, List, Some, length, drop, ap, ◌∙◌, arith}
+use Rattle.std.proofs.Common.{◌≡◌, ℕ, suc, ◌+◌, ◌<◌, Some, length, drop, ap, ◌∙◌, arith}
 use Rattle.std.specs.Prelude.{slice_get}
 use Rattle.asm_frags.specs.Addresses.{changed_at}
 use Rattle.asm_relax.specs.ItemRows.{row_count}
