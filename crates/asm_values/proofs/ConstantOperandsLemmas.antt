@@ -1,7 +1,9 @@
 -- Operands of numbers alone are read, counted and named as their statement has it, and space of them is placed so.
-use Rattle.std.proofs.Common.{◌≡◌, ℕ, Bool, true, false, nat_le, List, [], ◌∷◌, ◌++◌, Option, None, Some, Result, Ok, Err, option_map, unwrap_or, is_ok, refl, sym, ap, ◌∙◌}
+use Rattle.std.proofs.Common.{◌≡◌, ℕ, Bool, true, false, nat_le, List, [], ◌∷◌, ◌++◌, Option, None, Some, Result, Ok, Err, option_map, unwrap_or, is_ok, map, length, refl, sym, ap, ◌∙◌, arith}
 use Rattle.std.specs.Option.{option_to_list}
+use Rattle.std.specs.Prelude.{◌==◌}
 use Rattle.std.proofs.lemmas.Bool.{false≢true}
+use Rattle.std.proofs.lemmas.Bool.Decides.{nat_tests}
 use Rattle.asm_base.specs.Tokens.{SpelledToken}
 use Rattle.asm_base.specs.Refusals.{◌>>=◌}
 use Rattle.asm_base.specs.declared.positions.Pos.{Pos}
@@ -67,6 +69,20 @@ none_left may all behind may_be is rest = record {
   counts = λ known. refl;
   names = none_nothing;
 }
+
+-- the next operand is empty
+pub none_said : {X : Type 0} (spelled_as : X → SpelledToken) (may : Bool) (all behind : List (List SpelledToken)) (operand : List X) → may ≡ true → true ≡ (length operand == 0)
+    → all ≡ map spelled_as operand ∷ behind → IsNextConstant may all behind None
+unfolding next_tree
+none_said spelled_as may all behind [] may_be empty is = record {
+  tree = None;
+  reads = ap (λ m. next_tree_if m all) may_be ∙ ap next_tree is;
+  counts = λ known. refl;
+  names = none_nothing;
+}
+none_said spelled_as may all behind (token ∷ rest) may_be empty is =
+    let some : (length (token ∷ rest) == 0) ≡ false = grind (arith, nat_tests) in
+    absurd (false≢true (sym some ∙ sym empty))
 
 -- nothing is no number
 none_counts : (value : ℕ) → IsConstant [] value → false ≡ true

@@ -8,11 +8,13 @@ use Rattle.asm_expr.specs.Knowledge.{Knowledge}
 use Rattle.asm_expr.specs.Trees.{Tree}
 use Rattle.asm_expr.specs.Forms.{Form}
 use Rattle.item_contents.specs.declared.contents.Content.{Content}
+use Rattle.item_contents.specs.declared.kinds.Growth.{Growth}
 use Rattle.asm_frags.specs.declared.faults.FragCause.{FragCause}
 use Rattle.asm_frags.specs.declared.fields.FieldSize.{FieldSize}
 use Rattle.asm_frags.specs.Sections.{first_sections, put_into}
 use Rattle.asm_frags.specs.declared.roles.FieldRole.{FieldRole}
-use Rattle.asm_frags.specs.Writing.{LooseSection, new_item, bytes_put, field_put, item_put}
+use Rattle.asm_frags.specs.declared.roles.Suffix.{Suffix}
+use Rattle.asm_frags.specs.Writing.{LooseSection, new_item, bytes_put, field_put, item_put, growing_put}
 use Rattle.asm_symbols.specs.declared.entries.Spot.{Spot}
 use Rattle.asm_values.specs.declared.stacks.Entered.{Entered}
 use Rattle.asm_base.specs.Refusals.{◌>>=◌}
@@ -85,6 +87,10 @@ put_field_into pos number size role form placed = put_section (field_put pos num
 unfoldable pub push_into : Pos → ℕ → Content → Placed → Result Placed PlaceCause
 push_into pos number content placed = put_section (item_put (new_item pos content)) number placed
 
+-- an item last in the section of this number that grows with the value of this form
+unfoldable pub put_growing_into : Pos → ℕ → Growth → Suffix → Form → Placed → Result Placed PlaceCause
+put_growing_into pos number kind suffix form placed = put_section (growing_put pos number kind suffix form) number placed
+
 -- plain bytes last in the current section
 abbrev pub put_bytes : Pos → List ℕ → Placed → Result Placed PlaceCause
 put_bytes pos bytes placed = put_bytes_into pos placed.current bytes placed
@@ -96,3 +102,7 @@ put_field pos size role form placed = put_field_into pos placed.current size rol
 -- an item last in the current section
 abbrev pub push_item : Pos → Content → Placed → Result Placed PlaceCause
 push_item pos content placed = push_into pos placed.current content placed
+
+-- an item last in the current section that grows with the value of this form
+abbrev pub put_growing : Pos → Growth → Suffix → Form → Placed → Result Placed PlaceCause
+put_growing pos kind suffix form placed = put_growing_into pos placed.current kind suffix form placed

@@ -7,11 +7,11 @@ ghost use Rattle.asm_values.specs.DataItems.{cut_notes};
 use crate::stacks::Entered;
 use asm_base::{Note, Noted, Notes, Pos};
 use asm_expr::Linear;
-use asm_frags::{FieldRole, FieldSize, Frag, FragFault, Sections};
+use asm_frags::{FieldRole, FieldSize, Frag, FragFault, Sections, Suffix};
 use asm_operands::{PlaceCause, PlaceFault};
 use asm_symbols::Spot;
 use asm_uses::{SymbolUses, View, here_name, spot_at};
-use item_contents::Content;
+use item_contents::{Content, Growth};
 use std::alloc::{AllocError, Global};
 
 /// What is placed so far.
@@ -60,7 +60,7 @@ impl Assembler {
     ghost use Rattle.asm_base.specs.declared.refusals.Refusal.TheVariants.{NoMemory};
     ghost use Rattle.asm_base.specs.Refusals.{Gives};
     ghost use Rattle.asm_values.specs.DataItems.{cut_notes};
-    ghost use Rattle.asm_values.specs.State.{nothing_placed, unless_dot, with_notes, here, known_here, put_bytes_into, put_bytes, put_field, push_into, push_item};
+    ghost use Rattle.asm_values.specs.State.{nothing_placed, unless_dot, with_notes, here, known_here, put_bytes_into, put_bytes, put_field, push_into, push_item, put_growing};
     ghost use Rattle.asm_uses.specs.KnownIn.{known_in};
     ghost use Rattle.asm_values.specs.PlacedBy.{placed_by, PlacesBy};
 
@@ -212,11 +212,34 @@ impl Assembler {
     }
 
     /// Puts an item last in the current section.
-    pub(crate) fn push_item(&mut self, pos: Pos, content: Content) -> Result<(), PlaceFault>
+    pub fn push_item(&mut self, pos: Pos, content: Content) -> Result<(), PlaceFault>
         ensures placed { PlacesBy (push_item pos content) self.old self.new result }
         ensures kept { self.new.notes ≡ self.old.notes }
     {
         self.push_into(pos, self.current, content)
+    }
+
+    /// Puts an item last in the current section that grows with the value of this form. That of a jump
+    /// counts from its end, and is less the symbol `own_place`; it alone may have a suffix.
+    /// `BadSection` comes where there is no section too.
+    #[tactic(auto, unfolding(crate::specs::State::put_growing_into))]
+    pub fn push_growing(
+        &mut self,
+        pos: Pos,
+        kind: Growth,
+        suffix: Suffix,
+        form: Linear,
+    ) -> Result<(), PlaceFault>
+        ensures placed { PlacesBy (put_growing pos kind suffix form) self.old self.new result }
+        ensures kept { self.new.notes ≡ self.old.notes }
+    {
+        if (self.current as usize) < self.sections.len() {
+            self.sections
+                .push_growing(self.current, pos, kind, suffix, form)
+                .map_err(FragFault::raise)
+        } else {
+            Err(PlaceFault::Fault(PlaceCause::BadSection))
+        }
     }
 
     /// Notes that a value is cut, so many times, unless no warning is to be made.

@@ -1,11 +1,19 @@
-//! What holds of the symbols that a statement names.
+//! What holds of the symbols that a statement names, and of the forms of sums.
 
-ghost use Rattle.std.specs.Prelude.{◌≡◌, ℕ, List, Some};
+ghost use Rattle.std.specs.Prelude.{◌≡◌, ℕ, List, Some, Ok};
 ghost use Rattle.asm_expr.specs.declared.naming.Name.TheVariants.{Plain};
 ghost use Rattle.asm_symbols.specs.declared.entries.Spot.{Spot};
 ghost use Rattle.asm_symbols.specs.SymbolMap.{SymbolMap, names, index_of};
 ghost use Rattle.asm_uses.specs.Places.{known_at};
 ghost use Rattle.asm_uses.specs.PlainSums.{IsElsewhere};
+ghost use Rattle.asm_operands.specs.declared.sums.Sum.{Sum as TheSum};
+ghost use Rattle.asm_operands.specs.Sums.{sum_tree};
+ghost use Rattle.asm_operands.specs.Expressions.{form_in};
+ghost use Rattle.asm_uses.specs.declared.places.View.{View as TheView};
+ghost use Rattle.asm_uses.specs.declared.sums.SymbolSum.{SymbolSum as TheSymbolSum};
+ghost use Rattle.asm_uses.specs.KnownIn.{known_in};
+ghost use Rattle.asm_uses.specs.SumForms.{sum_form};
+ghost use Rattle.asm_uses.specs.SymbolSums.{IsNamed};
 
 /// A symbol that has a text as its name is not the place of the statement.
 #[tactic(auto, using(crate::proofs::PlainLemmas::text_elsewhere))]
@@ -13,4 +21,12 @@ pub fn texts_are_no_place()
     ensures { (map : SymbolMap) (spot : Spot) (text : List ℕ) (index : ℕ)
         → index_of (Plain text) (names map.symbols) ≡ Some index
         → IsElsewhere map (known_at map spot) index }
+{}
+
+/// The form of a sum, at the place of a statement, is that of its tree.
+#[tactic(auto, using(crate::proofs::SumLemmas::linear_sum))]
+pub fn sums_have_the_forms_of_trees()
+    ensures { (view : TheView) (sum : TheSum) (named : TheSymbolSum)
+        → IsNamed view.symbols.now sum named
+        → form_in (known_in view) (sum_tree sum) ≡ Ok (sum_form (known_in view) named) }
 {}

@@ -4,12 +4,12 @@
 mod assemblers;
 mod assignments;
 mod constant_data;
-mod constant_operands;
 mod data_items;
 mod few_sums;
 mod known_operands;
 mod laws;
 mod long_sums;
+mod operand_constants;
 mod sizes;
 mod spaces;
 mod stacks;
@@ -17,5 +17,6 @@ mod texts;
 
 pub use assemblers::{Assembler, Placed};
 pub use known_operands::KnownOperands;
-pub use laws::texts_are_no_place;
+pub use laws::{sums_have_the_forms_of_trees, texts_are_no_place};
+pub use operand_constants::constant_operands;
 pub use stacks::Entered;

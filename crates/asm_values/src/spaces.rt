@@ -1,7 +1,7 @@
 //! Space (GNU as manual, ".zero", ".skip", ".space", ".fill"), and the alignments of space for symbols.
 
 use crate::assemblers::Assembler;
-use crate::constant_operands::constant_operands;
+use crate::operand_constants::constant_operands;
 use asm_base::{Pos, Token};
 use asm_operands::{Operands, PlaceFault};
 use asm_uses::Naming;
@@ -17,8 +17,8 @@ impl Assembler {
     ghost use Rattle.asm_values.specs.Data.{with_named, place_zero, place_skip, place_fill};
     ghost use Rattle.asm_values.specs.PlacedBy.{placed_by, PlacesBy};
 
-    /// Puts space, and then allows or refuses the names of its operands.
-    fn put_space(&mut self, pos: Pos, naming: Naming, item: Content) -> Result<(), PlaceFault>
+    /// Puts an item, and then allows or refuses the names of its operands.
+    pub fn push_named(&mut self, pos: Pos, naming: Naming, item: Content) -> Result<(), PlaceFault>
         ensures placed { PlacesBy (λ placed. with_named pos naming item placed)
             self.old self.new result }
         ensures kept { self.new.notes ≡ self.old.notes }
@@ -62,7 +62,7 @@ impl Assembler {
     {
         let given = self.known_operands(pos, 1, &mut Operands::new(tokens))?;
         let item = space_of(given.values.first, 0)?;
-        self.put_space(pos, given.naming, item)
+        self.push_named(pos, given.naming, item)
     }
 
     /// `.skip`, `.space` of any operands.
@@ -75,7 +75,7 @@ impl Assembler {
     {
         let given = self.known_operands(pos, 2, &mut Operands::new(tokens))?;
         let item = space_of(given.values.first, given.values.second.unwrap_or(0))?;
-        self.put_space(pos, given.naming, item)
+        self.push_named(pos, given.naming, item)
     }
 
     /// `.fill` of any operands.
@@ -89,7 +89,7 @@ impl Assembler {
         let given = self.known_operands(pos, 3, &mut Operands::new(tokens))?;
         let size = unit_size(given.values.second)?;
         let item = units_of(given.values.first, size, given.values.third.unwrap_or(0))?;
-        self.put_space(pos, given.naming, item)
+        self.push_named(pos, given.naming, item)
     }
 
     /// `.zero`: so many zeros; at once where all operands are numbers.

@@ -13,7 +13,7 @@ fn first_constant(operands: &mut Operands) -> Option<u64>
     constant_operand(operands.next()?)
 }
 
-/// The value of the next operand, which may be missing, where one may be there.
+/// The value of the next operand, which may be missing, or empty, where one may be there.
 #[inline(always)]
 fn next_constant_if(may: bool, operands: &mut Operands) -> Option<Option<u64>>
     ensures { FindsNext may (operands_left operands.old) (operands_left operands.new) result }
@@ -23,12 +23,17 @@ fn next_constant_if(may: bool, operands: &mut Operands) -> Option<Option<u64>>
     }
     match operands.next() {
         None => Some(None),
-        Some(operand) => Some(Some(constant_operand(operand)?)),
+        Some(operand) => {
+            if operand.is_empty() {
+                return Some(None);
+            }
+            Some(Some(constant_operand(operand)?))
+        }
     }
 }
 
 /// The values of operands that are all numbers, or none where one of them is anything else.
-pub(crate) fn constant_operands(most: usize, operands: Operands) -> Option<UpToThree<u64>>
+pub fn constant_operands(most: usize, operands: Operands) -> Option<UpToThree<u64>>
     ensures { FindsConstants most (operands_left operands.entry) result }
 {
     let mut rest = operands;

@@ -1,6 +1,6 @@
 -- All operands are numbers.
 use Rattle.asm_values.proofs.ConstantOperandsLemmas.{all_so}
-use Rattle.asm_values.proofs.constant_operands.constant_operands.Goals as goal
+use Rattle.asm_values.proofs.operand_constants.constant_operands.Goals as goal
 
 pub returns-in-None : goal.returns-in-None
 returns-in-None c =
