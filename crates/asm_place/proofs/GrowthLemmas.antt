@@ -1,20 +1,23 @@
 -- Sections that are continued: by nothing, by bytes, a field or an item; and the list by a section.
-use Rattle.std.proofs.Common.{◌≡◌, ◌≢◌, ℕ, zero, suc, ◌≤◌, ◌⊎◌, inl, inr, Bool, true, false, cond, List, [], ◌∷◌, ◌++◌, All, codes, length, replicate, Option, Some, set, slice_get, refl, sym, ap, subst, ◌∙◌, arith, append-nil, append_assoc, length-append}
+use Rattle.std.proofs.Common.{◌≡◌, ◌≢◌, ℕ, zero, suc, ◌+◌, ◌≤◌, ◌⊎◌, inl, inr, Bool, true, false, cond, List, [], ◌∷◌, ◌++◌, All, codes, length, replicate, Option, Some, set, slice_get, refl, sym, ap, subst, ◌∙◌, arith, append-nil, append_assoc, length-append}
 use Rattle.std.proofs.lemmas.Option.{none-some, same_Some}
 use Rattle.std.proofs.lemmas.List.{length-replicate}
 use Rattle.std.proofs.lemmas.List.Elements.{All-from_recursion, All-nil, All-cons, All-head, All-tail, All-append, All-push, All-set, All-weaker}
 use Rattle.asm_base.specs.declared.positions.Pos.{Pos}
 use Rattle.asm_expr.specs.Forms.{Form}
-use Rattle.item_contents.specs.declared.contents.Content.TheVariants.{Run}
+use Rattle.item_contents.specs.declared.contents.Content.TheVariants.{Run, Growing}
+use Rattle.item_contents.specs.declared.kinds.Growth.{Growth}
 use Rattle.asm_frags.specs.declared.fields.Field.{Field}
 use Rattle.asm_frags.specs.declared.fields.FieldSize.{FieldSize}
+use Rattle.asm_frags.specs.declared.fields.FieldSize.TheVariants.{Four}
 use Rattle.asm_frags.specs.declared.roles.FieldRole.{FieldRole}
-use Rattle.asm_frags.specs.Fields.{width}
+use Rattle.asm_frags.specs.declared.roles.Suffix.{Suffix}
+use Rattle.asm_frags.specs.Fields.{width, growth_role}
 use Rattle.asm_frags.specs.PlainBytes.{field_end, FieldsStand}
 use Rattle.asm_frags.specs.declared.flags.SectionFlags.{SectionFlags}
 use Rattle.asm_frags.specs.SectionOf.{new_section}
 use Rattle.asm_frags.specs.Sections.{section_flags, first_sections}
-use Rattle.asm_frags.specs.Writing.{LooseItem, LooseSection, ends_in_run, new_item, item_behind, with_item, with_run, with_bytes, with_field}
+use Rattle.asm_frags.specs.Writing.{LooseItem, LooseSection, ends_in_run, new_item, item_behind, with_item, with_run, with_bytes, with_field, with_growing}
 use Rattle.asm_values.specs.State.{nothing_placed}
 use Rattle.asm_place.specs.Instructions.{with_more, IsContinued, Grows, IsWithin, AreWithin}
 use Rattle.asm_place.proofs.FieldOrder.{stand_more, stand_both, stand_last}
@@ -179,6 +182,41 @@ item_added item section = record {
     items = All-push (λ (item : LooseItem). item.offset ≤ length section.bytes) section.items (item_behind (length section.bytes) item) within.items (omega arith);
   };
 }
+
+-- an item that grows, and its field in it
+abbrev growing_field : Pos → ℕ → Growth → Suffix → Form → LooseSection → Field
+growing_field pos number kind suffix form section = record {
+  pos = pos;
+  item = length section.items + 1;
+  offset = length section.bytes;
+  section = number;
+  size = Four;
+  role = growth_role kind suffix;
+  in_item = true;
+  form = form;
+}
+
+pub growing_added : (pos : Pos) (number : ℕ) (kind : Growth) (suffix : Suffix) (form : Form) (section : LooseSection)
+    → IsAdded section (with_growing pos number kind suffix form section)
+growing_added pos number kind suffix form section =
+    let item = item_behind (length section.bytes) (new_item pos (Growing (record { kind = kind; field = length section.fields }))) in
+    let field = growing_field pos number kind suffix form section in
+    record {
+      continued = record {
+        bytes = [];
+        fields = field ∷ [];
+        items = item ∷ [];
+        there = ap Some (same_holding section _ _ _ _ _ _ (sym (append-nil section.bytes)) refl refl);
+        fields_behind = All-cons (λ (field : Field). length section.bytes ≤ field.offset) _ [] (omega arith) (All-nil _);
+        items_behind = All-cons (λ (item : LooseItem). length section.bytes ≤ item.offset) _ [] (omega arith) (All-nil _);
+      };
+      within = λ within. record {
+        fields = All-push (λ (field : Field). field_end field ≤ length section.bytes) section.fields field within.fields (omega arith);
+        apart = stand_both section.bytes 0 (length section.bytes) section.fields (field ∷ []) (omega arith) within.fields within.apart
+            (λ at before. subst (λ bytes. FieldsStand bytes at (field ∷ [])) (append-nil section.bytes) (stand_last section.bytes field refl at before));
+        items = All-push (λ (item : LooseItem). item.offset ≤ length section.bytes) section.items item within.items (omega arith);
+      };
+    }
 
 -- a run, where none is last
 run_by : (test : Bool) (pos : Pos) (section : LooseSection) → IsAdded section (cond test section (with_item (new_item pos Run) section))

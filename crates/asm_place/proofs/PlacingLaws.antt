@@ -22,8 +22,13 @@ use Rattle.item_contents.specs.ItemParts.{zeros_up_to}
 use Rattle.item_contents.specs.Zeros.{is_zero}
 use Rattle.item_contents.specs.Contents.{is_known_zeros}
 use Rattle.asm_frags.specs.declared.roles.FieldRole.{FieldRole}
+use Rattle.asm_frags.specs.declared.roles.Suffix.{Suffix}
+use Rattle.asm_frags.specs.declared.roles.Suffix.TheVariants.{Absent}
+use Rattle.item_bytes.specs.Leb128.{least_leb128}
+use Rattle.item_contents.specs.declared.kinds.Growth.{Growth}
+use Rattle.item_contents.specs.declared.kinds.Growth.TheVariants.{Leb128}
 use Rattle.asm_frags.specs.Fields.{width, data_role}
-use Rattle.asm_frags.specs.Writing.{LooseSection, new_item, takes_zeros_alone, with_item, with_bytes, with_field, bytes_put, field_put, item_put}
+use Rattle.asm_frags.specs.Writing.{LooseSection, new_item, takes_zeros_alone, with_item, with_bytes, with_field, with_growing, bytes_put, field_put, item_put, growing_put}
 use Rattle.asm_frags.specs.Sections.{section_flags, entered_there, entered_by, with_section_or_fault, put_into_there}
 use Rattle.asm_symbols.specs.declared.entries.Definition.TheVariants.{Label, Space, Common}
 use Rattle.asm_symbols.specs.Defining.{defined}
@@ -31,18 +36,20 @@ use Rattle.asm_symbols.specs.LeadsBack.{assigned}
 use Rattle.asm_words.specs.declared.directives.Directive.{Directive}
 use Rattle.asm_words.specs.declared.directives.Directive.TheVariants as directive
 use Rattle.asm_words.specs.declared.directives.SymbolAttribute.{SymbolAttribute}
+use Rattle.asm_words.specs.declared.directives.AlignedBy.{AlignedBy}
+use Rattle.asm_words.specs.Paddings.{align_of, org_of}
 use Rattle.asm_place.specs.declared.section_changes.Header.{Header}
 use Rattle.asm_uses.specs.declared.tables.Naming.{Naming}
 use Rattle.asm_values.specs.declared.stacks.Entered.{Entered}
 use Rattle.asm_base.specs.Refusals.{◌>>=◌}
 use Rattle.asm_operands.specs.LayerFaults.{of_sections}
 use Rattle.asm_operands.specs.Operands.{is_name, names_symbol, name_of, operands_of, is_dot, begins_with_place, symbol_name, each, joined_strings, needed, is_assignment, begins_with_dot, is_label}
-use Rattle.asm_operands.specs.Expressions.{expression_of, form_in, up_to_three_listed, up_to_three_trees, up_to_three_forms, up_to_three_constants}
+use Rattle.asm_operands.specs.Expressions.{expression_of, form_in, constant_in, up_to_three_listed, up_to_three_trees, up_to_three_forms, up_to_three_constants}
 use Rattle.asm_values.specs.KnownOperands.{KnownOperands, known_operands}
 use Rattle.asm_uses.specs.Places.{uses_place, spot_at, end_naming}
-use Rattle.asm_values.specs.State.{Placed, with_table, with_notes, with_names, here, known_here, put_section, put_bytes_into, put_field_into, push_into, unless_dot}
+use Rattle.asm_values.specs.State.{Placed, with_table, with_notes, with_names, here, known_here, put_section, put_bytes_into, put_field_into, put_growing_into, push_into, unless_dot}
 use Rattle.asm_values.specs.DataItems.{put_by, put_forms, is_cut, cut_notes}
-use Rattle.asm_operands.specs.Results.{all_steps}
+use Rattle.asm_operands.specs.Results.{all_steps, if_some}
 use Rattle.asm_words.specs.SectionWords.{SectionWords, section_words}
 use Rattle.asm_place.specs.SectionChanges.{with_current, option_trees, numbered, entered_as, enter_words, place_section, entered_now, place_pushed, back_to, popped, entry_size_in, header_by}
 use Rattle.asm_operands.specs.NamedTrees.{plain_of, NamedTree, named_tree}
@@ -55,6 +62,9 @@ use Rattle.asm_place.specs.Commons.{bss, with_space, with_common, is_said_local,
 use Rattle.asm_words.specs.Spaces.{space_size, space_of, units_of, unit_size, log_of}
 use Rattle.asm_place.specs.Idents.{items_in, comment_bytes, comment_header, place_ident, place_file, one_string, file_name}
 use Rattle.asm_values.specs.Data.{put_data, place_data, place_strings, with_named, place_zero, place_skip, place_fill}
+use Rattle.asm_items.specs.Alignments.{is_code, place_align}
+use Rattle.asm_items.specs.Orgs.{known_origin, origin_by, place_org}
+use Rattle.asm_items.specs.Leb128Numbers.{put_number_by, put_numbers, put_leb128, some_expressions, place_leb128}
 use Rattle.asm_place.specs.Placing.{bare, initial_number, place_by, place_found, place_directive, place_body, place_label, place_tokens, place_labelled, has_wide_label}
 use Rattle.asm_uses.specs.Labels.{label_symbol}
 use Rattle.asm_expr.specs.Trees.{Tree}
@@ -69,7 +79,7 @@ use Rattle.asm_place.specs.Sources.{pos_at, located, place, place_all}
 use Rattle.asm_place.specs.declared.place_faults.FaultAt.{FaultAt}
 use Rattle.asm_place.specs.Faults.{is_file_too_large, is_too_large, statement_fault}
 use Rattle.asm_place.specs.Instructions.{Grows, AreWithin}
-use Rattle.asm_place.proofs.GrowthLemmas.{Adds, IsAdded, adds_nothing, adds_to, adds_section, item_added, bytes_added, field_added}
+use Rattle.asm_place.proofs.GrowthLemmas.{Adds, IsAdded, adds_nothing, adds_to, adds_section, item_added, bytes_added, field_added, growing_added}
 use Rattle.asm_place.proofs.Walks.{Fine, Steps, made, refused, step, after, grown, still, either, on}
 use Rattle.asm_uses.specs.Tables.{changed_by, change_named, file_named, naming_of, allowed}
 
@@ -109,6 +119,14 @@ push_steps pos number item placed =
     put_steps (item_put (new_item pos item))
     (λ section. either (takes_zeros_alone section && not (is_known_zeros item)) (refused _)
     (made (with_item (new_item pos item) section) (item_added (new_item pos item) section))) number placed
+
+growing_steps : (pos : Pos) (number : ℕ) (kind : Growth) (suffix : Suffix) (form : Form) (placed : Placed)
+    → Steps placed (put_growing_into pos number kind suffix form placed)
+unfolding put_growing_into
+growing_steps pos number kind suffix form placed =
+    put_steps (growing_put pos number kind suffix form)
+    (λ section. either (takes_zeros_alone section) (refused _)
+    (made (with_growing pos number kind suffix form section) (growing_added pos number kind suffix form section))) number placed
 
 -- a section that is entered
 new_adds : (sections : List LooseSection) (name : List ℕ) (header : Header) (test : Bool) → let new = new_section name (section_flags header.flags) header.kind header.entry_size in
@@ -227,6 +245,48 @@ fill_steps pos tokens placed =
     (after (unit_size given.values.second) (λ size. after (units_of given.values.first size (unwrap_or given.values.third 0))
     (λ item. item_steps pos given.naming item given.placed))))
 
+-- alignments, places and numbers in groups of seven bits
+align_steps : (pos : Pos) (by : AlignedBy) (tokens : List SpelledToken) (placed : Placed) → Steps placed (place_align pos by tokens placed)
+unfolding place_align
+align_steps pos by tokens placed =
+    step (known_steps pos placed 3 (operands_of tokens))
+    (λ given grows. from placed given.placed grows
+    (after (align_of by (is_code given.placed.sections given.placed.current) given.values) (λ item. item_steps pos given.naming item given.placed)))
+
+org_steps : (pos : Pos) (tokens : List SpelledToken) (placed : Placed) → Steps placed (place_org pos tokens placed)
+unfolding place_org
+org_steps pos tokens placed =
+    after (up_to_three_trees 2 (operands_of tokens))
+    (λ trees. let named = with_names pos (up_to_three_listed trees) placed in
+    after (up_to_three_forms (known_here named) trees)
+    (λ forms. after (known_origin (origin_by named forms.first.terms))
+    (λ origin. after (if_some constant_in forms.second)
+    (λ fill. after (org_of origin.from origin.offset forms.first.constant (unwrap_or fill 0))
+    (λ item. item_steps pos (naming_of (up_to_three_listed trees) placed.table) item named)))))
+
+number_steps : (pos : Pos) (signed : Bool) (terms : List Term) (form : Form) (placed : Placed) → Steps placed (put_number_by terms pos signed form placed)
+number_steps pos signed [] form placed = bytes_steps pos placed.current (least_leb128 signed form.constant) placed
+number_steps pos signed (term ∷ terms) form placed = growing_steps pos placed.current (Leb128 signed) Absent form placed
+
+numbers_steps : (pos : Pos) (signed : Bool) (forms : List Form) (placed : Placed) → Steps placed (put_numbers pos signed forms placed)
+unfolding put_numbers all_steps
+numbers_steps pos signed [] placed = made placed (still placed)
+numbers_steps pos signed (form ∷ forms) placed = grown placed (number_steps pos signed form.terms form placed) (λ put. numbers_steps pos signed forms put)
+
+put_leb128_steps : (pos : Pos) (signed : Bool) (naming : Naming) (forms : List Form) (placed : Placed) → Steps placed (put_leb128 pos signed naming forms placed)
+unfolding put_leb128
+put_leb128_steps pos signed naming forms placed =
+    grown placed (numbers_steps pos signed forms placed)
+    (λ put. after (end_naming pos naming (here placed) (list_any (uses_place (known_here placed).place) forms) put.table)
+    (λ table. made (with_table put table) (still put)))
+
+leb128_steps : (pos : Pos) (signed : Bool) (tokens : List SpelledToken) (placed : Placed) → Steps placed (place_leb128 pos signed tokens placed)
+unfolding place_leb128
+leb128_steps pos signed tokens placed =
+    after (some_expressions (operands_of tokens))
+    (λ trees. after (each (form_in (known_here (with_names pos trees placed))) trees)
+    (λ forms. put_leb128_steps pos signed (naming_of trees placed.table) forms (with_names pos trees placed)))
+
 -- symbols
 dot_steps : (dot : Bool) (before placed : Placed) → Adds before.sections placed.sections → Steps before (unless_dot dot placed)
 dot_steps true before placed grows = refused _
@@ -343,9 +403,12 @@ by_steps : (found : Directive) (pos : Pos) (tokens : List SpelledToken) (placed 
 unfolding place_by
 by_steps (directive.Data size) pos tokens placed = data_steps pos size tokens placed
 by_steps (directive.Strings ended) pos tokens placed = strings_steps pos ended tokens placed
+by_steps (directive.Leb128 signed) pos tokens placed = leb128_steps pos signed tokens placed
 by_steps directive.Zero pos tokens placed = zero_steps pos tokens placed
 by_steps directive.Skip pos tokens placed = skip_steps pos tokens placed
 by_steps directive.Fill pos tokens placed = fill_steps pos tokens placed
+by_steps (directive.Align by) pos tokens placed = align_steps pos by tokens placed
+by_steps directive.Org pos tokens placed = org_steps pos tokens placed
 by_steps (directive.Enter initial) pos tokens placed = bare_steps tokens placed (Ok (with_current (initial_number initial) placed)) (made _ (still placed))
 by_steps directive.Section pos tokens placed = section_steps pos tokens placed
 by_steps directive.PushSection pos tokens placed = pushed_steps pos tokens placed

@@ -25,6 +25,9 @@ use Rattle.asm_place.specs.Idents.{place_ident, place_file}
 use Rattle.asm_place.specs.Coding.{place_instruction}
 use Rattle.asm_words.specs.Directives.{directive_of}
 use Rattle.asm_uses.specs.Labels.{label_symbol}
+use Rattle.asm_items.specs.Alignments.{place_align}
+use Rattle.asm_items.specs.Orgs.{place_org}
+use Rattle.asm_items.specs.Leb128Numbers.{place_leb128}
 use Rattle.asm_values.specs.Data.{place_data, place_strings, place_zero, place_skip, place_fill}
 
 -- a directive that stands alone
@@ -42,9 +45,12 @@ initial_number Bss = 2
 unfoldable pub place_by : Directive → Pos → List SpelledToken → Placed → Result Placed PlaceCause
 place_by (directive.Data size) pos tokens placed = place_data pos size tokens placed
 place_by (directive.Strings ended) pos tokens placed = place_strings pos ended tokens placed
+place_by (directive.Leb128 signed) pos tokens placed = place_leb128 pos signed tokens placed
 place_by directive.Zero pos tokens placed = place_zero pos tokens placed
 place_by directive.Skip pos tokens placed = place_skip pos tokens placed
 place_by directive.Fill pos tokens placed = place_fill pos tokens placed
+place_by (directive.Align by) pos tokens placed = place_align pos by tokens placed
+place_by directive.Org pos tokens placed = place_org pos tokens placed
 place_by (directive.Enter initial) pos tokens placed = bare tokens (Ok (with_current (initial_number initial) placed))
 place_by directive.Section pos tokens placed = place_section pos tokens placed
 place_by directive.PushSection pos tokens placed = place_pushed pos tokens placed

@@ -14,6 +14,7 @@ use crate::instructions::place_instruction;
 use crate::section_changes::{place_popped, place_pushed, place_section, set_current};
 use crate::symbol_words::{place_said, place_type};
 use asm_base::{Pos, Token};
+use asm_items::{place_align, place_leb128, place_org};
 use asm_operands::{
     PlaceCause, PlaceFault, begins_assignment, begins_with_dot, begins_with_label, is_dot, is_name,
     is_number, names_symbol,
@@ -85,9 +86,12 @@ fn place_by(
     match directive {
         Directive::Data(size) => assembler.place_data(pos, size, tokens),
         Directive::Strings { ended } => assembler.place_strings(pos, ended, tokens),
+        Directive::Leb128 { signed } => place_leb128(assembler, pos, signed, tokens),
         Directive::Zero => assembler.place_zero(pos, tokens),
         Directive::Skip => assembler.place_skip(pos, tokens),
         Directive::Fill => assembler.place_fill(pos, tokens),
+        Directive::Align(by) => place_align(assembler, pos, by, tokens),
+        Directive::Org => place_org(assembler, pos, tokens),
         Directive::Enter(initial) => place_change(assembler, initial_number(initial), tokens),
         Directive::Section => place_section(assembler, pos, tokens),
         Directive::PushSection => place_pushed(assembler, pos, tokens),
