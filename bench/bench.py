@@ -110,6 +110,19 @@ def fills() -> Iterator[str]:
         yield f"\t.zero {size}\n" if value < 64 else f"\t.fill {(size + 3) // 4}, 4, {value}\n"
 
 
+def alignments() -> Iterator[str]:
+    """Code that is aligned as gcc aligns loops and functions."""
+    yield "\t.text\n"
+    while True:
+        yield "\tret\n\t.p2align 4\n\tnop\n\t.p2align 4,,10\n\t.p2align 3\n"
+
+
+def leb128() -> Iterator[str]:
+    """Distances in groups of seven bits over space that ends in an alignment."""
+    for n in itertools.count():
+        yield f".LB{n}:\n\t.zero {n % 200}\n\t.p2align 3\n.LE{n}:\t.uleb128 .LE{n}-.LB{n}\n"
+
+
 def sections() -> Iterator[str]:
     """Sections of three lines each."""
     for n in itertools.count():
@@ -146,7 +159,8 @@ SOURCES_OF_TEXT: list[Callable[[], Iterator[str]]] = [nops, byte_lists, expressi
 SIZES_IN_MIB = [1, 4, 16]
 SIZES_IN_LINES = [10_000, 100_000, 1_000_000]
 SOURCES_OF_LINES: list[tuple[Callable[[], Iterator[str]], list[int]]] = [
-    (code, SIZES_IN_LINES), (data, SIZES_IN_LINES), (relocations, SIZES_IN_LINES), (distances, [100_000]), (fills, [100_000]), (sections, [60_000]),
+    (code, SIZES_IN_LINES), (data, SIZES_IN_LINES), (relocations, SIZES_IN_LINES), (distances, [100_000]), (fills, [100_000]), (alignments, [100_000]),
+    (leb128, [64_000]), (sections, [60_000]),
     (chain, [20_000]), (chain_back, [20_000]), (sums, [10_000]), (space, [16]),
 ]
 

@@ -1,5 +1,6 @@
 #!/usr/bin/env python3
-"""Compares the objects of the built assembler with those of GNU as on random sources of data, sections, symbols and relocations.
+"""Compares the objects of the built assembler with those of GNU as on random sources of data, alignments, sections, symbols and
+relocations.
 
     checks/compare.py --ours build/as [--gnu /usr/bin/as] [--count 1000] [--seed 1] [--keep DIR]
 
@@ -14,6 +15,7 @@ import argparse
 import os
 import pathlib
 import random
+import re
 import struct
 import subprocess
 import sys
@@ -27,7 +29,7 @@ SHOWN_SOURCES, SHOWN_LINES = 5, 12
 # ---- What an object says (gABI, chapter 4; psABI for AMD64, chapter 4)
 
 NOTHING, SYMTAB, STRTAB, RELA, NOBITS = 0, 2, 3, 4, 8
-MERGE = 0x10
+EXECINSTR, MERGE = 4, 0x10
 HOMES = {0: "undefined", 0xfff1: "absolute", 0xfff2: "common"}
 BINDINGS = {0: "local", 1: "global", 2: "weak"}
 TYPES = {0: "notype", 1: "object", 2: "function", 3: "section", 4: "file", 5: "common", 6: "tls"}
@@ -104,6 +106,15 @@ def target(symbol: Symbol, addend: int) -> str:
     return f"{symbol.home} at {(symbol.value + addend) % (1 << 64):#x}{', +0x0' if symbol.is_merged else ''}"
 
 
+# A no-operation of several bytes, as either program pads code with (Intel SDM, volume 2, "NOP").
+NO_OPERATION = re.compile(rb"\x66*\x2e?\x0f\x1f(?:\x00|\x40\x00|\x44\x00\x00|\x80\x00{4}|\x84\x00{5})|\x66+\x90", re.DOTALL)
+
+
+def in_single_bytes(code: bytes) -> bytes:
+    """The code with each no-operation of several bytes as so many of one byte."""
+    return NO_OPERATION.sub(lambda found: b"\x90" * len(found[0]), code)
+
+
 def facts(data: bytes) -> Counter[str]:
     """What an object says, a line each. Left out are the order and the places of things in the file, the symbols of sections, local symbols that begin with
     `.L` or are numeric, and undefined symbols that no relocation names: GNU as lists those that a directive or an expression names."""
@@ -120,8 +131,9 @@ def facts(data: bytes) -> Counter[str]:
         elif header.kind not in (NOTHING, SYMTAB, STRTAB) and header.name != ".note.gnu.property":
             told[f"section {header.name}: type {header.kind}, flags {header.flags:#x}, entry size {header.entry_size}, alignment {header.alignment}, "
                  f"size {header.size:#x}"] += 1
-            for at in range(0, len(header.body), 16):
-                told[f"bytes {header.name} {at:#06x}: {header.body[at:at + 16].hex(' ')}"] += 1
+            body = in_single_bytes(header.body) if header.flags & EXECINSTR else header.body
+            for at in range(0, len(body), 16):
+                told[f"bytes {header.name} {at:#06x}: {body[at:at + 16].hex(' ')}"] += 1
     for number, s in enumerate(symbols):
         if number and s.kind != "section" and not s.is_file_local() and (s.home != "undefined" or number in named):
             told[f"symbol {s.name}: {s.binding} {s.kind}, visibility {s.visibility}, {s.home} {s.value:#x}, size {s.size}"] += 1
@@ -363,6 +375,34 @@ class Maker:
         return rng.choice([f".zero {count}", f".skip {count}", f".space {count}, {self.spelled(rng.randrange(256))}", f".fill {count}", filled,
                            f"{filled}, {self.spelled(rng.choice([7, 300, 0x12345678, -1]))}"])
 
+    def put_alignment(self) -> str:
+        """Padding. GNU as takes 0 as the most bytes for no limit."""
+        rng, log = self.rng, self.rng.randrange(6)
+        align = rng.choice([f".p2align {self.spelled(log)}", f".align {self.spelled(1 << log)}", f".balign {self.spelled(1 << log)}"])
+        fill = rng.choice(["", "", "0", "" if self.current.is_nobits else self.spelled(rng.randrange(256))])
+        most = rng.choice(["", "", self.spelled(rng.randrange(1, 20))])
+        return f"{align}, {fill}, {most}" if most else f"{align}, {fill}" if fill else align
+
+    def put_org(self) -> str:
+        """Bytes up to a place behind this one, or behind a label, which may be too near."""
+        fill = "" if self.current.is_nobits else self.rng.choice(["", ", 0", f", {self.spelled(self.rng.randrange(256))}"])
+        if self.current.defined and self.rng.random() < 0.2:
+            return f".org {self.rng.choice(self.current.defined).text}+{self.rng.randrange(250, 400)}{fill}"
+        return f".org .+{self.rng.randrange(20)}{fill}"
+
+    def put_leb128(self) -> str:
+        """Numbers in groups of seven bits, and distances to labels that come: in `.sleb128` GNU as extends some sums that it knows wrongly, and takes
+        numbers from 2^63 on as no negative ones."""
+        rng, is_signed = self.rng, self.rng.random() < 0.5
+        values = []
+        for _ in range(rng.randrange(1, 4)):
+            number = rng.randrange(1 << rng.choice([6, 7, 14, 21, 40, 62]))
+            values.append(rng.choice([f"{number}", f"-{number}"]) if is_signed else self.spelled(number))
+            if self.current.coming and self.current.defined and rng.random() < 0.6:
+                ends = [rng.choice(self.current.coming).text, rng.choice(self.current.defined).text]
+                values[-1] = "-".join(reversed(ends) if is_signed and rng.random() < 0.5 else ends)
+        return f"{'.sleb128' if is_signed else '.uleb128'} {', '.join(values)}"
+
     def put_string(self) -> str:
         strings = ['"' + "".join(self.rng.choices(PIECES, k=self.rng.randrange(6))) + '"' for _ in range(self.rng.randrange(1, 3))]
         return f"{self.rng.choice(['.ascii', '.asciz', '.string'])} {', '.join(strings)}"
@@ -444,8 +484,8 @@ class Maker:
         """A statement that defines no planned symbol."""
         makers = [self.put_data] * 8 + [self.put_size] * 2 + [self.put_constant, self.put_here, self.put_numeric]
         if self.current.entry < 2:
-            makers += [self.put_space] * 2 + [self.put_block]
-            makers += [] if self.current.is_nobits else [self.put_string] * 2 + [lambda: self.rng.choice(INSTRUCTIONS)] * 2
+            makers += [self.put_space] * 2 + [self.put_block, self.put_alignment, self.put_org]
+            makers += [] if self.current.is_nobits else [self.put_string, self.put_string, self.put_leb128] + [lambda: self.rng.choice(INSTRUCTIONS)] * 2
         made = self.rng.choice(makers + ([self.put_text] if self.rng.random() < 0.3 else []))()
         self.statements += made if isinstance(made, list) else [made] if made else []
 
