@@ -81,6 +81,27 @@ def code() -> Iterator[str]:
     return itertools.cycle(re.sub(r"(?<![\w.])\.L", "L", line) for line in lines)
 
 
+def functions() -> Iterator[str]:
+    """All that gcc makes of `programs.c` at -O2 but unwind tables, over and over, each time with other names."""
+    command = ["gcc", "-O2", "-S", "-fno-asynchronous-unwind-tables", "-o", "-", str(PROGRAMS)]
+    made = subprocess.run(command, capture_output=True, text=True, env=ENVIRONMENT, check=True).stdout
+    names = sorted({a or b for a, b in re.findall(r"^(?:([\w.]+):|\t\.comm\t([\w.]+))", made, re.MULTILINE)}, key=len, reverse=True)
+    named = re.compile(rf"(?<![\w.])({'|'.join(map(re.escape, names))})(?![\w.])")
+    return (named.sub(rf"\1_{n}", made) for n in itertools.count())
+
+
+def jumps() -> Iterator[str]:
+    """Jumps back and forth over one another, 400 between two labels: most of them are near."""
+    for n in itertools.count():
+        yield f".La{n}:\n" + f"\tjmp\t.La{n}\n\tjne\t.Lb{n}\n" * 200 + f".Lb{n}:\n"
+
+
+def cascade() -> Iterator[str]:
+    """8,000 jumps, each over 125 bytes and the next jump, so that it is short until that one is near; the last one is near at once."""
+    steps = [f"\tjmp\t.L{n}\n.L{n - 1}:\n\t.zero\t125\n" for n in range(1, 7999)]
+    return itertools.repeat("".join(["\tjmp\t.L0\n\t.zero\t125\n", *steps, "\tjmp\t.L7999\n.L7998:\n\t.zero\t128\n.L7999:\n"]))
+
+
 def symbols() -> Iterator[str]:
     """A function with its type and size, a local label, a distance, and an assigned number, in turn: a new symbol every other line or so."""
     for n in itertools.count():
@@ -159,8 +180,8 @@ SOURCES_OF_TEXT: list[Callable[[], Iterator[str]]] = [nops, byte_lists, expressi
 SIZES_IN_MIB = [1, 4, 16]
 SIZES_IN_LINES = [10_000, 100_000, 1_000_000]
 SOURCES_OF_LINES: list[tuple[Callable[[], Iterator[str]], list[int]]] = [
-    (code, SIZES_IN_LINES), (data, SIZES_IN_LINES), (relocations, SIZES_IN_LINES), (distances, [100_000]), (fills, [100_000]), (alignments, [100_000]),
-    (leb128, [64_000]), (sections, [60_000]),
+    (code, SIZES_IN_LINES), (functions, SIZES_IN_LINES), (data, SIZES_IN_LINES), (relocations, SIZES_IN_LINES), (distances, [100_000]), (fills, [100_000]),
+    (alignments, [100_000]), (jumps, [400_000]), (cascade, [10_000]), (leb128, [64_000]), (sections, [60_000]),
     (chain, [20_000]), (chain_back, [20_000]), (sums, [10_000]), (space, [16]),
 ]
 
@@ -270,7 +291,7 @@ def main() -> None:
     chosen = {name: case for name, case in cases.items() if options.only in name}
     if options.runs < 1 or not chosen or not BUILT.exists():
         parser.error(f"build/as is built first, N is at least 1, and WORD stands in one of: {', '.join(cases)}")
-    without_gcc = [name for name, (source, _) in chosen.items() if source is code and not shutil.which("gcc")]
+    without_gcc = [name for name, (source, _) in chosen.items() if source in (code, functions) and not shutil.which("gcc")]
     for name in without_gcc:
         del chosen[name]
     gnu, version = find_gnu()

@@ -33,7 +33,7 @@ EXECINSTR, MERGE = 4, 0x10
 HOMES = {0: "undefined", 0xfff1: "absolute", 0xfff2: "common"}
 BINDINGS = {0: "local", 1: "global", 2: "weak"}
 TYPES = {0: "notype", 1: "object", 2: "function", 3: "section", 4: "file", 5: "common", 6: "tls"}
-KINDS = {1: "64", 2: "PC32", 10: "32", 12: "16", 13: "PC16", 14: "8", 15: "PC8", 24: "PC64"}
+KINDS = {1: "64", 2: "PC32", 4: "PLT32", 10: "32", 12: "16", 13: "PC16", 14: "8", 15: "PC8", 24: "PC64"}
 
 
 @dataclass
@@ -158,6 +158,8 @@ SECTIONS = {
     ".debug_str": [',"MS",@progbits,1'], "plain": ["", ',"aw"', ',""', ',"a"', ',"",@progbits'], "dotted.-name": [',"aw",@progbits', ',"awx"'],
     '"q s"': ["", ',"aw"'], "strings": [',"aS"', ',"S",@progbits'], "space": [',"aw",@nobits', ',"",@nobits'], "wide": [',"aMS",@progbits,4', ',"awMS",@progbits,2'],
 }
+
+JUMPS = "jmp ja jae jb jbe jc je jg jge jl jle jna jnae jnb jnbe jnc jne jng jnge jnl jnle jno jnp jns jnz jo jp jpe jpo js jz JNE".split()
 
 # What both refuse, with an undefined symbol for each {}. `.byte 0` parts labels, since GNU as takes one again at the same place.
 REFUSED = [
@@ -403,6 +405,13 @@ class Maker:
                 values[-1] = "-".join(reversed(ends) if is_signed and rng.random() < 0.5 else ends)
         return f"{'.sleb128' if is_signed else '.uleb128'} {', '.join(values)}"
 
+    def put_jump(self) -> str:
+        """A jump to a local label of this section, or to another object. GNU as leaves one to a global label to the linker, and takes another relocation
+        for a label of another section and for a symbol and a number."""
+        inside = [label.text for label in self.labels if label.is_local and label.home is self.current]
+        inside += [f"{n}b" for n, place in self.numeric.items() if place is self.current]
+        return f"{self.rng.choice(JUMPS)} {self.rng.choice(inside * 3 + [name.text for name in self.undefined])}"
+
     def put_string(self) -> str:
         strings = ['"' + "".join(self.rng.choices(PIECES, k=self.rng.randrange(6))) + '"' for _ in range(self.rng.randrange(1, 3))]
         return f"{self.rng.choice(['.ascii', '.asciz', '.string'])} {', '.join(strings)}"
@@ -485,7 +494,7 @@ class Maker:
         makers = [self.put_data] * 8 + [self.put_size] * 2 + [self.put_constant, self.put_here, self.put_numeric]
         if self.current.entry < 2:
             makers += [self.put_space] * 2 + [self.put_block, self.put_alignment, self.put_org]
-            makers += [] if self.current.is_nobits else [self.put_string, self.put_string, self.put_leb128] + [lambda: self.rng.choice(INSTRUCTIONS)] * 2
+            makers += [] if self.current.is_nobits else [self.put_string, self.put_string, self.put_leb128, self.put_jump, self.put_jump] + [lambda: self.rng.choice(INSTRUCTIONS)] * 2
         made = self.rng.choice(makers + ([self.put_text] if self.rng.random() < 0.3 else []))()
         self.statements += made if isinstance(made, list) else [made] if made else []
 

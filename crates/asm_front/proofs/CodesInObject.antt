@@ -39,12 +39,12 @@ object_begins object image piece at same there = ap (drop at) same ∙ drop_stan
 codes_read_back : AreSettled → ReadsOneWay → EncodingsFill → EncodingsNote → (flags : Flags) (source : List ℕ) (made : NotedObject)
     → assembly_of flags main_file source ≡ Ok made
     → CodesReadBack flags source made.object
-codes_read_back settled one_way fills notes flags source made e before after s text placed whole laid are front all is written filed =
+codes_read_back settled one_way fills notes flags source made e before after s text placed whole laid are front all is written no_jump filed =
     let empty = nothing_placed flags.no_warn in
     let split = map-append in_tokens before (s ∷ after) in
     let whole_is = sym (ap (λ statements. place_all statements empty) split) ∙ all in
     let insn = insn_there notes (map in_tokens before) (in_tokens s) (map in_tokens after) empty placed whole text
-    (nothing_within flags.no_warn) front whole_is written in
+    (nothing_within flags.no_warn) front whole_is written no_jump in
     let symbols = whole.table.symbols in
     let pos = pos_at (in_tokens s).file (in_tokens s).line in
     let number = placed.current in

@@ -22,7 +22,7 @@ use Rattle.att_insns.specs.InsnTexts.{InsnText}
 use Rattle.x86_lookup.specs.BareInstructions.{Coded}
 use Rattle.asm_values.specs.State.{Placed, nothing_placed}
 use Rattle.asm_place.specs.Coding.{view_in, shape_in, values_in, displacement_field, immediate_field}
-use Rattle.asm_place.specs.CodePlaces.{FieldInCode, ValueForms, insn_in, IsCoded, field_in}
+use Rattle.asm_place.specs.CodePlaces.{FieldInCode, ValueForms, insn_in, jump_in, IsCoded, field_in}
 use Rattle.asm_place.specs.Sources.{pos_at, place_all}
 use Rattle.asm_place.specs.Instructions.{instruction_of, next_item, next_offset}
 use Rattle.elf_object.specs.Places.{section_offset, moved}
@@ -114,13 +114,13 @@ pub record InsnReadsBack (object : List ℕ) (symbols : SymbolMap) (laid : LaidS
 abbrev pub has_no_bits : LaidSections → ℕ → Bool
 has_no_bits laid number = option_map_or (λ section. section.kind == no_bits) (slice_get laid number) false
 
--- each instruction of the source with operands or a prefix reads back at its place, where its section has bytes in the file
+-- each instruction of the source with operands or a prefix that is no direct jump reads back at its place, where its section has bytes in the file
 abbrev pub CodesReadBack : Flags → List ℕ → List ℕ → Type 0
 CodesReadBack flags source object =
     (before after : List StatementAt) (s : StatementAt) (text : InsnText) (placed whole : Placed) (laid : LaidSections)
     → statements_of main_file source ≡ Ok (before ++ s ∷ after) → place_all (map in_tokens before) (nothing_placed flags.no_warn) ≡ Ok placed
     → place_all (map in_tokens (before ++ s ∷ after)) (nothing_placed flags.no_warn) ≡ Ok whole → layout_of whole.table.symbols whole.sections ≡ Ok laid
-    → insn_in (in_tokens s) ≡ Some text → has_no_bits laid placed.current ≡ false
+    → insn_in (in_tokens s) ≡ Some text → jump_in text ≡ None → has_no_bits laid placed.current ≡ false
     → InsnReadsBack object whole.table.symbols laid (in_tokens s) text placed
 
 -- each instruction of the source reads back in the object, where its section has bytes in the file

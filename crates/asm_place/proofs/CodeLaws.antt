@@ -1,5 +1,5 @@
 -- Where the bytes and fields of instructions with operands stand.
-use Rattle.std.proofs.Common.{◌≡◌, ℕ, ◌+◌, ◌≤◌, Bool, true, false, cond, List, [], ◌∷◌, ◌++◌, All, map, length, take, drop, Option, None, Some, Result, Ok, Err, refl, sym, ap, ◌∙◌, subst, slice_get, arith, append_assoc, length-append, length-drop}
+use Rattle.std.proofs.Common.{◌≡◌, ℕ, ◌+◌, ◌≤◌, Bool, true, false, cond, List, [], ◌∷◌, ◌++◌, All, map, length, take, drop, Option, None, Some, Result, Ok, Err, refl, sym, ap, ◌∙◌, subst, set, slice_get, arith, append_assoc, length-append, length-drop}
 use Rattle.std.specs.Prelude.{◌&&◌, ◌||◌, not, is_some, option_map, slice_range}
 use Rattle.std.specs.Option.{option_map_or}
 use Rattle.std.proofs.Math.Seq.{take-append_seam, drop-append_seam}
@@ -12,12 +12,20 @@ use Rattle.asm_base.specs.declared.positions.Pos.{Pos}
 use Rattle.asm_lines.specs.NextStatements.{TokenStatement}
 use Rattle.asm_frags.specs.declared.fields.Field.{Field}
 use Rattle.asm_frags.specs.Fields.{width}
-use Rattle.asm_frags.specs.Writing.{LooseItem, LooseSection, ends_in_run, with_run}
+use Rattle.asm_frags.specs.Writing.{LooseItem, LooseSection, ends_in_run, with_run, with_growing, growing_put, takes_zeros_alone}
+use Rattle.asm_frags.specs.Sections.{with_section_or_fault, put_into_there}
+use Rattle.asm_frags.specs.declared.faults.FragCause.TheVariants as frag
+use Rattle.asm_frags.specs.declared.roles.Suffix.{Suffix as SaidSuffix}
+use Rattle.asm_expr.specs.Forms.{Form}
+use Rattle.item_bytes.specs.declared.jumps.Condition.{Condition}
+use Rattle.item_contents.specs.declared.kinds.Growth.{Growth}
+use Rattle.item_contents.specs.declared.kinds.Growth.TheVariants.{Jump}
+use Rattle.asm_operands.specs.LayerFaults.{of_sections}
 use Rattle.asm_operands.specs.declared.place_faults.PlaceCause.{PlaceCause}
 use Rattle.asm_operands.specs.Operands.{is_name, names_symbol, is_assignment, is_label, begins_with_dot}
 use Rattle.asm_uses.specs.Places.{end_naming}
 use Rattle.asm_uses.specs.Tables.{Table, naming_of}
-use Rattle.asm_values.specs.State.{Placed, with_table, with_names, here, known_here}
+use Rattle.asm_values.specs.State.{Placed, with_table, with_names, here, known_here, put_growing_into}
 use Rattle.att_operands.specs.declared.faults.OperandCause.{OperandCause}
 use Rattle.att_insns.specs.InsnTexts.{InsnText}
 use Rattle.att_insns.specs.Reading.{insn_of}
@@ -27,11 +35,11 @@ use Rattle.x86_encode.specs.EncodingLaws.{EncodingsNote}
 use Rattle.x86_encode.specs.Filling.{Coding}
 use Rattle.asm_place.specs.declared.codes.InsnForms.{InsnForms}
 use Rattle.asm_place.specs.declared.codes.CodeField.{CodeField}
-use Rattle.asm_place.specs.Coding.{InsnShape, shape_in, forms_of, values_in, of_code, fields_of, put_code, keeps_place, put_insn, place_insn, place_text, place_read, lone_code, place_coded, place_instruction}
+use Rattle.asm_place.specs.Coding.{InsnShape, shape_in, forms_of, values_in, of_code, fields_of, put_code, keeps_place, put_by_jump, put_coded, put_insn, said_suffix, from_own_place, place_insn, place_text, place_read, lone_code, place_coded, place_instruction}
 use Rattle.asm_place.specs.Placing.{place_body, place_label, place_unlabelled, place_labelled, has_wide_label, place_tokens}
 use Rattle.asm_place.specs.Sources.{pos_at, place, place_all}
 use Rattle.asm_place.specs.Instructions.{behind_labels, instruction_written, run_end, with_more, IsContinued, Grows, IsWithin, AreWithin}
-use Rattle.asm_place.specs.CodePlaces.{text_read, insn_written, is_instruction, BeginsAsInstruction, insn_in, labelled, known_in, code_fields, with_held, zeros_in, blanked, AreApart, field_in, with_code, IsCodePut, IsInsnPut, CodeStandsAt, InsnStands}
+use Rattle.asm_place.specs.CodePlaces.{text_read, insn_written, is_instruction, BeginsAsInstruction, insn_in, labelled, known_in, code_fields, with_held, zeros_in, blanked, AreApart, field_in, with_code, IsCodePut, IsInsnPut, CodeStandsAt, InsnStands, jump_in, IsJumpPut}
 use Rattle.asm_place.proofs.GrowthLemmas.{get_set, All-there, run_keeps, run_added}
 use Rattle.asm_place.proofs.PlacingLaws.{all_grow, all_within}
 use Rattle.asm_place.proofs.StatementSplits.{err-ok, same_Ok, both_ok, all_split}
@@ -222,11 +230,11 @@ section_put pos bytes fields before placed (Some section) apart there is =
     record { apart = apart; section = section; there = there; put = code.sections }
 section_put pos bytes fields before placed None apart there is = code_none pos bytes fields before placed apart there is
 
-insn_put : EncodingsNote → (pos : Pos) (shape : InsnShape) (forms : InsnForms) (before placed : Placed) → put_insn pos shape forms before ≡ Ok placed
-    → IsPutCode pos shape forms before placed
-unfolding put_insn
-insn_put notes pos shape forms before placed is =
-    both_ok _ _ placed is (λ made made_is put_is.
+insn_put : EncodingsNote → (pos : Pos) (shape : InsnShape) (forms : InsnForms) (before placed : Placed) → shape.jump ≡ None
+    → put_insn pos shape forms before ≡ Ok placed → IsPutCode pos shape forms before placed
+unfolding put_insn put_coded
+insn_put notes pos shape forms before placed no_jump is =
+    both_ok _ _ placed (sym (ap (λ jump. put_by_jump jump pos shape forms before) no_jump) ∙ is) (λ made made_is put_is.
     let coding = code_is (encoding_of shape.view (values_in forms)) made made_is in
     record {
       made = made;
@@ -246,14 +254,15 @@ table_keeps : (put placed : Placed) (answer : Result Table PlaceCause) → (answ
 table_keeps put placed (Ok table) is = ap (λ (p : Placed). p.sections) (sym (same_Ok (with_table put table) placed is))
 table_keeps put placed (Err fault) is = err-ok fault placed is
 
-text_put : EncodingsNote → (pos : Pos) (text : InsnText) (before placed : Placed) → place_text pos text before ≡ Ok placed → IsTextPut pos text before placed
+text_put : EncodingsNote → (pos : Pos) (text : InsnText) (before placed : Placed) → jump_in text ≡ None → place_text pos text before ≡ Ok placed
+    → IsTextPut pos text before placed
 unfolding place_insn
-text_put notes pos text before placed is =
+text_put notes pos text before placed no_jump is =
     let trees = text.immediate.tree ∷ text.displacement.tree ∷ [] in
     let named = with_names pos trees before in
     both_ok _ _ placed is (λ forms forms_are named_is.
     both_ok _ _ placed named_is (λ put put_is end_is.
-    let code = insn_put notes pos (shape_in text) forms named put put_is in
+    let code = insn_put notes pos (shape_in text) forms named put no_jump put_is in
     let same = table_keeps put placed (end_naming pos (naming_of trees before.table) (here named)
     (keeps_place (known_here named).place forms) put.table) end_is in
     record {
@@ -269,14 +278,14 @@ text_put notes pos text before placed is =
 
 -- where the tokens are an instruction with operands, the bytes and the fields of its encoding are put last in the current section
 pub tokens_put : EncodingsNote → (pos : Pos) (tokens : List SpelledToken) (before placed : Placed) (text : InsnText)
-    → insn_written (behind_labels tokens) ≡ Some text
+    → insn_written (behind_labels tokens) ≡ Some text → jump_in text ≡ None
     → place_tokens pos tokens before ≡ Ok placed → IsInsnPut pos tokens text before placed
 unfolding place_tokens
-tokens_put notes pos tokens before placed text written is =
+tokens_put notes pos tokens before placed text written no_jump is =
     both_ok _ _ placed (sym (labels_split pos tokens before) ∙ wide_ok (has_wide_label tokens) (place_labelled pos tokens before) placed is)
     (λ labels labels_are body_is.
     let keeps = labels_keep pos tokens before labels labels_are in
-    let put = text_put notes pos text labels placed (sym (unlabelled_is pos (behind_labels tokens) text labels written) ∙ body_is) in
+    let put = text_put notes pos text labels placed no_jump (sym (unlabelled_is pos (behind_labels tokens) text labels written) ∙ body_is) in
     let fields = code_fields text put.forms put.code.made in
     record {
       coded = record { labels = labels; labels_are = labels_are; forms = put.forms; forms_are = put.forms_are; made = put.code.made; coding = put.code.coding };
@@ -284,12 +293,88 @@ tokens_put notes pos tokens before placed text written is =
           (subst (λ sections. IsCodePut sections placed.sections labels.current pos put.code.made.bytes fields) keeps.0 put.code.put);
     })
 
-statement_put : EncodingsNote → (s : TokenStatement) (before next : Placed) (text : InsnText) → insn_in s ≡ Some text → place s before ≡ Ok next
+statement_put : EncodingsNote → (s : TokenStatement) (before next : Placed) (text : InsnText) → insn_in s ≡ Some text → jump_in text ≡ None → place s before ≡ Ok next
     → IsInsnPut (pos_at s.file s.line) s.tokens text before next
 unfolding place
-statement_put notes s before next text written is =
-    tokens_put notes (pos_at s.file s.line) s.tokens before next text written
+statement_put notes s before next text written no_jump is =
+    tokens_put notes (pos_at s.file s.line) s.tokens before next text written no_jump
     (located_ok (pos_at s.file s.line) before.notes (place_tokens (pos_at s.file s.line) s.tokens before) next is)
+
+-- A JUMP
+
+-- an item that grows is put last
+module _ (pos : Pos) (number : ℕ) (kind : Growth) (suffix : SaidSuffix) (form : Form) where
+  -- it is put last in the section of this number
+  pub record IsGrown (before after : List LooseSection) : Type 0 where
+    pub section : LooseSection
+    pub there : slice_get before number ≡ Some section
+    pub put : after ≡ set before number (with_growing pos number kind suffix form section)
+
+  grown_test : (sections new : List LooseSection) (section : LooseSection) (test : Bool)
+      → of_sections (with_section_or_fault sections number (cond test (Err frag.BadSection) (Ok (with_growing pos number kind suffix form section)))) ≡ Ok new
+      → new ≡ set sections number (with_growing pos number kind suffix form section)
+  grown_test sections new section true is = err-ok _ new is
+  grown_test sections new section false is = sym (same_Ok _ new is)
+
+  grown_found : (sections : List LooseSection) (found : Option LooseSection) (new : List LooseSection) → slice_get sections number ≡ found
+      → of_sections (put_into_there (growing_put pos number kind suffix form) sections number found) ≡ Ok new → IsGrown sections new
+  grown_found sections None new there is = err-ok _ new is
+  grown_found sections (Some section) new there is =
+      record { section = section; there = there; put = grown_test sections new section (takes_zeros_alone section) is }
+
+  grown_last : (before placed : Placed) → put_growing_into pos number kind suffix form before ≡ Ok placed → IsGrown before.sections placed.sections
+  unfolding put_growing_into
+  grown_last before placed is =
+      both_ok _ _ placed is (λ sections pushed made.
+      subst (IsGrown before.sections) (ap (λ (p : Placed). p.sections) (same_Ok _ placed made))
+      (grown_found before.sections (slice_get before.sections number) sections refl pushed))
+
+-- a jump whose names have symbols
+pub record IsJumpText (pos : Pos) (text : InsnText) (condition : Option Condition) (before placed : Placed) : Type 0 where
+  pub forms : InsnForms
+  pub forms_are : forms_of (known_in pos text before) text.immediate.tree text.displacement.tree ≡ Ok forms
+  pub grown : IsGrown pos before.current (Jump condition) (said_suffix text.displacement.suffix) (from_own_place forms.displacement) before.sections placed.sections
+
+jump_text : (pos : Pos) (text : InsnText) (condition : Option Condition) (before placed : Placed) → jump_in text ≡ Some condition
+    → place_text pos text before ≡ Ok placed → IsJumpText pos text condition before placed
+unfolding place_insn put_insn
+jump_text pos text condition before placed jump is =
+    let trees = text.immediate.tree ∷ text.displacement.tree ∷ [] in
+    let named = with_names pos trees before in
+    both_ok _ _ placed is (λ forms forms_are named_is.
+    both_ok _ _ placed named_is (λ put put_is end_is.
+    let kind = Jump condition in
+    let suffix = said_suffix text.displacement.suffix in
+    let form = from_own_place forms.displacement in
+    let grown = grown_last pos before.current kind suffix form named put (sym (ap (λ jump. put_by_jump jump pos (shape_in text) forms named) jump) ∙ put_is) in
+    let same = table_keeps put placed (end_naming pos (naming_of trees before.table) (here named)
+    (keeps_place (known_here named).place forms) put.table) end_is in
+    record { forms = forms; forms_are = forms_are; grown = subst (IsGrown pos before.current kind suffix form before.sections) (sym same) grown }))
+
+-- where the tokens are a direct jump, an item that grows is put last in the current section
+pub jump_put : (pos : Pos) (tokens : List SpelledToken) (before placed : Placed) (text : InsnText) (condition : Option Condition)
+    → insn_written (behind_labels tokens) ≡ Some text → jump_in text ≡ Some condition
+    → place_tokens pos tokens before ≡ Ok placed → IsJumpPut pos tokens text condition before placed
+unfolding place_tokens
+jump_put pos tokens before placed text condition written jump is =
+    both_ok _ _ placed (sym (labels_split pos tokens before) ∙ wide_ok (has_wide_label tokens) (place_labelled pos tokens before) placed is)
+    (λ labels labels_are body_is.
+    let keeps = labels_keep pos tokens before labels labels_are in
+    let made = jump_text pos text condition labels placed jump (sym (unlabelled_is pos (behind_labels tokens) text labels written) ∙ body_is) in
+    let kind = Jump condition in
+    let suffix = said_suffix text.displacement.suffix in
+    let form = from_own_place made.forms.displacement in
+    let grown = subst (λ number. IsGrown pos number kind suffix form before.sections placed.sections) keeps.1
+    (subst (λ sections. IsGrown pos labels.current kind suffix form sections placed.sections) keeps.0 made.grown) in
+    record {
+      labels = labels;
+      labels_are = labels_are;
+      forms = made.forms;
+      forms_are = made.forms_are;
+      section = grown.section;
+      there = grown.there;
+      put = grown.put;
+    })
 
 -- WHERE IT STANDS
 
@@ -377,11 +462,11 @@ put_stands before next whole number pos bytes fields put within grows =
 pub insn_there : EncodingsNote
     → (front : List TokenStatement) (s : TokenStatement) (later : List TokenStatement) (before placed whole : Placed) (text : InsnText)
     → AreWithin before.sections → place_all front before ≡ Ok placed → place_all (front ++ s ∷ later) before ≡ Ok whole → insn_in s ≡ Some text
-    → InsnStands whole.sections (pos_at s.file s.line) s.tokens text placed
-insn_there notes front s later before placed whole text within is_front is_whole written =
+    → jump_in text ≡ None → InsnStands whole.sections (pos_at s.file s.line) s.tokens text placed
+insn_there notes front s later before placed whole text within is_front is_whole written no_jump =
     first_placed s later placed whole (sym (all_split front (s ∷ later) before ∙ ap (λ r. r >>= place_all (s ∷ later)) is_front) ∙ is_whole)
     (λ next is_next is_later.
-    let insn = statement_put notes s placed next text written is_next in
+    let insn = statement_put notes s placed next text written no_jump is_next in
     record {
       coded = insn.coded;
       stands =

@@ -26,7 +26,8 @@ use Rattle.asm_frags.specs.declared.roles.Suffix.{Suffix}
 use Rattle.asm_frags.specs.declared.roles.Suffix.TheVariants.{Absent}
 use Rattle.item_bytes.specs.Leb128.{least_leb128}
 use Rattle.item_contents.specs.declared.kinds.Growth.{Growth}
-use Rattle.item_contents.specs.declared.kinds.Growth.TheVariants.{Leb128}
+use Rattle.item_contents.specs.declared.kinds.Growth.TheVariants.{Leb128, Jump}
+use Rattle.item_bytes.specs.declared.jumps.Condition.{Condition}
 use Rattle.asm_frags.specs.Fields.{width, data_role}
 use Rattle.asm_frags.specs.Writing.{LooseSection, new_item, takes_zeros_alone, with_item, with_bytes, with_field, with_growing, bytes_put, field_put, item_put, growing_put}
 use Rattle.asm_frags.specs.Sections.{section_flags, entered_there, entered_by, with_section_or_fault, put_into_there}
@@ -74,7 +75,7 @@ use Rattle.att_insns.specs.InsnTexts.{InsnText}
 use Rattle.att_insns.specs.Reading.{insn_of}
 use Rattle.asm_place.specs.declared.codes.InsnForms.{InsnForms}
 use Rattle.asm_place.specs.declared.codes.CodeField.{CodeField}
-use Rattle.asm_place.specs.Coding.{InsnShape, shape_in, forms_of, values_in, of_operands, of_code, fields_of, put_rest, put_code, keeps_place, put_insn, place_insn, place_read, lone_code, place_coded, place_instruction}
+use Rattle.asm_place.specs.Coding.{InsnShape, shape_in, forms_of, values_in, of_operands, of_code, fields_of, put_rest, put_code, keeps_place, put_coded, put_by_jump, put_insn, said_suffix, from_own_place, place_insn, place_read, lone_code, place_coded, place_instruction}
 use Rattle.asm_place.specs.Sources.{pos_at, located, place, place_all}
 use Rattle.asm_place.specs.declared.place_faults.FaultAt.{FaultAt}
 use Rattle.asm_place.specs.Faults.{is_file_too_large, is_too_large, statement_fault}
@@ -444,10 +445,20 @@ put_code_steps pos bytes from (field ∷ fields) placed =
     (λ put. field_steps pos put.current field.size field.role field.form put))
     (λ held. put_code_steps pos bytes (field.at + width field.size) fields held)
 
+put_coded_steps : (pos : Pos) (shape : InsnShape) (forms : InsnForms) (placed : Placed) → Steps placed (put_coded pos shape forms placed)
+unfolding put_coded
+put_coded_steps pos shape forms placed =
+    after (of_code (encoding_of shape.view (values_in forms))) (λ coding. put_code_steps pos coding.bytes 0 (fields_of shape forms coding) placed)
+
+put_by_jump_steps : (jump : Option (Option Condition)) (pos : Pos) (shape : InsnShape) (forms : InsnForms) (placed : Placed)
+    → Steps placed (put_by_jump jump pos shape forms placed)
+put_by_jump_steps None pos shape forms placed = put_coded_steps pos shape forms placed
+put_by_jump_steps (Some condition) pos shape forms placed =
+    growing_steps pos placed.current (Jump condition) (said_suffix shape.displacement) (from_own_place forms.displacement) placed
+
 put_insn_steps : (pos : Pos) (shape : InsnShape) (forms : InsnForms) (placed : Placed) → Steps placed (put_insn pos shape forms placed)
 unfolding put_insn
-put_insn_steps pos shape forms placed =
-    after (of_code (encoding_of shape.view (values_in forms))) (λ coding. put_code_steps pos coding.bytes 0 (fields_of shape forms coding) placed)
+put_insn_steps pos shape forms placed = put_by_jump_steps shape.jump pos shape forms placed
 
 insn_steps : (pos : Pos) (shape : InsnShape) (own moved : Tree) (placed : Placed) → Steps placed (place_insn pos shape own moved placed)
 unfolding place_insn

@@ -1,6 +1,6 @@
 -- Instructions: what is known of their values where they stand, their bytes, and the fields over these (Intel SDM, volume 2, section 2.2.1.6;
 -- psABI for AMD64, section 4.4).
-use Rattle.std.specs.Prelude.{ℕ, ◌+◌, ◌-◌, ◌^◌, ◌==◌, ◌||◌, Bool, true, false, List, [], ◌∷◌, drop, slice_range, length, Option, Some, None, Result, Ok, Err, if◌then◌else◌}
+use Rattle.std.specs.Prelude.{ℕ, ◌+◌, ◌-◌, ◌^◌, ◌==◌, ◌||◌, ◌&&◌, nat_lt, option_map, Bool, true, false, List, [], ◌∷◌, drop, slice_range, length, Option, Some, None, Result, Ok, Err, if◌then◌else◌}
 use Rattle.asm_base.specs.declared.positions.Pos.{Pos}
 use Rattle.asm_base.specs.Refusals.{◌>>=◌}
 use Rattle.asm_base.specs.Tokens.{SpelledToken}
@@ -21,7 +21,7 @@ use Rattle.asm_operands.specs.Expressions.{form_in}
 use Rattle.asm_uses.specs.Places.{uses_place, end_naming}
 use Rattle.asm_uses.specs.declared.tables.Naming.{Naming}
 use Rattle.asm_uses.specs.Tables.{naming_of}
-use Rattle.asm_values.specs.State.{Placed, with_table, with_names, here, known_here, put_bytes, put_field}
+use Rattle.asm_values.specs.State.{Placed, with_table, with_names, here, known_here, put_bytes, put_field, put_growing}
 use Rattle.x86_insn.specs.declared.amounts.Suffix.{Suffix}
 use Rattle.x86_insn.specs.declared.amounts.Suffix.TheVariants.{Plt, GotPcRel, GotTpOff, TpOff}
 use Rattle.x86_insn.specs.declared.amounts.Values.{Values}
@@ -29,6 +29,12 @@ use Rattle.x86_insn.specs.declared.insns.Slot.{Slot}
 use Rattle.x86_insn.specs.declared.insns.Slot.TheVariants as slot
 use Rattle.x86_insn.specs.Knowing.{if_known}
 use Rattle.x86_insn.specs.declared.insns.Insn.{Insn}
+use Rattle.x86_insn.specs.declared.insns.Prefix.{Prefix}
+use Rattle.x86_insn.specs.declared.insns.Prefix.TheVariants.{Absent as no_prefix}
+use Rattle.x86_table.specs.declared.mnemonics.integers.TheConstants.{JMP, JO, JG}
+use Rattle.item_bytes.specs.declared.jumps.Condition.{Condition}
+use Rattle.item_bytes.specs.Jumps.{condition_of}
+use Rattle.item_contents.specs.declared.kinds.Growth.TheVariants.{Jump}
 use Rattle.x86_insn.specs.Views.{Seen, absent, register, immediate, memory, target, View, displaced, view_of}
 use Rattle.x86_lookup.specs.BareInstructions.{bare_code}
 use Rattle.x86_encode.specs.declared.encoded.Field.{Field}
@@ -93,19 +99,50 @@ view_in text values = record {
   third = seen_in text values text.third;
 }
 
--- what an instruction shows with any values, and what is said behind their symbols
+-- the slot shows a branch target
+abbrev pub is_target : Slot → Bool
+is_target slot.Absent = false
+is_target (slot.Register reg) = false
+is_target slot.Immediate = false
+is_target slot.Memory = false
+is_target slot.Target = true
+
+-- the condition of a mnemonic, or none, where it is that of a jump (Intel SDM, volume 2, `JMP`, `Jcc`)
+abbrev pub jump_named : ℕ → Option (Option Condition)
+jump_named name = if name == JMP then Some None else (if nat_lt name JO || nat_lt JG name then None else option_map Some (condition_of (name - JO)))
+
+-- the slot shows nothing
+abbrev pub is_absent : Slot → Bool
+is_absent slot.Absent = true
+is_absent (slot.Register reg) = false
+is_absent slot.Immediate = false
+is_absent slot.Memory = false
+is_absent slot.Target = false
+
+-- there is no prefix
+abbrev pub is_bare : Prefix → Bool
+is_bare no_prefix = true
+is_bare _ = false
+
+-- the condition of a direct jump, or none, if it is one: a jump of 64 bits without a prefix to a target, and to nothing else
+abbrev pub jump_by : Prefix → ℕ → ℕ → Slot → Slot → Slot → Option (Option Condition)
+jump_by word name size first second third =
+    if is_bare word && ((size == 64) && (is_target first && (is_absent second && is_absent third))) then jump_named name else None
+
+-- what an instruction shows with any values, which direct jump it is, if it is one, and what is said behind its symbols
 pub record InsnShape : Type 0 where
   pub view : Values → View
+  pub jump : Option (Option Condition)
   pub immediate : Option Suffix
   pub displacement : Option Suffix
 
 -- that of an instruction whose values are texts
 abbrev pub shape_in : InsnText → InsnShape
-shape_in text = record { view = view_in text; immediate = text.immediate.suffix; displacement = text.displacement.suffix }
+shape_in text = record { view = view_in text; jump = jump_by text.«prefix» text.name.0 text.size text.first text.second text.third; immediate = text.immediate.suffix; displacement = text.displacement.suffix }
 
 -- that of an instruction as the program has it
 abbrev pub shape_of : Insn → InsnShape
-shape_of insn = record { view = view_of insn; immediate = insn.immediate.suffix; displacement = insn.displacement.suffix }
+shape_of insn = record { view = view_of insn; jump = jump_by insn.«prefix» insn.name.0 insn.size insn.first insn.second insn.third; immediate = insn.immediate.suffix; displacement = insn.displacement.suffix }
 
 -- the forms of the trees, or the first fault, that of the immediate first
 abbrev pub forms_of : Knowledge → Tree → Tree → Result InsnForms PlaceCause
@@ -206,9 +243,23 @@ abbrev pub keeps_place : ℕ → InsnForms → Bool
 keeps_place place forms = uses_place place forms.immediate || uses_place place forms.displacement
 
 -- the bytes and the fields of an instruction of these forms
-unfoldable pub put_insn : Pos → InsnShape → InsnForms → Placed → Result Placed PlaceCause
-put_insn pos shape forms placed =
+unfoldable pub put_coded : Pos → InsnShape → InsnForms → Placed → Result Placed PlaceCause
+put_coded pos shape forms placed =
     of_code (encoding_of shape.view (values_in forms)) >>= λ made. put_code pos made.bytes 0 (fields_of shape forms made) placed
+
+-- a direct jump, as an item that grows with the distance from its end to its target
+abbrev pub put_jump : Pos → Option Condition → InsnShape → InsnForms → Placed → Result Placed PlaceCause
+put_jump pos condition shape forms placed =
+    put_growing pos (Jump condition) (said_suffix shape.displacement) (from_own_place forms.displacement) placed
+
+-- a direct jump, or any other instruction
+abbrev pub put_by_jump : Option (Option Condition) → Pos → InsnShape → InsnForms → Placed → Result Placed PlaceCause
+put_by_jump None pos shape forms placed = put_coded pos shape forms placed
+put_by_jump (Some condition) pos shape forms placed = put_jump pos condition shape forms placed
+
+-- an instruction of these forms
+unfoldable pub put_insn : Pos → InsnShape → InsnForms → Placed → Result Placed PlaceCause
+put_insn pos shape forms placed = put_by_jump shape.jump pos shape forms placed
 
 -- the same, and then its names are allowed or refused, and the place becomes a symbol where a form keeps it
 abbrev pub put_named : Pos → InsnShape → Naming → InsnForms → Placed → Result Placed PlaceCause

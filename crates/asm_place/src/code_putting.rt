@@ -3,13 +3,17 @@
 ghost use Rattle.std.specs.Prelude.{◌≡◌, ◌∷◌, ◌<◌, ◌^◌, [], slice_range, drop, IfOk};
 ghost use Rattle.asm_values.specs.PlacedBy.{placed_by, PlacesBy};
 ghost use Rattle.x86_encode.specs.Encoding.{made_coding};
-ghost use Rattle.asm_place.specs.Coding.{put_rest, put_held, put_code, shape_of, displacement_field, immediate_field, fields_of, put_insn};
+ghost use Rattle.asm_place.specs.Coding.{put_rest, put_held, put_code, shape_of, displacement_field, immediate_field, fields_of, put_coded, put_jump, put_insn};
 
-use crate::codes::{CodeField, InsnForms, code_fault, code_field, known};
+use crate::codes::{
+    CodeField, InsnForms, code_fault, code_field, direct_jump, from_own_place, known, said_suffix,
+};
 use asm_base::{NoMemory, Pos};
 use asm_expr::{Linear, copied_form};
 use asm_operands::PlaceFault;
 use asm_values::Assembler;
+use item_bytes::Condition;
+use item_contents::Growth;
 use std::alloc::Global;
 use x86_encode::{Encoded, Field, FieldKind, encode};
 use x86_insn::{Insn, Values};
@@ -177,6 +181,47 @@ fn put_fields(
 }
 
 /// The bytes and the fields of an instruction of these forms.
+#[inline(always)]
+#[tactic(auto, unfolding(crate::specs::Coding::put_coded))]
+fn put_coded(
+    assembler: &mut Assembler,
+    pos: Pos,
+    insn: &Insn,
+    forms: &InsnForms,
+) -> Result<(), PlaceFault>
+    ensures placed { PlacesBy (put_coded pos (shape_of insn.now) forms.now)
+        assembler.old assembler.new result }
+    ensures kept { assembler.new.notes ≡ assembler.old.notes }
+{
+    let values = Values {
+        immediate: known(&forms.immediate),
+        displacement: known(&forms.displacement),
+    };
+    match encode(insn, &values) {
+        Ok(made) => put_fields(assembler, pos, insn, forms, &made),
+        Err(cause) => Err(PlaceFault::Fault(code_fault(cause))),
+    }
+}
+
+/// A direct jump, as an item that grows with the distance to its target.
+fn put_jump(
+    assembler: &mut Assembler,
+    pos: Pos,
+    condition: Option<Condition>,
+    insn: &Insn,
+    forms: &InsnForms,
+) -> Result<(), PlaceFault>
+    ensures placed { PlacesBy (put_jump pos condition (shape_of insn.now) forms.now)
+        assembler.old assembler.new result }
+    ensures kept { assembler.new.notes ≡ assembler.old.notes }
+{
+    let alloc = assembler.alloc;
+    let suffix = said_suffix(insn.displacement.suffix);
+    let form = from_own_place(alloc, copied_form(alloc, &forms.displacement)?)?;
+    assembler.push_growing(pos, Growth::Jump(condition), suffix, form)
+}
+
+/// An instruction of these forms: an item of a direct jump, the bytes and the fields of any other.
 #[tactic(auto, unfolding(crate::specs::Coding::put_insn))]
 pub(crate) fn put_insn(
     assembler: &mut Assembler,
@@ -188,12 +233,8 @@ pub(crate) fn put_insn(
         assembler.old assembler.new result }
     ensures kept { assembler.new.notes ≡ assembler.old.notes }
 {
-    let values = Values {
-        immediate: known(&forms.immediate),
-        displacement: known(&forms.displacement),
-    };
-    match encode(insn, &values) {
-        Ok(made) => put_fields(assembler, pos, insn, forms, &made),
-        Err(cause) => Err(PlaceFault::Fault(code_fault(cause))),
+    match direct_jump(insn) {
+        Some(condition) => put_jump(assembler, pos, condition, insn, forms),
+        None => put_coded(assembler, pos, insn, forms),
     }
 }

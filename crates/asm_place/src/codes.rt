@@ -1,18 +1,20 @@
 //! Instructions as sections hold them: the forms of their values, the fields over their bytes, and faults.
 
-ghost use Rattle.std.specs.Prelude.{◌≡◌, ◌<◌, ◌^◌, IfOk};
+ghost use Rattle.std.specs.Prelude.{◌≡◌, ◌&&◌, ◌==◌, ◌<◌, ◌^◌, IfOk};
 ghost use Rattle.x86_insn.specs.Knowing.{if_known};
 ghost use Rattle.asm_expr.specs.Linear.{value_of};
-ghost use Rattle.asm_place.specs.Coding.{operand_fault, code_fault, field_size, held_kind, said_suffix, from_own_place, held_form, code_field};
+ghost use Rattle.asm_place.specs.Coding.{operand_fault, code_fault, is_bare, is_target, is_absent, jump_named, shape_of, field_size, held_kind, said_suffix, from_own_place, held_form, code_field};
 
 use asm_base::NoMemory;
 use asm_expr::{Linear, plus_times, symbol_form};
 use asm_frags::{FieldKind as HeldKind, FieldRole, FieldSize, Suffix as SaidSuffix, own_place};
 use asm_operands::PlaceCause;
 use att_operands::OperandCause;
+use item_bytes::{Condition, condition_of};
 use std::alloc::Global;
 use x86_encode::{EncodeFault, Field, FieldKind};
-use x86_insn::Suffix;
+use x86_insn::{Insn, Prefix, Slot, Suffix};
+use x86_table::mnemonics::integers::{JG, JMP, JO};
 
 /// The forms of an instruction's values where it stands.
 #[derive(Drop)]
@@ -76,6 +78,45 @@ pub(crate) fn held_kind(kind: FieldKind) -> HeldKind
         FieldKind::Signed => HeldKind::Signed,
         FieldKind::Address => HeldKind::Address,
         FieldKind::Branch => HeldKind::Branch,
+    }
+}
+
+/// The condition of a mnemonic, or none, where it is that of a jump.
+fn jump_named(name: u16) -> Option<Option<Condition>>
+    ensures { result ≡ jump_named name }
+{
+    if name == JMP {
+        return Some(None);
+    }
+    if name < JO || name > JG {
+        return None;
+    }
+    match condition_of((name - JO) as u8) {
+        Some(condition) => Some(Some(condition)),
+        None => None,
+    }
+}
+
+/// Whether the instruction has 64 bits, no prefix, and a branch target alone.
+fn leads_to_target(insn: &Insn) -> bool
+    ensures { result ≡ (is_bare insn.now.«prefix» && ((insn.now.size == 64)
+        && (is_target insn.now.first && (is_absent insn.now.second && is_absent insn.now.third)))) }
+{
+    matches!(insn.prefix, Prefix::Absent)
+        && insn.size == 64
+        && matches!(insn.first, Slot::Target)
+        && matches!(insn.second, Slot::Absent)
+        && matches!(insn.third, Slot::Absent)
+}
+
+/// The condition of a direct jump, or none, if the instruction is one.
+pub(crate) fn direct_jump(insn: &Insn) -> Option<Option<Condition>>
+    ensures { result ≡ (shape_of insn.now).jump }
+{
+    if leads_to_target(insn) {
+        jump_named(insn.name.0)
+    } else {
+        None
     }
 }
 

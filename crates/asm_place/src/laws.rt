@@ -1,6 +1,6 @@
 //! What holds of all that is placed.
 
-ghost use Rattle.std.specs.Prelude.{◌≡◌, ◌∷◌, ◌++◌, Bool, List, Some, Ok, Err, true, false};
+ghost use Rattle.std.specs.Prelude.{◌≡◌, ◌∷◌, ◌++◌, Bool, List, Option, None, Some, Ok, Err, true, false};
 ghost use Rattle.asm_base.specs.declared.positions.Pos.{Pos};
 ghost use Rattle.asm_base.specs.Tokens.{SpelledToken};
 ghost use Rattle.asm_lines.specs.NextStatements.{TokenStatement};
@@ -12,7 +12,8 @@ ghost use Rattle.asm_lines.specs.Placing.{placed_in_order};
 ghost use Rattle.asm_place.specs.declared.place_faults.FaultAt.{FaultAt};
 ghost use Rattle.asm_place.specs.Faults.{is_file_too_large};
 ghost use Rattle.att_insns.specs.InsnTexts.{InsnText};
-ghost use Rattle.asm_place.specs.CodePlaces.{insn_written, insn_in, is_instruction, BeginsAsInstruction, IsInsnPut, InsnStands};
+ghost use Rattle.asm_place.specs.CodePlaces.{insn_written, insn_in, is_instruction, BeginsAsInstruction, IsInsnPut, InsnStands, jump_in, IsJumpPut};
+ghost use Rattle.item_bytes.specs.declared.jumps.Condition.{Condition as TheCondition};
 ghost use Rattle.asm_place.specs.Instructions.{behind_labels, instruction_written, instruction_of, next_item, next_offset, Grows, AreWithin, IsPut, StandsAt};
 
 use x86_encode::encodings_are_codes;
@@ -72,8 +73,8 @@ pub fn instruction_items()
     bare_codes_read();
 }
 
-/// Where a statement is an instruction with operands, the bytes and fields of its encoding are put last
-/// in the current section, and nothing else. What is placed as an instruction is one without operands,
+/// Where a statement is an instruction with operands and no direct jump, the bytes and fields of its
+/// encoding are put last in the current section, and nothing else. What is placed as an instruction is one without operands,
 /// or one with some.
 pub fn encoding_stands()
     ensures told { (pos : Pos) (tokens : List SpelledToken) (first : SpelledToken)
@@ -82,7 +83,7 @@ pub fn encoding_stands()
         → place_tokens pos tokens before ≡ Ok placed
         → is_instruction (behind_labels tokens) ≡ true }
     ensures put { (pos : Pos) (tokens : List SpelledToken) (before placed : Placed) (text : InsnText)
-        → insn_written (behind_labels tokens) ≡ Some text
+        → insn_written (behind_labels tokens) ≡ Some text → jump_in text ≡ None
         → place_tokens pos tokens before ≡ Ok placed → IsInsnPut pos tokens text before placed }
 {
     encodings_are_codes();
@@ -94,8 +95,19 @@ pub fn encoding_items()
         (before placed whole : Placed) (text : InsnText)
         → AreWithin before.sections
         → place_all front before ≡ Ok placed → place_all (front ++ s ∷ later) before ≡ Ok whole
-        → insn_in s ≡ Some text
+        → insn_in s ≡ Some text → jump_in text ≡ None
         → InsnStands whole.sections (pos_at s.file s.line) s.tokens text placed }
 {
     encodings_are_codes();
 }
+
+/// Where a statement is a direct jump, an item that grows with the distance to its target is put last
+/// in the current section, and nothing else.
+#[tactic(auto, using(crate::proofs::CodeLaws::jump_put))]
+pub fn jumps_are_put()
+    ensures { (pos : Pos) (tokens : List SpelledToken) (before placed : Placed) (text : InsnText)
+        (condition : Option TheCondition)
+        → insn_written (behind_labels tokens) ≡ Some text → jump_in text ≡ Some condition
+        → place_tokens pos tokens before ≡ Ok placed
+        → IsJumpPut pos tokens text condition before placed }
+{}

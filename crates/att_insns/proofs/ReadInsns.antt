@@ -16,7 +16,7 @@ use Rattle.att_operands.specs.Spells.{IsMark, SpellsOperand, ends, IsSpelledIn}
 use Rattle.att_insns.specs.InsnTexts.{InsnText, blank, with_operand, with_operands}
 use Rattle.att_insns.specs.Rules.{ruled, is_branch}
 use Rattle.att_insns.specs.Sizes.{sized}
-use Rattle.att_insns.specs.Heads.{Head, head, mnemonic_of, is_direct, headed, prefixed as behind_prefix, head_by, head_of}
+use Rattle.att_insns.specs.Heads.{Head, head, mnemonic_of, headed, prefixed as behind_prefix, head_by, head_of}
 use Rattle.att_insns.specs.Reading.{operand_then, operands_at, with_all, insn_by, insn_of}
 use Rattle.att_insns.specs.Spells.{WritesOperands, last, more, WritesAll, none, some, HasSize, with_size, meant, IsHead, bare, prefixed, Spells, behind, OperandsAreSpelled}
 use Rattle.att_insns.proofs.SizesFound.{Sized, size_has}
@@ -143,38 +143,25 @@ all_spelled law branch tokens at insn made given = all_by law branch tokens at i
 pub record HeadStands (tokens : List SpelledToken) (found : Head) : Type 0 where
   pub stands : IsHead found.named found.«prefix» (drop found.next tokens) tokens
 
-bare_by : (named : Named) (name : SpelledToken) (text : List SpelledToken) (found : Head) (b : Bool) → mnemonic_of name.bytes ≡ Some named
-    → is_direct named.2.0 (mark_at text 0) ≡ b → cond b None (Some (head named Absent 1)) ≡ Some found → HeadStands (name ∷ text) found
-bare_by named name text found true names test is = cc
-bare_by named name text found false names test is = subst (HeadStands (name ∷ text)) (some_is is) (record { stands = bare named name text names test })
-
-prefixed_by : (named : Named) (word : Prefix) (lead name : SpelledToken) (text : List SpelledToken) (found : Head) (b : Bool) → prefix_of lead.bytes ≡ Some word
-    → mnemonic_of name.bytes ≡ Some named → is_direct named.2.0 (mark_at text 0) ≡ b → cond b None (Some (head named word 2)) ≡ Some found → HeadStands (lead ∷ name ∷ text) found
-prefixed_by named word lead name text found true leads names test is = cc
-prefixed_by named word lead name text found false leads names test is =
-    subst (HeadStands (lead ∷ name ∷ text)) (some_is is) (record { stands = prefixed named word lead name text leads names test })
-
 second_by : (word : Prefix) (lead name : SpelledToken) (text : List SpelledToken) (found : Head) (named : Option Named) → prefix_of lead.bytes ≡ Some word
-    → mnemonic_of name.bytes ≡ named → headed (lead ∷ name ∷ text) word 2 named ≡ Some found → HeadStands (lead ∷ name ∷ text) found
-unfolding headed
+    → mnemonic_of name.bytes ≡ named → headed word 2 named ≡ Some found → HeadStands (lead ∷ name ∷ text) found
 second_by word lead name text found None leads names is = cc
-second_by word lead name text found (Some named) leads names is = prefixed_by named word lead name text found (is_direct named.2.0 (mark_at text 0)) leads names refl is
+second_by word lead name text found (Some named) leads names is =
+    subst (HeadStands (lead ∷ name ∷ text)) (some_is is) (record { stands = prefixed named word lead name text leads names })
 
 behind_prefix_by : (lead : SpelledToken) (text : List SpelledToken) (found : Head) (word : Option Prefix) → prefix_of lead.bytes ≡ word
     → behind_prefix (lead ∷ text) word ≡ Some found → HeadStands (lead ∷ text) found
-unfolding headed
 behind_prefix_by lead text found None leads is = cc
 behind_prefix_by lead [] found (Some word) leads is = cc
 behind_prefix_by lead (name ∷ text) found (Some word) leads is = second_by word lead name text found (mnemonic_of name.bytes) leads refl is
 
 first_by : (name : SpelledToken) (text : List SpelledToken) (found : Head) (named : Option Named) → mnemonic_of name.bytes ≡ named
     → head_by (name ∷ text) named ≡ Some found → HeadStands (name ∷ text) found
-unfolding headed
 first_by name text found None names is = behind_prefix_by name text found (prefix_of name.bytes) refl is
-first_by name text found (Some named) names is = bare_by named name text found (is_direct named.2.0 (mark_at text 0)) names refl is
+first_by name text found (Some named) names is = subst (HeadStands (name ∷ text)) (some_is is) (record { stands = bare named name text names })
 
 pub head_stands : (tokens : List SpelledToken) (found : Head) → head_of tokens ≡ Some found → HeadStands tokens found
-unfolding head_of headed
+unfolding head_of
 head_stands [] found is = cc
 head_stands (name ∷ text) found is = first_by name text found (mnemonic_of name.bytes) refl is
 

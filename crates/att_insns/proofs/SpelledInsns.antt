@@ -21,7 +21,7 @@ use Rattle.att_operands.specs.Spells.{IsMark, SpellsOperand, ends}
 use Rattle.att_insns.specs.InsnTexts.{InsnText, blank, with_operand, with_operands}
 use Rattle.att_insns.specs.Rules.{ruled, is_branch}
 use Rattle.att_insns.specs.Sizes.{sized}
-use Rattle.att_insns.specs.Heads.{Head, head, mnemonic_of, headed, head_of}
+use Rattle.att_insns.specs.Heads.{Head, head, mnemonic_of, head_of}
 use Rattle.att_insns.specs.Reading.{operand_then, operands_at, with_all, headed_insn, insn_by, insn_of}
 use Rattle.att_insns.specs.Spells.{WritesOperands, last, more, WritesAll, none, some, HasSize, with_size, meant, IsHead, bare, prefixed, Spells, behind, OperandsAreRead}
 use Rattle.att_insns.proofs.SizesFound.{size_reads}
@@ -176,11 +176,11 @@ pub record HeadRead (named : Named) (word : Prefix) (text tokens : List SpelledT
 
 -- a head that stands in front is read
 pub head_reads : (named : Named) (word : Prefix) (text tokens : List SpelledToken) → IsHead named word text tokens → HeadRead named word text tokens
-unfolding head_of headed
-head_reads _ _ _ _ (bare named name text names direct) = record { next = 1; is = rw (names, direct) refl; stands = refl }
-head_reads _ _ _ _ (prefixed named word lead name text leads names direct) =
+unfolding head_of
+head_reads _ _ _ _ (bare named name text names) = record { next = 1; is = rw names refl; stands = refl }
+head_reads _ _ _ _ (prefixed named word lead name text leads names) =
     let none_here = no_mnemonic lead.bytes word leads in
-    record { next = 2; is = rw (none_here, leads, names, direct) refl; stands = refl }
+    record { next = 2; is = rw (none_here, leads, names) refl; stands = refl }
 
 -- an instruction that is spelled is read
 pub insn_reads : OperandsAreRead → (insn : InsnText) (tokens : List SpelledToken) → Spells insn tokens → insn_of tokens ≡ Ok insn

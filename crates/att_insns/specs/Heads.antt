@@ -1,13 +1,11 @@
 -- What stands in front of the operands: a mnemonic, and a prefix before it (GNU as manual, "i386-Prefixes").
-use Rattle.std.specs.Prelude.{◌≡◌, ℕ, ◌+◌, ◌==◌, ◌&&◌, ◌||◌, nat_le, Bool, not, List, Option, Some, None, slice_get, if◌then◌else◌}
+use Rattle.std.specs.Prelude.{ℕ, List, Option, Some, None, slice_get}
 use Rattle.std.specs.List.{find}
 use Rattle.asm_base.specs.Tokens.{SpelledToken}
 use Rattle.x86_insn.specs.declared.insns.Prefix.{Prefix}
 use Rattle.x86_insn.specs.declared.insns.Prefix.TheVariants.{Absent}
-use Rattle.x86_table.specs.declared.mnemonics.integers.TheConstants.{JMP, JO, JG}
 use Rattle.x86_lookup.specs.declared.names.Named.{Named}
 use Rattle.x86_lookup.specs.Names.{has_text, the_att_names}
-use Rattle.att_operands.specs.Marks.{mark_at}
 use Rattle.att_operands.specs.Prefixes.{prefix_of}
 
 -- a mnemonic and the prefix before it, and the place behind them
@@ -34,24 +32,20 @@ abbrev pub prefix_by : Option SpelledToken → Option Prefix
 prefix_by None = None
 prefix_by (Some token) = prefix_of token.bytes
 
--- the direct jumps are no rows here: those with a condition, and `jmp` without a `*` behind it
-abbrev pub is_direct : ℕ → ℕ → Bool
-is_direct name mark = (nat_le JO name && nat_le name JG) || ((name == JMP) && not (mark == 42))
-
 -- the mnemonic behind a prefix, if one stands there that has rows
-unfoldable pub headed : List SpelledToken → Prefix → ℕ → Option Named → Option Head
-headed tokens word next None = None
-headed tokens word next (Some named) = if is_direct named.2.0 (mark_at tokens next) then None else Some (head named word next)
+abbrev pub headed : Prefix → ℕ → Option Named → Option Head
+headed word next None = None
+headed word next (Some named) = Some (head named word next)
 
 -- the mnemonic behind the prefix in front
 abbrev pub prefixed : List SpelledToken → Option Prefix → Option Head
 prefixed tokens None = None
-prefixed tokens (Some word) = headed tokens word 2 (mnemonic_by (slice_get tokens 1))
+prefixed tokens (Some word) = headed word 2 (mnemonic_by (slice_get tokens 1))
 
 -- the mnemonic in front, or behind a prefix
 abbrev pub head_by : List SpelledToken → Option Named → Option Head
 head_by tokens None = prefixed tokens (prefix_by (slice_get tokens 0))
-head_by tokens (Some named) = headed tokens Absent 1 (Some named)
+head_by tokens (Some named) = Some (head named Absent 1)
 
 -- what stands in front of the operands, if a mnemonic does that has rows
 unfoldable pub head_of : List SpelledToken → Option Head

@@ -13,7 +13,7 @@ use Rattle.att_operands.specs.Spells.{IsMark, SpellsOperand, ends, IsReadWhole, 
 use Rattle.att_insns.specs.InsnTexts.{InsnText, blank, with_operands}
 use Rattle.att_insns.specs.Rules.{ruled, is_branch}
 use Rattle.att_insns.specs.Sizes.{is_form}
-use Rattle.att_insns.specs.Heads.{mnemonic_of, is_direct}
+use Rattle.att_insns.specs.Heads.{mnemonic_of}
 
 -- The text writes operands, at most so many, with commas between.
 pub data WritesOperands : (most : ℕ) (branch : Bool) (operands : List OperandText) (text : List SpelledToken) → Type 0 where
@@ -54,9 +54,9 @@ meant named word operands = ruled named.4 (with_operands operands (blank named.2
 -- The tokens begin with a mnemonic that has rows, or with a prefix and such a mnemonic, and this text stands behind it.
 pub data IsHead : (named : Named) (word : Prefix) (text tokens : List SpelledToken) → Type 0 where
   bare : (named : Named) (name : SpelledToken) (text : List SpelledToken) → mnemonic_of name.bytes ≡ Some named
-      → is_direct named.2.0 (mark_at text 0) ≡ false → IsHead named Absent text (name ∷ text)
+      → IsHead named Absent text (name ∷ text)
   prefixed : (named : Named) (word : Prefix) (lead name : SpelledToken) (text : List SpelledToken) → prefix_of lead.bytes ≡ Some word
-      → mnemonic_of name.bytes ≡ Some named → is_direct named.2.0 (mark_at text 0) ≡ false → IsHead named word text (lead ∷ name ∷ text)
+      → mnemonic_of name.bytes ≡ Some named → IsHead named word text (lead ∷ name ∷ text)
 
 -- The tokens spell the instruction.
 pub data Spells : (insn : InsnText) (tokens : List SpelledToken) → Type 0 where

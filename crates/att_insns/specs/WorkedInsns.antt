@@ -16,7 +16,7 @@ use Rattle.x86_insn.specs.declared.insns.Index.TheVariants as index
 use Rattle.x86_insn.specs.declared.insns.Address.{Address}
 use Rattle.x86_insn.specs.declared.insns.Slot.{Slot}
 use Rattle.x86_insn.specs.declared.insns.Slot.TheVariants as slot
-use Rattle.x86_table.specs.declared.mnemonics.integers.TheConstants.{ADD, MOV, MOVABS, LEA, XCHG, TEST, IMUL, SHL, PUSH, STOS, CALL, JMP, LOOP, RET, NOP}
+use Rattle.x86_table.specs.declared.mnemonics.integers.TheConstants.{ADD, MOV, MOVABS, LEA, XCHG, TEST, IMUL, SHL, PUSH, STOS, CALL, JMP, JNE, LOOP, RET, NOP}
 use Rattle.x86_table.specs.declared.mnemonics.vectors.TheConstants.{MOVQ, CMPPS, CVTSI2SS, CVTSI2SD, PBLENDVB, CRC32}
 use Rattle.att_operands.specs.declared.faults.OperandCause.{OperandCause}
 use Rattle.att_operands.specs.declared.faults.OperandCause.TheVariants.{UnknownMnemonic, BadExpression, BadOperand, UnknownOperandSize}
@@ -100,6 +100,8 @@ pub record WorkedPlain : Type 0 where
 -- instructions with branches and prefixes
 pub record WorkedBranches : Type 0 where
   pub jump : Reads (codes "jmp *%rax") (made_of JMP 64 (reg class.Quad 0) slot.Absent slot.Absent)
+  pub jumped : Reads (codes "jmp x") (to_target (x_with None) (made_of JMP 64 slot.Target slot.Absent slot.Absent))
+  pub jumped_if : Reads (codes "jne x@PLT") (to_target (x_with (Some Plt)) (made_of JNE 64 slot.Target slot.Absent slot.Absent))
   pub notracked : Reads (codes "notrack jmp *%rax") (prefixed_of Notrack JMP 64 (reg class.Quad 0) slot.Absent slot.Absent)
   pub called_through : Reads (codes "call *8(%rax)") (at_address (at_reg 0) (plainly 8) (made_of CALL 64 slot.Memory slot.Absent slot.Absent))
   pub called : Reads (codes "call x@PLT") (to_target (x_with (Some Plt)) (made_of CALL 64 slot.Target slot.Absent slot.Absent))
@@ -135,8 +137,7 @@ pub record WorkedRefusals : Type 0 where
   pub numbered : Refuses (codes "5") UnknownMnemonic
   pub alone : Refuses (codes "rep") UnknownMnemonic
   pub twice : Refuses (codes "lock lock incl (%rax)") UnknownMnemonic
-  pub direct : Refuses (codes "jmp x") UnknownMnemonic
-  pub condition : Refuses (codes "jne x") UnknownMnemonic
+  pub jump_without_star : Refuses (codes "jmp %rax") BadOperand
   pub stack_index : Refuses (codes "mov (%rsp,%rsp),%eax") BadOperand
   pub nothing_behind : Refuses (codes "add %eax,") BadOperand
   pub nothing_between : Refuses (codes "add %eax,,%ebx") BadOperand

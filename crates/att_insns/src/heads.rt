@@ -2,14 +2,12 @@
 
 ghost use Rattle.std.specs.Prelude.{◌≡◌, ◌<◌, ◌≤◌, map, length, option_map, slice_get, Some, IsSome, IfSome};
 ghost use Rattle.asm_base.specs.Tokens.{spelled};
-ghost use Rattle.att_operands.specs.Marks.{mark_at};
-ghost use Rattle.att_insns.specs.Heads.{head, mnemonic_by, prefix_by, is_direct, headed, prefixed, head_of};
+ghost use Rattle.att_insns.specs.Heads.{head, mnemonic_by, prefix_by, prefixed, head_of};
 
 use asm_base::Token;
-use att_operands::{mark_at, prefix_named};
-use x86_insn::{Mnemonic, Prefix};
+use att_operands::prefix_named;
+use x86_insn::Prefix;
 use x86_lookup::{Named, att_name};
-use x86_table::mnemonics::integers::{JG, JMP, JO};
 
 /// A mnemonic and the prefix before it, and the index of the first token behind them.
 #[derive(Clone, Copy)]
@@ -44,36 +42,8 @@ fn prefix_in_front(tokens: &[Token]) -> Option<Prefix>
     }
 }
 
-/// Whether the name with the token at this place behind it is that of a direct jump.
-#[inline(always)]
-fn is_direct(tokens: &[Token], name: Mnemonic, next: usize) -> bool
-    ensures { result ≡ is_direct name.0 (mark_at (map spelled tokens.now) next) }
-{
-    (JO <= name.0 && name.0 <= JG) || (name.0 == JMP && mark_at(tokens, next) != b'*')
-}
-
-/// The mnemonic behind a prefix, if it has rows.
-#[inline(always)]
-#[tactic(auto, unfolding(crate::specs::Heads::headed))]
-fn headed(tokens: &[Token], named: &'static Named, prefix: Prefix, next: usize) -> Option<FoundHead>
-    ensures value { let due = headed (map spelled tokens.now) prefix next (Some named.now) in
-        option_map (λ found. head found.named.now found.prefix found.next) result ≡ due }
-    ensures next { IfSome result (λ found. found.next ≡ next) }
-{
-    if is_direct(tokens, named.2, next) {
-        None
-    } else {
-        Some(FoundHead {
-            named,
-            prefix,
-            next,
-        })
-    }
-}
-
 /// The mnemonic behind the prefix in front.
 #[inline(never)]
-#[tactic(auto, unfolding(crate::specs::Heads::headed))]
 fn prefixed(tokens: &[Token]) -> Option<FoundHead>
     ensures value { let due = prefixed (map spelled tokens.now)
         (prefix_by (slice_get (map spelled tokens.now) 0)) in
@@ -82,7 +52,11 @@ fn prefixed(tokens: &[Token]) -> Option<FoundHead>
 {
     match prefix_in_front(tokens) {
         Some(prefix) => match mnemonic_at(tokens, 1) {
-            Some(named) => headed(tokens, named, prefix, 2),
+            Some(named) => Some(FoundHead {
+                named,
+                prefix,
+                next: 2,
+            }),
             None => None,
         },
         None => None,
@@ -98,7 +72,11 @@ pub(crate) fn head_of(tokens: &[Token]) -> Option<FoundHead>
     ensures within { IfSome result (λ found. found.next ≤ length tokens.now) }
 {
     match mnemonic_at(tokens, 0) {
-        Some(named) => headed(tokens, named, Prefix::Absent, 1),
+        Some(named) => Some(FoundHead {
+            named,
+            prefix: Prefix::Absent,
+            next: 1,
+        }),
         None => prefixed(tokens),
     }
 }
