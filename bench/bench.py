@@ -14,12 +14,17 @@ import pathlib
 import re
 import shutil
 import subprocess
+import sys
 import tempfile
 from collections.abc import Callable, Iterator
 from dataclasses import dataclass
 
+sys.dont_write_bytecode = True
+from c_programs import c_program  # noqa: E402
+
 BUILT = pathlib.Path(__file__).resolve().parent.parent / "build" / "as"
 PROGRAMS = pathlib.Path(__file__).resolve().parent / "programs.c"
+RANDOM_PROGRAMS = 20  # so many are compiled at most, some 100,000 lines
 ENVIRONMENT = {**os.environ, "LC_ALL": "C"}
 MIB = 1 << 20
 MEMORY = pathlib.Path("/dev/shm")  # where Linux keeps files in memory
@@ -74,20 +79,38 @@ def data() -> Iterator[str]:
             yield f"\t{next(sections)}\n"
 
 
+def compiled(*words: str, text: str | None = None) -> str:
+    """What gcc makes of a source at -O2, without tables for unwinding, which are no directives here."""
+    command = ["gcc", "-O2", "-w", "-S", "-fno-asynchronous-unwind-tables", "-o", "-", *words]
+    return subprocess.run(command, input=text, capture_output=True, text=True, env=ENVIRONMENT, check=True).stdout
+
+
 def code() -> Iterator[str]:
     """The instructions that gcc makes of `programs.c` at -O2, one a line, without the direct jumps. Their labels `.L1` are undefined symbols `L1`."""
-    made = subprocess.run(["gcc", "-O2", "-S", "-o", "-", str(PROGRAMS)], capture_output=True, text=True, env=ENVIRONMENT, check=True).stdout
-    lines = [line for line in made.splitlines(keepends=True) if re.match(r"\t[a-z]", line) and not re.match(r"\tj\w+\t[^*]", line)]
+    lines = [line for line in compiled(str(PROGRAMS)).splitlines(keepends=True) if re.match(r"\t[a-z]", line) and not re.match(r"\tj\w+\t[^*]", line)]
     return itertools.cycle(re.sub(r"(?<![\w.])\.L", "L", line) for line in lines)
+
+
+def cut_behind_names(made: str) -> list[str]:
+    """What gcc made, cut behind each symbol that it defines: joined by a text, these pieces have it behind all these symbols."""
+    names = {a or b for a, b in re.findall(r"^(?:([a-zA-Z_.][\w.]*):|\t\.(?:comm|set)\t([\w.]+))", made, re.MULTILINE)}
+    ends = [word.end() for word in re.finditer(r"[\w.]+", made) if word[0] in names]
+    return [made[begin:end] for begin, end in zip([0, *ends], [*ends, len(made)])]
 
 
 def functions() -> Iterator[str]:
     """All that gcc makes of `programs.c` at -O2 but unwind tables, over and over, each time with other names."""
-    command = ["gcc", "-O2", "-S", "-fno-asynchronous-unwind-tables", "-o", "-", str(PROGRAMS)]
-    made = subprocess.run(command, capture_output=True, text=True, env=ENVIRONMENT, check=True).stdout
-    names = sorted({a or b for a, b in re.findall(r"^(?:([\w.]+):|\t\.comm\t([\w.]+))", made, re.MULTILINE)}, key=len, reverse=True)
-    named = re.compile(rf"(?<![\w.])({'|'.join(map(re.escape, names))})(?![\w.])")
-    return (named.sub(rf"\1_{n}", made) for n in itertools.count())
+    pieces = cut_behind_names(compiled(str(PROGRAMS)))
+    return (f"_{n}".join(pieces) for n in itertools.count())
+
+
+def programs() -> Iterator[str]:
+    """All that gcc makes of the random programs of `c_programs.py` at -O2 but unwind tables, over and over, each time with other names."""
+    made: list[list[str]] = []
+    for n in itertools.count():
+        if n < RANDOM_PROGRAMS:
+            made.append(cut_behind_names(compiled("-x", "c", "-", text=c_program(n))))
+        yield f"_{n}".join(made[n % RANDOM_PROGRAMS])
 
 
 def jumps() -> Iterator[str]:
@@ -180,10 +203,11 @@ SOURCES_OF_TEXT: list[Callable[[], Iterator[str]]] = [nops, byte_lists, expressi
 SIZES_IN_MIB = [1, 4, 16]
 SIZES_IN_LINES = [10_000, 100_000, 1_000_000]
 SOURCES_OF_LINES: list[tuple[Callable[[], Iterator[str]], list[int]]] = [
-    (code, SIZES_IN_LINES), (functions, SIZES_IN_LINES), (data, SIZES_IN_LINES), (relocations, SIZES_IN_LINES), (distances, [100_000]), (fills, [100_000]),
-    (alignments, [100_000]), (jumps, [400_000]), (cascade, [10_000]), (leb128, [64_000]), (sections, [60_000]),
+    (code, SIZES_IN_LINES), (functions, SIZES_IN_LINES), (programs, SIZES_IN_LINES), (data, SIZES_IN_LINES), (relocations, SIZES_IN_LINES),
+    (distances, [100_000]), (fills, [100_000]), (alignments, [100_000]), (jumps, [400_000]), (cascade, [10_000]), (leb128, [64_000]), (sections, [60_000]),
     (chain, [20_000]), (chain_back, [20_000]), (sums, [10_000]), (space, [16]),
 ]
+SOURCES_OF_GCC = [code, functions, programs]
 
 
 @dataclass
@@ -291,7 +315,7 @@ def main() -> None:
     chosen = {name: case for name, case in cases.items() if options.only in name}
     if options.runs < 1 or not chosen or not BUILT.exists():
         parser.error(f"build/as is built first, N is at least 1, and WORD stands in one of: {', '.join(cases)}")
-    without_gcc = [name for name, (source, _) in chosen.items() if source in (code, functions) and not shutil.which("gcc")]
+    without_gcc = [name for name, (source, _) in chosen.items() if source in SOURCES_OF_GCC and not shutil.which("gcc")]
     for name in without_gcc:
         del chosen[name]
     gnu, version = find_gnu()
