@@ -40,15 +40,16 @@ demo: build/as
 check:
 	rt ci
 
-# What no clause can say: the built program on files and devices that fail, and its objects linked by gcc. Random expressions beside
-# Python's integers, and the objects of random sources and the code of random instructions beside those of the machine's GNU as. The
-# rows of the instruction table beside the machine's objdump, and what is made of them: a document, and the indices and keys by which
-# they are found.
+# What no clause can say: the built program on files and devices that fail, and its objects linked by gcc, those of random C programs
+# with them. Random expressions beside Python's integers, and the objects of random sources and the code of random instructions beside
+# those of the machine's GNU as. The rows of the instruction table beside the machine's objdump, and what is made of them: a document,
+# and the indices and keys by which they are found.
 check-outside: all
 	checks/outside.sh build/as
 	checks/tables.sh build/as
 	checks/gcc.sh build/gcc
 	checks/functions.sh build/as
+	checks/programs.py --ours build/as
 	checks/expressions.py build/as
 	checks/compare.py --ours build/as
 	checks/instructions.py --ours build/as

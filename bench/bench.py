@@ -105,11 +105,12 @@ def functions() -> Iterator[str]:
 
 
 def programs() -> Iterator[str]:
-    """All that gcc makes of the random programs of `c_programs.py` at -O2 but unwind tables, over and over, each time with other names."""
+    """All that gcc makes of the random programs of `c_programs.py` at -O2 but unwind tables, over and over, each time with other names. For other processors
+    gcc writes `rep bsf`, which is no instruction here."""
     made: list[list[str]] = []
     for n in itertools.count():
         if n < RANDOM_PROGRAMS:
-            made.append(cut_behind_names(compiled("-x", "c", "-", text=c_program(n))))
+            made.append(cut_behind_names(compiled("-mtune=nehalem", "-x", "c", "-", text=c_program(n))))
         yield f"_{n}".join(made[n % RANDOM_PROGRAMS])
 
 

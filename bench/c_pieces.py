@@ -166,7 +166,7 @@ static void by_value(void) {
 }
 """,
     "bit_fields": """\
-struct bit_fields_packed { unsigned a : $few, b : 1, c : 11; int d : 5, : 3, e : 7; uint64_t f : 37, g : 20; uint8_t h : 4; } __attribute__((packed));
+struct bit_fields_packed { unsigned a : $few, b : 1, c : 11; int d : 5, : 3, e : 7; uint64_t f : 37, g : 20; unsigned h : 4; } __attribute__((packed));
 struct bit_fields_plain { unsigned short low : 9, high : 7; signed char small : 3; _Bool flag : 1; unsigned : 0; unsigned last : 31; };
 static struct bit_fields_packed bit_fields_static = { 3, 1, 1000, -7, 33, $a * 77777u, $b, 9 };
 static void bit_fields(void) {

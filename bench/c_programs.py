@@ -4,7 +4,8 @@
     bench/c_programs.py NUMBER [MORE]
 
 A program has data of all sizes, functions that call those above them, and some of the pieces of `c_pieces.py`. With MORE it has so many random functions
-more. It is compiled by gcc, of whose extensions it uses some, and linked with `-lm`.
+more. It is compiled by gcc, of whose extensions it uses some, and linked with `-lm`. Where C leaves the order of calls open, as in a sum of two, gcc may
+choose another at another level, and then other lines are printed.
 """
 import random
 import sys

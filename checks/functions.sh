@@ -1,6 +1,6 @@
 #!/usr/bin/env bash
-# Functions that gcc compiles to instructions without direct jumps, assembled by the built program: linked in three ways with a main, they print what gcc's own
-# build of them prints. Left out of gcc's text are alignments and what unwinding needs, which are no directives here.
+# Functions that gcc compiles without the tables for unwinding, assembled by the built program: linked in three ways with a main, they print what gcc's own build
+# of them prints.
 set -eu
 as=$(realpath "${1:-build/as}")
 functions=$(realpath "$(dirname "$0")")/functions.c
@@ -9,8 +9,7 @@ trap 'rm -rf "$work"' EXIT
 cd "$work"
 how=(-O2 -fPIC -ftls-model=initial-exec)
 
-gcc "${how[@]}" -DNO_MAIN -S -o whole.s "$functions"
-grep -Ev '^\s*\.(p2align|align|cfi_[a-z_]+)\b' whole.s >functions.s
+gcc "${how[@]}" -fno-asynchronous-unwind-tables -DNO_MAIN -S -o functions.s "$functions"
 "$as" -o functions.o functions.s
 echo "ok   $(grep -Ec '^\s+[a-z]' functions.s) instructions of $(grep -c '@function' functions.s) functions are assembled"
 gcc "${how[@]}" -o due "$functions"
