@@ -1,17 +1,18 @@
 #!/usr/bin/env python3
 """Random C programs, each made from its number alone: none does what C leaves undefined, each ends, and prints what it works out.
 
-    bench/c_programs.py NUMBER [MORE]
+    bench/c_programs.py NUMBER
 
-A program has data of all sizes, functions that call those above them, and some of the pieces of `c_pieces.py`. With MORE it has so many random functions
-more. It is compiled by gcc, of whose extensions it uses some, and linked with `-lm`. Where C leaves the order of calls open, as in a sum of two, gcc may
-choose another at another level, and then other lines are printed.
+A program has data of all sizes, functions that call those above them, and some of the pieces of `c_pieces.py`. It is compiled by gcc, of whose extensions
+it uses some, and linked with `-lm`. Where C leaves the order of calls open, as in a sum of two, gcc may choose another at another level, and then other
+lines are printed.
 """
 import random
 import sys
 
-from c_expressions import DOUBLE, INTEGERS, NEEDED, TYPES, UINT32, UINT64, Array, Expressions, Function, Scope, Type
-from c_pieces import PIECES, piece
+sys.dont_write_bytecode = True
+from c_expressions import INTEGERS, NEEDED, TYPES, UINT32, UINT64, Array, Expressions, Function, Scope, Type  # noqa: E402
+from c_pieces import PIECES, piece  # noqa: E402
 
 # Each call takes some fuel, and one without fuel answers at once. So calls end, however they are nested in loops.
 HEAD = f"""\
@@ -51,7 +52,7 @@ class Body:
             self.put_one(depth, in_loop)
 
     def put_one(self, depth: int, in_loop: bool) -> None:
-        """A statement. Those of others stand in at most three, and loops in one loop."""
+        """A statement: at most four deep in others, and a loop at most in one other."""
         plain = [self.put_assignment] * 5 + [self.put_change, self.put_element, self.put_element, self.put_call]
         nested = [self.put_if, self.put_if, self.put_switch, self.put_goto] if depth < 4 else []
         loops = [self.put_for, self.put_for, self.put_while, self.put_again] if depth < 3 else []
@@ -73,7 +74,7 @@ class Body:
         self.put(depth, f"{name} {self.rng.choice(changes)};")
 
     def put_element(self, depth: int, in_loop: bool) -> None:
-        """An element or a field is given a value."""
+        """An element is given a value."""
         array = self.rng.choice(self.scope.arrays)
         place, kind = self.expressions.element(array)
         self.put(depth, f"{place} = {self.expressions.of(kind, 2)};")
@@ -223,13 +224,12 @@ class Program:
         self.texts.append("\n" + inlined + self.words() + f"{function.result.name} {function.name}({spelled}) {{\n" + "\n".join(body.lines) + "\n}\n")
         self.scope.functions.append(function)
 
-    def make(self, more: int) -> str:
+    def make(self) -> str:
         """The text: data, functions with pieces among them, and a main that calls each of them some times and prints what came."""
         rng = self.rng
         self.put_data()
         chosen = rng.sample(sorted(PIECES), 5)
-        functions = rng.randrange(4, 9) + more
-        for n in range(functions):
+        for n in range(rng.randrange(4, 9)):
             self.put_function(n)
         self.texts += ["\n" + piece(name, rng) for name in chosen]
         main = [f'    printf("{name}\\n");\n    {name}();\n' for name in chosen]
@@ -245,12 +245,12 @@ class Program:
         return "".join([*self.texts, "\nint main(void) {\n", *main, '    printf("told %lx\\n", told);\n    return (int)(told & 63);\n}\n'])
 
 
-def c_program(number: int, more: int = 0) -> str:
+def c_program(number: int) -> str:
     """The text of the program of this number."""
-    return Program(number).make(more)
+    return Program(number).make()
 
 
 if __name__ == "__main__":
-    if len(sys.argv) not in (2, 3) or not all(word.isdecimal() for word in sys.argv[1:]):
+    if len(sys.argv) != 2 or not sys.argv[1].isdecimal():
         sys.exit(__doc__)
-    sys.stdout.write(c_program(*map(int, sys.argv[1:])))
+    sys.stdout.write(c_program(int(sys.argv[1])))
