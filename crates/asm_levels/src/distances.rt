@@ -66,6 +66,7 @@ pub enum Distance {
     },
 }
 
+#[inline(never)]
 fn sum_value(shifts: &RangeTable, number: u64, terms: &[RowTerm]) -> u64
     requires { All (λ term. term.row < length shifts.now) terms.now }
     ensures { result ≡ (number + sum_by (spec.times_shift shifts.now) terms.now) % 2 ^ 64 }
@@ -79,6 +80,7 @@ fn sum_value(shifts: &RangeTable, number: u64, terms: &[RowTerm]) -> u64
 
 /// The distance, modulo 2^64, where the rows are moved so far.
 #[tactic(auto, unfolding(crate::specs::Distances::distance_value))]
+#[inline(always)]
 pub(crate) fn distance_value(shifts: &RangeTable, distance: &Distance) -> u64
     requires { spec.DistanceStands (length shifts.now) distance.now }
     ensures { result ≡ spec.distance_value shifts.now distance.now }

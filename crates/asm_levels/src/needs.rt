@@ -76,6 +76,7 @@ fn signed_level(value: u64) -> u8
 }
 
 /// How many groups of seven bits a number takes besides the first, from 0 to 9 (DWARF 5, section 7.6).
+#[inline(never)]
 pub fn leb128_level(signed: bool, value: u64) -> u8
     ensures value { result ≡ spec.leb128_level signed value }
     ensures within { result ≤ 9 }
@@ -88,6 +89,7 @@ pub fn leb128_level(signed: bool, value: u64) -> u8
 }
 
 #[tactic(auto, unfolding(crate::specs::Needs::jump_level))]
+#[inline(always)]
 fn jump_level(distance: u64) -> u8
     ensures { result ≡ spec.jump_level distance }
 {
@@ -99,6 +101,7 @@ fn jump_level(distance: u64) -> u8
 }
 
 #[tactic(auto, unfolding(crate::specs::Needs::advance_level))]
+#[inline(always)]
 fn advance_level(distance: u64) -> u8
     ensures { result ≡ spec.advance_level distance }
 {
@@ -117,6 +120,7 @@ fn advance_level(distance: u64) -> u8
 
 /// The least level that holds the row's distance where the rows are moved so far.
 #[tactic(auto, unfolding(crate::specs::Needs::needed))]
+#[inline(always)]
 pub(crate) fn needed(shifts: &RangeTable, size: &RowSize) -> u8
     requires { NamesRows (length shifts.now) size.now }
     ensures { result ≡ spec.needed shifts.now size.now }
@@ -134,6 +138,7 @@ pub(crate) fn needed(shifts: &RangeTable, size: &RowSize) -> u8
 
 /// The number of levels above the lowest.
 #[tactic(auto, unfolding(crate::specs::Needs::top))]
+#[inline(always)]
 pub(crate) fn top(size: &RowSize) -> u8
     ensures { result ≡ spec.top size.now }
 {

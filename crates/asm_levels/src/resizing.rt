@@ -20,6 +20,7 @@ pub(crate) struct EndedRows<'a> {
 }
 
 /// How far the row is moved that an `.org` counts from, and 0 for other rows.
+#[inline(always)]
 fn start_of(shifts: &RangeTable, size: &RowSize) -> u64
     requires { OrgStands (length shifts.now) size.now }
     ensures { result ≡ spec.start_of shifts.now size.now }
@@ -37,6 +38,7 @@ fn start_of(shifts: &RangeTable, size: &RowSize) -> u64
 
 /// The size of the row of this index at its level and address, where the rows up to it are moved so far.
 #[tactic(auto, unfolding(crate::specs::Sizes::size_at))]
+#[inline(always)]
 fn size_here(rows: &[Row], levels: &[u8], shifts: &RangeTable, index: usize) -> u64
     requires inside { index < length rows.now }
     requires stand { AllStand rows.now }
@@ -60,6 +62,7 @@ fn size_here(rows: &[Row], levels: &[u8], shifts: &RangeTable, index: usize) -> 
 }
 
 /// The size of the row of this index, which does not depend on its address, at its level.
+#[inline(always)]
 fn size_of_level(rows: &[Row], levels: &[u8], index: usize) -> u64
     requires inside { index < length rows.now }
     requires stand { AllStand rows.now }

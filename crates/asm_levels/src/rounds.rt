@@ -14,6 +14,7 @@ use range_table::RangeTable;
 use std::sync::ledger::Ledger;
 
 /// The level that a row takes. Where it is at its highest one, its distance is not looked at.
+#[inline(always)]
 pub(crate) fn level_taken<L: Ledger>(
     shifts: &RangeTable,
     size: &RowSize,
@@ -33,6 +34,7 @@ pub(crate) fn level_taken<L: Ledger>(
 }
 
 /// Puts a row at this place of a list, if there is room.
+#[inline(always)]
 pub(crate) fn note(list: &mut [u32], place: usize, row: usize)
     requires { row < 2 ^ 32 }
     ensures { list.new ≡ slice_set list.old place row }

@@ -8,6 +8,7 @@ ghost use Rattle.asm_levels.specs.Standing.{AlignStands, OrgStands, AllStand};
 use crate::rows::{Row, RowSize};
 
 /// The number of bytes from an address up to the next multiple of 2^log, or 0 where that is more than the most.
+#[inline(never)]
 fn padding_within(log: u8, most: u64, address: u64) -> u64
     requires { log ≤ 30 }
     ensures size { result ≡ spec.unless_above most (spec.padding (2 ^ log) address) }
@@ -18,6 +19,7 @@ fn padding_within(log: u8, most: u64, address: u64) -> u64
     if bytes <= most { bytes } else { 0 }
 }
 
+#[inline(always)]
 fn jump_bytes(conditional: bool, level: u8) -> u64
     ensures size { result ≡ spec.jump_size conditional level }
     ensures within { result ≤ 6 }
@@ -31,6 +33,7 @@ fn jump_bytes(conditional: bool, level: u8) -> u64
     }
 }
 
+#[inline(always)]
 fn advance_bytes(level: u8) -> u64
     ensures size { result ≡ spec.advance_size level }
     ensures within { result ≤ 5 }
@@ -45,6 +48,7 @@ fn advance_bytes(level: u8) -> u64
 }
 
 /// How far the row is moved that an `.org` counts from, and 0 for other rows.
+#[inline(always)]
 fn start_of(done: &[u64], size: &RowSize) -> u64
     requires { OrgStands (length done.now) size.now }
     ensures { result ≡ spec.start_of done.now size.now }
@@ -62,6 +66,7 @@ fn start_of(done: &[u64], size: &RowSize) -> u64
 
 /// The size in bytes of a row of this level at this address, where the row that an `.org` counts from is moved so far.
 #[tactic(auto, unfolding(crate::specs::Sizes::most_bytes))]
+#[inline(always)]
 pub(crate) fn size_from(start: u64, size: &RowSize, level: u8, address: u64) -> u64
     requires align { AlignStands size.now }
     requires start { start < 2 ^ 62 }
@@ -85,6 +90,7 @@ pub(crate) fn size_from(start: u64, size: &RowSize, level: u8, address: u64) -> 
 
 /// The size in bytes of a row of this level at this address, by the shifts of the rows up to it.
 #[tactic(auto, unfolding(crate::specs::Sizes::size_at))]
+#[inline(always)]
 fn size_at(done: &[u64], size: &RowSize, level: u8, address: u64) -> u64
     requires align { AlignStands size.now }
     requires org { OrgStands (length done.now) size.now }
@@ -99,6 +105,7 @@ fn size_at(done: &[u64], size: &RowSize, level: u8, address: u64) -> u64
 
 /// How far the row behind this one is moved, which has this level and is moved so far itself.
 #[tactic(auto, unfolding(crate::specs::Shifts::shift_behind))]
+#[inline(always)]
 fn shift_behind(done: &[u64], row: &Row, level: u8, shift: u64) -> u64
     requires align { AlignStands row.now.size }
     requires org { OrgStands (length done.now) row.now.size }

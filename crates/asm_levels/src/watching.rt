@@ -156,6 +156,7 @@ impl Entries {
 }
 
 /// Adds entries of a row to the nodes that stand above just the blocks from one to another: at most two of each height.
+#[inline(never)]
 fn add_all(
     entries: &mut Entries,
     all: EndedRows,
@@ -192,6 +193,7 @@ fn add_all(
 
 /// Gives a row entries for the blocks from one to another: those of the row before it, where that has entries for just
 /// these blocks, and else its own.
+#[inline(always)]
 fn add_run(
     entries: &mut Entries,
     all: EndedRows,
@@ -236,6 +238,7 @@ pub(crate) struct Watchers {
 }
 
 /// The first and the last row between which the distance of a row stands, if it is one of two rows.
+#[inline(always)]
 fn span_of(size: &RowSize) -> Option<(usize, usize)>
     ensures { IfSome result (λ span. spec.RowSpans size.now span.0 span.1) }
 {
@@ -257,6 +260,7 @@ fn span_of(size: &RowSize) -> Option<(usize, usize)>
 }
 
 /// The same, where they stand in one section.
+#[inline(always)]
 fn span_within(all: EndedRows, row: usize) -> Option<(usize, usize)>
     requires inside { row < length all.rows.now }
     requires ends { AreEnds all.rows.now all.ends.now }
@@ -282,6 +286,7 @@ impl Watchers {
 
     /// Has the distance of a row looked at where it may have changed. Takes the first and the last block for which the
     /// row before it has entries, and answers those of this row: block 1 to block 0, where it has none.
+    #[inline(always)]
     fn watch(
         &mut self,
         all: EndedRows,
