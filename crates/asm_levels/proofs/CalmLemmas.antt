@@ -10,7 +10,7 @@ use Rattle.asm_levels.specs.declared.rows.RowSize.TheVariants.{Fixed, Align, Org
 use Rattle.asm_levels.specs.declared.rows.Row.{Row}
 use Rattle.asm_levels.specs.Distances.{distance_value}
 use Rattle.asm_levels.specs.Needs.{jump_level, leb128_level, advance_level, needed, top, tops, has_levels, levels_needed}
-use Rattle.asm_levels.specs.Resizing.{AreMoved, AreEnds, IsAmong, AreTouched}
+use Rattle.asm_levels.specs.Resizing.{AreMoved, AreEnds, IsAmong, AreTouched, AreResized}
 use Rattle.asm_levels.specs.Watching.{IsSpan, RowSpans, block_of, leaf_of, HasEntryAbove, IsWatched, IsCovered, IsTouched, AreHighest}
 use Rattle.asm_levels.specs.Looking.{AreCalm}
 use Rattle.asm_levels.proofs.RunLemmas.{apart_tests}
@@ -76,6 +76,9 @@ span_order End first last span = absurd span
 exact_apart : (a b c d : ℕ) → a < 2 ^ 62 → b < 2 ^ 62 → c < 2 ^ 62 → d < 2 ^ 62 → (a + b) % 2 ^ 64 ≡ (c + d) % 2 ^ 64 → a + b ≡ c + d
 exact_apart a b c d one two three four same = omega arith
 
+sum_same : (shift one other : ℕ) → one % 2 ^ 64 ≡ other % 2 ^ 64 → (shift + one) % 2 ^ 64 ≡ (shift + other) % 2 ^ 64
+sum_same shift one other same = omega arith
+
 step_apart : (one other bytes next later a b : ℕ) → next ≡ (one + bytes) % 2 ^ 64 → later ≡ (other + bytes) % 2 ^ 64 → (other + a) % 2 ^ 64 ≡ (one + b) % 2 ^ 64 → (later + a) % 2 ^ 64 ≡ (next + b) % 2 ^ 64
 step_apart one other bytes next later a b is was same = omega arith
 
@@ -112,7 +115,7 @@ module _ (rows : List Row) (ends sizes after shifts later : List ℕ) (many : �
           moved.next (first + count) default (omega arith) ∙ ap (λ m. m % 2 ^ 64) (past_inner (get_or rows (first + count) default).size (get_or shifts (first + count) 0) (get_or sizes (first + count) 0) inner) in
           let next' : get_or later (first + count + 1) 0 ≡ (get_or later (first + count) 0 + get_or after (first + count) 0) % 2 ^ 64 =
           now.next (first + count) default (omega arith) ∙ ap (λ m. m % 2 ^ 64) (past_inner (get_or rows (first + count) default).size (get_or later (first + count) 0) (get_or after (first + count) 0) inner) in
-          let next'' : get_or later (first + count + 1) 0 ≡ (get_or later (first + count) 0 + get_or sizes (first + count) 0) % 2 ^ 64 = next' ∙ ap (λ bytes. (get_or later (first + count) 0 + bytes) % 2 ^ 64) same in
+          let next'' : get_or later (first + count + 1) 0 ≡ (get_or later (first + count) 0 + get_or sizes (first + count) 0) % 2 ^ 64 = next' ∙ sum_same (get_or later (first + count) 0) (get_or after (first + count) 0) (get_or sizes (first + count) 0) same in
           let step = step_apart (get_or shifts (first + count) 0) (get_or later (first + count) 0) (get_or sizes (first + count) 0) (get_or shifts (first + count + 1) 0) (get_or later (first + count + 1) 0) (get_or shifts first 0) (get_or later first 0) next next'' apart in
           ap (λ i. (get_or later i 0 + get_or shifts first 0) % 2 ^ 64) one ∙ (step ∙ ap (λ i. (get_or shifts i 0 + get_or later first 0) % 2 ^ 64) (sym one)))
     ]
@@ -176,10 +179,12 @@ module _ (rows : List Row) (ends sizes after shifts later : List ℕ) (many : �
       ]
 
 -- what the first so many of a list leave calm, where there is such a list
-pub calm_if : (rows : List Row) (ends sizes after shifts later touched entries nodes : List ℕ) (follows : List Bool) (wide levels : List ℕ) (left : ℕ) (result : Option ℕ) → AreMoved rows sizes shifts → AreMoved rows after later → AreEnds rows ends
+pub calm_if : (rows : List Row) (ends shifts later touched entries nodes : List ℕ) (follows : List Bool) (wide levels : List ℕ) (left : ℕ) (result : Option ℕ) → AreEnds rows ends
     → All (λ shift. shift < 2 ^ 62) shifts → All (λ shift. shift < 2 ^ 62) later → ((index : ℕ) → index < length rows → IsCovered rows ends entries nodes follows wide index)
     → AreHighest rows levels left wide → ((index : ℕ) → index < length rows → get_or (levels_needed shifts rows) index 0 ≤ get_or levels index 0)
-    → IfSome result (λ many. AreTouched sizes after many touched) → IfSome result (λ many. AreCalm rows later levels entries nodes follows (take left wide) many touched)
-calm_if rows ends sizes after shifts later touched entries nodes follows wide levels left None moved now all_ends small small_later covered highest holds listed = listed
-calm_if rows ends sizes after shifts later touched entries nodes follows wide levels left (Some many) moved now all_ends small small_later covered highest holds listed =
-    calm_after rows ends sizes after shifts later many touched moved now all_ends listed small small_later no_row entries nodes follows wide levels left covered highest holds
+    → IfSome result (λ many. (sizes : List ℕ) × AreMoved rows sizes shifts × AreResized rows levels sizes later many touched)
+    → IfSome result (λ many. AreCalm rows later levels entries nodes follows (take left wide) many touched)
+calm_if rows ends shifts later touched entries nodes follows wide levels left None all_ends small small_later covered highest holds resized = resized
+calm_if rows ends shifts later touched entries nodes follows wide levels left (Some many) all_ends small small_later covered highest holds resized =
+    let now = resized.2 in
+    calm_after rows ends resized.0 now.sizes shifts later many touched resized.1 now.moved all_ends now.touched small small_later no_row entries nodes follows wide levels left covered highest holds

@@ -125,6 +125,59 @@ module _ (rows : List Row) (sizes shifts after : List ℕ) (row to more : ℕ) (
     ];
   }
 
+-- another size of a row moves what stands behind it as far, where none of its section does or the sizes are one modulo 2 ^ 64
+pub moved_set : (rows : List Row) (sizes shifts : List ℕ) (row size : ℕ) → row < length rows → AreMoved rows sizes shifts
+    → ((default : Row) → row + 1 < length rows → moved_past (get_or rows row default).size (get_or shifts row 0) (get_or sizes row 0) % 2 ^ 64 ≡ moved_past (get_or rows row default).size (get_or shifts row 0) size % 2 ^ 64)
+    → AreMoved rows (set sizes row size) shifts
+moved_set rows sizes shifts row size inside moved same =
+    let many = moved.as_many_sizes in
+    let own : get_or (set sizes row size) row 0 ≡ size = get_or-set_same sizes row size 0 (omega arith) in
+    record {
+      as_many_shifts = moved.as_many_shifts;
+      as_many_sizes = length-set sizes row size ∙ many;
+      first = moved.first;
+      next = λ index default within. elim (cases_eq index row) [
+        | inl here ↦ subst (λ (i : ℕ). get_or shifts (i + 1) 0 ≡ moved_past (get_or rows i default).size (get_or shifts i 0) (get_or (set sizes row size) i 0) % 2 ^ 64) (sym here)
+            (moved.next row default (omega arith) ∙ (same default (omega arith) ∙ ap (λ bytes. moved_past (get_or rows row default).size (get_or shifts row 0) bytes % 2 ^ 64) (sym own)))
+        | inr other ↦ moved.next index default within ∙ ap (λ bytes. moved_past (get_or rows index default).size (get_or shifts index 0) bytes % 2 ^ 64) (sym (get_or-set_other sizes row index size 0 other))
+      ];
+    }
+
+pub set_unmoved : (rows : List Row) (sizes shifts : List ℕ) (row size to : ℕ) → row < length rows → IsMovedBefore rows row to → to ≡ row + 1 → AreMoved rows sizes shifts → AreMoved rows (set sizes row size) shifts
+set_unmoved rows sizes shifts row size to inside before last moved = moved_set rows sizes shifts row size inside moved (λ default within. (
+    let at : to - 1 ≡ row = omega arith in
+    let end : is_end (get_or rows row default).size ≡ true = subst (λ (index : ℕ). is_end (get_or rows index default).size ≡ true) at (before.last default (omega arith)) in
+    ap (λ m. m % 2 ^ 64) (past_end (get_or rows row default).size (get_or shifts row 0) (get_or sizes row 0) end ∙ sym (past_end (get_or rows row default).size (get_or shifts row 0) size end))))
+
+same_sum : (shift one other : ℕ) → other ≡ one % 2 ^ 64 → (shift + one) % 2 ^ 64 ≡ (shift + other) % 2 ^ 64
+same_sum shift one other is = omega arith
+
+pub set_same : (rows : List Row) (sizes shifts : List ℕ) (row size to : ℕ) → row < length rows → IsMovedBefore rows row to → row + 1 < to → size ≡ get_or sizes row 0 % 2 ^ 64
+    → AreMoved rows sizes shifts → AreMoved rows (set sizes row size) shifts
+set_same rows sizes shifts row size to inside before some is moved = moved_set rows sizes shifts row size inside moved (λ default within. (
+    let inner = before.inner row default (omega arith) some in
+    let one = past_inner (get_or rows row default).size (get_or shifts row 0) (get_or sizes row 0) inner in
+    let other = past_inner (get_or rows row default).size (get_or shifts row 0) size inner in
+    ap (λ m. m % 2 ^ 64) one ∙ (same_sum (get_or shifts row 0) (get_or sizes row 0) size is ∙ ap (λ m. m % 2 ^ 64) (sym other))))
+
+more_is : (held old size more : ℕ) → size < 2 ^ 64 → old ≡ held % 2 ^ 64 → more ≡ (size + (2 ^ 64 - old)) % 2 ^ 64 → (held + more) % 2 ^ 64 ≡ size
+more_is held old size more low is by_more = omega arith
+
+pub set_moved : (rows : List Row) (sizes shifts after : List ℕ) (row size to old more : ℕ) → size < 2 ^ 64 → old ≡ get_or sizes row 0 % 2 ^ 64 → more ≡ (size + (2 ^ 64 - old)) % 2 ^ 64 → IsMovedBefore rows row to
+    → IsMoved (row + 1) to more shifts after → AreMoved rows sizes shifts → AreMoved rows (set sizes row size) after
+set_moved rows sizes shifts after row size to old more low is by_more before add moved =
+    subst (λ (bytes : ℕ). AreMoved rows (set sizes row bytes) after) (more_is (get_or sizes row 0) old size more low is by_more) (moved_resized rows sizes shifts after row to more moved before add)
+
+-- the size of a row by the shifts
+pub size_between : (rows : List Row) (sizes shifts : List ℕ) (row to : ℕ) (default : Row) → IsMovedBefore rows row to → row + 1 < to → AreMoved rows sizes shifts → get_or shifts row 0 < 2 ^ 64
+    → (get_or shifts (row + 1) 0 + (2 ^ 64 - get_or shifts row 0)) % 2 ^ 64 ≡ get_or sizes row 0 % 2 ^ 64
+size_between rows sizes shifts row to default before some moved low =
+    let last = before.within in
+    let inner = before.inner row default (omega arith) some in
+    let next : get_or shifts (row + 1) 0 ≡ (get_or shifts row 0 + get_or sizes row 0) % 2 ^ 64 =
+    moved.next row default (omega arith) ∙ ap (λ m. m % 2 ^ 64) (past_inner (get_or rows row default).size (get_or shifts row 0) (get_or sizes row 0) inner) in
+    omega arith
+
 behind_is : (row : Row) (level shift there bytes : ℕ) (all : List ℕ) → shift ≡ there → bytes ≡ size_at all row.size level (row.offset + there)
     → moved_past row.size shift bytes ≡ shift_behind all row level there
 unfolding shift_behind

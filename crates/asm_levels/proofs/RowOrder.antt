@@ -20,7 +20,7 @@ size-take shifts count (Leb128 signed distance) level address stands = refl
 size-take shifts count (Advance distance) level address stands = refl
 size-take shifts count End level address stands = refl
 
-behind-take : (shifts : List ℕ) (count : ℕ) (row : Row) (level shift : ℕ) → OrgStands count row.size → shift_behind (take count shifts) row level shift ≡ shift_behind shifts row level shift
+pub behind-take : (shifts : List ℕ) (count : ℕ) (row : Row) (level shift : ℕ) → OrgStands count row.size → shift_behind (take count shifts) row level shift ≡ shift_behind shifts row level shift
 unfolding shift_behind
 behind-take shifts count row level shift stands = ap (λ bytes. moved_past row.size shift bytes) (size-take shifts count row.size level (row.offset + shift) stands)
 

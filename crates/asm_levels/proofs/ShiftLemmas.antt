@@ -3,7 +3,7 @@ use Rattle.std.proofs.Common.{◌≡◌, ℕ, ◌+◌, ◌-◌, ◌%◌, ◌^◌
 use Rattle.std.specs.List.{All}
 use Rattle.std.proofs.lemmas.Bool.{cases_lt, le-leb, lt-leb}
 use Rattle.std.proofs.lemmas.Nat.{pow_pos}
-use Rattle.std.proofs.lemmas.List.{drop_more, drop_all, get_or-drop, drop-drop, take_more_set, take_all, get_or_past}
+use Rattle.std.proofs.lemmas.List.{drop_more, drop_all, get_or-drop, drop-drop, take_more_set, take_all, get_or-take, get_or_past}
 use Rattle.std.proofs.lemmas.List.Sums.{sum_by_more, sum_by-take-le}
 use Rattle.std.proofs.lemmas.List.Elements.{All-push, All-weaker}
 use Rattle.asm_levels.specs.declared.rows.RowSize.{RowSize}
@@ -130,18 +130,11 @@ done_within shifts index shift rows row inside room here low within =
     let more = bound_more rows index row inside here in
     within_more (most_in (take index rows)) (most_in (take (index + 1) rows)) shift index shifts room (omega arith) (omega arith) within
 
-pub done_below : (bound shift index : ℕ) (rows : List Row) (shifts : List ℕ) → index < length shifts → shift ≤ most_in (take index rows) → most_in rows < bound
-    → AllWithin (most_in (take index rows)) (take index shifts) → All (λ x. x < bound) (take (index + 1) (set shifts index shift))
-done_below bound shift index rows shifts room low few within =
+pub done_at : (bound shift index : ℕ) (rows : List Row) (shifts : List ℕ) → index < length shifts → shift ≤ most_in (take index rows) → most_in rows < bound
+    → AllWithin (most_in (take index rows)) (take index shifts) → (at : ℕ) → at ≤ index → get_or (set shifts index shift) at 0 < bound
+done_at bound shift index rows shifts room low few within at before =
     let part : most_in (take index rows) ≤ most_in rows = sum_by-take-le (λ r. most_bytes r.size) rows index in
     let done = within_more (most_in (take index rows)) (most_in (take index rows)) shift index shifts room (omega arith) low within in
-    All-weaker (λ x. x ≤ most_in (take index rows)) (λ x. x < bound) (λ x (h : x ≤ most_in (take index rows)). omega arith) (take (index + 1) (set shifts index shift)) done
-
--- with all rows done
-pub all_below : (bound index : ℕ) (rows : List Row) (shifts : List ℕ) → length shifts ≤ index → most_in rows < bound
-    → AllWithin (most_in (take index rows)) (take index shifts) → All (λ x. x < bound) shifts
-all_below bound index rows shifts past few within =
-    let part : most_in (take index rows) ≤ most_in rows = sum_by-take-le (λ r. most_bytes r.size) rows index in
-    let all : take index shifts ≡ shifts = take_all index shifts past in
-    let below = All-weaker (λ x. x ≤ most_in (take index rows)) (λ x. x < bound) (λ x (h : x ≤ most_in (take index rows)). omega arith) (take index shifts) within in
-    subst (λ (xs : List ℕ). All (λ x. x < bound) xs) all below
+    let le = within_at (most_in (take index rows)) (take (index + 1) (set shifts index shift)) at done in
+    let same : get_or (take (index + 1) (set shifts index shift)) at 0 ≡ get_or (set shifts index shift) at 0 = get_or-take (index + 1) (set shifts index shift) at 0 (omega arith) in
+    omega arith

@@ -10,7 +10,7 @@ use Rattle.asm_levels.specs.declared.rows.Row.{Row}
 use Rattle.asm_levels.specs.Sizes.{most_bytes, most_in, size_at}
 use Rattle.asm_levels.specs.Shifts.{moved_past, shift_behind, shifts_of, AreInRow}
 use Rattle.asm_levels.specs.Standing.{OrgStands, AllStand}
-use Rattle.asm_levels.specs.Resizing.{depends_on_address, AreMoved, AreDependents, HasSize, IsPlainSized, IsAmong, AreListed, size_of_level}
+use Rattle.asm_levels.specs.Resizing.{depends_on_address, AreMoved, AreDependents, HasSize, IsPlainSized, IsAmong, AreListed, AreSizedBut, size_of_level}
 use Rattle.asm_levels.proofs.RowOrder.{shifts_in_row}
 use Rattle.asm_levels.proofs.ShiftLemmas.{AllWithin, shift_behind-le, bound_more}
 use Rattle.asm_levels.proofs.ResizingLemmas.{exact_upto, exact_all, size_upto}
@@ -234,10 +234,6 @@ module _ (rows : List Row) (levels sizes shifts list : List ℕ) (stand : AllSta
   exact_end past = exact_all rows levels sizes shifts no_row moved (shifts_in_row rows levels stand) (shifts_small rows levels stand nine many few)
       (sized_all rows levels sizes list dependents plain (λ at less within. first at (omega arith) within))
 
-  pub sized_end : length list ≤ count → (index : ℕ) → index < length rows → HasSize rows levels sizes shifts index
-  sized_end past index within = subst (λ (all : List ℕ). HasSize rows levels sizes all index) (sym (exact_end past))
-      (sized_all rows levels sizes list dependents plain (λ at less inside. first at (omega arith) inside) index within)
-
 -- where the levels of listed rows alone have changed, each other row still has the size of its level
 pub plain_or_listed : (rows : List Row) (before levels sizes shifts : List ℕ) (count : ℕ) (list : List ℕ) → length before ≡ length rows
     → ((index : ℕ) → index < length rows → HasSize rows before sizes shifts index) → AreListed before levels count list
@@ -249,3 +245,49 @@ plain_or_listed rows before levels sizes shifts count list many sized listed roo
       size ∙ (plain ∙ ap (λ level. size_of_level (get_or rows index default).size level) (sym still))))
   | inr among ↦ inr among
 ]
+
+-- the sizes of rows, the first of which has this index, at their levels and addresses
+abbrev sizes_from : (shifts levels : List ℕ) (rows : List Row) (index : ℕ) → List ℕ
+sizes_from shifts levels [] index = []
+sizes_from shifts levels (row ∷ rows) index = size_at shifts row.size (get_or levels index 0) (row.offset + get_or shifts index 0) ∷ sizes_from shifts levels rows (suc index)
+
+length-sizes : (shifts levels : List ℕ) (rows : List Row) (index : ℕ) → length (sizes_from shifts levels rows index) ≡ length rows
+length-sizes shifts levels [] index = refl
+length-sizes shifts levels (row ∷ rows) index = let rest = length-sizes shifts levels rows (suc index) in omega arith
+
+sizes_at : (shifts levels : List ℕ) (rows : List Row) (index at : ℕ) (default : Row) → at < length rows → get_or (sizes_from shifts levels rows index) at 0
+    ≡ size_at shifts (get_or rows at default).size (get_or levels (index + at) 0) ((get_or rows at default).offset + get_or shifts (index + at) 0)
+sizes_at shifts levels [] index at default inside = absurd (omega arith)
+sizes_at shifts levels (row ∷ rows) index zero default inside = ap (λ i. size_at shifts row.size (get_or levels i 0) (row.offset + get_or shifts i 0)) (let none : index ≡ index + 0 = omega arith in none)
+sizes_at shifts levels (row ∷ rows) index (suc at) default inside =
+    sizes_at shifts levels rows (suc index) at default (omega arith)
+    ∙ ap (λ i. size_at shifts (get_or rows at default).size (get_or levels i 0) ((get_or rows at default).offset + get_or shifts i 0)) (let one : suc index + at ≡ index + suc at = omega arith in one)
+
+-- rows that stand where their levels moved them have sizes, of which those of the rows that have risen are not yet those of their levels
+pub sized_but : (rows : List Row) (before levels shifts : List ℕ) (count : ℕ) (list : List ℕ) → AllStand rows → length before ≡ length rows → shifts ≡ shifts_of rows before
+    → All (λ shift. shift < 2 ^ 62) shifts → AreListed before levels count list → count ≤ length list → (sizes : List ℕ) × AreSizedBut rows levels sizes shifts count list
+sized_but rows before levels shifts count list stand many placed small listed room =
+    let sized : (index : ℕ) → index < length rows → HasSize rows before (sizes_from shifts before rows 0) shifts index = λ index within default. (
+    let first : 0 + index ≡ index = omega arith in
+    sizes_at shifts before rows 0 index default within
+    ∙ ap (λ i. size_at shifts (get_or rows index default).size (get_or before i 0) ((get_or rows index default).offset + get_or shifts i 0)) first) in (
+      sizes_from shifts before rows 0,
+      record {
+        moved = moved_exact rows before (sizes_from shifts before rows 0) shifts (subst (λ (all : List ℕ). AreInRow rows before all) (sym placed) (shifts_in_row rows before stand)) small
+            (length-sizes shifts before rows 0) sized;
+        plain = plain_or_listed rows before levels (sizes_from shifts before rows 0) shifts count list many sized listed room;
+      },
+    )
+
+-- the first so many of a list are a list of so many
+pub sized_take : (rows : List Row) (levels sizes shifts : List ℕ) (count : ℕ) (list : List ℕ) → count ≤ length list → AreSizedBut rows levels sizes shifts count list
+    → AreSizedBut rows levels sizes shifts (length (take count list)) (take count list)
+sized_take rows levels sizes shifts count list room sized =
+    let long : length (take count list) ≡ count = length-take-le count list room in
+    record {
+      moved = sized.moved;
+      plain = λ index within. elim (sized.plain index within) [
+        | inl plain ↦ inl plain
+        | inr among ↦ inr (among.0, (let less = among.1 in omega arith), get_or-take count list among.0 0 among.1 ∙ among.2)
+      ];
+    }

@@ -77,6 +77,18 @@ abbrev pub AreListed : List ℕ → List ℕ → ℕ → List ℕ → Type 0
 AreListed before after count list = count ≤ length list → (index : ℕ) → index < length before
     → (slice_index after index ≡ slice_index before index) ⊎ IsAmong index count list
 
--- each row with another size than before is among the first so many of the list
+-- each row with another size than before, modulo 2 ^ 64, is among the first so many of the list
 abbrev pub AreTouched : List ℕ → List ℕ → ℕ → List ℕ → Type 0
-AreTouched before after count list = (index : ℕ) → IsAmong index count list ⊎ (slice_index after index ≡ slice_index before index)
+AreTouched before after count list = (index : ℕ) → IsAmong index count list ⊎ (slice_index after index % 2 ^ 64 ≡ slice_index before index % 2 ^ 64)
+
+-- the rows have these sizes where they are moved so far: those of their levels, but for the first so many of a list and where they depend on addresses
+pub record AreSizedBut (rows : List Row) (levels sizes shifts : List ℕ) (count : ℕ) (list : List ℕ) : Type 0 where
+  pub moved : AreMoved rows sizes shifts
+  pub plain : (index : ℕ) → index < length rows → IsPlainSized rows levels sizes index ⊎ IsAmong index count list
+
+-- the rows had the sizes `before`, and now those of their levels, where these do not depend on addresses; the list has those with another size
+pub record AreResized (rows : List Row) (levels before shifts : List ℕ) (count : ℕ) (list : List ℕ) : Type 0 where
+  pub sizes : List ℕ
+  pub moved : AreMoved rows sizes shifts
+  pub plain : (index : ℕ) → index < length rows → IsPlainSized rows levels sizes index
+  pub touched : AreTouched before sizes count list

@@ -38,6 +38,7 @@ pub(crate) fn forget(seen: &mut [u64])
 }
 
 /// Looks at the row of this index, unless that was done in this round. Answers how many have risen.
+#[inline(always)]
 pub(crate) fn look_row<L: Ledger>(
     view: View,
     index: usize,

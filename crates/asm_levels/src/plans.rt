@@ -20,8 +20,6 @@ pub struct RowPlan {
     rows: Vec<Row>,
     levels: Vec<u8>,
     shifts: RangeTable,
-    /// The size that each row has where it stands, in bytes.
-    sizes: Vec<u64>,
     /// For each row the index behind the last one that its size moves.
     ends: Vec<u32>,
     /// The rows whose size depends on their address.
@@ -56,7 +54,6 @@ impl Model for RowPlan {
         plan.watchers.entries.nodes.items plan.watchers.entries.heads.items
         plan.watchers.entries.links.items plan.watchers.entries.follows.items
         plan.watchers.wide.items
-        × (vec_len plan.sizes ≡ vec_len plan.rows)
         × (vec_len plan.seen ≡ vec_len plan.rows)
         × (vec_len plan.passed ≡ vec_len plan.watchers.entries.heads)
         × (vec_len plan.risen + vec_len plan.dependents ≤ vec_len plan.touched) };
@@ -80,7 +77,6 @@ impl RowPlan {
     {
         let levels = vec![in alloc; 0u8; rows.len()]?;
         let shifts = RangeTable::new(alloc, rows.len())?;
-        let sizes = vec![in alloc; 0u64; rows.len()]?;
         let ends = ends_of(alloc, &rows)?;
         let dependents = dependents_of(alloc, &rows)?;
         let all = EndedRows {
@@ -97,7 +93,6 @@ impl RowPlan {
             rows,
             levels,
             shifts,
-            sizes,
             ends,
             dependents,
             watchers,
@@ -134,7 +129,6 @@ impl RowPlan {
             &self.watchers.entries,
             &mut self.watchers.wide,
             &mut self.levels,
-            &mut self.sizes,
             &mut self.shifts,
             &mut self.seen,
             &mut self.passed,

@@ -1,15 +1,15 @@
 //! Rows that get another size, and the rows behind them that this moves.
 
-ghost use Rattle.std.specs.Prelude.{◌≡◌, ◌⊎◌, ℕ, ◌+◌, ◌^◌, ◌<◌, ◌≤◌, List, IfSome, All, length, slice_index, slice_index_or, slice_set};
+ghost use Rattle.std.specs.Prelude.{◌≡◌, ◌⊎◌, ℕ, ◌+◌, ◌%◌, ◌^◌, ◌<◌, ◌≤◌, List, None, IfSome, All, length, slice_index, slice_index_or, slice_set};
 ghost use Rattle.asm_levels.specs.declared.rows.Row.{Row};
 ghost use Rattle.asm_levels.specs.Sizes as spec;
 ghost use Rattle.asm_levels.specs.Shifts.{shifts_of};
-ghost use Rattle.asm_levels.specs.Standing.{OrgStands, AllStand};
-ghost use Rattle.asm_levels.specs.Resizing.{depends_on_address, AreMoved, AreEnds, AreDependents, HasSize, IsPlainSized, IsAmong, AreTouched, size_of_level};
+ghost use Rattle.asm_levels.specs.Standing.{AllStand};
+ghost use Rattle.asm_levels.specs.Resizing.{AreMoved, AreEnds, AreDependents, AreSizedBut, AreResized, size_of_level};
 
 use crate::rounds::note;
-use crate::rows::{Row, RowSize};
-use crate::shifts::{place, size_from};
+use crate::rows::Row;
+use crate::shifts::{place, size_at, size_from};
 use range_table::RangeTable;
 
 /// Rows, and for each the index behind the last row that its size moves.
@@ -19,25 +19,7 @@ pub(crate) struct EndedRows<'a> {
     pub(crate) ends: &'a [u32],
 }
 
-/// How far the row is moved that an `.org` counts from, and 0 for other rows.
-#[inline(always)]
-fn start_of(shifts: &RangeTable, size: &RowSize) -> u64
-    requires { OrgStands (length shifts.now) size.now }
-    ensures { result ≡ spec.start_of shifts.now size.now }
-{
-    match size {
-        RowSize::Org { from, .. } => shifts.get(*from as usize),
-        RowSize::Fixed(_)
-        | RowSize::Align { .. }
-        | RowSize::Jump { .. }
-        | RowSize::Leb128 { .. }
-        | RowSize::Advance { .. }
-        | RowSize::End => 0,
-    }
-}
-
 /// The size of the row of this index at its level and address, where the rows up to it are moved so far.
-#[tactic(auto, unfolding(crate::specs::Sizes::size_at))]
 #[inline(always)]
 fn size_here(rows: &[Row], levels: &[u8], shifts: &RangeTable, index: usize) -> u64
     requires inside { index < length rows.now }
@@ -51,14 +33,7 @@ fn size_here(rows: &[Row], levels: &[u8], shifts: &RangeTable, index: usize) -> 
         (slice_index_or rows.now index default).size (slice_index levels.now index)
         ((slice_index_or rows.now index default).offset + slice_index shifts.now index) }
 {
-    let row = &rows[index];
-    let start = start_of(shifts, &row.size);
-    size_from(
-        start,
-        &row.size,
-        levels[index],
-        row.offset + shifts.get(index),
-    )
+    size_at(shifts, &rows[index], levels[index], shifts.get(index))
 }
 
 /// The size of the row of this index, which does not depend on its address, at its level.
@@ -75,34 +50,65 @@ fn size_of_level(rows: &[Row], levels: &[u8], index: usize) -> u64
     size_from(0, &rows[index].size, levels[index], 0)
 }
 
-/// Gives the row of this index a size, and moves what stands behind it.
-fn resize(all: EndedRows, index: usize, size: u64, sizes: &mut [u64], shifts: &mut RangeTable)
-    requires moved { AreMoved all.rows.now sizes.old shifts.old }
+/// The size of the row of this index by the shifts, modulo 2^64, if it moves rows behind it.
+#[inline(always)]
+fn size_now(all: EndedRows, index: usize, shifts: &RangeTable) -> Option<u64>
     requires ends { AreEnds all.rows.now all.ends.now }
     requires inside { index < length all.rows.now }
-    ensures moved { AreMoved all.entry.rows.now sizes.new shifts.new }
-    ensures sizes { sizes.new ≡ slice_set sizes.old index size }
-    ensures before { (at : ℕ) → at ≤ index → slice_index shifts.new at ≡ slice_index shifts.old at }
+    requires as_many_shifts { length shifts.now ≡ length all.rows.now }
+    ensures size { IfSome result (λ bytes. (sizes : List ℕ) → AreMoved all.entry.rows.now sizes shifts.now
+        → bytes ≡ slice_index sizes index % 2 ^ 64) }
+    ensures some { IfSome result (λ bytes. index + 1 < slice_index all.entry.ends.now index) }
+    ensures none { result ≡ None → slice_index all.entry.ends.now index ≡ index + 1 }
 {
-    let old = sizes[index];
-    if size != old {
-        sizes[index] = size;
-        shifts.add(index + 1, all.ends[index] as usize, size.wrapping_sub(old));
+    let next = index + 1;
+    if next < all.ends[index] as usize {
+        Some(shifts.get(next).wrapping_sub(shifts.get(index)))
+    } else {
+        None
     }
 }
 
-/// Puts a row at this place of a list where it is to get another size. Answers the place behind it.
-fn note_changed(list: &mut [u32], place: usize, row: usize, size: u64, sizes: &[u64]) -> usize
-    requires row { row < 2 ^ 32 }
-    requires inside { row < length sizes.now }
+/// Gives the row of this index a size, and moves what stands behind it.
+fn resize(all: EndedRows, index: usize, size: u64, shifts: &mut RangeTable)
+    requires ends { AreEnds all.rows.now all.ends.now }
+    requires inside { index < length all.rows.now }
+    requires as_many_shifts { length shifts.old ≡ length all.rows.now }
+    ensures moved { (sizes : List ℕ) → AreMoved all.entry.rows.now sizes shifts.old
+        → AreMoved all.entry.rows.now (slice_set sizes index size) shifts.new }
+    ensures as_many_shifts { length shifts.new ≡ length all.entry.rows.now }
+{
+    if let Some(old) = size_now(all, index, shifts) {
+        if size != old {
+            shifts.add(index + 1, all.ends[index] as usize, size.wrapping_sub(old));
+        }
+    }
+}
+
+/// Puts a row at this place of a list unless it has this size. Answers the place behind it.
+fn note_changed(
+    all: EndedRows,
+    list: &mut [u32],
+    place: usize,
+    row: usize,
+    size: u64,
+    shifts: &RangeTable,
+) -> usize
+    requires few { length all.rows.now < 2 ^ 32 }
+    requires ends { AreEnds all.rows.now all.ends.now }
+    requires inside { row < length all.rows.now }
+    requires as_many_shifts { length shifts.now ≡ length all.rows.now }
     requires room { place < length list.old }
     ensures kept { (at : ℕ) → at < place → slice_index list.new at ≡ slice_index list.old at }
-    ensures noted { ((result ≡ place) × (slice_index sizes.now row ≡ size))
+    ensures noted { ((result ≡ place) × ((sizes : List ℕ) → AreMoved all.entry.rows.now sizes shifts.now
+        → size ≡ slice_index sizes row % 2 ^ 64))
         ⊎ ((result ≡ place + 1) × (slice_index list.new place ≡ row)) }
     ensures as_many { length list.new ≡ length list.old }
 {
-    if sizes[row] == size {
-        return place;
+    if let Some(old) = size_now(all, row, shifts) {
+        if size == old {
+            return place;
+        }
     }
     note(list, place, row);
     place + 1
@@ -113,7 +119,6 @@ pub(crate) fn resize_risen(
     all: EndedRows,
     levels: &[u8],
     risen: &[u32],
-    sizes: &mut [u64],
     shifts: &mut RangeTable,
     touched: &mut [u32],
 )
@@ -121,31 +126,22 @@ pub(crate) fn resize_risen(
     requires bytes { spec.most_in all.rows.now < 2 ^ 62 }
     requires levels { All (λ level. level ≤ 9) levels.now }
     requires as_many_levels { length levels.now ≡ length all.rows.now }
+    requires as_many_shifts { length shifts.old ≡ length all.rows.now }
     requires ends { AreEnds all.rows.now all.ends.now }
-    requires moved { AreMoved all.rows.now sizes.old shifts.old }
     requires inside { All (λ row. row < length all.rows.now) risen.now }
-    requires plain { (index : ℕ) → index < length all.rows.now
-        → IsPlainSized all.rows.now levels.now sizes.old index
-        ⊎ IsAmong index (length risen.now) risen.now }
     requires room { length risen.now ≤ length touched.old }
-    ensures moved { AreMoved all.entry.rows.now sizes.new shifts.new }
-    ensures plain { (index : ℕ) → index < length all.entry.rows.now
-        → IsPlainSized all.entry.rows.now levels.now sizes.new index }
-    ensures touched { AreTouched sizes.old sizes.new (length risen.now) touched.new }
+    ensures resized { (sizes : List ℕ)
+        → AreSizedBut all.entry.rows.now levels.now sizes shifts.old (length risen.now) risen.now
+        → AreResized all.entry.rows.now levels.now sizes shifts.new (length risen.now) touched.new }
     ensures within { (at : ℕ) → at < length risen.now
         → slice_index touched.new at < length all.entry.rows.now }
+    ensures as_many_shifts { length shifts.new ≡ length all.entry.rows.now }
     ensures as_many_touched { length touched.new ≡ length touched.old }
 {
     for (place, row) in risen.iter().enumerate() {
         let index = *row as usize;
         touched[place] = *row;
-        resize(
-            all,
-            index,
-            size_of_level(all.rows, levels, index),
-            sizes,
-            shifts,
-        );
+        resize(all, index, size_of_level(all.rows, levels, index), shifts);
     }
 }
 
@@ -155,7 +151,6 @@ pub(crate) fn resize_dependents(
     all: EndedRows,
     levels: &[u8],
     dependents: &[u32],
-    sizes: &mut [u64],
     shifts: &mut RangeTable,
     touched: &mut [u32],
     start: usize,
@@ -165,20 +160,18 @@ pub(crate) fn resize_dependents(
     requires few { length all.rows.now < 2 ^ 32 }
     requires levels { All (λ level. level ≤ 9) levels.now }
     requires as_many_levels { length levels.now ≡ length all.rows.now }
+    requires as_many_shifts { length shifts.old ≡ length all.rows.now }
     requires ends { AreEnds all.rows.now all.ends.now }
     requires dependents { AreDependents all.rows.now dependents.now }
-    requires moved { AreMoved all.rows.now sizes.old shifts.old }
-    requires plain { (index : ℕ) → index < length all.rows.now
-        → IsPlainSized all.rows.now levels.now sizes.old index }
+    requires resized { (before : List ℕ)
+        × AreResized all.rows.now levels.now before shifts.old start touched.old }
     requires room { start + length dependents.now ≤ length touched.old }
     requires within { (at : ℕ) → at < start
         → slice_index touched.old at < length all.rows.now }
-    ensures moved { AreMoved all.entry.rows.now sizes.new shifts.new }
     ensures shifts { shifts.new ≡ shifts_of all.entry.rows.now levels.now }
-    ensures sizes { (index : ℕ) → index < length all.entry.rows.now
-        → HasSize all.entry.rows.now levels.now sizes.new shifts.new index }
-    ensures touched { (before : List ℕ) → AreTouched before sizes.old start touched.old
-        → AreTouched before sizes.new result touched.new }
+    ensures resized { (before : List ℕ)
+        → AreResized all.entry.rows.now levels.now before shifts.old start touched.old
+        → AreResized all.entry.rows.now levels.now before shifts.new result touched.new }
     ensures within { (at : ℕ) → at < result
         → slice_index touched.new at < length all.entry.rows.now }
     ensures end { result ≤ length touched.new }
@@ -188,46 +181,10 @@ pub(crate) fn resize_dependents(
     for row in dependents {
         let index = *row as usize;
         let size = size_here(all.rows, levels, shifts, index);
-        place = note_changed(touched, place, index, size, sizes);
-        resize(all, index, size, sizes, shifts);
+        place = note_changed(all, touched, place, index, size, shifts);
+        resize(all, index, size, shifts);
     }
     place
-}
-
-/// Notes the size that each row has where it stands.
-fn measure(rows: &[Row], levels: &[u8], shifts: &RangeTable, sizes: &mut [u64])
-    requires stand { AllStand rows.now }
-    requires bytes { spec.most_in rows.now < 2 ^ 62 }
-    requires levels { All (λ level. level ≤ 9) levels.now }
-    requires as_many_levels { length levels.now ≡ length rows.now }
-    requires as_many_shifts { length shifts.now ≡ length rows.now }
-    requires as_many_sizes { length sizes.old ≡ length rows.now }
-    requires small { All (λ shift. shift < 2 ^ 62) shifts.now }
-    ensures sizes { (index : ℕ) → index < length rows.now
-        → HasSize rows.now levels.now sizes.new shifts.now index }
-    ensures as_many { length sizes.new ≡ length rows.now }
-{
-    for index in 0..rows.len() {
-        sizes[index] = size_here(rows, levels, shifts, index);
-    }
-}
-
-/// Places all rows anew.
-pub(crate) fn place_anew(rows: &[Row], levels: &[u8], sizes: &mut [u64], shifts: &mut RangeTable)
-    requires stand { AllStand rows.now }
-    requires bytes { spec.most_in rows.now < 2 ^ 62 }
-    requires levels { All (λ level. level ≤ 9) levels.now }
-    requires as_many_levels { length levels.now ≡ length rows.now }
-    requires as_many_shifts { length shifts.old ≡ length rows.now }
-    requires as_many_sizes { length sizes.old ≡ length rows.now }
-    ensures moved { AreMoved rows.now sizes.new shifts.new }
-    ensures shifts { shifts.new ≡ shifts_of rows.now levels.now }
-    ensures sizes { (index : ℕ) → index < length rows.now
-        → HasSize rows.now levels.now sizes.new shifts.new index }
-{
-    place(rows, levels, sizes);
-    shifts.fill(sizes);
-    measure(rows, levels, shifts, sizes);
 }
 
 /// Moves the rows as their levels ask for. So many of them have risen: those of the list, if it had room for so many.
@@ -238,7 +195,6 @@ pub(crate) fn move_rows(
     levels: &[u8],
     risen: &[u32],
     count: usize,
-    sizes: &mut [u64],
     shifts: &mut RangeTable,
     touched: &mut [u32],
 ) -> Option<usize>
@@ -247,30 +203,29 @@ pub(crate) fn move_rows(
     requires few { length all.rows.now < 2 ^ 32 }
     requires levels { All (λ level. level ≤ 9) levels.now }
     requires as_many_levels { length levels.now ≡ length all.rows.now }
+    requires as_many_shifts { length shifts.old ≡ length all.rows.now }
     requires ends { AreEnds all.rows.now all.ends.now }
     requires dependents { AreDependents all.rows.now dependents.now }
-    requires moved { AreMoved all.rows.now sizes.old shifts.old }
     requires inside { (at : ℕ) → at < count → at < length risen.now
         → slice_index risen.now at < length all.rows.now }
-    requires plain { count ≤ length risen.now → (index : ℕ) → index < length all.rows.now
-        → IsPlainSized all.rows.now levels.now sizes.old index ⊎ IsAmong index count risen.now }
+    requires sized { count ≤ length risen.now → (sizes : List ℕ)
+        × AreSizedBut all.rows.now levels.now sizes shifts.old count risen.now }
     requires room { length risen.now + length dependents.now ≤ length touched.old }
-    ensures moved { AreMoved all.entry.rows.now sizes.new shifts.new }
     ensures shifts { shifts.new ≡ shifts_of all.entry.rows.now levels.now }
-    ensures sizes { (index : ℕ) → index < length all.entry.rows.now
-        → HasSize all.entry.rows.now levels.now sizes.new shifts.new index }
-    ensures touched { IfSome result (λ many. AreTouched sizes.old sizes.new many touched.new) }
+    ensures resized { IfSome result (λ many. (sizes : List ℕ)
+        × AreMoved all.entry.rows.now sizes shifts.old
+        × AreResized all.entry.rows.now levels.now sizes shifts.new many touched.new) }
     ensures within { IfSome result (λ many. (at : ℕ) → at < many
         → slice_index touched.new at < length all.entry.rows.now) }
     ensures end { IfSome result (λ many. many ≤ length touched.new) }
     ensures as_many_touched { length touched.new ≡ length touched.old }
 {
     if count > risen.len() {
-        place_anew(all.rows, levels, sizes, shifts);
+        place(all.rows, levels, shifts);
         return None;
     }
     let list = &risen[..count];
-    resize_risen(all, levels, list, sizes, shifts, touched);
-    let many = resize_dependents(all, levels, dependents, sizes, shifts, touched, count);
+    resize_risen(all, levels, list, shifts, touched);
+    let many = resize_dependents(all, levels, dependents, shifts, touched, count);
     Some(many)
 }

@@ -10,7 +10,8 @@ ghost use Rattle.asm_levels.specs.Watching.{AreWatchers};
 ghost use Rattle.asm_levels.specs.Standing.{AllStand};
 
 use crate::looking::{View, forget, look_where, put_highest_last};
-use crate::resizing::{EndedRows, move_rows, place_anew};
+use crate::resizing::{EndedRows, move_rows};
+use crate::shifts::place;
 use crate::watching::Entries;
 use asm_base::Steps;
 use level_ranks::{
@@ -27,7 +28,6 @@ pub(crate) fn settle<L: Ledger>(
     entries: &Entries,
     wide: &mut [u32],
     levels: &mut [u8],
-    sizes: &mut [u64],
     shifts: &mut RangeTable,
     seen: &mut [u64],
     passed: &mut [u64],
@@ -40,7 +40,6 @@ pub(crate) fn settle<L: Ledger>(
     requires few { length all.rows.now < 2 ^ 32 }
     requires as_many_levels { length levels.old ≡ length all.rows.now }
     requires as_many_shifts { length shifts.old ≡ length all.rows.now }
-    requires as_many_sizes { length sizes.old ≡ length all.rows.now }
     requires ends { AreEnds all.rows.now all.ends.now }
     requires dependents { AreDependents all.rows.now dependents.now }
     requires watchers { AreWatchers all.rows.now all.ends.now entries.now.rows.items
@@ -71,7 +70,7 @@ pub(crate) fn settle<L: Ledger>(
     rounds_are_few();
     rounds_reach_the_layout();
     levels_hold();
-    place_anew(all.rows, levels, sizes, shifts);
+    place(all.rows, levels, shifts);
     forget(seen);
     forget(passed);
     let mut rounds = 0u64;
@@ -92,8 +91,6 @@ pub(crate) fn settle<L: Ledger>(
             return rounds;
         }
         left = put_highest_last(all.rows, levels, wide, left);
-        moved = move_rows(
-            all, dependents, levels, risen, count, sizes, shifts, touched,
-        );
+        moved = move_rows(all, dependents, levels, risen, count, shifts, touched);
     }
 }

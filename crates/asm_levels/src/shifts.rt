@@ -1,11 +1,12 @@
 //! The sizes of rows, and how far these move the rows behind them.
 
-ghost use Rattle.std.specs.Prelude.{◌≡◌, ◌+◌, ◌^◌, ◌<◌, ◌≤◌, All, length, slice_index, take};
+ghost use Rattle.std.specs.Prelude.{◌≡◌, ◌+◌, ◌^◌, ◌<◌, ◌≤◌, All, length};
 ghost use Rattle.asm_levels.specs.Sizes as spec;
 ghost use Rattle.asm_levels.specs.Shifts as shift_spec;
 ghost use Rattle.asm_levels.specs.Standing.{AlignStands, OrgStands, AllStand};
 
 use crate::rows::{Row, RowSize};
+use range_table::RangeTable;
 
 /// The number of bytes from an address up to the next multiple of 2^log, or 0 where that is more than the most.
 #[inline(never)]
@@ -49,12 +50,12 @@ fn advance_bytes(level: u8) -> u64
 
 /// How far the row is moved that an `.org` counts from, and 0 for other rows.
 #[inline(always)]
-fn start_of(done: &[u64], size: &RowSize) -> u64
-    requires { OrgStands (length done.now) size.now }
-    ensures { result ≡ spec.start_of done.now size.now }
+fn start_of(shifts: &RangeTable, size: &RowSize) -> u64
+    requires { OrgStands (length shifts.now) size.now }
+    ensures { result ≡ spec.start_of shifts.now size.now }
 {
     match size {
-        RowSize::Org { from, .. } => done[*from as usize],
+        RowSize::Org { from, .. } => shifts.get(*from as usize),
         RowSize::Fixed(_)
         | RowSize::Align { .. }
         | RowSize::Jump { .. }
@@ -88,53 +89,55 @@ pub(crate) fn size_from(start: u64, size: &RowSize, level: u8, address: u64) -> 
     }
 }
 
-/// The size in bytes of a row of this level at this address, by the shifts of the rows up to it.
+/// The size in bytes of a row of this level that is moved so far, by the shifts of the rows up to it.
 #[tactic(auto, unfolding(crate::specs::Sizes::size_at))]
 #[inline(always)]
-fn size_at(done: &[u64], size: &RowSize, level: u8, address: u64) -> u64
-    requires align { AlignStands size.now }
-    requires org { OrgStands (length done.now) size.now }
+pub(crate) fn size_at(shifts: &RangeTable, row: &Row, level: u8, shift: u64) -> u64
+    requires align { AlignStands row.now.size }
+    requires org { OrgStands (length shifts.now) row.now.size }
+    requires start { spec.start_of shifts.now row.now.size < 2 ^ 62 }
+    requires offset { row.now.offset ≤ 2 ^ 33 }
     requires level { level ≤ 9 }
-    requires most { spec.most_bytes size.now < 2 ^ 62 }
-    requires done { All (λ shift. shift < 2 ^ 62) done.now }
-    ensures size { result ≡ spec.size_at done.now size.now level address }
+    requires most { spec.most_bytes row.now.size < 2 ^ 62 }
+    requires shift { shift < 2 ^ 62 }
+    ensures size { result ≡ spec.size_at shifts.now row.now.size level (row.now.offset + shift) }
     ensures within { result < 2 ^ 63 }
 {
-    size_from(start_of(done, size), size, level, address)
+    let start = start_of(shifts, &row.size);
+    size_from(start, &row.size, level, row.offset + shift)
 }
 
 /// How far the row behind this one is moved, which has this level and is moved so far itself.
 #[tactic(auto, unfolding(crate::specs::Shifts::shift_behind))]
 #[inline(always)]
-fn shift_behind(done: &[u64], row: &Row, level: u8, shift: u64) -> u64
+fn shift_behind(shifts: &RangeTable, row: &Row, level: u8, shift: u64) -> u64
     requires align { AlignStands row.now.size }
-    requires org { OrgStands (length done.now) row.now.size }
+    requires org { OrgStands (length shifts.now) row.now.size }
+    requires start { spec.start_of shifts.now row.now.size < 2 ^ 62 }
     requires offset { row.now.offset ≤ 2 ^ 33 }
     requires level { level ≤ 9 }
     requires most { spec.most_bytes row.now.size < 2 ^ 62 }
-    requires done { All (λ shift. shift < 2 ^ 62) done.now }
     requires shift { shift < 2 ^ 62 }
-    ensures { result ≡ shift_spec.shift_behind done.now row.now level shift }
+    ensures { result ≡ shift_spec.shift_behind shifts.now row.now level shift }
 {
     match row.size {
         RowSize::End => 0,
-        _ => shift + size_at(done, &row.size, level, row.offset + shift),
+        _ => shift + size_at(shifts, row, level, shift),
     }
 }
 
-/// Writes how far each row is moved where the rows have these levels.
-pub(crate) fn place(rows: &[Row], levels: &[u8], shifts: &mut [u64])
+/// Places all rows where these levels move them.
+pub(crate) fn place(rows: &[Row], levels: &[u8], shifts: &mut RangeTable)
     requires stand { AllStand rows.now }
     requires bytes { spec.most_in rows.now < 2 ^ 62 }
     requires levels { All (λ level. level ≤ 9) levels.now }
     requires as_many_levels { length levels.now ≡ length rows.now }
     requires as_many_shifts { length shifts.old ≡ length rows.now }
-    ensures shifts { shifts.new ≡ shift_spec.shifts_of rows.now levels.now }
-    ensures within { All (λ shift. shift < 2 ^ 62) shifts.new }
+    ensures { shifts.new ≡ shift_spec.shifts_of rows.now levels.now }
 {
     let mut shift = 0u64;
     for (index, row) in rows.iter().enumerate() {
-        shifts[index] = shift;
-        shift = shift_behind(&shifts[..index + 1], row, levels[index], shift);
+        shifts.set(index, shift);
+        shift = shift_behind(shifts, row, levels[index], shift);
     }
 }

@@ -7,16 +7,16 @@ use Rattle.asm_levels.specs.Needs.{need, tops, several, levels_needed}
 use Rattle.asm_levels.specs.Watching.{AreWatchers}
 use Rattle.asm_levels.proofs.CalmLemmas.{calm_if}
 use Rattle.asm_levels.proofs.LookLemmas.{first_levels, lowest_still, at_least_once}
-use Rattle.asm_levels.proofs.SizedLemmas.{plain_or_listed, shifts_small}
+use Rattle.asm_levels.proofs.RowOrder.{shifts_in_row}
+use Rattle.asm_levels.proofs.SizedLemmas.{sized_but, shifts_small}
 use Rattle.asm_levels.proofs.WideLemmas.{several_first, inside_take, highest_raised, watchers_same}
 use Rattle.asm_levels.proofs.TopLemmas.{need_within, nine_from, length-tops, sum-tops-le, need_is}
 use Rattle.asm_levels.proofs.settling.settle.Goals as goal
 
 pub loop-rounds-init : goal.loop-rounds-init
 loop-rounds-init g c = let tops_long = length-tops c.args.all.rows.now in record {
-  moved = c.place_anew.ensures.moved;
-  placed = c.place_anew.ensures.shifts;
-  sized = c.place_anew.ensures.sizes;
+  placed = c.place.ensures;
+  many_shifts = ap (λ (all : List ℕ). length all) c.place.ensures ∙ (shifts_in_row c.args.all.rows.now c.args.levels.now c.requires.stand).count;
   after = c.one_round_more.ensures.none (need c.args.all.rows.now) (tops c.args.all.rows.now) c.args.levels.now (omega arith) c.requires.lowest (need_within c.args.all.rows.now);
   at_most = omega arith;
   at_least = λ some. omega arith;
@@ -49,8 +49,8 @@ put_highest_last-left-requires-clause-highest g c = highest_raised c.args.all.ro
     omega arith)
     c.loop-rounds.invariant.watchers.wide_within c.loop-rounds.invariant.highest
 
-pub place_anew-requires-clause-levels : goal.place_anew-requires-clause-levels
-place_anew-requires-clause-levels g c = λ index default within. (let lowest = c.requires.lowest index default within in omega arith)
+pub place-requires-clause-levels : goal.place-requires-clause-levels
+place-requires-clause-levels g c = λ index default within. (let lowest = c.requires.lowest index default within in omega arith)
 
 pub move_rows-moved-requires-clause-levels : goal.move_rows-moved-requires-clause-levels
 move_rows-moved-requires-clause-levels g c =
@@ -62,9 +62,16 @@ move_rows-moved-requires-clause-levels g c =
     (c.levels_stay_within.ensures.items (need rows) (tops rows) c.args.levels.now c.look_where-count.new.levels (c.loop-rounds.rounds + 1) after)
     (λ index inside. c.levels_stay_within.ensures.tops (need rows) (tops rows) c.args.levels.now c.look_where-count.new.levels (c.loop-rounds.rounds + 1) index after inside)
 
-pub move_rows-moved-requires-clause-plain : goal.move_rows-moved-requires-clause-plain
-move_rows-moved-requires-clause-plain g c = plain_or_listed c.args.all.rows.now c.loop-rounds.levels c.look_where-count.new.levels c.loop-rounds.sizes c.loop-rounds.shifts c.look_where-count.result c.look_where-count.new.risen
-    (omega arith) c.loop-rounds.invariant.sized c.look_where-count.ensures.listed
+pub move_rows-moved-requires-clause-sized : goal.move_rows-moved-requires-clause-sized
+move_rows-moved-requires-clause-sized g c = λ room. (
+    let rows = c.args.all.rows.now in
+    let long = length-tops rows in
+    let many = c.levels_stay_within.ensures.items (need rows) (tops rows) c.args.levels.now c.loop-rounds.levels c.loop-rounds.rounds c.loop-rounds.invariant.after in
+    let nine = nine_from rows c.loop-rounds.levels many
+    (λ index inside. c.levels_stay_within.ensures.tops (need rows) (tops rows) c.args.levels.now c.loop-rounds.levels c.loop-rounds.rounds index c.loop-rounds.invariant.after inside) in
+    let small = subst (λ (all : List ℕ). All (λ shift. shift < 2 ^ 62) all) (sym c.loop-rounds.invariant.placed) (shifts_small rows c.loop-rounds.levels c.requires.stand nine (many ∙ long) c.requires.bytes) in
+    sized_but rows c.loop-rounds.levels c.look_where-count.new.levels c.loop-rounds.shifts c.look_where-count.result c.look_where-count.new.risen c.requires.stand (many ∙ long)
+    c.loop-rounds.invariant.placed small c.look_where-count.ensures.listed room)
 
 pub overflow_add-rounds : goal.overflow_add-rounds
 overflow_add-rounds g c =
@@ -101,9 +108,8 @@ loop-rounds-preserved g c =
     let same : get_or c.look_where-count.new.levels index 0 ≡ get_or (raised c.loop-rounds.levels (levels_needed c.loop-rounds.shifts rows)) index 0 = ap (λ (xs : List ℕ). get_or xs index 0) c.look_where-count.ensures.levels in
     omega arith) in
     record {
-      moved = c.move_rows-moved.ensures.moved;
       placed = c.move_rows-moved.ensures.shifts;
-      sized = c.move_rows-moved.ensures.sizes;
+      many_shifts = ap (λ (all : List ℕ). length all) c.move_rows-moved.ensures.shifts ∙ (shifts_in_row rows c.look_where-count.new.levels c.requires.stand).count;
       after = after;
       at_most = omega arith;
       at_least = λ some. at_least_once (c.args.steps.now) c.loop-rounds.steps c.look_where-count.new.steps (several rows) c.loop-rounds.rounds c.loop-rounds.invariant.from_start c.loop-rounds.invariant.at_least c.look_where-count.ensures.at_least
@@ -117,9 +123,9 @@ loop-rounds-preserved g c =
       room = omega arith;
       end = c.move_rows-moved.ensures.end;
       inside = c.move_rows-moved.ensures.within;
-      calm = calm_if rows c.args.all.ends.now c.loop-rounds.sizes c.move_rows-moved.new.sizes c.loop-rounds.shifts c.move_rows-moved.new.shifts c.move_rows-moved.new.touched
+      calm = calm_if rows c.args.all.ends.now c.loop-rounds.shifts c.move_rows-moved.new.shifts c.move_rows-moved.new.touched
           entries.rows.items entries.nodes.items entries.follows.items wide c.look_where-count.new.levels c.put_highest_last-left.result c.move_rows-moved.result
-          c.loop-rounds.invariant.moved c.move_rows-moved.ensures.moved c.requires.ends small small_later watchers.covered c.put_highest_last-left.ensures.highest holds c.move_rows-moved.ensures.touched;
+          c.requires.ends small small_later watchers.covered c.put_highest_last-left.ensures.highest holds c.move_rows-moved.ensures.resized;
       left = c.put_highest_last-left.ensures.end;
       highest = c.put_highest_last-left.ensures.highest;
       watchers = watchers;

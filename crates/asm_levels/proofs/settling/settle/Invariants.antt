@@ -3,7 +3,6 @@ use Rattle.std.proofs.Common.{◌≡◌, ◌<◌, ◌≤◌, ◌+◌, ◌*◌, �
 use Rattle.std.specs.Prelude.{vec_len}
 use Rattle.level_ranks.specs.Rounds.{IsAfterRounds}
 use Rattle.asm_levels.specs.Shifts.{shifts_of}
-use Rattle.asm_levels.specs.Resizing.{AreMoved, HasSize}
 use Rattle.asm_levels.specs.Needs.{need, tops, several}
 use Rattle.asm_levels.specs.Watching.{AreWatchers, AreHighest}
 use Rattle.asm_levels.specs.Looking.{AreCalm}
@@ -12,9 +11,8 @@ use Rattle.asm_levels.proofs.settling.settle.Given as goal
 abbrev pub invariant-loop-rounds : goal.invariant-loop-rounds
 invariant-loop-rounds g l = record {
   after : IsAfterRounds (need l.all.rows.now) (tops l.all.rows.now) l.fn.levels l.levels l.rounds;
-  moved : AreMoved l.all.rows.now l.sizes l.shifts;
   placed : l.shifts ≡ shifts_of l.all.rows.now l.levels;
-  sized : (index : ℕ) → index < length l.all.rows.now → HasSize l.all.rows.now l.levels l.sizes l.shifts index;
+  many_shifts : length l.shifts ≡ length l.all.rows.now;
   at_most : l.steps ≤ l.fn.steps + l.rounds * several l.all.rows.now;
   from_start : l.fn.steps ≤ l.steps;
   at_least : 0 < l.rounds → l.fn.steps + several l.all.rows.now ≤ l.steps;
