@@ -14,7 +14,7 @@ pub record PlanOf : Type 0 where
 pub record IsPlan (rows : List Row) (levels shifts : List ℕ) : Type 0 where
   pub stand : AllStand rows
   pub bytes : most_in rows < 2 ^ 62
-  pub few : length rows < 2 ^ 32
+  pub few : length rows < 2 ^ 28
   pub as_many_levels : length levels ≡ length rows
   pub as_many_shifts : length shifts ≡ length rows
   pub small : All (λ shift. shift < 2 ^ 62) shifts

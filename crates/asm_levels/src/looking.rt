@@ -24,11 +24,11 @@ use std::sync::ledger::Ledger;
 pub(crate) struct View<'a> {
     pub(crate) rows: &'a [Row],
     pub(crate) shifts: &'a RangeTable,
-    pub(crate) round: u64,
+    pub(crate) round: u32,
 }
 
 /// Has no row looked at.
-pub(crate) fn forget(seen: &mut [u64])
+pub(crate) fn forget(seen: &mut [u32])
     ensures unseen { (at : ℕ) → slice_index seen.new at ≡ 0 }
     ensures as_many { length seen.new ≡ length seen.old }
 {
@@ -43,7 +43,7 @@ pub(crate) fn look_row<L: Ledger>(
     view: View,
     index: usize,
     levels: &mut [u8],
-    seen: &mut [u64],
+    seen: &mut [u32],
     risen: &mut [u32],
     count: usize,
     steps: &mut Steps<L>,
@@ -88,7 +88,7 @@ fn look_run<L: Ledger>(
     entries: &Entries,
     first: usize,
     levels: &mut [u8],
-    seen: &mut [u64],
+    seen: &mut [u32],
     risen: &mut [u32],
     count: usize,
     steps: &mut Steps<L>,
@@ -134,7 +134,7 @@ fn look_node<L: Ledger>(
     entries: &Entries,
     node: usize,
     levels: &mut [u8],
-    seen: &mut [u64],
+    seen: &mut [u32],
     risen: &mut [u32],
     count: usize,
     steps: &mut Steps<L>,
@@ -184,8 +184,8 @@ fn look_above<L: Ledger>(
     entries: &Entries,
     leaf: usize,
     levels: &mut [u8],
-    seen: &mut [u64],
-    passed: &mut [u64],
+    seen: &mut [u32],
+    passed: &mut [u32],
     risen: &mut [u32],
     count: usize,
     steps: &mut Steps<L>,
@@ -244,8 +244,8 @@ fn look_touched<L: Ledger>(
     entries: &Entries,
     touched: &[u32],
     levels: &mut [u8],
-    seen: &mut [u64],
-    passed: &mut [u64],
+    seen: &mut [u32],
+    passed: &mut [u32],
     risen: &mut [u32],
     steps: &mut Steps<L>,
 ) -> usize
@@ -295,7 +295,7 @@ fn look_listed<L: Ledger>(
     view: View,
     list: &[u32],
     levels: &mut [u8],
-    seen: &mut [u64],
+    seen: &mut [u32],
     risen: &mut [u32],
     count: usize,
     steps: &mut Steps<L>,
@@ -339,8 +339,8 @@ pub(crate) fn look_few<L: Ledger>(
     wide: &[u32],
     touched: &[u32],
     levels: &mut [u8],
-    seen: &mut [u64],
-    passed: &mut [u64],
+    seen: &mut [u32],
+    passed: &mut [u32],
     risen: &mut [u32],
     steps: &mut Steps<L>,
 ) -> usize
@@ -389,8 +389,8 @@ pub(crate) fn look_where<L: Ledger>(
     moved: Option<usize>,
     touched: &[u32],
     levels: &mut [u8],
-    seen: &mut [u64],
-    passed: &mut [u64],
+    seen: &mut [u32],
+    passed: &mut [u32],
     risen: &mut [u32],
     steps: &mut Steps<L>,
 ) -> usize

@@ -27,9 +27,9 @@ pub struct RowPlan {
     /// Which distances span which rows.
     watchers: Watchers,
     /// The round in which each row was looked at last, of those that did not look at all.
-    seen: Vec<u64>,
+    seen: Vec<u32>,
     /// The round in which each node over blocks of rows was passed last.
-    passed: Vec<u64>,
+    passed: Vec<u32>,
     /// Room for the rows whose levels rise in a round, where these are few.
     risen: Vec<u32>,
     /// Room for the rows that have another size than in the round before.
@@ -71,7 +71,7 @@ impl RowPlan {
     pub fn new(alloc: Global, rows: Vec<Row>) -> Result<RowPlan, NoMemory>
         requires stand { AllStand rows.items }
         requires bytes { most_in rows.items < 2 ^ 62 }
-        requires few { vec_len rows < 2 ^ 32 }
+        requires few { vec_len rows < 2 ^ 28 }
         ensures rows { IfOk result (λ plan. plan.rows ≡ rows.items) }
         ensures levels { IfOk result (λ plan. All (λ level. level ≡ 0) plan.levels) }
     {
@@ -84,8 +84,8 @@ impl RowPlan {
             ends: &ends,
         };
         let watchers = Watchers::new(alloc, all)?;
-        let seen = vec![in alloc; 0u64; rows.len()]?;
-        let passed = vec![in alloc; 0u64; watchers.entries.heads.len()]?;
+        let seen = vec![in alloc; 0u32; rows.len()]?;
+        let passed = vec![in alloc; 0u32; watchers.entries.heads.len()]?;
         let few = rows.len() / FEW;
         let risen = vec![in alloc; 0u32; few]?;
         let touched = vec![in alloc; 0u32; few + dependents.len()]?;

@@ -29,15 +29,15 @@ pub(crate) fn settle<L: Ledger>(
     wide: &mut [u32],
     levels: &mut [u8],
     shifts: &mut RangeTable,
-    seen: &mut [u64],
-    passed: &mut [u64],
+    seen: &mut [u32],
+    passed: &mut [u32],
     risen: &mut [u32],
     touched: &mut [u32],
     steps: &mut Steps<L>,
 ) -> u64
     requires stand { AllStand all.rows.now }
     requires bytes { most_in all.rows.now < 2 ^ 62 }
-    requires few { length all.rows.now < 2 ^ 32 }
+    requires few { length all.rows.now < 2 ^ 28 }
     requires as_many_levels { length levels.old ≡ length all.rows.now }
     requires as_many_shifts { length shifts.old ≡ length all.rows.now }
     requires ends { AreEnds all.rows.now all.ends.now }
@@ -73,7 +73,7 @@ pub(crate) fn settle<L: Ledger>(
     place(all.rows, levels, shifts);
     forget(seen);
     forget(passed);
-    let mut rounds = 0u64;
+    let mut rounds = 0u32;
     let mut moved: Option<usize> = None;
     let mut left = wide.len();
     loop {
@@ -88,7 +88,7 @@ pub(crate) fn settle<L: Ledger>(
             view, entries, listed, moved, touched, levels, seen, passed, risen, steps,
         );
         if count == 0 {
-            return rounds;
+            return rounds as u64;
         }
         left = put_highest_last(all.rows, levels, wide, left);
         moved = move_rows(all, dependents, levels, risen, count, shifts, touched);

@@ -67,7 +67,7 @@ impl Entries {
             nodes: Vec::new(alloc),
             heads: vec![in alloc; 0usize; 2 * first_leaf(count)]?,
             links: Vec::new(alloc),
-            follows: Vec::new(alloc),
+            follows: Vec::with_capacity(alloc, count)?,
         })
     }
 

@@ -13,4 +13,4 @@ pub record RowFits (count index : ℕ) (row : Row) : Type 0 where
 pub record RowsFit (rows : List Row) : Type 0 where
   pub stand : AllStand rows
   pub bytes : most_in rows < 2 ^ 62
-  pub few : length rows < 2 ^ 32
+  pub few : length rows < 2 ^ 28

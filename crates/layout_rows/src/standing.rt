@@ -8,7 +8,7 @@ ghost use Rattle.layout_rows.specs.Fitting.{RowFits, RowsFit};
 
 use asm_levels::{Distance, Row, RowSize};
 
-/// The most bytes of one row, so that fewer than 2^32 of them have fewer than 2^62.
+/// The most bytes of one row, so that fewer than 2^28 of them have fewer than 2^62.
 const MOST_BYTES: u64 = 1 << 29;
 
 /// Whether a distance names rows among so many. No line makes a sum.
@@ -66,5 +66,5 @@ pub fn all_fit(rows: &[Row]) -> bool
             return false;
         }
     }
-    rows.len() < 1 << 32
+    rows.len() < 1 << 28
 }
