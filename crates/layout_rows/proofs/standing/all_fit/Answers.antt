@@ -6,5 +6,5 @@ use Rattle.layout_rows.proofs.standing.all_fit.Goals as goal
 
 pub returns : goal.returns
 returns c = λ fits.
-    (let few : length c.args.rows.now < 2 ^ 32 = grind (arith, nat_tests) in
+    (let few : length c.args.rows.now < 2 ^ 28 = grind (arith, nat_tests) in
     rows_fit c.args.rows.now (λ index default inside. c.loop-index.invariant index default (omega arith)) few)
