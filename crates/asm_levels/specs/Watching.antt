@@ -116,7 +116,7 @@ pub record FirstWatchers (all : List Row) (ends rows nodes heads links : List �
   pub many_heads : length heads ≡ 2 * first_leaf (length all)
   pub covered : (index : ℕ) → index < count → IsCovered all ends rows nodes follows wide index
   pub wide_within : (at : ℕ) → at < length wide → slice_index wide at < length all
-  pub many_follows : length follows ≡ count
+  pub many_follows : length follows ≡ length all
   pub followers : AreFollowers all follows
   pub several : AreSeveral all rows
   pub wide_several : AreSeveral all wide

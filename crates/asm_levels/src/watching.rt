@@ -1,6 +1,6 @@
 //! Which distances span each block of rows.
 
-ghost use Rattle.std.specs.Prelude.{◌≡◌, ◌+◌, ◌*◌, ◌++◌, ◌∷◌, ◌<◌, ◌≤◌, ◌^◌, ℕ, Bool, [], IfOk, IfSome, OnOk, length, slice_index, slice_index_or, vec_len};
+ghost use Rattle.std.specs.Prelude.{◌≡◌, ◌⊎◌, ◌+◌, ◌*◌, ◌<◌, ◌≤◌, ◌^◌, ℕ, true, IfOk, IfSome, OnOk, length, slice_index, slice_index_or, slice_set, vec_len};
 ghost use Rattle.asm_levels.specs.declared.rows.Row.{Row};
 ghost use Rattle.asm_levels.specs.Watching as spec;
 ghost use Rattle.asm_levels.specs.Watching.{AreLinked, HaveMore, HasOwnEntry, AreWatchers, IsRun, block_of};
@@ -49,7 +49,7 @@ pub(crate) struct Entries {
 }
 
 impl Entries {
-    ghost use Rattle.std.specs.Prelude.{◌≡◌, ◌⊎◌, ◌+◌, ◌*◌, ◌/◌, ◌%◌, ◌<◌, ◌≤◌, ◌^◌, ℕ, [], IfOk, OnOk, length, vec_len};
+    ghost use Rattle.std.specs.Prelude.{◌≡◌, ◌⊎◌, ◌+◌, ◌*◌, ◌/◌, ◌%◌, ◌<◌, ◌≤◌, ◌^◌, ℕ, false, [], IfOk, OnOk, length, replicate, vec_len};
     ghost use Rattle.asm_levels.specs.Watching as spec;
     ghost use Rattle.asm_levels.specs.Watching.{AreLinked, HaveMore, IsEntry};
 
@@ -59,7 +59,7 @@ impl Entries {
         ensures linked { IfOk result (λ made. AreLinked count made.rows.items made.nodes.items
             made.heads.items made.links.items) }
         ensures none { IfOk result (λ made. made.rows.items ≡ []) }
-        ensures no_follows { IfOk result (λ made. made.follows.items ≡ []) }
+        ensures no_follows { IfOk result (λ made. made.follows.items ≡ replicate count false) }
         ensures nodes { IfOk result (λ made. vec_len made.heads ≡ 2 * spec.first_leaf count) }
     {
         Ok(Entries {
@@ -67,7 +67,7 @@ impl Entries {
             nodes: Vec::new(alloc),
             heads: vec![in alloc; 0usize; 2 * first_leaf(count)]?,
             links: Vec::new(alloc),
-            follows: Vec::with_capacity(alloc, count)?,
+            follows: vec![in alloc; false; count]?,
         })
     }
 
@@ -209,24 +209,23 @@ fn add_run(
     requires nodes { vec_len entries.old.heads ≡ 2 * spec.first_leaf (length all.rows.now) }
     requires linked { AreLinked (length all.rows.now) entries.old.rows.items
         entries.old.nodes.items entries.old.heads.items entries.old.links.items }
-    requires many_follows { length entries.old.follows.items ≡ row }
+    requires many_follows { length entries.old.follows.items ≡ length all.rows.now }
     requires before { IsRun (length all.rows.now) entries.old.rows.items entries.old.nodes.items
         entries.old.follows.items before.0 before.1 row }
     ensures more { OnOk result (HaveMore (length all.entry.rows.now) row entries.old.rows.items
         entries.old.nodes.items entries.new.rows.items entries.new.nodes.items
         entries.new.heads.items entries.new.links.items) }
     ensures nodes { vec_len entries.new.heads ≡ vec_len entries.old.heads }
-    ensures follows { OnOk result ((flag : Bool)
-        × (entries.new.follows.items ≡ entries.old.follows.items ++ flag ∷ [])) }
+    ensures follows { OnOk result ((entries.new.follows.items ≡ entries.old.follows.items)
+        ⊎ (entries.new.follows.items ≡ slice_set entries.old.follows.items row true)) }
     ensures run { OnOk result (IsRun (length all.entry.rows.now) entries.new.rows.items
         entries.new.nodes.items entries.new.follows.items first last (row + 1)) }
 {
     if first == before.0 && last == before.1 {
-        entries.follows.push(true)?;
-    } else {
-        add_all(entries, all, row, first, last)?;
-        entries.follows.push(false)?;
+        entries.follows[row] = true;
+        return Ok(());
     }
+    add_all(entries, all, row, first, last)?;
     Ok(())
 }
 
@@ -310,7 +309,6 @@ impl Watchers {
             self.new.entries.follows.items run.0 run.1 (row + 1)) }
     {
         if top(&all.rows[row].size) == 0 {
-            self.entries.follows.push(false)?;
             return Ok((1, 0));
         }
         match span_within(all, row) {
@@ -322,7 +320,6 @@ impl Watchers {
             }
             None => {
                 self.wide.push(row as u32)?;
-                self.entries.follows.push(false)?;
                 Ok((1, 0))
             }
         }

@@ -9,16 +9,15 @@ returns-then-top-eq0-clause-first c =
     let rows = c.args.all.rows.now in
     let row = get_or rows c.args.row c.index-all-row.result in
     let old = c.args.self.now.entries in
-    rw c.in_ok-push.ensures.items
-    (one_level rows c.args.all.ends.now old.rows.items old.nodes.items old.heads.items old.links.items old.follows.items c.args.self.now.wide.items c.args.row row c.requires.inside
-    (get_or_default rows c.args.row c.index-all-row.result row c.requires.inside) (sym c.top.ensures ∙ c.if-top-eq0.true) c.requires.first)
+    one_level rows c.args.all.ends.now old.rows.items old.nodes.items old.heads.items old.links.items old.follows.items c.args.self.now.wide.items c.args.row row c.requires.inside
+    (get_or_default rows c.args.row c.index-all-row.result row c.requires.inside) (sym c.top.ensures ∙ c.if-top-eq0.true) c.requires.first
 
-pub returns-in_ok-push-in-None-2-clause-first : goal.returns-in_ok-push-in-None-2-clause-first
-returns-in_ok-push-in-None-2-clause-first c =
+pub returns-in_ok-push-in-None-clause-first : goal.returns-in_ok-push-in-None-clause-first
+returns-in_ok-push-in-None-clause-first c =
     let rows = c.args.all.rows.now in
     let row = get_or rows c.args.row c.index-all-row.result in
     let old = c.args.self.now.entries in
-    rw (c.in_ok-push-in-None.ensures.items, c.in_ok-push-in-None-2.ensures.items)
+    rw c.in_ok-push-in-None.ensures.items
     (wide_more rows c.args.all.ends.now old.rows.items old.nodes.items old.heads.items old.links.items old.follows.items c.args.self.now.wide.items c.args.row row c.requires.inside
     (get_or_default rows c.args.row c.index-all-row.result row c.requires.inside) (λ none. c.if-top-eq0.false (c.top.ensures ∙ none)) c.requires.first)
 
