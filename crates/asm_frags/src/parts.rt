@@ -301,7 +301,7 @@ impl Section<Loose> {
             mut fields,
             items,
         } = self;
-        substitute_fields(alloc, &mut fields, substitution)?;
+        substitute_fields(&mut fields, substitution)?;
         let items = items.laid(alloc)?;
         Ok(Section {
             name,

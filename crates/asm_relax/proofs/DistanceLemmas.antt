@@ -31,11 +31,11 @@ both_cancel told stretch at origin one other number is also =
     sym (beside_is told number (term_of one 1) (term_of other (2 ^ 64 - 1)) refl (omega arith) stretch at is (label stretch origin) also) ∙ (rw same refl)
 
 module _ {P : Type 0} (map : SymbolMap) (sections : List (SectionOf (Frag P ℕ))) (field : Field) where
-  told_else : (symbol : ℕ) → (symbol == own_place) ≡ false → told_in_field map sections field symbol ≡ final_told map sections symbol
+  pub told_else : (symbol : ℕ) → (symbol == own_place) ≡ false → told_in_field map sections field symbol ≡ final_told map sections symbol
   unfolding told_in_field
   told_else symbol differs = ap (λ b. cond b (place_told map sections field) (final_told map sections symbol)) differs
 
-  told_own : is_linked map field ≡ false → told_in_field map sections field own_place ≡ place_label sections field
+  pub told_own : is_linked map field ≡ false → told_in_field map sections field own_place ≡ place_label sections field
   unfolding told_in_field
   told_own free = ap (λ b. cond b absent (place_label sections field)) free
 

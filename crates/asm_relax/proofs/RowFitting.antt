@@ -1,5 +1,5 @@
 -- Rows of items fit among the others, and can be laid out.
-use Rattle.std.proofs.Common.{◌≡◌, ◌⊎◌, inl, inr, ℕ, ◌+◌, ◌-◌, ◌*◌, ◌^◌, ◌<◌, ◌≤◌, Bool, true, false, List, [], ◌∷◌, ◌++◌, Option, None, Some, length, get_or, arith, sym, subst, length-append}
+use Rattle.std.proofs.Common.{◌≡◌, ◌⊎◌, inl, inr, ℕ, ◌+◌, ◌-◌, ◌*◌, ◌^◌, ◌<◌, ◌≤◌, ◌&&◌, Bool, true, false, cond, List, [], ◌∷◌, ◌++◌, Option, None, Some, length, get_or, arith, sym, subst, length-append}
 use Rattle.std.specs.Prelude.{All}
 use Rattle.std.proofs.Math.Nat.{pow-le-pow_right, eq-or-lt_of_le, mul-le-mul}
 use Rattle.std.proofs.Math.Seq.{get_or-append_seam}
@@ -12,8 +12,14 @@ use Rattle.asm_levels.specs.declared.rows.RowSize.TheVariants.{Fixed, Align, Org
 use Rattle.asm_levels.specs.declared.rows.Row.{Row}
 use Rattle.asm_levels.specs.Sizes.{near_size, most_bytes}
 use Rattle.asm_levels.specs.Standing.{RowStands, AllStand}
-use Rattle.row_distances.specs.FormDistances.{NamesFew}
-use Rattle.asm_relax.specs.ItemRows.{grown_row}
+use Rattle.asm_expr.specs.Forms.{Form}
+use Rattle.asm_symbols.specs.SymbolMap.{SymbolMap}
+use Rattle.asm_frags.specs.declared.fields.Field.{Field}
+use Rattle.asm_frags.specs.Fields.{is_distance}
+use Rattle.row_distances.specs.declared.places.OwnPlace.{OwnPlace}
+use Rattle.row_distances.specs.FormDistances.{NamesFew, distance_of}
+use Rattle.asm_relax.specs.FieldValues.{is_linked}
+use Rattle.asm_relax.specs.ItemRows.{RowsIn, own_of, field_distance, grown_row}
 use Rattle.asm_relax.specs.RowBounds.{SizeFits, RowFits, AllFit}
 
 pub fixed_fits : (count number bytes : ℕ) → bytes ≤ 2 ^ 34 → SizeFits count number (Fixed bytes)
@@ -49,6 +55,16 @@ grown_fits count number (growth.Leb128 signed) None names = fixed_fits count num
 grown_fits count number (growth.Leb128 signed) (Some distance) names = record { align = tt; org = tt; names = names; few = omega arith }
 grown_fits count number growth.Advance None names = fixed_fits count number 0 (omega arith)
 grown_fits count number growth.Advance (Some distance) names = record { align = tt; org = tt; names = names; few = omega arith }
+
+-- the distance of a field names rows that are there
+pub field_names : (rows : RowsIn) (field : Field)
+    → ((map : SymbolMap) (own : OwnPlace) (starts : List ℕ) (count : ℕ) (made : Form) → NamesFew count (distance_of map own starts count made))
+    → NamesFew rows.count (field_distance rows field)
+field_names rows field stands = by (is_distance field.role.kind && is_linked rows.map field)
+  where
+    by : (linked : Bool) → NamesFew rows.count (cond linked None (distance_of rows.map (own_of field) rows.starts rows.count field.form))
+    by true = tt
+    by false = stands rows.map (own_of field) rows.starts rows.count field.form
 
 -- the end mark of a section
 pub end_fits : (count number offset : ℕ) → offset ≤ 2 ^ 33 → RowFits count number (record { offset = offset; size = End })

@@ -1,16 +1,18 @@
 //! The values of fields in a layout.
 
-ghost use Rattle.std.specs.Prelude.{◌≡◌, [], ◌∷◌, IsTrue};
+ghost use Rattle.std.specs.Prelude.{◌≡◌, ◌==◌, [], ◌∷◌, true, false, IfSome, IsTrue, Some, is_some, slice_get};
 ghost use Rattle.asm_expr.specs.Forms.{is_kept};
-ghost use Rattle.asm_expr.specs.Knowledge.{told_by};
+ghost use Rattle.asm_expr.specs.Knowledge.{label, told_by};
 ghost use Rattle.asm_expr.specs.Settled.{constant_left, settled};
-ghost use Rattle.asm_relax.specs.FieldValues.{is_suffixed, is_weak, is_of_weak, names_weak, is_linked, field_address, place_label, place_told, told_beside, told_in_field, counted_bytes, counted, held_value};
+ghost use Rattle.asm_relax.specs.FieldValues.{is_suffixed, is_weak, is_of_weak, names_weak, is_linked, field_address, place_label, place_told, told_beside, told_in_field, counted_bytes, counted, held_value, IsNearPair};
+ghost use Rattle.asm_relax.specs.Final.{address_of, final_meaning, final_told, spot_told};
+ghost use Rattle.asm_relax.specs.Settling.{LaidSections};
 
 use crate::finals::{beside_label, cannot_cancel, constant_left, final_look};
-use crate::places::address_of;
+use crate::places::{address_in, address_of};
 use asm_expr::{Known, Linear, Look, SymId, Term, Written, settled_value};
-use asm_frags::{Field, FieldRole, FieldSize, Laid, Sections, Suffix, own_place};
-use asm_symbols::{Binding, Symbols};
+use asm_frags::{Field, FieldRole, FieldSize, Laid, Section, Sections, Suffix, own_place};
+use asm_symbols::{Binding, Meaning, Spot, Symbols};
 
 /// Whether there is a suffix.
 pub fn is_suffixed(suffix: Suffix) -> bool
@@ -50,6 +52,15 @@ pub(crate) fn is_linked(symbols: &Symbols, field: &Field) -> bool
     is_suffixed(field.role.suffix) || names_weak(symbols, &field.form)
 }
 
+/// The same for a field whose form has these two terms.
+#[inline(always)]
+pub(crate) fn is_linked_pair(symbols: &Symbols, field: &Field, one: &Term, other: &Term) -> bool
+    requires { field.now.form.terms ≡ one.now ∷ other.now ∷ [] }
+    ensures { result ≡ is_linked symbols.now field.now }
+{
+    is_suffixed(field.role.suffix) || is_of_weak(symbols, one) || is_of_weak(symbols, other)
+}
+
 /// What symbols are known as in the form of a field.
 #[derive(Clone, Copy)]
 pub struct FieldView<'a> {
@@ -60,6 +71,7 @@ pub struct FieldView<'a> {
 
 /// The address of a field: that of its place, or, where the field stands in an item, of the last
 /// bytes of that, which end at its place.
+#[inline(always)]
 pub fn field_address(sections: &Sections<Laid>, field: &Field) -> u64
     ensures { result ≡ field_address sections.now field.now }
 {
@@ -190,7 +202,7 @@ fn place_beside<'a>(
     requires { field.now.form.terms ≡ one.now ∷ other.now ∷ [] }
     ensures { told_by result ≡ place_told symbols.now sections.now field.now }
 {
-    if is_suffixed(field.role.suffix) || is_of_weak(symbols, one) || is_of_weak(symbols, other) {
+    if is_linked_pair(symbols, field, one, other) {
         return Look::Absent;
     }
     place_label(sections, field)
@@ -216,9 +228,113 @@ fn look_in_pair<'a>(
     final_look(symbols, sections, symbol)
 }
 
+/// Whether the terms are a symbol less the place of the field, which cancel in one section.
+#[inline(always)]
+fn is_near_pair(symbols: &Symbols, field: &Field, one: &Term, other: &Term) -> bool
+    requires { field.now.form.terms ≡ one.now ∷ other.now ∷ [] }
+    ensures { result ≡ true → IsNearPair symbols.now field.now one.now other.now }
+{
+    one.coefficient == 1
+        && other.coefficient == u64::MAX
+        && one.symbol.index() != own_place().index()
+        && other.symbol.index() == own_place().index()
+        && !is_linked_pair(symbols, field, one, other)
+}
+
+/// Where a symbol of this meaning stands.
+#[inline(always)]
+fn spot_of(meaning: &Meaning) -> Option<Spot>
+    ensures { IfSome result (λ spot. (sections : LaidSections)
+        → final_meaning sections meaning.now ≡ spot_told sections spot) }
+{
+    match meaning {
+        Meaning::Label(spot) | Meaning::Space(spot) => Some(*spot),
+        Meaning::Undefined | Meaning::Common { .. } | Meaning::Assigned(_) => None,
+    }
+}
+
+/// Where the symbol stands, if that is in this section.
+#[inline(always)]
+#[tactic(auto, unfolding(crate::specs::Final::final_told))]
+fn spot_within(symbols: &Symbols, section: u32, symbol: SymId) -> Option<Spot>
+    ensures { IfSome result (λ spot. (sections : LaidSections) → final_told symbols.now sections symbol
+        ≡ label section (address_of sections section spot.item spot.offset)) }
+{
+    let found = symbols.as_slice().get(symbol.index() as usize)?;
+    let spot = spot_of(&found.meaning)?;
+    if spot.section != section {
+        return None;
+    }
+    Some(spot)
+}
+
+/// The address of a field of this section, which has the number that the field says.
+#[inline(always)]
+#[tactic(auto, unfolding(crate::specs::Final::address_of))]
+fn address_within(section: &Section<Laid>, field: &Field) -> u64
+    ensures { (sections : LaidSections) → slice_get sections field.now.section ≡ Some section.now
+        → result ≡ field_address sections field.now }
+{
+    let place = address_in(section, field.item as u64, field.offset as u64);
+    if field.in_item {
+        place.wrapping_sub(field.size.bytes() as u64)
+    } else {
+        place
+    }
+}
+
+/// The value of the form of a field that has these two terms, if they are a symbol of its section less its place: the
+/// short way for jumps, on which the symbol and the section are looked up once.
+#[inline(always)]
+fn near_value(
+    symbols: &Symbols,
+    sections: &Sections<Laid>,
+    field: &Field,
+    one: &Term,
+    other: &Term,
+) -> Option<u64>
+    requires terms { field.now.form.terms ≡ one.now ∷ other.now ∷ [] }
+    requires kept { IsTrue (is_kept one.now) }
+    ensures { IfSome result (λ value. Some value
+        ≡ constant_left (settled (told_in_field symbols.now sections.now field.now) field.now.form)) }
+{
+    if !is_near_pair(symbols, field, one, other) {
+        return None;
+    }
+    let spot = spot_within(symbols, field.section, one.symbol)?;
+    let section = sections.as_slice().get(field.section as usize)?;
+    let at = address_in(section, spot.item, spot.offset);
+    let known = Look::Label {
+        stretch: u64::from(field.section),
+        at: address_within(section, field),
+    };
+    let (number, count, others) = (field.form.constant(), one.coefficient, other.coefficient);
+    beside_label(number, count, at, u64::from(field.section), others, known)
+}
+
 /// The value of the form of a field that has these two terms.
 #[inline(always)]
 fn pair_in_field(
+    symbols: &Symbols,
+    sections: &Sections<Laid>,
+    field: &Field,
+    one: &Term,
+    other: &Term,
+) -> Option<u64>
+    requires terms { field.now.form.terms ≡ one.now ∷ other.now ∷ [] }
+    requires kept { IsTrue (is_kept one.now) }
+    ensures { result ≡ constant_left (settled (told_in_field symbols.now sections.now field.now)
+        field.now.form) }
+{
+    match near_value(symbols, sections, field, one, other) {
+        Some(value) => Some(value),
+        None => any_pair_in_field(symbols, sections, field, one, other),
+    }
+}
+
+/// The same, where the terms are any two.
+#[inline(never)]
+fn any_pair_in_field(
     symbols: &Symbols,
     sections: &Sections<Laid>,
     field: &Field,
@@ -268,4 +384,12 @@ pub fn held_value(symbols: &Symbols, sections: &Sections<Laid>, field: &Field) -
         Some(value) => Some(counted(field.size, field.role, value)),
         None => None,
     }
+}
+
+/// Whether the field has a value in a layout: the same, of which no address is worked out.
+#[inline(always)]
+pub fn has_value(symbols: &Symbols, sections: &Sections<Laid>, field: &Field) -> bool
+    ensures { result ≡ is_some (held_value symbols.now sections.now field.now) }
+{
+    held_value(symbols, sections, field).is_some()
 }

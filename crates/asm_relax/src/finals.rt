@@ -93,7 +93,8 @@ pub fn final_form(
     ensures { IfOk result (λ made. made ≡ final_form symbols.now sections.now form.now) }
 {
     let known = FinalView { symbols, sections };
-    let expanded = expansions.expand(alloc, symbols, copied_form(alloc, form)?)?;
+    let mut expanded = copied_form(alloc, form)?;
+    expansions.expand(alloc, symbols, &mut expanded)?;
     match settled(alloc, &known, expanded) {
         Ok(made) => Ok(made),
         Err(_) => Err(AllocError),
@@ -212,6 +213,7 @@ pub fn end_value(
     let [_, ..] = form.terms() else {
         return Ok(laid_value(symbols, sections, form));
     };
-    let expanded = expansions.expand(alloc, symbols, copied_form(alloc, form)?)?;
+    let mut expanded = copied_form(alloc, form)?;
+    expansions.expand(alloc, symbols, &mut expanded)?;
     Ok(laid_value(symbols, sections, &expanded))
 }

@@ -1,7 +1,8 @@
 //! The rows of items: one list for all sections, with an end mark behind the items of each.
 
-ghost use Rattle.std.specs.Prelude.{◌≡◌, ℕ, ◌+◌, ◌*◌, ◌<◌, ◌≤◌, ◌^◌, ◌++◌, ◌∷◌, [], All, IfOk, OnOk, ◌-◌, length, slice_get};
+ghost use Rattle.std.specs.Prelude.{◌≡◌, ℕ, ◌+◌, ◌*◌, ◌<◌, ◌≤◌, ◌^◌, ◌++◌, ◌∷◌, [], All, IfOk, IfSome, OnOk, Some, ◌-◌, length, slice_get};
 ghost use Rattle.std.specs.Option.{option_and_then};
+ghost use Rattle.asm_levels.specs.declared.distances.Distance.TheVariants as distance;
 ghost use Rattle.asm_levels.specs.declared.rows.RowSize.TheVariants as size;
 ghost use Rattle.row_distances.specs.FormDistances.{NamesFew};
 ghost use Rattle.asm_levels.specs.Sizes.{near_size};
@@ -10,14 +11,16 @@ ghost use Rattle.asm_relax.specs.ItemRows as spec;
 ghost use Rattle.asm_relax.specs.RowViews.{told_rows};
 ghost use Rattle.asm_relax.specs.RowBounds.{SizeFits, IsRowSize, RowFits, AllFit};
 
-use crate::field_values::is_linked;
+use crate::field_values::{is_linked, is_linked_pair};
 use asm_base::NoMemory;
 use asm_frags::{Field, Frag, Laid, Section, Sections, own_place};
 use asm_levels::{Distance, Row, RowPlan, RowSize, few_rows_have_few_bytes};
 use asm_symbols::Symbols;
 use item_bytes::Condition;
 use item_contents::{Align, Content, Fill, FragVisit, Growing, Growth, Org, visit};
-use row_distances::{OwnPlace, Place, RowView, distance_of, distances_are_values};
+use row_distances::{
+    OwnPlace, Place, RowView, RowsApart, distance_of, distances_are_values, rows_apart,
+};
 use std::alloc::{AllocError, Global};
 
 /// The most rows: so many have fewer than 2^62 bytes.
@@ -175,7 +178,52 @@ impl FragVisit for SizeInRow<'_> {
     }
 }
 
+/// The rows that the distance of a field leads between, where its form is a symbol less another one: the short way for
+/// jumps.
+#[inline(always)]
+fn field_apart(rows: RowsIn, field: &Field) -> Option<RowsApart>
+    ensures { IfSome result (λ apart. spec.field_distance (told_rows rows.entry) field.now
+        ≡ Some (distance.Between apart.number apart.ahead apart.behind)) }
+{
+    let [one, other] = field.form.terms() else {
+        return None;
+    };
+    if is_linked_pair(rows.symbols, field, one, other) {
+        return None;
+    }
+    let view = RowView {
+        symbols: rows.symbols,
+        starts: rows.starts,
+        own: own_of(field),
+    };
+    rows_apart(view, rows.count, &field.form)
+}
+
+/// What the size of an item depends on that grows with the distance between two rows, where this is found in the
+/// short way.
+#[inline(always)]
+fn size_apart(rows: RowsIn, fields: &[Field], held: Growing) -> Option<RowSize>
+    ensures size { IfSome result (λ size. size ≡ spec.grown_row held.kind (option_and_then
+        (spec.field_distance (told_rows rows.entry)) (slice_get fields.now held.field))) }
+    ensures fits { IfSome result (λ size. (number : ℕ) → SizeFits rows.entry.count number size) }
+{
+    distances_are_values();
+    let field = fields.get(held.field)?;
+    let RowsApart {
+        number,
+        ahead,
+        behind,
+    } = field_apart(rows, field)?;
+    let distance = Distance::Between {
+        number,
+        ahead,
+        behind,
+    };
+    Some(grown_row(held.kind, Some(distance)))
+}
+
 /// The row of an item, which has this number, and this index in its section.
+#[inline(never)]
 fn row_of(
     alloc: Global,
     rows: RowsIn,
@@ -203,6 +251,7 @@ fn row_of(
 }
 
 /// Puts a row last. One that is too many is refused as want of memory.
+#[inline(always)]
 fn push_row(made: &mut Vec<Row>, count: u32, row: Row) -> Result<(), NoMemory>
     requires fit { AllFit count made.old.items }
     requires row { RowFits count (length made.old.items) row }
@@ -213,6 +262,33 @@ fn push_row(made: &mut Vec<Row>, count: u32, row: Row) -> Result<(), NoMemory>
         return Err(AllocError);
     }
     Ok(made.push(row)?)
+}
+
+/// Puts the row of an item last, which has this index in its section.
+#[inline(always)]
+fn push_item(
+    alloc: Global,
+    made: &mut Vec<Row>,
+    rows: RowsIn,
+    fields: &[Field],
+    index: u32,
+    item: &Frag<Laid>,
+) -> Result<(), NoMemory>
+    requires fit { AllFit rows.count made.old.items }
+    requires offset { item.now.offset ≤ 2 ^ 33 }
+    ensures rows { OnOk result (made.new.items ≡ made.old.items ++ spec.row_of
+        (told_rows rows.entry) fields.now (length made.old.items) index item.now ∷ []) }
+    ensures fit { OnOk result (AllFit rows.entry.count made.new.items) }
+{
+    if let Content::Growing(held) = &item.content {
+        if let Some(size) = size_apart(rows, fields, *held) {
+            let offset = item.offset as u64;
+            return push_row(made, rows.count, Row { offset, size });
+        }
+    }
+    let number = made.len() as u32;
+    let row = row_of(alloc, rows, fields, number, index, item)?;
+    push_row(made, rows.count, row)
 }
 
 /// Puts the rows of items last, the first of which has this index.
@@ -231,9 +307,7 @@ fn push_items(
     ensures fit { OnOk result (AllFit rows.entry.count made.new.items) }
 {
     for (index, item) in items.iter().enumerate() {
-        let number = made.len() as u32;
-        let row = row_of(alloc, rows, fields, number, index as u32, item)?;
-        push_row(made, rows.count, row)?;
+        push_item(alloc, made, rows, fields, index as u32, item)?;
     }
     Ok(())
 }
@@ -294,7 +368,7 @@ fn all_rows(alloc: Global, rows: RowsIn, sections: &[Section<Laid>]) -> Result<V
         ≡ spec.rows_from (told_rows rows.entry) 0 sections.now) }
     ensures fit { IfOk result (λ made. AllFit rows.entry.count made.items) }
 {
-    let mut made = Vec::new(alloc);
+    let mut made = Vec::with_capacity(alloc, rows.count as usize)?;
     for section in sections {
         push_section(alloc, &mut made, rows, section)?;
     }

@@ -13,7 +13,9 @@ mod planning;
 mod range_checks;
 
 pub use faults::LayoutFault;
-pub use field_values::{FieldView, counted, field_address, held_value, is_suffixed, look_beside};
+pub use field_values::{
+    FieldView, counted, field_address, has_value, held_value, is_suffixed, look_beside,
+};
 pub use finals::{FinalView, end_value, final_form, laid_value};
 pub use laws::{
     all_else_is_kept, distances_lead_to_labels, fields_hold_their_distances,

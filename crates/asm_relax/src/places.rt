@@ -6,6 +6,7 @@ ghost use Rattle.asm_relax.specs.Final as spec;
 use asm_frags::{Frag, Laid, Section, Sections};
 
 /// How far the plain bytes behind the item are moved by the items up to it.
+#[inline(always)]
 fn shift_behind(item: &Frag<Laid>) -> u64
     ensures { result ≡ spec.shift_behind item.now }
 {
@@ -15,6 +16,7 @@ fn shift_behind(item: &Frag<Laid>) -> u64
 }
 
 /// How far the plain bytes behind so many items are moved.
+#[inline(always)]
 #[tactic(auto, unfolding(crate::specs::Final::shift_in))]
 pub(crate) fn shift_in(items: &[Frag<Laid>], before: u64) -> u64
     ensures { result ≡ spec.shift_in items.now before }
@@ -29,6 +31,7 @@ pub(crate) fn shift_in(items: &[Frag<Laid>], before: u64) -> u64
 }
 
 /// The address of a place: so many items and so many plain bytes stand before it.
+#[inline(always)]
 pub fn address_in(section: &Section<Laid>, item: u64, offset: u64) -> u64
     ensures { result ≡ spec.address_in section.now.items item offset }
 {
@@ -48,6 +51,7 @@ pub fn section_size(section: &Section<Laid>) -> u64
 }
 
 /// The address of a place of a section. It is 0 where there is no such section.
+#[inline(always)]
 #[tactic(auto, unfolding(crate::specs::Final::address_of))]
 pub fn address_of(sections: &Sections<Laid>, section: u32, item: u64, offset: u64) -> u64
     ensures { result ≡ spec.address_of sections.now section item offset }

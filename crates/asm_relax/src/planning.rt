@@ -42,7 +42,7 @@ impl Substitution for AssignedExpansion<'_> {
 
     ghost substitute = { λ symbols form. expanded symbols form };
 
-    fn substitute(&self, form: Linear) -> Result<Linear, FragFault> {
+    fn substitute(&self, form: &mut Linear) -> Result<(), FragFault> {
         Ok(self.expansions.expand(self.alloc, self.symbols, form)?)
     }
 }

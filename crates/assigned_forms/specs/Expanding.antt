@@ -39,6 +39,10 @@ abbrev pub is_expanded : SymbolMap → Option Form → Bool
 is_expanded map None = true
 is_expanded map (Some form) = not (names_assigned map form)
 
+-- the symbol is no assigned one
+abbrev pub is_plain : Symbol → Bool
+is_plain symbol = not (is_some (form_of symbol.meaning))
+
 -- the symbol is no assigned one, or its form names none
 abbrev pub stands_for_itself : SymbolMap → Symbol → Bool
 stands_for_itself map symbol = is_expanded map (form_of symbol.meaning)

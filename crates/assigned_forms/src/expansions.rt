@@ -2,7 +2,7 @@
 
 ghost use Rattle.std.specs.Prelude.{◌≡◌};
 ghost use Rattle.std.specs.List.{list_all};
-ghost use Rattle.assigned_forms.specs.Expanding.{stands_for_itself};
+ghost use Rattle.assigned_forms.specs.Expanding.{is_plain, stands_for_itself};
 
 use crate::expanding::{MadeForms, form_at, form_of, names_assigned, plus_replaced};
 use asm_base::NoMemory;
@@ -31,9 +31,25 @@ fn all_stand(symbols: &Symbols) -> bool
         .all(|symbol| stands_for_itself(symbols, symbol))
 }
 
+/// Whether the symbol is no assigned one.
+fn is_plain(symbol: &Symbol) -> bool
+    ensures { result ≡ is_plain symbol.now }
+{
+    form_of(&symbol.meaning).is_none()
+}
+
+/// Whether no symbol is an assigned one.
+fn all_plain(symbols: &Symbols) -> bool
+    ensures { result ≡ list_all is_plain symbols.now.symbols }
+{
+    symbols.as_slice().iter().all(|symbol| is_plain(symbol))
+}
+
 /// Where the expanded forms are found.
 #[derive(Drop)]
 enum Forms<'a> {
+    /// No symbol is an assigned one: there are none.
+    Absent,
     /// No form names an assigned symbol, as in most sources: each is its own expanded form.
     Own(&'a Symbols),
     /// In a list that has one for each assigned symbol.
@@ -57,14 +73,19 @@ impl<'a> Model for Expansions<'a> {
 }
 
 impl<'a> Expansions<'a> {
-    ghost use Rattle.std.specs.Prelude.{◌≡◌, true, option_map, IfOk};
+    ghost use Rattle.std.specs.Prelude.{◌≡◌, true, option_map, IfOk, OnOk};
     ghost use Rattle.assigned_forms.specs.Expanding.{names_assigned, names_expanded, expanded, entry_at, AreExpansions};
 
     /// The expanded forms of the symbols.
-    #[tactic(auto, using(crate::proofs::OwnForms::own_expansions))]
+    #[tactic(auto, using(crate::proofs::OwnForms::own_expansions, crate::proofs::OwnForms::no_expansions))]
     pub fn new(alloc: Global, symbols: &'a Symbols) -> Result<Expansions<'a>, NoMemory>
         ensures { IfOk result (AreExpansions symbols.now) }
     {
+        if all_plain(symbols) {
+            return Ok(Expansions {
+                forms: Forms::Absent,
+            });
+        }
         if all_stand(symbols) {
             return Ok(Expansions {
                 forms: Forms::Own(symbols),
@@ -81,6 +102,7 @@ impl<'a> Expansions<'a> {
         ensures { option_map (λ form. form.now) result ≡ entry_at self.now id }
     {
         match &self.forms {
+            Forms::Absent => None,
             Forms::Own(symbols) => form_at(symbols, id.index() as usize),
             Forms::Made(made) => made.entry_at(id.index() as usize),
         }
@@ -103,23 +125,49 @@ impl<'a> Expansions<'a> {
     }
 
     /// Whether the form names a symbol whose expanded form is there.
+    #[tactic(auto, using(crate::proofs::OwnForms::names_absent))]
     fn names_expanded(&self, form: &Linear) -> bool
         ensures { result ≡ names_expanded self.now form.now }
     {
+        if let Forms::Absent = &self.forms {
+            return false;
+        }
         form.terms()
             .iter()
             .any(|term| self.of(term.symbol).is_some())
     }
 
-    /// The form expanded. One that names no assigned symbol is handed back.
-    #[tactic(auto, using(crate::proofs::ExpandingLemmas::expanded_none, crate::proofs::ExpansionLemmas::names_there))]
-    pub fn expand(&self, alloc: Global, symbols: &Symbols, form: Linear) -> Result<Linear, NoMemory>
-        requires { AreExpansions symbols.now self.now }
-        ensures { IfOk result (λ made. made ≡ expanded symbols.now form) }
+    /// Expands a form in place that names assigned symbols.
+    #[inline(never)]
+    fn replace(
+        &self,
+        alloc: Global,
+        symbols: &Symbols,
+        form: &mut Linear,
+    ) -> Result<(), NoMemory>
+        requires expansions { AreExpansions symbols.now self.now }
+        requires assigned { names_assigned symbols.now form.old ≡ true }
+        ensures { OnOk result (form.new ≡ expanded symbols.now form.old) }
     {
-        if self.names_expanded(&form) {
-            return self.sum_of(alloc, symbols, &form);
+        *form = self.sum_of(alloc, symbols, form)?;
+        Ok(())
+    }
+
+    /// Expands the form in place. One that names no assigned symbol is left as it is.
+    #[inline(always)]
+    #[tactic(auto, using(crate::proofs::ExpandingLemmas::expanded_none, crate::proofs::ExpansionLemmas::names_there))]
+    pub fn expand(
+        &self,
+        alloc: Global,
+        symbols: &Symbols,
+        form: &mut Linear,
+    ) -> Result<(), NoMemory>
+        requires { AreExpansions symbols.now self.now }
+        ensures { OnOk result (form.new ≡ expanded symbols.now form.old) }
+    {
+        if self.names_expanded(form) {
+            return self.replace(alloc, symbols, form);
         }
-        Ok(form)
+        Ok(())
     }
 }

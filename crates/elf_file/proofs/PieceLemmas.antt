@@ -34,6 +34,11 @@ filled_alone n count block unit alone long is =
     let same : n ≡ count = long ∙ ap (λ m. count * m) alone ∙ (let e : count * 1 ≡ count = omega arith in e) in
     is ∙ repeated_alone n unit alone ∙ ap (λ m. repeated m unit) same
 
+-- a block of one unit
+pub filled_once : (count : ℕ) (block unit : List ℕ) → count ≡ 1 → block ≡ unit → block ≡ repeated count unit
+unfolding repeated
+filled_once count block unit once is = rw once (is ∙ sym (append-nil unit))
+
 -- so many units, and then so many more
 repeated_sum : (first more : ℕ) (unit : List ℕ) → repeated (first + more) unit ≡ repeated first unit ++ repeated more unit
 unfolding repeated

@@ -35,13 +35,15 @@ fn double_units(block: &mut [u8], unit: &[u8], count: usize)
 }
 
 /// Fills a block with units.
-#[tactic(auto, using(crate::proofs::PieceLemmas::filled_alone))]
+#[tactic(auto, using(crate::proofs::PieceLemmas::filled_alone, crate::proofs::PieceLemmas::filled_once))]
 fn fill_units(block: &mut [u8], unit: &[u8], count: usize)
     requires some { 0 < count }
     requires room { length block.old ≡ count * length unit.now }
     ensures { block.new ≡ repeated count unit.now }
 {
-    if unit.len() == 1 {
+    if count == 1 {
+        block.copy_from_slice(unit);
+    } else if unit.len() == 1 {
         block.fill(unit[0]);
     } else {
         double_units(block, unit, count);
@@ -173,22 +175,6 @@ pub(crate) enum Piece {
     Bytes(Vec<u8>),
     Repeated(Repetition),
     Mixed(Mixed),
-}
-
-impl Piece {
-    ghost use Rattle.std.specs.Prelude.{◌≡◌, length, IfSome};
-    ghost use Rattle.elf_file.specs.Pieces.{piece_bytes};
-
-    /// How many bytes it stands for, if fewer than 2^64.
-    pub(crate) fn len(&self) -> Option<usize>
-        ensures { IfSome result (λ n. n ≡ length (piece_bytes self.now)) }
-    {
-        match self {
-            Piece::Bytes(bytes) => Some(bytes.len()),
-            Piece::Repeated(held) => held.len(),
-            Piece::Mixed(held) => held.len(),
-        }
-    }
 }
 
 /// Pieces, one behind the other.

@@ -58,7 +58,7 @@ impl Laid {
     ghost use Rattle.std.specs.Prelude.{◌≡◌, ◌+◌, ◌++◌, length, OnOk};
     ghost use Rattle.elf_file.specs.Image as spec;
     ghost use Rattle.elf_file.specs.Pieces.{piece_bytes, flat};
-    ghost use Rattle.elf_file.specs.Sections.{file_bytes};
+    ghost use Rattle.elf_file.specs.Sections.{content_size, file_bytes};
     ghost use Rattle.elf_file.specs.Views.{section_view, content_view, ends_at};
 
     /// Appends zeros up to a multiple of the alignment.
@@ -77,31 +77,32 @@ impl Laid {
         Ok(())
     }
 
-    /// Appends a piece.
-    fn put_piece(&mut self, piece: Piece) -> Result<(), AllocError>
-        requires { ends_at self.old.end self.old.pieces }
+    /// Appends a piece of this size.
+    fn put_piece(&mut self, piece: Piece, size: usize) -> Result<(), AllocError>
+        requires ends { ends_at self.old.end self.old.pieces }
+        requires size { size ≡ length (piece_bytes piece) }
         ensures pieces { OnOk result (self.new.pieces ≡ self.old.pieces ++ piece_bytes piece) }
         ensures ends { OnOk result (ends_at self.new.end self.new.pieces) }
         ensures kept { self.new.headers.items ≡ self.old.headers.items }
     {
-        let size = piece.len().ok_or(AllocError)?;
         let end = self.end.checked_add(size).ok_or(AllocError)?;
         self.pieces.put(piece)?;
         self.end = end;
         Ok(())
     }
 
-    /// Appends what a section holds in the file.
-    fn put_body(&mut self, body: Body) -> Result<(), AllocError>
-        requires { ends_at self.old.end self.old.pieces }
+    /// Appends what a section of this size holds in the file.
+    fn put_body(&mut self, body: Body, size: u64) -> Result<(), AllocError>
+        requires ends { ends_at self.old.end self.old.pieces }
+        requires size { size ≡ content_size (content_view body) }
         ensures pieces { OnOk result (self.new.pieces
             ≡ self.old.pieces ++ file_bytes (content_view body)) }
         ensures ends { OnOk result (ends_at self.new.end self.new.pieces) }
         ensures kept { self.new.headers.items ≡ self.old.headers.items }
     {
         match body {
-            Body::Bytes(bytes) => self.put_piece(Piece::Bytes(bytes)),
-            Body::Mixed(held) => self.put_piece(Piece::Mixed(held)),
+            Body::Bytes(bytes) => self.put_piece(Piece::Bytes(bytes), size as usize),
+            Body::Mixed(held) => self.put_piece(Piece::Mixed(held), size as usize),
             Body::NoBits(_) => Ok(()),
         }
     }
@@ -122,7 +123,7 @@ impl Laid {
         let size = section.body.size().ok_or(AllocError)?;
         let header = section_header(name, self.end as u64, size, &section);
         self.headers.extend_from_slice(&header)?;
-        self.put_body(section.body)
+        self.put_body(section.body, size)
     }
 }
 

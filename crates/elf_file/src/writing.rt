@@ -94,6 +94,9 @@ fn put_bytes<O: Output>(obj: &mut O, buffer: &mut Buffer, bytes: &[u8]) -> Resul
         (buffer.old ++ bytes.now)) }
     ensures cause { HasCause (O.faults obj.old) (O.faults obj.new) result }
 {
+    if bytes.is_empty() {
+        return Ok(());
+    }
     if bytes.len() > buffer.room() {
         return put_more(obj, buffer, bytes);
     }

@@ -1,6 +1,6 @@
 -- The fields of a section, one after the other.
 use Rattle.std.proofs.Common.{◌≡◌, ℕ, ◌+◌, ◌<◌, ◌≤◌, ◌&&◌, true, cond, arith, nat_le, List, ◌∷◌, ◌++◌, length, get_or, drop, ◌-◌, take_all, length-drop, sym, ap, ◌∙◌, subst, append_assoc, Some, None, Option, [], refl}
-use Rattle.std.specs.Prelude.{slice_range, filter_map, option_map}
+use Rattle.std.specs.Prelude.{slice_range, filter_map, is_some, option_map}
 use Rattle.std.specs.List.{cons_option}
 use Rattle.std.specs.Option.{option_to_list}
 use Rattle.std.proofs.Math.Nat.{le_of_eq}
@@ -73,6 +73,15 @@ unfolding held_value field_relocation
 valued map sections number value section field e =
     let made = settled (told_in_field map sections field) field.form in
     rw (none_left map sections number (field_place section field) field made.terms made.constant value (counted field.size field.role) e) refl
+
+-- the same, whatever the value is
+pub has_no_relocation : (map : SymbolMap) (sections : LaidSections) (number : ℕ) (section : SectionOf LaidItem) (field : Field) → is_some (held_value map sections field) ≡ true
+    → field_relocation map sections number section field ≡ None
+has_no_relocation map sections number section field has = by (held_value map sections field) refl has
+  where
+    by : (found : Option ℕ) → held_value map sections field ≡ found → is_some found ≡ true → field_relocation map sections number section field ≡ None
+    by None is some = cc
+    by (Some value) is some = valued map sections number value section field is
 
 cons_is : {Y : Type 0} (one : Option Y) (rest : List Y) → cons_option one rest ≡ option_to_list one ++ rest
 cons_is None rest = refl

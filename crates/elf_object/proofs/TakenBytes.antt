@@ -1,5 +1,5 @@
 -- Bytes that are taken one after the other between plain bytes.
-use Rattle.std.proofs.Common.{◌≡◌, ℕ, zero, suc, ◌+◌, ◌-◌, ◌≤◌, List, [], ◌∷◌, ◌++◌, length, refl, sym, ap, ◌∙◌, arith, append_assoc, append-nil}
+use Rattle.std.proofs.Common.{◌≡◌, ℕ, zero, suc, ◌-◌, ◌≤◌, List, [], ◌∷◌, ◌++◌, length, refl, sym, ap, ◌∙◌, arith, append_assoc, append-nil}
 use Rattle.item_contents.specs.Contents.{repeated}
 use Rattle.elf_file.specs.declared.file_pieces.Between.{Between}
 use Rattle.elf_file.specs.Pieces.{mixed, held_before}

@@ -19,7 +19,7 @@ use crate::mixing::Mixing;
 use crate::references::field_relocation;
 use crate::relocations::Relocation;
 use asm_frags::{Field, FieldSize, Frag, Laid, SHT_NOBITS, Section};
-use asm_relax::{held_value, section_size};
+use asm_relax::{has_value, held_value, section_size};
 use elf_file::{Body, Mixed};
 use elf_symbols::Placement;
 use item_contents::{Content, put_bytes};
@@ -79,6 +79,9 @@ fn put_field(
         (λ fault. IsLostAt field.now.pos (spec.is_lost at.entry.symbols.now at.entry.sections.now
         number section.now field.now) fault) }
 {
+    if field.in_item && has_value(at.symbols, at.sections, field) {
+        return Ok(());
+    }
     if let Some(value) = held_value(at.symbols, at.sections, field) {
         put_value(&mut out.bytes, field, value);
         return Ok(());

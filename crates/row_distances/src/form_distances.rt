@@ -1,6 +1,6 @@
 //! From linear forms to the distances of rows.
 
-ghost use Rattle.std.specs.Prelude.{◌≡◌, ◌<◌, ◌^◌, ◌++◌, [], ℕ, List, None, Some, IfOk, OnOk};
+ghost use Rattle.std.specs.Prelude.{◌≡◌, ◌<◌, ◌^◌, ◌++◌, [], ℕ, List, None, Some, IfOk, IfSome, OnOk};
 ghost use Rattle.asm_expr.specs.Forms.{Form};
 ghost use Rattle.asm_levels.specs.declared.distances.Distance.TheVariants as distance;
 ghost use Rattle.asm_symbols.specs.SymbolMap.{SymbolMap};
@@ -153,6 +153,52 @@ pub fn distance_of(
         Some(pair) => pair_distance(alloc, view, count, form, pair),
         None => sum_distance(alloc, view, count, form),
     }
+}
+
+/// A number, and two rows: the one ahead and the one behind.
+#[derive(Clone, Copy)]
+pub struct RowsApart {
+    pub number: u64,
+    pub ahead: u32,
+    pub behind: u32,
+}
+
+/// The two symbols of the terms, if these are all and the first one counts once.
+fn first_less_second(terms: &[Term]) -> Option<Pair>
+    ensures { IfSome result (λ pair. pairs.pair_of terms.now ≡ Some pair) }
+{
+    let [one, other] = terms else {
+        return None;
+    };
+    if one.coefficient != 1 || other.coefficient != u64::MAX {
+        return None;
+    }
+    Some(Pair {
+        ahead: one.symbol,
+        behind: other.symbol,
+    })
+}
+
+/// The two rows that an expanded form comes to the distance of, if it is a symbol less another one and a number: the
+/// short way for jumps. It takes no memory.
+#[inline(always)]
+pub fn rows_apart(view: RowView, count: u32, form: &Linear) -> Option<RowsApart>
+    ensures { IfSome result (λ apart. spec.distance_of view.entry.symbols.now view.entry.own
+        view.entry.starts.now count form.now
+        ≡ Some (distance.Between apart.number apart.ahead apart.behind)) }
+{
+    let pair = first_less_second(form.terms())?;
+    let ahead = place_of(view, pair.ahead)?;
+    let behind = place_of(view, pair.behind)?;
+    if behind.section != ahead.section {
+        return None;
+    }
+    let apart = ahead.offset.wrapping_sub(behind.offset);
+    Some(RowsApart {
+        number: form.constant().wrapping_add(apart),
+        ahead: row_at(view.starts, ahead, count)?,
+        behind: row_at(view.starts, behind, count)?,
+    })
 }
 
 /// However far the rows are moved, the distance of a form is its value there, and where there is no distance, the form has

@@ -5,5 +5,5 @@ mod form_distances;
 mod pairs;
 mod places;
 
-pub use form_distances::{distance_of, distances_are_values};
+pub use form_distances::{RowsApart, distance_of, distances_are_values, rows_apart};
 pub use places::{OwnPlace, Place, RowView};

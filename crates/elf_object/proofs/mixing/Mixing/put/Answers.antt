@@ -1,5 +1,5 @@
 -- Nothing is taken, or a repetition behind all plain bytes so far.
-use Rattle.std.proofs.Common.{◌≡◌, ◌-◌, length, sym, ap, ◌∙◌, subst, refl, rules}
+use Rattle.std.proofs.Common.{◌≡◌, ◌-◌, length, subst, refl, rules}
 use Rattle.std.specs.Prelude.{List, ℕ}
 use Rattle.item_contents.specs.Contents.{repeated}
 use Rattle.elf_file.specs.declared.file_pieces.Between.{Between}

@@ -6,7 +6,7 @@ use Rattle.asm_expr.specs.Settled.{spot_by, spot_of, settled, constant_left}
 use Rattle.asm_relax.specs.Final.{beside_label}
 use Rattle.asm_relax.specs.FieldValues.{told_in_field}
 use Rattle.asm_relax.proofs.PairLemmas.{pair_is, beside_is, no_label, not_label}
-use Rattle.asm_relax.proofs.field_values.pair_in_field.Goals as goal
+use Rattle.asm_relax.proofs.field_values.any_pair_in_field.Goals as goal
 
 pub returns-in-Label : goal.returns-in-Label
 returns-in-Label c =
