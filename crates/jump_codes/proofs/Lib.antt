@@ -1,0 +1,4 @@
+-- Lemmas, a file for each subject.
+pub mod JumpRows
+pub mod JumpReads
+pub mod ConditionNumbers
