@@ -13,3 +13,5 @@ pub mod ShiftedForms
 pub mod PlaceLemmas
 pub mod ItemValueLemmas
 pub mod RoomLemmas
+pub mod LayoutNeeds
+pub mod SettledRoom

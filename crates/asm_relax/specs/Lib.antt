@@ -10,3 +10,4 @@ pub mod RangeChecks
 pub mod RowBounds
 pub mod Settling
 pub mod ItemValues
+pub mod SettledRoom

@@ -11,6 +11,7 @@ ghost use Rattle.asm_relax.specs.ItemValues.{HoldTheirDistances, HoldWhereSettle
 ghost use Rattle.asm_relax.specs.Layout.{laid_by, laid_out, without_addresses, AreSized, AreWithin, HaveSizes, IsInRow};
 ghost use Rattle.asm_relax.specs.Placing.{placed_from, placed_section, shift_of};
 ghost use Rattle.asm_relax.specs.Settling.{LaidItem, LaidSections, settled_sections};
+ghost use Rattle.asm_relax.specs.SettledRoom.{SettledHaveRoom};
 ghost use Rattle.asm_levels.specs.declared.rows.Row.{Row as TheRow};
 ghost use Rattle.asm_levels.specs.Needs.{need, tops};
 ghost use Rattle.level_ranks.specs.Ranks.{IsLayout};
@@ -124,4 +125,15 @@ pub fn items_have_room_for_their_values()
     short_jumps_hold_a_signed_byte();
     groups_hold_their_number();
     advances_hold_their_distance();
+}
+
+/// An item of a layout that grows has the size of a level at which it has room for the value that
+/// the object holds in it.
+pub fn settled_items_have_room()
+    ensures { SettledHaveRoom }
+{
+    fields_hold_their_distances();
+    items_have_room_for_their_values();
+    needs_stay_within_tops();
+    settled_by_the_ranking();
 }
