@@ -1,5 +1,5 @@
 -- Where the bytes and fields of instructions with operands stand.
-use Rattle.std.proofs.Common.{◌≡◌, ℕ, ◌+◌, ◌≤◌, Bool, true, false, cond, List, [], ◌∷◌, ◌++◌, All, map, length, take, drop, Option, None, Some, Result, Ok, Err, refl, sym, ap, ◌∙◌, subst, set, slice_get, arith, append_assoc, length-append, length-drop}
+use Rattle.std.proofs.Common.{◌≡◌, ℕ, ◌+◌, ◌≤◌, Bool, true, false, cond, List, [], ◌∷◌, ◌++◌, All, map, length, take, drop, Option, None, Some, Result, Ok, Err, refl, sym, ap, ◌∙◌, subst, slice_get, arith, append_assoc, length-append, length-drop}
 use Rattle.std.specs.Prelude.{◌&&◌, ◌||◌, not, is_some, option_map, slice_range}
 use Rattle.std.specs.Option.{option_map_or}
 use Rattle.std.proofs.Math.Seq.{take-append_seam, drop-append_seam}
@@ -12,20 +12,12 @@ use Rattle.asm_base.specs.declared.positions.Pos.{Pos}
 use Rattle.asm_lines.specs.NextStatements.{TokenStatement}
 use Rattle.asm_frags.specs.declared.fields.Field.{Field}
 use Rattle.asm_frags.specs.Fields.{width}
-use Rattle.asm_frags.specs.Writing.{LooseItem, LooseSection, ends_in_run, with_run, with_growing, growing_put, takes_zeros_alone}
-use Rattle.asm_frags.specs.Sections.{with_section_or_fault, put_into_there}
-use Rattle.asm_frags.specs.declared.faults.FragCause.TheVariants as frag
-use Rattle.asm_frags.specs.declared.roles.Suffix.{Suffix as SaidSuffix}
-use Rattle.asm_expr.specs.Forms.{Form}
-use Rattle.item_bytes.specs.declared.jumps.Condition.{Condition}
-use Rattle.item_contents.specs.declared.kinds.Growth.{Growth}
-use Rattle.item_contents.specs.declared.kinds.Growth.TheVariants.{Jump}
-use Rattle.asm_operands.specs.LayerFaults.{of_sections}
+use Rattle.asm_frags.specs.Writing.{LooseItem, LooseSection, ends_in_run, with_run}
 use Rattle.asm_operands.specs.declared.place_faults.PlaceCause.{PlaceCause}
 use Rattle.asm_operands.specs.Operands.{is_name, names_symbol, is_assignment, is_label, begins_with_dot}
 use Rattle.asm_uses.specs.Places.{end_naming}
 use Rattle.asm_uses.specs.Tables.{Table, naming_of}
-use Rattle.asm_values.specs.State.{Placed, with_table, with_names, here, known_here, put_growing_into}
+use Rattle.asm_values.specs.State.{Placed, with_table, with_names, here, known_here}
 use Rattle.att_operands.specs.declared.faults.OperandCause.{OperandCause}
 use Rattle.att_insns.specs.InsnTexts.{InsnText}
 use Rattle.att_insns.specs.Reading.{insn_of}
@@ -35,11 +27,11 @@ use Rattle.x86_encode.specs.EncodingLaws.{EncodingsNote}
 use Rattle.x86_encode.specs.Filling.{Coding}
 use Rattle.asm_place.specs.declared.codes.InsnForms.{InsnForms}
 use Rattle.asm_place.specs.declared.codes.CodeField.{CodeField}
-use Rattle.asm_place.specs.Coding.{InsnShape, shape_in, forms_of, values_in, of_code, fields_of, put_code, keeps_place, put_by_jump, put_coded, put_insn, said_suffix, from_own_place, place_insn, place_text, place_read, lone_code, place_coded, place_instruction}
+use Rattle.asm_place.specs.Coding.{InsnShape, shape_in, forms_of, values_in, of_code, fields_of, put_code, keeps_place, put_by_jump, put_coded, put_insn, place_insn, place_text, place_read, lone_code, place_coded, place_instruction}
 use Rattle.asm_place.specs.Placing.{place_body, place_label, place_unlabelled, place_labelled, has_wide_label, place_tokens}
 use Rattle.asm_place.specs.Sources.{pos_at, place, place_all}
 use Rattle.asm_place.specs.Instructions.{behind_labels, instruction_written, run_end, with_more, IsContinued, Grows, IsWithin, AreWithin}
-use Rattle.asm_place.specs.CodePlaces.{text_read, insn_written, is_instruction, BeginsAsInstruction, insn_in, labelled, known_in, code_fields, with_held, zeros_in, blanked, AreApart, field_in, with_code, IsCodePut, IsInsnPut, CodeStandsAt, InsnStands, jump_in, IsJumpPut}
+use Rattle.asm_place.specs.CodePlaces.{text_read, insn_written, is_instruction, BeginsAsInstruction, insn_in, labelled, known_in, code_fields, with_held, zeros_in, blanked, AreApart, field_in, with_code, IsCodePut, IsInsnPut, CodeStandsAt, InsnStands, jump_in}
 use Rattle.asm_place.proofs.GrowthLemmas.{get_set, All-there, run_keeps, run_added}
 use Rattle.asm_place.proofs.PlacingLaws.{all_grow, all_within}
 use Rattle.asm_place.proofs.StatementSplits.{err-ok, same_Ok, both_ok, all_split}
@@ -66,7 +58,7 @@ label_splits true pos first second rest placed again =
     (place_unlabelled pos (behind_labels rest)) again
 label_splits false pos first second rest placed again = refl
 
-labels_split : (pos : Pos) (tokens : List SpelledToken) (placed : Placed)
+pub labels_split : (pos : Pos) (tokens : List SpelledToken) (placed : Placed)
     → place_labelled pos tokens placed ≡ (labelled pos tokens placed >>= place_unlabelled pos (behind_labels tokens))
 unfolding place_labelled labelled behind_labels place_unlabelled
 labels_split pos [] placed = refl
@@ -87,7 +79,7 @@ labels_keep_by false pos first rest before labels again is =
     let same = same_Ok before labels is in
     (ap (λ (p : Placed). p.sections) (sym same), ap (λ (p : Placed). p.current) (sym same))
 
-labels_keep : (pos : Pos) (tokens : List SpelledToken) (before labels : Placed) → labelled pos tokens before ≡ Ok labels
+pub labels_keep : (pos : Pos) (tokens : List SpelledToken) (before labels : Placed) → labelled pos tokens before ≡ Ok labels
     → (labels.sections ≡ before.sections) × (labels.current ≡ before.current)
 unfolding labelled
 labels_keep pos [] before labels is =
@@ -128,7 +120,7 @@ body_is pos first rest text placed is =
     (text_read (lone_code tokens) (insn_of tokens)) text _ _ _ _ is in
     parts.1 ∙ read_is pos (lone_code tokens) (insn_of tokens) text placed tokens refl parts.0
 
-unlabelled_is : (pos : Pos) (tokens : List SpelledToken) (text : InsnText) (placed : Placed) → insn_written tokens ≡ Some text
+pub unlabelled_is : (pos : Pos) (tokens : List SpelledToken) (text : InsnText) (placed : Placed) → insn_written tokens ≡ Some text
     → place_unlabelled pos tokens placed ≡ place_text pos text placed
 unfolding place_unlabelled
 unlabelled_is pos [] text placed is = no_tokens text is
@@ -249,7 +241,7 @@ pub record IsTextPut (pos : Pos) (text : InsnText) (before placed : Placed) : Ty
   pub forms_are : forms_of (known_in pos text before) text.immediate.tree text.displacement.tree ≡ Ok forms
   pub code : IsPutCode pos (shape_in text) forms before placed
 
-table_keeps : (put placed : Placed) (answer : Result Table PlaceCause) → (answer >>= λ table. Ok (with_table put table)) ≡ Ok placed
+pub table_keeps : (put placed : Placed) (answer : Result Table PlaceCause) → (answer >>= λ table. Ok (with_table put table)) ≡ Ok placed
     → placed.sections ≡ put.sections
 table_keeps put placed (Ok table) is = ap (λ (p : Placed). p.sections) (sym (same_Ok (with_table put table) placed is))
 table_keeps put placed (Err fault) is = err-ok fault placed is
@@ -299,82 +291,6 @@ unfolding place
 statement_put notes s before next text written no_jump is =
     tokens_put notes (pos_at s.file s.line) s.tokens before next text written no_jump
     (located_ok (pos_at s.file s.line) before.notes (place_tokens (pos_at s.file s.line) s.tokens before) next is)
-
--- A JUMP
-
--- an item that grows is put last
-module _ (pos : Pos) (number : ℕ) (kind : Growth) (suffix : SaidSuffix) (form : Form) where
-  -- it is put last in the section of this number
-  pub record IsGrown (before after : List LooseSection) : Type 0 where
-    pub section : LooseSection
-    pub there : slice_get before number ≡ Some section
-    pub put : after ≡ set before number (with_growing pos number kind suffix form section)
-
-  grown_test : (sections new : List LooseSection) (section : LooseSection) (test : Bool)
-      → of_sections (with_section_or_fault sections number (cond test (Err frag.BadSection) (Ok (with_growing pos number kind suffix form section)))) ≡ Ok new
-      → new ≡ set sections number (with_growing pos number kind suffix form section)
-  grown_test sections new section true is = err-ok _ new is
-  grown_test sections new section false is = sym (same_Ok _ new is)
-
-  grown_found : (sections : List LooseSection) (found : Option LooseSection) (new : List LooseSection) → slice_get sections number ≡ found
-      → of_sections (put_into_there (growing_put pos number kind suffix form) sections number found) ≡ Ok new → IsGrown sections new
-  grown_found sections None new there is = err-ok _ new is
-  grown_found sections (Some section) new there is =
-      record { section = section; there = there; put = grown_test sections new section (takes_zeros_alone section) is }
-
-  grown_last : (before placed : Placed) → put_growing_into pos number kind suffix form before ≡ Ok placed → IsGrown before.sections placed.sections
-  unfolding put_growing_into
-  grown_last before placed is =
-      both_ok _ _ placed is (λ sections pushed made.
-      subst (IsGrown before.sections) (ap (λ (p : Placed). p.sections) (same_Ok _ placed made))
-      (grown_found before.sections (slice_get before.sections number) sections refl pushed))
-
--- a jump whose names have symbols
-pub record IsJumpText (pos : Pos) (text : InsnText) (condition : Option Condition) (before placed : Placed) : Type 0 where
-  pub forms : InsnForms
-  pub forms_are : forms_of (known_in pos text before) text.immediate.tree text.displacement.tree ≡ Ok forms
-  pub grown : IsGrown pos before.current (Jump condition) (said_suffix text.displacement.suffix) (from_own_place forms.displacement) before.sections placed.sections
-
-jump_text : (pos : Pos) (text : InsnText) (condition : Option Condition) (before placed : Placed) → jump_in text ≡ Some condition
-    → place_text pos text before ≡ Ok placed → IsJumpText pos text condition before placed
-unfolding place_insn put_insn
-jump_text pos text condition before placed jump is =
-    let trees = text.immediate.tree ∷ text.displacement.tree ∷ [] in
-    let named = with_names pos trees before in
-    both_ok _ _ placed is (λ forms forms_are named_is.
-    both_ok _ _ placed named_is (λ put put_is end_is.
-    let kind = Jump condition in
-    let suffix = said_suffix text.displacement.suffix in
-    let form = from_own_place forms.displacement in
-    let grown = grown_last pos before.current kind suffix form named put (sym (ap (λ jump. put_by_jump jump pos (shape_in text) forms named) jump) ∙ put_is) in
-    let same = table_keeps put placed (end_naming pos (naming_of trees before.table) (here named)
-    (keeps_place (known_here named).place forms) put.table) end_is in
-    record { forms = forms; forms_are = forms_are; grown = subst (IsGrown pos before.current kind suffix form before.sections) (sym same) grown }))
-
--- where the tokens are a direct jump, an item that grows is put last in the current section
-pub jump_put : (pos : Pos) (tokens : List SpelledToken) (before placed : Placed) (text : InsnText) (condition : Option Condition)
-    → insn_written (behind_labels tokens) ≡ Some text → jump_in text ≡ Some condition
-    → place_tokens pos tokens before ≡ Ok placed → IsJumpPut pos tokens text condition before placed
-unfolding place_tokens
-jump_put pos tokens before placed text condition written jump is =
-    both_ok _ _ placed (sym (labels_split pos tokens before) ∙ wide_ok (has_wide_label tokens) (place_labelled pos tokens before) placed is)
-    (λ labels labels_are body_is.
-    let keeps = labels_keep pos tokens before labels labels_are in
-    let made = jump_text pos text condition labels placed jump (sym (unlabelled_is pos (behind_labels tokens) text labels written) ∙ body_is) in
-    let kind = Jump condition in
-    let suffix = said_suffix text.displacement.suffix in
-    let form = from_own_place made.forms.displacement in
-    let grown = subst (λ number. IsGrown pos number kind suffix form before.sections placed.sections) keeps.1
-    (subst (λ sections. IsGrown pos labels.current kind suffix form sections placed.sections) keeps.0 made.grown) in
-    record {
-      labels = labels;
-      labels_are = labels_are;
-      forms = made.forms;
-      forms_are = made.forms_are;
-      section = grown.section;
-      there = grown.there;
-      put = grown.put;
-    })
 
 -- WHERE IT STANDS
 

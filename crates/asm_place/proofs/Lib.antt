@@ -13,3 +13,4 @@ pub mod InstructionLaws
 pub mod CodeParts
 pub mod CodingFields
 pub mod CodeLaws
+pub mod JumpLaws

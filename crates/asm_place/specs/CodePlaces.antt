@@ -8,9 +8,8 @@ use Rattle.asm_expr.specs.Knowledge.{Knowledge}
 use Rattle.asm_frags.specs.declared.fields.Field.{Field}
 use Rattle.asm_frags.specs.Fields.{width}
 use Rattle.asm_frags.specs.PlainBytes.{field_end}
-use Rattle.asm_frags.specs.Writing.{LooseSection, with_run, with_growing}
+use Rattle.asm_frags.specs.Writing.{LooseSection, with_run}
 use Rattle.item_bytes.specs.declared.jumps.Condition.{Condition}
-use Rattle.item_contents.specs.declared.kinds.Growth.TheVariants.{Jump}
 use Rattle.asm_operands.specs.declared.place_faults.PlaceCause.{PlaceCause}
 use Rattle.asm_operands.specs.Operands.{is_name, names_symbol, is_assignment, is_label, begins_with_dot}
 use Rattle.asm_values.specs.State.{Placed, with_names, known_here}
@@ -21,7 +20,7 @@ use Rattle.x86_encode.specs.Encoding.{encoding_of}
 use Rattle.x86_encode.specs.Filling.{Coding}
 use Rattle.asm_place.specs.declared.codes.InsnForms.{InsnForms}
 use Rattle.asm_place.specs.declared.codes.CodeField.{CodeField}
-use Rattle.asm_place.specs.Coding.{view_in, shape_in, forms_of, values_in, fields_of, lone_code, jump_by, said_suffix, from_own_place}
+use Rattle.asm_place.specs.Coding.{view_in, shape_in, forms_of, values_in, fields_of, lone_code, jump_by}
 use Rattle.asm_place.specs.Placing.{place_label}
 use Rattle.asm_place.specs.Instructions.{behind_labels, instruction_written, next_item, next_offset}
 
@@ -161,17 +160,6 @@ pub record CodeStandsAt (sections : List LooseSection) (number item offset : ℕ
 -- which direct jump the instruction is, if it is one: its condition, or none
 abbrev pub jump_in : InsnText → Option (Option Condition)
 jump_in text = jump_by text.«prefix» text.name.0 text.size text.first text.second text.third
-
--- an item that grows with the distance to the target of the jump is put last in the current section; all else in the sections is as it was
-pub record IsJumpPut (pos : Pos) (tokens : List SpelledToken) (text : InsnText) (condition : Option Condition) (before placed : Placed) : Type 0 where
-  pub labels : Placed
-  pub labels_are : labelled pos tokens before ≡ Ok labels
-  pub forms : InsnForms
-  pub forms_are : forms_of (known_in pos text labels) text.immediate.tree text.displacement.tree ≡ Ok forms
-  pub section : LooseSection
-  pub there : slice_get before.sections before.current ≡ Some section
-  pub put : placed.sections ≡ slice_set before.sections before.current
-      (with_growing pos before.current (Jump condition) (said_suffix text.displacement.suffix) (from_own_place forms.displacement) section)
 
 -- the statement stands in these sections, where what was placed before it ends, as an instruction of its encoding
 pub record InsnStands (sections : List LooseSection) (pos : Pos) (tokens : List SpelledToken) (text : InsnText) (placed : Placed) : Type 0 where

@@ -12,3 +12,4 @@ pub mod Placing
 pub mod Sources
 pub mod Instructions
 pub mod CodePlaces
+pub mod JumpPlaces

@@ -1,6 +1,6 @@
 //! What holds of all that is placed.
 
-ghost use Rattle.std.specs.Prelude.{◌≡◌, ◌∷◌, ◌++◌, Bool, List, Option, None, Some, Ok, Err, true, false};
+ghost use Rattle.std.specs.Prelude.{◌≡◌, ◌∷◌, ◌++◌, ℕ, Bool, List, length, Option, None, Some, Ok, Err, true, false};
 ghost use Rattle.asm_base.specs.declared.positions.Pos.{Pos};
 ghost use Rattle.asm_base.specs.Tokens.{SpelledToken};
 ghost use Rattle.asm_lines.specs.NextStatements.{TokenStatement};
@@ -12,10 +12,14 @@ ghost use Rattle.asm_lines.specs.Placing.{placed_in_order};
 ghost use Rattle.asm_place.specs.declared.place_faults.FaultAt.{FaultAt};
 ghost use Rattle.asm_place.specs.Faults.{is_file_too_large};
 ghost use Rattle.att_insns.specs.InsnTexts.{InsnText};
-ghost use Rattle.asm_place.specs.CodePlaces.{insn_written, insn_in, is_instruction, BeginsAsInstruction, IsInsnPut, InsnStands, jump_in, IsJumpPut};
+ghost use Rattle.asm_place.specs.CodePlaces.{insn_written, insn_in, is_instruction, BeginsAsInstruction, IsInsnPut, InsnStands, jump_in};
+ghost use Rattle.asm_place.specs.JumpPlaces.{IsJumpPut, JumpStands, jump_written};
+ghost use Rattle.item_bytes.specs.Jumps.{jump_bytes, jump_distance};
+ghost use Rattle.x86_table.specs.Reads.{Reads};
 ghost use Rattle.item_bytes.specs.declared.jumps.Condition.{Condition as TheCondition};
 ghost use Rattle.asm_place.specs.Instructions.{behind_labels, instruction_written, instruction_of, next_item, next_offset, Grows, AreWithin, IsPut, StandsAt};
 
+use jump_codes::{conditions_are_numbered, jump_codes_read};
 use x86_encode::encodings_are_codes;
 use x86_lookup::bare_codes_read;
 
@@ -103,7 +107,7 @@ pub fn encoding_items()
 
 /// Where a statement is a direct jump, an item that grows with the distance to its target is put last
 /// in the current section, and nothing else.
-#[tactic(auto, using(crate::proofs::CodeLaws::jump_put))]
+#[tactic(auto, using(crate::proofs::JumpLaws::jump_put))]
 pub fn jumps_are_put()
     ensures { (pos : Pos) (tokens : List SpelledToken) (before placed : Placed) (text : InsnText)
         (condition : Option TheCondition)
@@ -111,3 +115,28 @@ pub fn jumps_are_put()
         → place_tokens pos tokens before ≡ Ok placed
         → IsJumpPut pos tokens text condition before placed }
 {}
+
+/// The item of a direct jump stands in what all statements place, where those before it end, with
+/// the field of its distance.
+#[tactic(auto, using(crate::proofs::JumpLaws::jump_there))]
+pub fn jump_items()
+    ensures { (front : List TokenStatement) (s : TokenStatement) (later : List TokenStatement)
+        (before placed whole : Placed) (text : InsnText) (condition : Option TheCondition)
+        → AreWithin before.sections
+        → place_all front before ≡ Ok placed → place_all (front ++ s ∷ later) before ≡ Ok whole
+        → insn_in s ≡ Some text → jump_in text ≡ Some condition
+        → JumpStands whole.sections (pos_at s.file s.line) s.tokens text condition placed }
+{}
+
+/// The bytes of a direct jump, short or near, read as the jump that is written, over the distance
+/// that they hold.
+pub fn jumps_read()
+    ensures { (text : InsnText) (condition : Option TheCondition) (near : Bool) (distance : ℕ)
+        → jump_in text ≡ Some condition
+        → Reads (jump_bytes condition near distance)
+        (jump_written text (length (jump_bytes condition near distance))
+        (jump_distance near (jump_bytes condition near distance))) }
+{
+    jump_codes_read();
+    conditions_are_numbered();
+}

@@ -15,8 +15,9 @@ mod sources;
 mod symbol_words;
 
 pub use laws::{
-    encoding_items, encoding_stands, instruction_items, instruction_stands, jumps_are_put,
-    placing_grows, placing_in_order, placing_is_not_reading, placing_within,
+    encoding_items, encoding_stands, instruction_items, instruction_stands, jump_items,
+    jumps_are_put, jumps_read, placing_grows, placing_in_order, placing_is_not_reading,
+    placing_within,
 };
 pub use place_faults::FaultAt;
 pub use sources::StatementPlacer;
