@@ -34,7 +34,7 @@ pub record AreSettled : Type 0 where
   pub values : ValuesStand
 
 -- a layout is that of its sections
-layout_is : (symbols : SymbolMap) (sections : LooseSections) (laid : LaidSections) → layout_of symbols sections ≡ Ok laid
+pub layout_is : (symbols : SymbolMap) (sections : LooseSections) (laid : LaidSections) → layout_of symbols sections ≡ Ok laid
     → laid ≡ settled_sections symbols (planned symbols sections)
 layout_is symbols sections laid e =
     unless_is (first_fault symbols (settled_sections symbols (planned symbols sections))) (settled_sections symbols (planned symbols sections)) laid e

@@ -12,4 +12,5 @@ pub mod UnknownValues
 pub mod HeldFields
 pub mod CodePieces
 pub mod CodeReads
+pub mod JumpsInObject
 pub mod CodesInObject

@@ -1,8 +1,7 @@
 -- Written bytes read back: the bytes of an instruction stand in the object.
-use Rattle.std.proofs.Common.{◌≡◌, ℕ, ◌+◌, ◌≤◌, ◌&&◌, not, nat_lt, Bool, true, false, cond, List, [], ◌∷◌, ◌++◌, Option, Some, None, Result, Ok, Err, length, map, drop, refl, sym, ap, ◌∙◌, arith}
+use Rattle.std.proofs.Common.{◌≡◌, ℕ, ◌+◌, ◌≤◌, ◌&&◌, not, nat_lt, Bool, true, false, cond, List, [], ◌∷◌, ◌++◌, Option, Some, None, Result, Ok, Err, length, map, drop, sym, ap, ◌∙◌, arith}
 use Rattle.std.proofs.lemmas.List.{map-append}
-use Rattle.std.proofs.lemmas.Option.{slice_get-map}
-use Rattle.std.specs.Prelude.{slice_get, option_map}
+use Rattle.std.specs.Prelude.{slice_get}
 use Rattle.asm_base.specs.Tokens.{SpelledToken}
 use Rattle.asm_base.specs.WholeFile.{most_bytes}
 use Rattle.asm_base.specs.declared.notes.Noted.{Noted}
@@ -10,10 +9,8 @@ use Rattle.asm_base.specs.declared.positions.Pos.{Pos}
 use Rattle.asm_lines.specs.Statements.{StatementAt, statements_of}
 use Rattle.asm_lines.specs.NextStatements.{in_tokens}
 use Rattle.asm_symbols.specs.SymbolMap.{SymbolMap}
-use Rattle.asm_frags.specs.declared.items.Frag.{Frag}
-use Rattle.asm_frags.specs.SectionOf.{SectionOf}
 use Rattle.assigned_forms.specs.Expanding.{expanded}
-use Rattle.asm_relax.specs.Settling.{LaidItem, LaidSections, unless, layout_of}
+use Rattle.asm_relax.specs.Settling.{LaidSections, unless, layout_of}
 use Rattle.asm_relax.specs.declared.faults.LayoutFault.{LayoutFault}
 use Rattle.x86_insn.specs.Views.{View}
 use Rattle.x86_table.specs.Reads.{Reads, ReadsOneWay}
@@ -78,7 +75,7 @@ written_reads read (name ∷ []) coded e =
 written_reads read (name ∷ operand ∷ rest) coded e = absurd cc
 
 -- bytes that begin with those that read as an instruction read as it, and as no other
-reads_code : ReadsOneWay → (bytes code rest : List ℕ) (at : ℕ) (insn : View) → drop at bytes ≡ code ++ rest → Reads code insn → ReadsAt bytes at insn
+abbrev pub reads_code : ReadsOneWay → (bytes code rest : List ℕ) (at : ℕ) (insn : View) → drop at bytes ≡ code ++ rest → Reads code insn → ReadsAt bytes at insn
 reads_code one_way bytes code rest at insn stands reads = record {
   code = code;
   rest = rest;

@@ -12,8 +12,10 @@ ghost use Rattle.asm_front.specs.Assembly.{assembly_of, assembly_of_lines};
 ghost use Rattle.asm_front.specs.Outcome.{main_file};
 ghost use Rattle.asm_front.specs.ReadsBack.{ReadsBack};
 
-use asm_relax::settled_is_placed;
-use elf_object::{bytes_stand, values_stand};
+use asm_place::{jump_items, jumps_read, placing_within};
+use asm_relax::{settled_is_placed, settled_items_have_room, sizes_add_up};
+use elf_object::{bytes_stand, items_stand, values_stand};
+use item_bytes::jump_reads_back;
 use x86_encode::encodings_are_codes;
 use x86_lookup::bare_codes_read;
 use x86_table::read_one_way;
@@ -28,7 +30,8 @@ pub fn never_too_large()
 {}
 
 /// Each instruction of a source stands in the object, where the statements before it end, as bytes that read as it, with the
-/// values that its fields have there, and as no other instruction.
+/// values that its fields have there, and as no other instruction. A direct jump reads as the jump over what its form holds
+/// of its distance.
 pub fn written_reads_back()
     ensures { (flags : Flags) (source : List ℕ) (made : NotedObject)
         → assembly_of flags main_file source ≡ Ok made → ReadsBack flags source made.object }
@@ -39,4 +42,11 @@ pub fn written_reads_back()
     read_one_way();
     bare_codes_read();
     encodings_are_codes();
+    items_stand();
+    sizes_add_up();
+    settled_items_have_room();
+    placing_within();
+    jump_items();
+    jumps_read();
+    jump_reads_back();
 }

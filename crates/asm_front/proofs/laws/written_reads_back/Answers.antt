@@ -1,4 +1,5 @@
 use Rattle.asm_front.proofs.CodesInObject.{reads_back}
+use Rattle.asm_front.proofs.JumpsInObject.{JumpFacts}
 use Rattle.asm_front.proofs.LaidItems.{AreSettled}
 use Rattle.asm_front.proofs.laws.written_reads_back.Goals as goal
 
@@ -10,4 +11,15 @@ returns c =
       bytes = c.bytes_stand.ensures;
       values = c.values_stand.ensures;
     } in
-    reads_back settled c.read_one_way.ensures c.bare_codes_read.ensures.read c.bare_codes_read.ensures.stand c.encodings_are_codes.ensures.fields c.encodings_are_codes.ensures.notes
+    let facts : JumpFacts = record {
+      begins = c.placing_within.ensures.begins;
+      placed = c.jump_items.ensures;
+      stand = c.items_stand.ensures;
+      addresses = c.sizes_add_up.ensures.item;
+      read = c.jumps_read.ensures;
+      near = c.jump_reads_back.ensures.near;
+      short = c.jump_reads_back.ensures.short;
+      room = c.settled_items_have_room.ensures;
+    } in
+    reads_back settled c.read_one_way.ensures c.bare_codes_read.ensures.read c.bare_codes_read.ensures.stand c.encodings_are_codes.ensures.fields
+    c.encodings_are_codes.ensures.notes facts

@@ -1,0 +1,278 @@
+-- Direct jumps stand in the object, and read as the jumps that were written.
+use Rattle.std.proofs.Common.{◌≡◌, ℕ, zero, suc, ◌+◌, ◌-◌, ◌^◌, ◌<◌, ◌≤◌, inl, inr, not, nat_lt, nat_le, Bool, true, false, List, [], ◌∷◌, ◌++◌, All, Option, Some, None, Ok, map, drop, length, refl, sym, ap, ◌∙◌, subst, arith}
+use Rattle.std.specs.Prelude.{◌==◌, slice_get, slice_index, option_map, unwrap_or, IfSome}
+use Rattle.std.specs.Option.{option_map_or}
+use Rattle.std.proofs.lemmas.Bool.{or_cases, ltb-true, leb-true}
+use Rattle.std.proofs.lemmas.List.{map-append}
+use Rattle.std.proofs.lemmas.List.Elements.{All-head, All-tail}
+use Rattle.std.proofs.lemmas.Option.{none-some, same_Some, slice_get-map}
+use Rattle.asm_base.specs.declared.positions.Pos.{Pos}
+use Rattle.asm_lines.specs.NextStatements.{TokenStatement, in_tokens}
+use Rattle.asm_symbols.specs.SymbolMap.{SymbolMap}
+use Rattle.asm_frags.specs.declared.fields.Field.{Field}
+use Rattle.asm_frags.specs.declared.fields.FieldSize.TheVariants.{Four}
+use Rattle.asm_frags.specs.Addresses.{item_laid_at}
+use Rattle.asm_frags.specs.Fields.{holds, fits_signed}
+use Rattle.asm_frags.specs.SectionOf.{SectionOf}
+use Rattle.asm_frags.specs.Substituting.{substituted_field, laid_item}
+use Rattle.asm_frags.specs.Writing.{LooseItem, LooseSection, new_item, item_behind}
+use Rattle.item_bytes.specs.declared.jumps.Condition.{Condition}
+use Rattle.item_bytes.specs.Jumps.{is_conditional, jump_bytes, jump_distance}
+use Rattle.item_contents.specs.declared.contents.Content.{Content}
+use Rattle.item_contents.specs.declared.contents.Content.TheVariants.{Growing}
+use Rattle.item_contents.specs.declared.kinds.Growth.TheVariants.{Jump}
+use Rattle.item_contents.specs.Contents.{MayHave, MayGrowTo, level_size}
+use Rattle.asm_levels.specs.Needs.{IsSignedWithin}
+use Rattle.asm_levels.specs.Sizes.{jump_size}
+use Rattle.assigned_forms.specs.Expanding.{expanded}
+use Rattle.asm_relax.specs.FieldValues.{held_value}
+use Rattle.asm_relax.specs.ItemValues.{HasRoom}
+use Rattle.asm_relax.specs.Layout.{laid_from}
+use Rattle.asm_relax.specs.Placing.{placed_from, shift_of}
+use Rattle.asm_relax.specs.SettledRoom.{HasRoomFor, SettledHaveRoom}
+use Rattle.asm_relax.specs.Settling.{LaidItem, LaidSections, planned, settled_sections, layout_of}
+use Rattle.elf_file.specs.Places.{PieceAt}
+use Rattle.elf_file.specs.Sections.{no_bits}
+use Rattle.elf_file.proofs.FilePlaces.{drop_stands}
+use Rattle.elf_object.specs.Contents.{value_or_zero, item_bytes}
+use Rattle.elf_object.specs.Image.{image_of}
+use Rattle.elf_object.specs.Places.{section_offset, moved, IsFiled, ItemsStand}
+use Rattle.x86_table.specs.Reads.{Reads, ReadsOneWay}
+use Rattle.att_insns.specs.InsnTexts.{InsnText}
+use Rattle.asm_values.specs.State.{Placed, nothing_placed}
+use Rattle.asm_place.specs.Instructions.{next_offset, AreWithin}
+use Rattle.asm_place.specs.CodePlaces.{insn_in, jump_in}
+use Rattle.asm_place.specs.JumpPlaces.{jump_form, items_so_far, jump_field, JumpStandsAt, JumpStands, jump_written}
+use Rattle.asm_place.specs.Sources.{pos_at, place_all}
+use Rattle.x86_encode.specs.declared.encoded.FieldKind.TheVariants as kind
+use Rattle.asm_front.specs.Ending.{Flags}
+use Rattle.asm_front.specs.declared.ending.NotedObject.{NotedObject}
+use Rattle.asm_front.specs.Assembly.{assembly_of}
+use Rattle.asm_front.specs.Outcome.{main_file}
+use Rattle.asm_front.specs.ReadsBack.{file_place, final_value, held_distance, JumpReadsAt, IsToldByRow, JumpsRead}
+use Rattle.asm_front.proofs.HeldFields.{field_held}
+use Rattle.asm_front.proofs.LaidItems.{AreSettled, layout_is, kept_section, section_kept, laid_stays, laid_sized, first_kept}
+use Rattle.asm_front.proofs.ObjectReads.{reads_code, assembly_is}
+use Rattle.asm_front.proofs.SmallForms.{held_small, final_small}
+
+-- what is known of all jumps: where their items stand in the sections and in the object, and what their bytes read as
+pub record JumpFacts : Type 0 where
+  pub begins : (no_warn : Bool) → AreWithin (nothing_placed no_warn).sections
+  pub placed : (front : List TokenStatement) (s : TokenStatement) (later : List TokenStatement) (before placed whole : Placed) (text : InsnText) (condition : Option Condition)
+      → AreWithin before.sections → place_all front before ≡ Ok placed → place_all (front ++ s ∷ later) before ≡ Ok whole
+      → insn_in s ≡ Some text → jump_in text ≡ Some condition → JumpStands whole.sections (pos_at s.file s.line) s.tokens text condition placed
+  pub stand : ItemsStand
+  pub addresses : (items : List LaidItem) (index : ℕ) → slice_get (placed_from 0 items) index
+      ≡ option_map (λ item. item_laid_at (item.offset + shift_of index 0 items) item.size item) (slice_get items index)
+  pub read : (text : InsnText) (condition : Option Condition) (near : Bool) (distance : ℕ) → jump_in text ≡ Some condition
+      → Reads (jump_bytes condition near distance) (jump_written text (length (jump_bytes condition near distance)) (jump_distance near (jump_bytes condition near distance)))
+  pub near : (condition : Option Condition) (distance : ℕ) → distance < 2 ^ 64 → IsSignedWithin (2 ^ 31) distance
+      → jump_distance true (jump_bytes condition true distance) ≡ distance
+  pub short : (condition : Option Condition) (distance : ℕ) → distance < 2 ^ 64 → IsSignedWithin (2 ^ 7) distance
+      → jump_distance false (jump_bytes condition false distance) ≡ distance
+  pub room : SettledHaveRoom
+
+-- THE ITEM
+
+-- an item that is laid out keeps all but its address and its size
+item_kept : (items : List LooseItem) (shifts : List ℕ) (index : ℕ) (item : LooseItem) → slice_get items index ≡ Some item
+    → (address : ℕ) × (size : ℕ) × (slice_get (laid_from shifts (map laid_item items)) index ≡ Some (item_laid_at address size (laid_item item)))
+item_kept [] shifts index item there = absurd (none-some item there)
+item_kept (one ∷ items) shifts zero item there =
+    let same : one ≡ item = same_Some one item there in
+    ((laid_item one).offset + slice_index shifts 0, slice_index shifts 1 - slice_index shifts 0, rw same refl)
+item_kept (one ∷ items) shifts (suc index) item there = item_kept items (drop 1 shifts) index item there
+
+-- what holds of all holds of the one that is there
+all_there : {X : Type 0} (P : X → Type 0) (xs : List X) (index : ℕ) (x : X) → slice_get xs index ≡ Some x → All P xs → P x
+all_there P [] index x there all = absurd (none-some x there)
+all_there P (y ∷ xs) zero x there all = subst P (same_Some y x there) (All-head P y xs all)
+all_there P (y ∷ xs) (suc index) x there all = all_there P xs index x there (All-tail P y xs all)
+
+module _ (settled : AreSettled) (facts : JumpFacts) (symbols : SymbolMap) (sections : List LooseSection) (laid : LaidSections) (n item offset : ℕ) (pos : Pos)
+    (condition : Option Condition) (field : Field) (is : layout_of symbols sections ≡ Ok laid) (stands : JumpStandsAt sections n item offset pos condition field)
+    (takes : (stands.section.kind == 8) ≡ false) where
+  abbrev section : LooseSection
+  section = stands.section
+
+  -- how far its rows are moved
+  abbrev own : List ℕ
+  own = (section_kept symbols sections laid n section is stands.found).0
+
+  -- the section as it is laid out
+  abbrev kept : SectionOf LaidItem
+  kept = kept_section symbols own section
+
+  found : slice_get laid n ≡ Some kept
+  found = (section_kept symbols sections laid n section is stands.found).1
+
+  filed : IsFiled laid n kept
+  filed = record {
+    found = found;
+    takes_bytes = takes;
+    laid = laid_stays settled symbols sections laid n kept is found;
+    sized = laid_sized settled symbols sections laid n kept is found;
+  }
+
+  -- the item, as it is put and as it is laid out
+  abbrev content : Content
+  content = Growing (record { kind = Jump condition; field = stands.index })
+
+  abbrev put : LooseItem
+  put = item_behind offset (new_item pos content)
+
+  got : (address : ℕ) × (size : ℕ) × (slice_get kept.items item ≡ Some (item_laid_at address size (laid_item put)))
+  got = item_kept section.items own item put stands.item_there
+
+  abbrev item_size : ℕ
+  item_size = got.1
+
+  abbrev settled_item : LaidItem
+  settled_item = item_laid_at got.0 got.1 (laid_item put)
+
+  -- its address is that of its place
+  address_is : got.0 ≡ moved kept.items item offset
+  address_is =
+      let stays : slice_get (placed_from 0 kept.items) item ≡ Some settled_item =
+      ap (λ (s : SectionOf LaidItem). slice_get s.items item) (laid_stays settled symbols sections laid n kept is found) ∙ got.2 in
+      let moves : slice_get (placed_from 0 kept.items) item ≡ Some (item_laid_at (offset + shift_of item 0 kept.items) item_size settled_item) =
+      facts.addresses kept.items item
+      ∙ ap (option_map (λ (i : LaidItem). item_laid_at (i.offset + shift_of item 0 kept.items) i.size i)) got.2 in
+      ap (λ (i : LaidItem). i.address) (same_Some _ _ (sym stays ∙ moves))
+
+  -- its size is that of one of two levels
+  may_have : MayGrowTo (Jump condition) item_size
+  may_have = all_there (λ (i : LaidItem). MayHave i.content i.size) kept.items item settled_item got.2 (laid_sized settled symbols sections laid n kept is found)
+
+  -- its field, with assigned symbols expanded
+  field_got : slice_get kept.fields stands.index ≡ Some (substituted_field (expanded symbols) field)
+  field_got = slice_get-map (substituted_field (expanded symbols)) section.fields stands.index ∙ ap (option_map (substituted_field (expanded symbols))) stands.field_there
+
+  abbrev item_value : ℕ
+  item_value = final_value symbols laid field
+
+  -- the field has room for the value in its near form
+  value_fits : holds field.role.kind field.size item_value ≡ true
+  value_fits = field_held symbols sections laid n stands.index kept field is found field_got
+
+  abbrev is_near : Bool
+  is_near = not (item_size == 2)
+
+  item_there : PieceAt (image_of symbols laid) (file_place symbols laid n item offset) (jump_bytes condition is_near item_value)
+  item_there =
+      let there = facts.stand symbols laid n item kept settled_item filed got.2 stands.within
+      (first_kept (λ at. at ≤ offset) item section.items own stands.before) in
+      let holds_value = ap (value_or_zero symbols laid) field_got in
+      let place : section_offset symbols laid n + got.0 ≡ file_place symbols laid n item offset =
+      ap (λ at. section_offset symbols laid n + at) address_is
+      ∙ ap (λ f. section_offset symbols laid n + option_map_or (λ (s : SectionOf LaidItem). moved s.items item offset) f 0) (sym found) in
+      subst (λ v. PieceAt (image_of symbols laid) (file_place symbols laid n item offset) (jump_bytes condition is_near v)) holds_value
+      (subst (λ at. PieceAt (image_of symbols laid) at (item_bytes symbols laid kept content item_size)) place there)
+
+  -- it has the size of a level at which there is room for the value, where its row tells that
+  has_room : IsToldByRow symbols sections field → HasRoomFor symbols laid (Jump condition) item_size (substituted_field (expanded symbols) field)
+  has_room told =
+      let settled_is : laid ≡ settled_sections symbols (planned symbols sections) = layout_is symbols sections laid is in
+      subst (λ (all : LaidSections). HasRoomFor symbols all (Jump condition) item_size (substituted_field (expanded symbols) field)) (sym settled_is)
+      (facts.room symbols (planned symbols sections) n item stands.index kept settled_item (Jump condition) (substituted_field (expanded symbols) field) told.low
+      told.stands (ap (λ (all : LaidSections). slice_get all n) (sym settled_is) ∙ found) got.2 refl field_got)
+
+-- WHAT IT READS AS
+
+-- a value in four bytes is signed
+within_four : (value : ℕ) → fits_signed Four value ≡ true → IsSignedWithin (2 ^ 31) value
+unfolding fits_signed
+within_four value is = elim (or_cases (nat_lt value (2 ^ 31)) (nat_le (2 ^ 64 - 2 ^ 31) value) is) [
+  | inl low ↦ inl (ltb-true value (2 ^ 31) low)
+  | inr high ↦ inr (let past = leb-true (2 ^ 64 - 2 ^ 31) value high in omega (arith, past))
+]
+
+-- a short jump holds the low byte with its sign, and a near one all
+short_held : (condition : Option Condition) (value : ℕ) → jump_distance false (jump_bytes condition false value) ≡ held_distance (length (jump_bytes condition false value)) value
+unfolding jump_distance jump_bytes
+short_held condition value = refl
+
+near_held : (condition : Option Condition) (value : ℕ) → held_distance (length (jump_bytes condition true value)) value ≡ value
+unfolding jump_bytes
+near_held None value = refl
+near_held (Some condition) value = refl
+
+-- the size of a near jump is not that of a short one
+not_short : (condition : Option Condition) (size level : ℕ) → size ≡ jump_size (is_conditional condition) (suc level) → not (size == 2) ≡ true
+not_short None size level is = ap (λ n. not (n == 2)) is
+not_short (Some condition) size level is = ap (λ n. not (n == 2)) is
+
+-- what the bytes of a jump of this size hold
+held_by : JumpFacts → (condition : Option Condition) (size value : ℕ) → value < 2 ^ 64 → fits_signed Four value ≡ true → MayGrowTo (Jump condition) size
+    → jump_distance (not (size == 2)) (jump_bytes condition (not (size == 2)) value)
+    ≡ held_distance (length (jump_bytes condition (not (size == 2)) value)) value
+held_by facts condition size value low fits (zero, small, is) =
+    let near : not (size == 2) ≡ false = ap (λ n. not (n == 2)) is in
+    rw near (short_held condition value)
+held_by facts condition size value low fits (suc level, small, is) =
+    let near = not_short condition size level is in
+    rw near (facts.near condition value low (within_four value fits) ∙ sym (near_held condition value))
+
+-- a value for which there is room is held whole
+room_held : JumpFacts → (condition : Option Condition) (size level : ℕ) (held : Option ℕ) → unwrap_or held 0 < 2 ^ 64 → fits_signed Four (unwrap_or held 0) ≡ true
+    → size ≡ level_size (Jump condition) level → IfSome held (HasRoom (Jump condition) level)
+    → jump_distance (not (size == 2)) (jump_bytes condition (not (size == 2)) (unwrap_or held 0)) ≡ unwrap_or held 0
+room_held facts condition size zero None low fits is room =
+    let near : not (size == 2) ≡ false = ap (λ n. not (n == 2)) is in
+    rw near (facts.short condition 0 (omega arith) (inl (omega arith)))
+room_held facts condition size zero (Some value) low fits is room =
+    let near : not (size == 2) ≡ false = ap (λ n. not (n == 2)) is in
+    rw near (facts.short condition value low (room refl))
+room_held facts condition size (suc level) held low fits is room =
+    let near = not_short condition size level is in
+    rw near (facts.near condition (unwrap_or held 0) low (within_four (unwrap_or held 0) fits))
+
+-- bytes that begin with those of a jump read as the jump that is written, and as no other instruction
+abbrev jump_at : ReadsOneWay → JumpFacts → (text : InsnText) (condition : Option Condition) (near : Bool) (bytes rest : List ℕ) (at value : ℕ)
+    → jump_in text ≡ Some condition → drop at bytes ≡ jump_bytes condition near value ++ rest
+    → jump_distance near (jump_bytes condition near value) ≡ held_distance (length (jump_bytes condition near value)) value
+    → JumpReadsAt bytes at text value
+jump_at one_way facts text condition near bytes rest at value jump stands held =
+    let code = jump_bytes condition near value in
+    record {
+      size = length code;
+      reads = reads_code one_way bytes code rest at (jump_written text (length code) (held_distance (length code) value)) stands
+          (subst (λ d. Reads code (jump_written text (length code) d)) held (facts.read text condition near value jump));
+      ends = refl;
+    }
+
+-- each direct jump that was written reads as it
+pub jumps_read : AreSettled → ReadsOneWay → JumpFacts → (flags : Flags) (source : List ℕ) (made : NotedObject) → assembly_of flags main_file source ≡ Ok made
+    → JumpsRead flags source made.object
+jumps_read settled one_way facts flags source made e before after s text condition placed whole laid are front all is written jump filed =
+    let empty = nothing_placed flags.no_warn in
+    let split = map-append in_tokens before (s ∷ after) in
+    let whole_is = sym (ap (λ statements. place_all statements empty) split) ∙ all in
+    let there = facts.placed (map in_tokens before) (in_tokens s) (map in_tokens after) empty placed whole text condition (facts.begins flags.no_warn) front whole_is
+    written jump in
+    let symbols = whole.table.symbols in
+    let pos = pos_at (in_tokens s).file (in_tokens s).line in
+    let n = placed.current in
+    let item = items_so_far placed in
+    let offset = next_offset placed in
+    let field = jump_field pos text (jump_form there.jump.forms) placed in
+    let stands = there.stands in
+    let takes : (stands.section.kind == 8) ≡ false =
+    sym (ap (λ found. option_map_or (λ (kept : SectionOf LaidItem). kept.kind == no_bits) found false)
+    (section_kept symbols whole.sections laid n stands.section is stands.found).1) ∙ filed in
+    let piece = item_there settled facts symbols whole.sections laid n item offset pos condition field is stands takes in
+    let same : made.object ≡ image_of symbols laid = assembly_is flags source made (before ++ s ∷ after) whole laid are all is e in
+    let at = file_place symbols laid n item offset in
+    let value = final_value symbols laid field in
+    let low = final_small symbols laid field (held_small kind.Branch there.jump.forms.displacement (λ far. absurd cc)) in
+    let fits = value_fits settled facts symbols whole.sections laid n item offset pos condition field is stands takes in
+    let bytes = item_size settled facts symbols whole.sections laid n item offset pos condition field is stands takes in
+    let near = not (bytes == 2) in
+    let held = held_by facts condition bytes value low fits (may_have settled facts symbols whole.sections laid n item offset pos condition field is stands takes) in
+    record {
+      jump = there.jump;
+      reads = jump_at one_way facts text condition near made.object piece.rest at value jump (ap (drop at) same ∙ drop_stands (image_of symbols laid) at _ piece) held;
+      leads = λ told.
+          let room = has_room settled facts symbols whole.sections laid n item offset pos condition field is stands takes told in
+          sym held ∙ room_held facts condition bytes room.level (held_value symbols laid (substituted_field (expanded symbols) field)) low fits room.sized room.room;
+    }
