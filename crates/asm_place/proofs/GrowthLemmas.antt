@@ -88,7 +88,7 @@ continued_not section = record {
 }
 
 -- and once more where it is continued
-continued_on : (section : LooseSection) (found last : Option LooseSection) → IsContinued section found → ((s : LooseSection) → found ≡ Some s → IsContinued s last)
+pub continued_on : (section : LooseSection) (found last : Option LooseSection) → IsContinued section found → ((s : LooseSection) → found ≡ Some s → IsContinued s last)
     → IsContinued section last
 continued_on section found last one later =
     let between = with_more section one.bytes one.fields one.items in

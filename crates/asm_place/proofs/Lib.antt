@@ -14,3 +14,5 @@ pub mod CodeParts
 pub mod CodingFields
 pub mod CodeLaws
 pub mod JumpLaws
+pub mod SymbolTables
+pub mod PlaceWalk

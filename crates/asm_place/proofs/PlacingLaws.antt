@@ -91,7 +91,7 @@ module _ (put : LooseSection → Result LooseSection FragCause) (puts : (section
   put_adds sections number section (Ok new) there added = made _ (adds_to sections number section new there added.holds)
   put_adds sections number section (Err fault) there added = refused _
 
-  there_adds : (sections : List LooseSection) (number : ℕ) (found : Option LooseSection) → slice_get sections number ≡ found
+  pub there_adds : (sections : List LooseSection) (number : ℕ) (found : Option LooseSection) → slice_get sections number ≡ found
       → Fine (Adds sections) (of_sections (put_into_there put sections number found))
   there_adds sections number None there = refused _
   there_adds sections number (Some section) there = put_adds sections number section (put section) there (puts section)
@@ -150,7 +150,7 @@ by_adds : (sections : List LooseSection) (number : Option ℕ) (name : List ℕ)
 by_adds sections None name header = new_adds sections name header (nat_lt (length sections) 30003)
 by_adds sections (Some number) name header = known_adds sections number (slice_get sections number) header
 
-entered_adds : (sections : List LooseSection) (name : List ℕ) (header : Header) → Fine (λ pair. Adds sections pair.0) (entered_as sections name header)
+pub entered_adds : (sections : List LooseSection) (name : List ℕ) (header : Header) → Fine (λ pair. Adds sections pair.0) (entered_as sections name header)
 unfolding entered_as
 entered_adds sections name header = either (nat_lt (2 ^ 16) (length name)) (refused BadSection) (by_adds sections (section_number name sections) name header)
 

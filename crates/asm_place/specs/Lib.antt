@@ -13,3 +13,4 @@ pub mod Sources
 pub mod Instructions
 pub mod CodePlaces
 pub mod JumpPlaces
+pub mod SymbolPlaces

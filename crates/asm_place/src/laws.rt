@@ -13,6 +13,7 @@ ghost use Rattle.asm_place.specs.declared.place_faults.FaultAt.{FaultAt};
 ghost use Rattle.asm_place.specs.Faults.{is_file_too_large};
 ghost use Rattle.att_insns.specs.InsnTexts.{InsnText};
 ghost use Rattle.asm_place.specs.CodePlaces.{insn_written, insn_in, is_instruction, BeginsAsInstruction, IsInsnPut, InsnStands, jump_in};
+ghost use Rattle.asm_place.specs.SymbolPlaces.{PlacesStand};
 ghost use Rattle.asm_place.specs.JumpPlaces.{IsJumpPut, JumpStands, jump_written};
 ghost use Rattle.item_bytes.specs.Jumps.{jump_bytes, jump_distance};
 ghost use Rattle.x86_table.specs.Reads.{Reads};
@@ -140,3 +141,10 @@ pub fn jumps_read()
     jump_codes_read();
     conditions_are_numbered();
 }
+
+/// Each symbol that has a place stands in a section that is there: so it is at the beginning, and placing keeps it so.
+pub fn places_stand()
+    ensures begins { (no_warn : Bool) → PlacesStand (nothing_placed no_warn) }
+    ensures kept { (statements : List TokenStatement) (before placed : Placed)
+        → place_all statements before ≡ Ok placed → PlacesStand before → PlacesStand placed }
+{}

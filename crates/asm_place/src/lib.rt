@@ -16,8 +16,8 @@ mod symbol_words;
 
 pub use laws::{
     encoding_items, encoding_stands, instruction_items, instruction_stands, jump_items,
-    jumps_are_put, jumps_read, placing_grows, placing_in_order, placing_is_not_reading,
-    placing_within,
+    jumps_are_put, jumps_read, places_stand, placing_grows, placing_in_order,
+    placing_is_not_reading, placing_within,
 };
 pub use place_faults::FaultAt;
 pub use sources::StatementPlacer;

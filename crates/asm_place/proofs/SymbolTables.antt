@@ -1,0 +1,261 @@
+-- What the changes of the symbol table keep: each symbol that has a place stands in its section.
+use Rattle.std.proofs.Common.{◌≡◌, ℕ, zero, suc, Bool, true, false, cond, ◌+◌, length, List, [], ◌∷◌, Option, None, Some, Result, Ok, Err, refl}
+use Rattle.std.specs.Prelude.{slice_get, is_some}
+use Rattle.std.proofs.lemmas.List.Elements.{All-nil, All-cons, All-head, All-tail, All-push}
+use Rattle.asm_expr.specs.declared.naming.Name.TheVariants as naming
+use Rattle.asm_base.specs.Tokens.{SpelledToken}
+use Rattle.asm_base.specs.declared.positions.Pos.{Pos}
+use Rattle.asm_base.specs.declared.tokens.TokenKind.{TokenKind}
+use Rattle.asm_base.specs.declared.tokens.TokenKind.TheVariants as token
+use Rattle.asm_expr.specs.declared.naming.Name.{Name}
+use Rattle.asm_expr.specs.Forms.{Form, constant_form}
+use Rattle.asm_expr.specs.Trees.{Tree}
+use Rattle.asm_expr.specs.Trees as expr
+use Rattle.asm_frags.specs.Writing.{LooseSection}
+use Rattle.asm_operands.specs.LayerFaults.{of_symbols}
+use Rattle.asm_operands.specs.declared.place_faults.PlaceCause.{PlaceCause}
+use Rattle.asm_operands.specs.Results.{all_steps}
+use Rattle.asm_symbols.specs.declared.entries.Binding.{Binding}
+use Rattle.asm_symbols.specs.declared.entries.Definition.{Definition}
+use Rattle.asm_symbols.specs.declared.entries.Definition.TheVariants as definition
+use Rattle.asm_symbols.specs.declared.entries.Kind.{Kind}
+use Rattle.asm_symbols.specs.declared.entries.Meaning.{Meaning}
+use Rattle.asm_symbols.specs.declared.entries.Meaning.TheVariants as meaning
+use Rattle.asm_symbols.specs.declared.entries.Spot.{Spot}
+use Rattle.asm_symbols.specs.declared.entries.Symbol.{Symbol}
+use Rattle.asm_symbols.specs.declared.faults.SymCause.{SymCause}
+use Rattle.asm_symbols.specs.declared.faults.SymCause.TheVariants.{BadSymbolUse}
+use Rattle.asm_symbols.specs.Assigning.{form_fault_at, with_form}
+use Rattle.asm_symbols.specs.Attributes.{with_binding, with_kind, with_visibility, with_size, with_next_size, bound_as, bound_by, bound}
+use Rattle.asm_symbols.specs.Counting.{meant_name, next_named}
+use Rattle.asm_symbols.specs.Defining.{meant, redefined, defined_by, defined}
+use Rattle.asm_symbols.specs.Interning.{undefined, with_name, named, interned, has_room, with_file}
+use Rattle.asm_symbols.specs.LeadsBack.{leads_back, assigned_by, assigned}
+use Rattle.asm_symbols.specs.SymbolMap.{SymbolMap, names, index_of, changed, with_meaning}
+use Rattle.asm_uses.specs.Attributes.{said, say_all, kind_said, sized, as_space, space_kind, define_space}
+use Rattle.expr_texts.specs.Numbers.{numeral}
+use Rattle.asm_operands.specs.ExprFaults.{in_statement}
+use Rattle.asm_operands.specs.Operands.{symbol_name}
+use Rattle.asm_uses.specs.Labels.{named_symbol, label_by, label_symbol}
+use Rattle.asm_uses.specs.Places.{here_name, here_by, name_here, end_naming}
+use Rattle.asm_uses.specs.Tables.{Table, with_map, found_in, symbol_of, next_symbol, changed_by, change_named, file_named, with_name as table_with_name, with_tree, with_trees, allowed}
+use Rattle.asm_uses.specs.declared.tables.Naming.{Naming}
+use Rattle.asm_words.specs.declared.directives.SymbolAttribute.{SymbolAttribute}
+use Rattle.asm_words.specs.declared.directives.SymbolAttribute.TheVariants.{Bind, See}
+use Rattle.asm_place.specs.SymbolPlaces.{MeaningStands, SymbolsStand}
+use Rattle.asm_place.proofs.Walks.{Fine, made, refused, step, after, either}
+
+-- what a layer answers is as fine as a statement's
+of_fine : {A : Type 0} {P : A → Type 0} (answer : Result A SymCause) → Fine P answer → Fine P (of_symbols answer)
+of_fine (Ok x) fine = made x fine.holds
+of_fine (Err fault) fine = refused _
+
+module _ (sections : List LooseSection) where
+  -- a symbol that has a place stands in its section
+  abbrev pub Stands : Symbol → Type 0
+  Stands symbol = MeaningStands sections symbol.meaning
+
+  -- so do all where they did
+  pub record Maps (before after : SymbolMap) : Type 0 where
+    pub kept : SymbolsStand sections before.symbols → SymbolsStand sections after.symbols
+
+  abbrev pub Tables : Table → Table → Type 0
+  Tables before after = Maps before.symbols after.symbols
+
+  pub same : (map : SymbolMap) → Maps map map
+  same map = record { kept = λ all. all }
+
+  pub both : (one two three : SymbolMap) → Maps one two → Maps two three → Maps one three
+  both one two three first last = record { kept = λ all. last.kept (first.kept all) }
+
+  changed_stand : (change : Symbol → Symbol) → ((symbol : Symbol) → Stands symbol → Stands (change symbol)) → (symbols : List Symbol) (index : ℕ)
+      → SymbolsStand sections symbols → SymbolsStand sections (changed change symbols index)
+  unfolding changed
+  changed_stand change stands [] index all = All-nil Stands
+  changed_stand change stands (symbol ∷ rest) zero all = All-cons Stands (change symbol) rest (stands symbol (All-head Stands symbol rest all)) (All-tail Stands symbol rest all)
+  changed_stand change stands (symbol ∷ rest) (suc index) all =
+      All-cons Stands symbol (changed change rest index) (All-head Stands symbol rest all) (changed_stand change stands rest index (All-tail Stands symbol rest all))
+
+  more_stand : (map : SymbolMap) (name : Name) → Maps map (with_name map name)
+  more_stand map name = record { kept = λ all. All-push Stands map.symbols (undefined name) all tt }
+
+  -- names
+  interned_stand : (map : SymbolMap) (name : Name) → Maps map (interned map name)
+  unfolding interned
+  interned_stand map name = by (is_some (index_of name (names map.symbols)))
+    where
+      by : (test : Bool) → Maps map (cond test map (with_name map name))
+      by true = same map
+      by false = more_stand map name
+
+  added_stand : (test : Bool) (map : SymbolMap) (name : Name) (index : ℕ)
+      → Fine (λ (pair : SymbolMap × ℕ). Maps map pair.0) (cond test (Ok (with_name map name, index)) (Err BadSymbolUse))
+  added_stand true map name index = made _ (more_stand map name)
+  added_stand false map name index = refused _
+
+  named_stand : (map : SymbolMap) (name : Name) → Fine (λ (pair : SymbolMap × ℕ). Maps map pair.0) (named map name)
+  unfolding named
+  named_stand map name = by (index_of name (names map.symbols)) refl
+    where
+      by : (found : Option ℕ) → index_of name (names map.symbols) ≡ found → Fine (λ (pair : SymbolMap × ℕ). Maps map pair.0) (named map name)
+      by (Some index) is = rw is (made (map, index) (same map))
+      by None is = rw is (added_stand (has_room map name) map name (length map.symbols))
+
+  found_stand : (pos : Pos) (table : Table) (found : Result (SymbolMap × ℕ) SymCause) → Fine (λ (pair : SymbolMap × ℕ). Maps table.symbols pair.0) found
+      → Fine (λ (pair : Table × ℕ). Tables table pair.0) (found_in pos table found)
+  found_stand pos table found fine = step (of_fine found fine) (λ pair kept. made _ kept)
+
+  pub symbol_stand : (pos : Pos) (name : Name) (table : Table) → Fine (λ (pair : Table × ℕ). Tables table pair.0) (symbol_of pos name table)
+  unfolding symbol_of
+  symbol_stand pos name table = found_stand pos table (named table.symbols name) (named_stand table.symbols name)
+
+  next_stand : (pos : Pos) (number : ℕ) (table : Table) → Fine (λ (pair : Table × ℕ). Tables table pair.0) (next_symbol pos number table)
+  unfolding next_symbol next_named
+  next_stand pos number table = found_stand pos table (next_named table.symbols number) (named_stand table.symbols _)
+
+  pub label_stand : (pos : Pos) (spelled : SpelledToken) (table : Table) → Fine (λ (pair : Table × ℕ). Tables table pair.0) (label_symbol pos spelled table)
+  unfolding label_symbol
+  label_stand pos spelled table = by spelled.kind
+    where
+      named_by : Fine (λ (pair : Table × ℕ). Tables table pair.0) (named_symbol pos spelled table)
+      named_by = after (symbol_name spelled) (λ name. symbol_stand pos (naming.Plain name) table)
+
+      by : (kind : TokenKind) → Fine (λ (pair : Table × ℕ). Tables table pair.0) (label_by kind pos spelled table)
+      by token.Digits = after (in_statement (numeral 10 spelled.bytes)) (λ number. next_stand pos number table)
+      by token.Name = named_by
+      by token.Character = named_by
+      by token.String = named_by
+      by token.Operator = named_by
+      by token.Other = named_by
+
+  pub with_name_stand : (pos : Pos) (name : Name) (table : Table) → Tables table (table_with_name pos name table)
+  unfolding table_with_name
+  with_name_stand pos name table = interned_stand table.symbols name
+
+  pub tree_stand : (pos : Pos) (tree : Tree) (table : Table) → Tables table (with_tree pos tree table)
+  unfolding with_tree
+  tree_stand pos (expr.number value) table = same table.symbols
+  tree_stand pos (expr.name written) table = with_name_stand pos (meant_name table.symbols.counts written) table
+  tree_stand pos expr.here table = same table.symbols
+  tree_stand pos (expr.unary op operand) table = tree_stand pos operand table
+  tree_stand pos (expr.binary op left right) table =
+      both table.symbols (with_tree pos left table).symbols (with_tree pos right (with_tree pos left table)).symbols (tree_stand pos left table)
+      (tree_stand pos right (with_tree pos left table))
+
+  pub trees_stand : (pos : Pos) (trees : List Tree) (table : Table) → Tables table (with_trees pos trees table)
+  unfolding with_trees
+  trees_stand pos [] table = same table.symbols
+  trees_stand pos (tree ∷ trees) table =
+      both table.symbols (with_tree pos tree table).symbols (with_trees pos trees (with_tree pos tree table)).symbols (tree_stand pos tree table)
+      (trees_stand pos trees (with_tree pos tree table))
+
+  -- changes
+  pub onto : {A : Type 0} (before between : Table) (tables : A → Table) {r : Result A PlaceCause} → Tables before between → Fine (λ x. Tables between (tables x)) r → Fine (λ x. Tables before (tables x)) r
+  onto before between tables {r = Ok x} first later = made x (both before.symbols between.symbols (tables x).symbols first later.holds)
+  onto before between tables {r = Err fault} first later = refused fault
+
+  pub change_stand : (change : SymbolMap → ℕ → Result SymbolMap SymCause) (found : Table × ℕ) → Fine (Maps found.0.symbols) (change found.0.symbols found.1)
+      → Fine (Tables found.0) (changed_by change found)
+  change_stand change found fine = step (of_fine (change found.0.symbols found.1) fine) (λ map kept. made _ kept)
+
+  pub named_change_stand : (pos : Pos) (change : SymbolMap → ℕ → Result SymbolMap SymCause) (name : Name) (table : Table)
+      → ((map : SymbolMap) (index : ℕ) → Fine (Maps map) (change map index)) → Fine (Tables table) (change_named pos change name table)
+  named_change_stand pos change name table fine =
+      step (symbol_stand pos name table) (λ pair kept. onto table pair.0 (λ t. t) kept (change_stand change pair (fine pair.0.symbols pair.1)))
+
+  redefined_stand : (now : Meaning) (what : Definition) → MeaningStands sections (meant what) → Fine (MeaningStands sections) (redefined now what)
+  redefined_stand meaning.Undefined what stands = made (meant what) stands
+  redefined_stand (meaning.Label spot) what stands = refused _
+  redefined_stand (meaning.Space spot) what stands = refused _
+  redefined_stand (meaning.Common size align) what stands = refused _
+  redefined_stand (meaning.Assigned form) (definition.Label spot) stands = refused _
+  redefined_stand (meaning.Assigned form) (definition.Common size align) stands = refused _
+  redefined_stand (meaning.Assigned form) (definition.Space spot) stands = refused _
+
+  pub defined_stand : (what : Definition) → MeaningStands sections (meant what) → (map : SymbolMap) (index : ℕ) → Fine (Maps map) (defined map index what)
+  unfolding defined
+  defined_stand what stands map index = by (slice_get map.symbols index)
+    where
+      by : (found : Option Symbol) → Fine (Maps map) (defined_by found map index what)
+      by None = refused _
+      by (Some symbol) =
+          step (redefined_stand symbol.meaning what stands)
+          (λ now there. made _ (record { kept = λ all. changed_stand (with_meaning now) (λ one stood. there) map.symbols index all }))
+
+  pub assigned_stand : (form : Form) (once : Bool) (map : SymbolMap) (index : ℕ) → Fine (Maps map) (assigned map index form once)
+  unfolding assigned
+  assigned_stand form once map index = by (form_fault_at map index once) (leads_back map.symbols form index)
+    where
+      by : (fault : Option SymCause) (back : Bool) → Fine (Maps map) (assigned_by fault back (with_form map index form))
+      by (Some fault) back = refused _
+      by None true = refused _
+      by None false = made _ (record { kept = λ all. changed_stand (with_meaning (meaning.Assigned form)) (λ one stood. tt) map.symbols index all })
+
+  pub kind_stand : (kind : Kind) (map : SymbolMap) (index : ℕ) → Fine (Maps map) (kind_said kind map index)
+  kind_stand kind map index = made _ (record { kept = λ all. changed_stand (with_kind kind) (λ one stood. stood) map.symbols index all })
+
+  bound_stand : (binding : Binding) (map : SymbolMap) (index : ℕ) → Fine (Maps map) (bound map index binding)
+  unfolding bound
+  bound_stand binding map index = by (slice_get map.symbols index)
+    where
+      by : (found : Option Symbol) → Fine (Maps map) (bound_by found map index binding)
+      by None = refused _
+      by (Some symbol) =
+          after (bound_as symbol.meaning symbol.binding binding)
+          (λ now. made _ (record { kept = λ all. changed_stand (with_binding now) (λ one stood. stood) map.symbols index all }))
+
+  said_stand : (attribute : SymbolAttribute) (map : SymbolMap) (index : ℕ) → Fine (Maps map) (said attribute map index)
+  said_stand (Bind binding) map index = bound_stand binding map index
+  said_stand (See visibility) map index =
+      made _ (record { kept = λ all. changed_stand (with_visibility visibility) (λ one stood. stood) map.symbols index all })
+
+  pub say_all_stand : (pos : Pos) (attribute : SymbolAttribute) (names : List Name) (table : Table) → Fine (Tables table) (say_all pos attribute names table)
+  unfolding say_all all_steps
+  say_all_stand pos attribute [] table = made table (same table.symbols)
+  say_all_stand pos attribute (name ∷ names) table =
+      step (named_change_stand pos (said attribute) name table (said_stand attribute))
+      (λ next kept. onto table next (λ t. t) kept (say_all_stand pos attribute names next))
+
+  next_size_stand : (size : Form) (map : SymbolMap) (index : ℕ) → Maps map (with_next_size size map index)
+  next_size_stand size map index = record { kept = λ all. changed_stand (with_size size (map.sizes + 1)) (λ one stood. stood) map.symbols index all }
+
+  pub sized_stand : (pos : Pos) (form : Form) (found : Table × ℕ) → Tables found.0 (sized pos form found)
+  sized_stand pos form found = next_size_stand form found.0.symbols found.1
+
+  pub allowed_stand : (naming : Naming) (table : Table) → Fine (Tables table) (allowed naming table)
+  unfolding allowed
+  allowed_stand naming table = either _ (made table (same table.symbols)) (refused _)
+
+  pub define_space_stand : (naming : Naming) (symbol size : ℕ) (what : Definition) (table : Table) → MeaningStands sections (meant what)
+      → Fine (Tables table) (define_space naming symbol size what table)
+  unfolding define_space
+  define_space_stand naming symbol size what table stands =
+      step (step (change_stand (λ map index. defined map index what) (table, symbol) (defined_stand what stands table.symbols symbol))
+      (λ next kept. made (with_map next (as_space size next.symbols symbol))
+      (both table.symbols next.symbols (as_space size next.symbols symbol) kept (space_stand next.symbols))))
+      (λ next kept. onto table next (λ t. t) kept (allowed_stand naming next))
+    where
+      space_stand : (map : SymbolMap) → Maps map (as_space size map symbol)
+      space_stand map =
+          both map (with_next_size (constant_form size) map symbol) (as_space size map symbol) (next_size_stand (constant_form size) map symbol)
+          (record { kept = λ all. changed_stand (with_kind (space_kind map symbol)) (λ one stood. stood) (with_next_size (constant_form size) map symbol).symbols symbol all })
+
+  pub end_stand : (pos : Pos) (naming : Naming) (spot : Spot) (keeps : Bool) (table : Table) → MeaningStands sections (meaning.Label spot)
+      → Fine (Tables table) (end_naming pos naming spot keeps table)
+  unfolding name_here
+  end_stand pos naming spot keeps table stands = step (allowed_stand naming table) (λ next kept. onto table next (λ t. t) kept (here keeps next))
+    where
+      here_found : (found : Option ℕ) (next : Table) → Fine (Tables next) (here_by pos spot found next)
+      here_found (Some index) next = made next (same next.symbols)
+      here_found None next = named_change_stand pos (λ map index. defined map index (definition.Label spot)) (here_name spot) next
+          (defined_stand (definition.Label spot) stands)
+
+      here : (keeps : Bool) (next : Table) → Fine (Tables next) (name_here pos spot keeps next)
+      here false next = made next (same next.symbols)
+      here true next = here_found (index_of (here_name spot) (names next.symbols.symbols)) next
+
+  pub file_stand : (name : Name) (table : Table) → Fine (Tables table) (file_named name table)
+  unfolding with_file
+  file_stand name table =
+      step (of_fine (with_file table.symbols name) (either (has_room table.symbols name) (made _ (record { kept = λ all. all })) (refused _)))
+      (λ map kept. made _ kept)

@@ -1,0 +1,9 @@
+-- The first sections are there, and each statement keeps the places of symbols.
+use Rattle.asm_place.proofs.PlaceWalk.{places_begin, places_kept}
+use Rattle.asm_place.proofs.laws.places_stand.Goals as goal
+
+pub returns-clause-begins : goal.returns-clause-begins
+returns-clause-begins c = places_begin
+
+pub returns-clause-kept : goal.returns-clause-kept
+returns-clause-kept c = places_kept
