@@ -1,10 +1,9 @@
 -- Direct jumps stand in the object, and read as the jumps that were written.
-use Rattle.std.proofs.Common.{◌≡◌, ℕ, zero, suc, ◌+◌, ◌-◌, ◌^◌, ◌<◌, ◌≤◌, inl, inr, not, nat_lt, nat_le, Bool, true, false, List, [], ◌∷◌, ◌++◌, All, Option, Some, None, Ok, map, drop, length, refl, sym, ap, ◌∙◌, subst, arith}
+use Rattle.std.proofs.Common.{◌≡◌, ℕ, zero, suc, ◌+◌, ◌-◌, ◌^◌, ◌<◌, ◌≤◌, inl, inr, not, nat_lt, nat_le, Bool, true, false, List, [], ◌∷◌, ◌++◌, Option, Some, None, Ok, map, drop, length, refl, sym, ap, ◌∙◌, subst, arith}
 use Rattle.std.specs.Prelude.{◌==◌, slice_get, slice_index, option_map, unwrap_or, IfSome}
 use Rattle.std.specs.Option.{option_map_or}
 use Rattle.std.proofs.lemmas.Bool.{or_cases, ltb-true, leb-true}
 use Rattle.std.proofs.lemmas.List.{map-append}
-use Rattle.std.proofs.lemmas.List.Elements.{All-head, All-tail}
 use Rattle.std.proofs.lemmas.Option.{none-some, same_Some, slice_get-map}
 use Rattle.asm_base.specs.declared.positions.Pos.{Pos}
 use Rattle.asm_lines.specs.NextStatements.{TokenStatement, in_tokens}
@@ -26,7 +25,8 @@ use Rattle.asm_levels.specs.Needs.{IsSignedWithin}
 use Rattle.asm_levels.specs.Sizes.{jump_size}
 use Rattle.assigned_forms.specs.Expanding.{expanded}
 use Rattle.asm_relax.specs.FieldValues.{held_value}
-use Rattle.asm_relax.specs.ItemValues.{HasRoom}
+use Rattle.asm_relax.specs.ItemRows.{rows_of, levels_of}
+use Rattle.asm_relax.specs.ItemValues.{AreLow, IsInItem, HasRoom}
 use Rattle.asm_relax.specs.Layout.{laid_from}
 use Rattle.asm_relax.specs.Placing.{placed_from, shift_of}
 use Rattle.asm_relax.specs.SettledRoom.{HasRoomFor, SettledHaveRoom}
@@ -42,6 +42,7 @@ use Rattle.att_insns.specs.InsnTexts.{InsnText}
 use Rattle.asm_values.specs.State.{Placed, nothing_placed}
 use Rattle.asm_place.specs.Instructions.{next_offset, AreWithin}
 use Rattle.asm_place.specs.CodePlaces.{insn_in, jump_in}
+use Rattle.asm_place.specs.SymbolPlaces.{PlacesStand}
 use Rattle.asm_place.specs.JumpPlaces.{jump_form, items_so_far, jump_field, JumpStandsAt, JumpStands, jump_written}
 use Rattle.asm_place.specs.Sources.{pos_at, place_all}
 use Rattle.x86_encode.specs.declared.encoded.FieldKind.TheVariants as kind
@@ -49,8 +50,9 @@ use Rattle.asm_front.specs.Ending.{Flags}
 use Rattle.asm_front.specs.declared.ending.NotedObject.{NotedObject}
 use Rattle.asm_front.specs.Assembly.{assembly_of}
 use Rattle.asm_front.specs.Outcome.{main_file}
-use Rattle.asm_front.specs.ReadsBack.{file_place, final_value, held_distance, JumpReadsAt, IsToldByRow, JumpsRead}
+use Rattle.asm_front.specs.ReadsBack.{file_place, final_value, held_distance, JumpReadsAt, JumpsRead}
 use Rattle.asm_front.proofs.HeldFields.{field_held}
+use Rattle.asm_front.proofs.JumpFields.{all_there, stands_in_item, jump_constant}
 use Rattle.asm_front.proofs.LaidItems.{AreSettled, layout_is, kept_section, section_kept, laid_stays, laid_sized, first_kept}
 use Rattle.asm_front.proofs.ObjectReads.{reads_code, assembly_is}
 use Rattle.asm_front.proofs.SmallForms.{held_small, final_small}
@@ -71,6 +73,8 @@ pub record JumpFacts : Type 0 where
   pub short : (condition : Option Condition) (distance : ℕ) → distance < 2 ^ 64 → IsSignedWithin (2 ^ 7) distance
       → jump_distance false (jump_bytes condition false distance) ≡ distance
   pub room : SettledHaveRoom
+  pub starts : (no_warn : Bool) → PlacesStand (nothing_placed no_warn)
+  pub places : (statements : List TokenStatement) (before placed : Placed) → place_all statements before ≡ Ok placed → PlacesStand before → PlacesStand placed
 
 -- THE ITEM
 
@@ -82,12 +86,6 @@ item_kept (one ∷ items) shifts zero item there =
     let same : one ≡ item = same_Some one item there in
     ((laid_item one).offset + slice_index shifts 0, slice_index shifts 1 - slice_index shifts 0, rw same refl)
 item_kept (one ∷ items) shifts (suc index) item there = item_kept items (drop 1 shifts) index item there
-
--- what holds of all holds of the one that is there
-all_there : {X : Type 0} (P : X → Type 0) (xs : List X) (index : ℕ) (x : X) → slice_get xs index ≡ Some x → All P xs → P x
-all_there P [] index x there all = absurd (none-some x there)
-all_there P (y ∷ xs) zero x there all = subst P (same_Some y x there) (All-head P y xs all)
-all_there P (y ∷ xs) (suc index) x there all = all_there P xs index x there (All-tail P y xs all)
 
 module _ (settled : AreSettled) (facts : JumpFacts) (symbols : SymbolMap) (sections : List LooseSection) (laid : LaidSections) (n item offset : ℕ) (pos : Pos)
     (condition : Option Condition) (field : Field) (is : layout_of symbols sections ≡ Ok laid) (stands : JumpStandsAt sections n item offset pos condition field)
@@ -170,12 +168,13 @@ module _ (settled : AreSettled) (facts : JumpFacts) (symbols : SymbolMap) (secti
       (subst (λ at. PieceAt (image_of symbols laid) at (item_bytes symbols laid kept content item_size)) place there)
 
   -- it has the size of a level at which there is room for the value, where its row tells that
-  has_room : IsToldByRow symbols sections field → HasRoomFor symbols laid (Jump condition) item_size (substituted_field (expanded symbols) field)
-  has_room told =
+  has_room : AreLow symbols (levels_of (rows_of symbols (planned symbols sections))) (planned symbols sections)
+      → IsInItem symbols (planned symbols sections) (substituted_field (expanded symbols) field) → HasRoomFor symbols laid (Jump condition) item_size (substituted_field (expanded symbols) field)
+  has_room low in_item =
       let settled_is : laid ≡ settled_sections symbols (planned symbols sections) = layout_is symbols sections laid is in
       subst (λ (all : LaidSections). HasRoomFor symbols all (Jump condition) item_size (substituted_field (expanded symbols) field)) (sym settled_is)
-      (facts.room symbols (planned symbols sections) n item stands.index kept settled_item (Jump condition) (substituted_field (expanded symbols) field) told.low
-      told.stands (ap (λ (all : LaidSections). slice_get all n) (sym settled_is) ∙ found) got.2 refl field_got)
+      (facts.room symbols (planned symbols sections) n item stands.index kept settled_item (Jump condition) (substituted_field (expanded symbols) field) low in_item
+      (ap (λ (all : LaidSections). slice_get all n) (sym settled_is) ∙ found) got.2 refl field_got)
 
 -- WHAT IT READS AS
 
@@ -273,6 +272,8 @@ jumps_read settled one_way facts flags source made e before after s text conditi
       jump = there.jump;
       reads = jump_at one_way facts text condition near made.object piece.rest at value jump (ap (drop at) same ∙ drop_stands (image_of symbols laid) at _ piece) held;
       leads = λ told.
-          let room = has_room settled facts symbols whole.sections laid n item offset pos condition field is stands takes told in
+          let room = has_room settled facts symbols whole.sections laid n item offset pos condition field is stands takes told.low
+          (stands_in_item symbols whole.sections (facts.places (map in_tokens (before ++ s ∷ after)) empty whole all (facts.starts flags.no_warn)).symbols n item offset pos condition field stands
+          refl refl refl refl told.own (jump_constant there.jump.forms.displacement)) in
           sym held ∙ room_held facts condition bytes room.level (held_value symbols laid (substituted_field (expanded symbols) field)) low fits room.sized room.room;
     }

@@ -12,5 +12,6 @@ pub mod UnknownValues
 pub mod HeldFields
 pub mod CodePieces
 pub mod CodeReads
+pub mod JumpFields
 pub mod JumpsInObject
 pub mod CodesInObject

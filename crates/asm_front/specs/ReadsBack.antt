@@ -1,5 +1,5 @@
 -- The bytes of an object at the place of each instruction, read as instructions.
-use Rattle.std.specs.Prelude.{ℕ, ◌+◌, ◌%◌, ◌^◌, ◌≡◌, ◌==◌, Bool, false, List, ◌∷◌, ◌++◌, map, drop, length, Option, None, Some, unwrap_or, Result, Ok, Err, slice_get, if◌then◌else◌}
+use Rattle.std.specs.Prelude.{ℕ, ◌+◌, ◌%◌, ◌^◌, ◌≡◌, ◌==◌, Bool, true, false, List, ◌∷◌, ◌++◌, map, drop, length, Option, None, Some, unwrap_or, Result, Ok, Err, slice_get, if◌then◌else◌}
 use Rattle.std.specs.Option.{option_map_or}
 use Rattle.asm_base.specs.Inputs.{Contents}
 use Rattle.asm_base.specs.declared.positions.Pos.{Pos}
@@ -11,7 +11,7 @@ use Rattle.asm_frags.specs.Substituting.{substituted_field}
 use Rattle.assigned_forms.specs.Expanding.{expanded}
 use Rattle.asm_relax.specs.FieldValues.{held_value}
 use Rattle.asm_relax.specs.ItemRows.{rows_of, levels_of}
-use Rattle.asm_relax.specs.ItemValues.{IsInItem, AreLow}
+use Rattle.asm_relax.specs.ItemValues.{NamesOwnPlace, AreLow}
 use Rattle.asm_relax.specs.Settling.{LooseSections, LaidSections, planned, layout_of}
 use Rattle.elf_file.specs.Sections.{no_bits}
 use Rattle.item_bytes.specs.declared.jumps.Condition.{Condition}
@@ -150,10 +150,11 @@ pub record JumpReadsAt (bytes : List ℕ) (at : ℕ) (text : InsnText) (value : 
   pub reads : ReadsAt bytes at (jump_written text size (held_distance size value))
   pub ends : length reads.code ≡ size
 
--- the row of a field tells its value: rows are moved by less than 2^64, and the field and all symbols stand in the sections
+-- the row of a field tells its value: rows are moved by less than 2^64, and the form, where assigned symbols are expanded, names the field's own
+-- place minus once
 pub record IsToldByRow (symbols : SymbolMap) (sections : LooseSections) (field : Field) : Type 0 where
   pub low : AreLow symbols (levels_of (rows_of symbols (planned symbols sections))) (planned symbols sections)
-  pub stands : IsInItem symbols (planned symbols sections) (substituted_field (expanded symbols) field)
+  pub own : NamesOwnPlace true (expanded symbols field.form)
 
 -- the statement, put where these end, reads in the object as the jump that is meant, and where the row of its field tells its value, as the jump over
 -- all of it: to its target

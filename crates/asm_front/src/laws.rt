@@ -12,7 +12,7 @@ ghost use Rattle.asm_front.specs.Assembly.{assembly_of, assembly_of_lines};
 ghost use Rattle.asm_front.specs.Outcome.{main_file};
 ghost use Rattle.asm_front.specs.ReadsBack.{ReadsBack};
 
-use asm_place::{jump_items, jumps_read, placing_within};
+use asm_place::{jump_items, jumps_read, places_stand, placing_within};
 use asm_relax::{settled_is_placed, settled_items_have_room, sizes_add_up};
 use elf_object::{bytes_stand, items_stand, values_stand};
 use item_bytes::jump_reads_back;
@@ -46,6 +46,7 @@ pub fn written_reads_back()
     sizes_add_up();
     settled_items_have_room();
     placing_within();
+    places_stand();
     jump_items();
     jumps_read();
     jump_reads_back();

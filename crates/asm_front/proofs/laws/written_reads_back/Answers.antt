@@ -20,6 +20,8 @@ returns c =
       near = c.jump_reads_back.ensures.near;
       short = c.jump_reads_back.ensures.short;
       room = c.settled_items_have_room.ensures;
+      starts = c.places_stand.ensures.begins;
+      places = c.places_stand.ensures.kept;
     } in
     reads_back settled c.read_one_way.ensures c.bare_codes_read.ensures.read c.bare_codes_read.ensures.stand c.encodings_are_codes.ensures.fields
     c.encodings_are_codes.ensures.notes facts

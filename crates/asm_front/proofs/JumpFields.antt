@@ -1,0 +1,130 @@
+-- The field of a jump stands in its item, and all symbols stand in the sections.
+use Rattle.std.proofs.Common.{◌≡◌, ℕ, zero, suc, ◌+◌, ◌-◌, ◌^◌, ◌<◌, Bool, true, false, cond, List, [], ◌∷◌, All, Option, Some, None, map, length, refl, ap, ◌∙◌, subst, arith}
+use Rattle.std.specs.Prelude.{◌==◌, slice_get, option_map}
+use Rattle.std.specs.Option.{option_map_or}
+use Rattle.std.proofs.lemmas.List.{length-map}
+use Rattle.std.proofs.lemmas.List.Elements.{All-head, All-tail}
+use Rattle.std.proofs.lemmas.Option.{none-some, same_Some, slice_get-map}
+use Rattle.asm_base.specs.declared.positions.Pos.{Pos}
+use Rattle.asm_expr.specs.declared.forms.Term.{Term}
+use Rattle.asm_expr.specs.Forms.{Form, wrapped, constant_form, symbol_form, plus_times}
+use Rattle.asm_symbols.specs.declared.entries.Meaning.{Meaning}
+use Rattle.asm_symbols.specs.declared.entries.Meaning.TheVariants as meaning
+use Rattle.asm_symbols.specs.declared.entries.Symbol.{Symbol}
+use Rattle.asm_symbols.specs.SymbolMap.{SymbolMap}
+use Rattle.asm_frags.specs.declared.fields.Field.{Field}
+use Rattle.asm_frags.specs.Fields.{is_distance, own_place}
+use Rattle.asm_frags.specs.Substituting.{substituted_field, laid_item, laid_section}
+use Rattle.asm_frags.specs.Writing.{LooseSection}
+use Rattle.item_bytes.specs.declared.jumps.Condition.{Condition}
+use Rattle.assigned_forms.specs.Expanding.{replacement, plus_terms, with_replaced, names_assigned, expanded_within, expanded}
+use Rattle.row_distances.specs.declared.places.Place.{Place}
+use Rattle.row_distances.specs.Places.{meant_place, place_of}
+use Rattle.asm_relax.specs.ItemRows.{own_of}
+use Rattle.asm_relax.specs.ItemValues.{StandsIn, NamesOwnPlace, IsInItem}
+use Rattle.asm_relax.specs.Settling.{planned}
+use Rattle.asm_place.specs.Coding.{from_own_place}
+use Rattle.asm_place.specs.JumpPlaces.{JumpStandsAt}
+use Rattle.asm_place.specs.SymbolPlaces.{HasItems, MeaningStands, SymbolsStand}
+
+-- what holds of all holds of the one that is there
+pub all_there : {X : Type 0} (P : X → Type 0) (xs : List X) (index : ℕ) (x : X) → slice_get xs index ≡ Some x → All P xs → P x
+all_there P [] index x there all = absurd (none-some x there)
+all_there P (y ∷ xs) zero x there all = subst P (same_Some y x there) (All-head P y xs all)
+all_there P (y ∷ xs) (suc index) x there all = all_there P xs index x there (All-tail P y xs all)
+
+-- where there is an item of this index, there are more than that
+inside : {X : Type 0} (xs : List X) (index : ℕ) (x : X) → slice_get xs index ≡ Some x → index < length xs
+inside [] index x there = absurd (none-some x there)
+inside (y ∷ xs) zero x there = omega arith
+inside (y ∷ xs) (suc index) x there = let later = inside xs index x there in omega (arith, later)
+
+-- THE CONSTANT
+
+-- what is added up is a number modulo 2^64
+wrapped_small : (n : ℕ) → wrapped n < 2 ^ 64
+wrapped_small n = omega arith
+
+plus_small : (made : Form) (factor : ℕ) (other : Form) → (plus_times made factor other).constant < 2 ^ 64
+unfolding plus_times
+plus_small made factor other = wrapped_small _
+
+-- what a jump holds is less its own place
+pub jump_constant : (form : Form) → (from_own_place form).constant < 2 ^ 64
+jump_constant form = plus_small form (2 ^ 64 - 1) (symbol_form own_place)
+
+terms_small : (replaces : ℕ → Form) (made : Form) (terms : List Term) → made.constant < 2 ^ 64 → (plus_terms replaces made terms).constant < 2 ^ 64
+unfolding plus_terms
+terms_small replaces made [] small = small
+terms_small replaces made (term ∷ terms) small =
+    terms_small replaces (plus_times made term.coefficient (replaces term.symbol)) terms (plus_small made term.coefficient (replaces term.symbol))
+
+expanded_by : (test : Bool) (replaces : ℕ → Form) (form : Form) → form.constant < 2 ^ 64 → (cond test (with_replaced replaces form) form).constant < 2 ^ 64
+expanded_by true replaces form small = terms_small replaces (constant_form form.constant) form.terms small
+expanded_by false replaces form small = small
+
+expanded_small : (map : SymbolMap) (form : Form) → form.constant < 2 ^ 64 → (expanded map form).constant < 2 ^ 64
+unfolding expanded expanded_within
+expanded_small map form small = expanded_by (names_assigned map form) (replacement (λ next. expanded_within (length map.symbols) map next) map) form small
+
+-- THE PLACES
+
+-- a section keeps its items where it is laid out
+planned_stands : (symbols : SymbolMap) (sections : List LooseSection) (place : Place) → HasItems sections place.section place.item → StandsIn (planned symbols sections) place
+unfolding planned
+planned_stands symbols sections place has =
+    let count = length-map has.section.items laid_item in
+    let enough = has.enough in
+    record {
+      section = laid_section (expanded symbols) has.section;
+      there = slice_get-map (laid_section (expanded symbols)) sections place.section ∙ ap (option_map (laid_section (expanded symbols))) has.there;
+      within = omega (arith, count, enough);
+    }
+
+module _ (symbols : SymbolMap) (sections : List LooseSection) (stand : SymbolsStand sections symbols.symbols) where
+  by_meaning : (meant : Meaning) (place : Place) → MeaningStands sections meant → meant_place meant ≡ Some place → StandsIn (planned symbols sections) place
+  by_meaning meaning.Undefined place stands is = absurd (none-some place is)
+  by_meaning (meaning.Label spot) place stands is =
+      let own : Place = record { section = spot.section; item = spot.item; offset = spot.offset } in
+      subst (StandsIn (planned symbols sections)) (same_Some own place is) (planned_stands symbols sections own stands)
+  by_meaning (meaning.Common size align) place stands is = absurd (none-some place is)
+  by_meaning (meaning.Space spot) place stands is =
+      let own : Place = record { section = spot.section; item = spot.item; offset = spot.offset } in
+      subst (StandsIn (planned symbols sections)) (same_Some own place is) (planned_stands symbols sections own stands)
+  by_meaning (meaning.Assigned form) place stands is = absurd (none-some place is)
+
+  by_symbol : (index : ℕ) (found : Option Symbol) (place : Place) → slice_get symbols.symbols index ≡ found
+      → option_map_or (λ (symbol : Symbol). meant_place symbol.meaning) found None ≡ Some place → StandsIn (planned symbols sections) place
+  by_symbol index None place there is = absurd (none-some place is)
+  by_symbol index (Some symbol) place there is =
+      by_meaning symbol.meaning place (all_there (λ (one : Symbol). MeaningStands sections one.meaning) symbols.symbols index symbol there stand) is
+
+  module _ (n item offset : ℕ) (pos : Pos) (condition : Option Condition) (field : Field) (stands : JumpStandsAt sections n item offset pos condition field)
+      (of_section : field.section ≡ n) (behind_item : field.item ≡ item + 1) where
+    own_stands : StandsIn (planned symbols sections) (own_of (substituted_field (expanded symbols) field)).place
+    own_stands =
+        let some = inside stands.section.items item _ stands.item_there in
+        planned_stands symbols sections (own_of field).place
+        (record { section = stands.section; there = ap (slice_get sections) of_section ∙ stands.found; enough = omega (arith, behind_item, some) })
+
+    by_test : (test : Bool) (index : ℕ) (place : Place)
+        → cond test (Some (own_of (substituted_field (expanded symbols) field)).place) (option_map_or (λ (symbol : Symbol). meant_place symbol.meaning) (slice_get symbols.symbols index) None)
+        ≡ Some place → StandsIn (planned symbols sections) place
+    by_test true index place is = subst (StandsIn (planned symbols sections)) (same_Some _ place is) own_stands
+    by_test false index place is = by_symbol index (slice_get symbols.symbols index) place refl is
+
+    places_stand : (index : ℕ) (place : Place) → place_of symbols (own_of (substituted_field (expanded symbols) field)) index ≡ Some place
+        → StandsIn (planned symbols sections) place
+    unfolding place_of
+    places_stand index place is = by_test (index == own_place) index place is
+
+    -- the field stands in an item, where its form names its own place minus once
+    pub stands_in_item : field.in_item ≡ true → field.role.behind ≡ 0 → NamesOwnPlace (is_distance field.role.kind) (expanded symbols field.form)
+        → field.form.constant < 2 ^ 64 → IsInItem symbols (planned symbols sections) (substituted_field (expanded symbols) field)
+    stands_in_item in_item behind own small = record {
+      in_item = in_item;
+      behind = behind;
+      own = own;
+      constant = expanded_small symbols field.form small;
+      places = places_stand;
+    }
