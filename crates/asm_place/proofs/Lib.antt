@@ -15,4 +15,6 @@ pub mod CodingFields
 pub mod CodeLaws
 pub mod JumpLaws
 pub mod SymbolTables
+pub mod PlaceSteps
+pub mod DirectivePlaces
 pub mod PlaceWalk

@@ -1,0 +1,358 @@
+-- Directives keep it so that each symbol that has a place stands in its section.
+use Rattle.std.proofs.Common.{ℕ, Bool, true, false, List, [], ◌∷◌, Option, None, Some, Result, Ok}
+use Rattle.std.specs.Prelude.{◌^◌, codes, unwrap_or}
+use Rattle.std.specs.List.{list_any, count_by}
+use Rattle.asm_operands.specs.declared.place_faults.PlaceCause.{PlaceCause}
+use Rattle.asm_base.specs.declared.positions.Pos.{Pos}
+use Rattle.asm_base.specs.Tokens.{SpelledToken}
+use Rattle.asm_expr.specs.declared.naming.Name.TheVariants as naming
+use Rattle.asm_expr.specs.declared.forms.Term.{Term}
+use Rattle.asm_expr.specs.Forms.{Form}
+use Rattle.item_contents.specs.declared.contents.Content.{Content}
+use Rattle.item_contents.specs.declared.contents.Content.TheVariants as content
+use Rattle.asm_frags.specs.declared.fields.FieldSize.{FieldSize}
+use Rattle.item_contents.specs.ItemParts.{zeros_up_to}
+use Rattle.asm_frags.specs.declared.roles.Suffix.TheVariants.{Absent}
+use Rattle.item_bytes.specs.Leb128.{least_leb128}
+use Rattle.item_contents.specs.declared.kinds.Growth.TheVariants.{Leb128}
+use Rattle.asm_frags.specs.Fields.{data_role}
+use Rattle.asm_symbols.specs.declared.entries.Definition.TheVariants.{Space, Common}
+use Rattle.asm_symbols.specs.LeadsBack.{assigned}
+use Rattle.asm_words.specs.declared.directives.Directive.{Directive}
+use Rattle.asm_words.specs.declared.directives.Directive.TheVariants as directive
+use Rattle.asm_words.specs.declared.directives.SymbolAttribute.{SymbolAttribute}
+use Rattle.asm_words.specs.declared.directives.AlignedBy.{AlignedBy}
+use Rattle.asm_words.specs.Paddings.{align_of, org_of}
+use Rattle.asm_uses.specs.declared.tables.Naming.{Naming}
+use Rattle.asm_base.specs.Refusals.{◌>>=◌}
+use Rattle.asm_operands.specs.Operands.{name_of, operands_of, is_dot, begins_with_place, symbol_name, each, joined_strings, needed}
+use Rattle.asm_operands.specs.Expressions.{expression_of, form_in, constant_in, up_to_three_listed, up_to_three_trees, up_to_three_forms, up_to_three_constants}
+use Rattle.asm_values.specs.KnownOperands.{KnownOperands, known_operands}
+use Rattle.asm_uses.specs.Places.{uses_place, spot_at, end_naming}
+use Rattle.asm_values.specs.State.{Placed, with_table, with_names, here, known_here, unless_dot}
+use Rattle.asm_values.specs.DataItems.{put_by, put_forms, is_cut, cut_notes}
+use Rattle.asm_operands.specs.Results.{all_steps, if_some}
+use Rattle.asm_place.specs.SectionChanges.{with_current, popped}
+use Rattle.asm_operands.specs.NamedTrees.{plain_of, NamedTree, named_tree}
+use Rattle.asm_uses.specs.Attributes.{kind_said, sized, define_space}
+use Rattle.asm_place.specs.SymbolWords.{place_said, place_type}
+use Rattle.asm_values.specs.Sizes.{size_words, place_size, words_naming, with_words, words_symbol, end_words}
+use Rattle.asm_words.specs.SymbolKinds.{named_kind}
+use Rattle.asm_values.specs.Assignments.{assign_words, place_set, place_assignment}
+use Rattle.asm_place.specs.Commons.{bss, with_space, with_common, is_said_local, place_space, place_comm, place_lcomm, SpaceWords, with_own, space_words}
+use Rattle.asm_words.specs.Spaces.{space_size, space_of, units_of, unit_size, log_of}
+use Rattle.asm_place.specs.Idents.{items_in, comment_bytes, comment_header, place_ident, place_file, one_string, file_name}
+use Rattle.asm_values.specs.Data.{put_data, place_data, place_strings, with_named, place_zero, place_skip, place_fill}
+use Rattle.asm_items.specs.Alignments.{is_code, place_align}
+use Rattle.asm_items.specs.Orgs.{known_origin, origin_by, place_org}
+use Rattle.asm_items.specs.Leb128Numbers.{put_number_by, put_numbers, put_leb128, some_expressions, place_leb128}
+use Rattle.asm_place.specs.Placing.{bare, initial_number, place_by, place_found, place_directive}
+use Rattle.asm_place.proofs.Walks.{Fine, made, refused, step, after}
+use Rattle.asm_uses.specs.Tables.{changed_by, file_named, naming_of, allowed}
+use Rattle.std.proofs.Common.{◌<◌, arith}
+use Rattle.asm_uses.specs.Tables.{with_name, with_tree}
+use Rattle.asm_words.specs.declared.directives.InitialSection.{InitialSection}
+use Rattle.asm_words.specs.declared.directives.InitialSection.TheVariants as initially
+use Rattle.asm_place.specs.SymbolPlaces.{PlacesStand}
+use Rattle.asm_place.proofs.PlacingLaws.{entered_adds}
+use Rattle.asm_place.proofs.SymbolTables.{Tables, both, onto, with_name_stand, tree_stand, change_stand, named_change_stand, assigned_stand, kind_stand, say_all_stand, sized_stand, allowed_stand, define_space_stand, end_stand, file_stand}
+use Rattle.asm_place.proofs.PlaceSteps.{Stays, Walks, grown_twice, stays_on, walked, unmoved, items_grow, sections_stay, table_stays, current_stays, notes_stay, names_stay, spot_stands, table_walk, bytes_walk, field_walk, push_walk, growing_walk, section_walk, pushed_walk, popped_walk}
+
+-- DATA AND SPACE
+
+form_walk : (pos : Pos) (size : FieldSize) (terms : List Term) (form : Form) (placed : Placed) → PlacesStand placed → Walks placed (put_by terms pos size form placed)
+form_walk pos size [] form placed stands = bytes_walk pos placed.current _ placed stands
+form_walk pos size (term ∷ terms) form placed stands = field_walk pos placed.current size data_role form placed stands
+
+forms_walk : (pos : Pos) (size : FieldSize) (forms : List Form) (placed : Placed) → PlacesStand placed → Walks placed (put_forms pos size forms placed)
+unfolding put_forms all_steps
+forms_walk pos size [] placed stands = made placed (unmoved placed stands)
+forms_walk pos size (form ∷ forms) placed stands = walked placed (form_walk pos size form.terms form placed stands) (λ put now. forms_walk pos size forms put now)
+
+-- the place of the statement may become a symbol, behind what it put
+pub here_stand : (pos : Pos) (naming : Naming) (keeps : Bool) (placed put : Placed) → PlacesStand placed → Stays placed put
+    → Fine (Tables put.sections put.table) (end_naming pos naming (here placed) keeps put.table)
+here_stand pos naming keeps placed put stands stays =
+    end_stand put.sections pos naming (here placed) keeps put.table
+    (items_grow placed.sections put.sections (here placed).section (here placed).item stays.grows (spot_stands placed.sections placed.current stands.current))
+
+values_walk : (pos : Pos) (size : FieldSize) (naming : Naming) (forms : List Form) (placed : Placed) → PlacesStand placed → Walks placed (put_data pos size naming forms placed)
+unfolding put_data
+values_walk pos size naming forms placed stands =
+    step (forms_walk pos size forms placed stands)
+    (λ put stays. stays_on placed put _ stays (step (here_stand pos naming (list_any (uses_place (known_here placed).place) forms) placed put stands stays)
+    (λ table kept. made _ (notes_stay (cut_notes pos (count_by (is_cut size) forms)) put (with_table put table) (table_stays put table kept stays.stands)))))
+
+data_walk : (pos : Pos) (size : FieldSize) (tokens : List SpelledToken) (placed : Placed) → PlacesStand placed → Walks placed (place_data pos size tokens placed)
+unfolding place_data
+data_walk pos size tokens placed stands =
+    after (each expression_of (operands_of tokens))
+    (λ trees. after (each (form_in (known_here (with_names pos trees placed))) trees)
+    (λ forms. let names = names_stay pos trees placed stands in
+    stays_on placed (with_names pos trees placed) _ names (values_walk pos size (naming_of trees placed.table) forms (with_names pos trees placed) names.stands)))
+
+strings_walk : (pos : Pos) (ended : Bool) (tokens : List SpelledToken) (placed : Placed) → PlacesStand placed → Walks placed (place_strings pos ended tokens placed)
+unfolding place_strings
+strings_walk pos ended tokens placed stands = after (joined_strings ended (operands_of tokens)) (λ bytes. bytes_walk pos placed.current bytes placed stands)
+
+item_walk : (pos : Pos) (naming : Naming) (item : Content) (placed : Placed) → PlacesStand placed → Walks placed (with_named pos naming item placed)
+item_walk pos naming item placed stands =
+    walked placed (push_walk pos placed.current item placed stands) (λ pushed now. table_walk pushed (allowed naming pushed.table) now (allowed_stand pushed.sections naming pushed.table))
+
+known_walk : (pos : Pos) (placed : Placed) (most : ℕ) (operands : List (List SpelledToken)) → PlacesStand placed
+    → Fine (λ (given : KnownOperands). Stays placed given.placed) (known_operands pos placed most operands)
+unfolding known_operands
+known_walk pos placed most operands stands =
+    after (up_to_three_trees most operands)
+    (λ trees. after (up_to_three_forms (known_here (with_names pos (up_to_three_listed trees) placed)) trees)
+    (λ forms. after (up_to_three_constants forms) (λ values. made _ (names_stay pos (up_to_three_listed trees) placed stands))))
+
+zero_walk : (pos : Pos) (tokens : List SpelledToken) (placed : Placed) → PlacesStand placed → Walks placed (place_zero pos tokens placed)
+unfolding place_zero
+zero_walk pos tokens placed stands =
+    step (known_walk pos placed 1 (operands_of tokens) stands)
+    (λ given stays. stays_on placed given.placed _ stays (after (space_of given.values.first 0) (λ item. item_walk pos given.naming item given.placed stays.stands)))
+
+skip_walk : (pos : Pos) (tokens : List SpelledToken) (placed : Placed) → PlacesStand placed → Walks placed (place_skip pos tokens placed)
+unfolding place_skip
+skip_walk pos tokens placed stands =
+    step (known_walk pos placed 2 (operands_of tokens) stands)
+    (λ given stays. stays_on placed given.placed _ stays
+    (after (space_of given.values.first (unwrap_or given.values.second 0)) (λ item. item_walk pos given.naming item given.placed stays.stands)))
+
+fill_walk : (pos : Pos) (tokens : List SpelledToken) (placed : Placed) → PlacesStand placed → Walks placed (place_fill pos tokens placed)
+unfolding place_fill
+fill_walk pos tokens placed stands =
+    step (known_walk pos placed 3 (operands_of tokens) stands)
+    (λ given stays. stays_on placed given.placed _ stays
+    (after (unit_size given.values.second) (λ size. after (units_of given.values.first size (unwrap_or given.values.third 0))
+    (λ item. item_walk pos given.naming item given.placed stays.stands))))
+
+align_walk : (pos : Pos) (by : AlignedBy) (tokens : List SpelledToken) (placed : Placed) → PlacesStand placed → Walks placed (place_align pos by tokens placed)
+unfolding place_align
+align_walk pos by tokens placed stands =
+    step (known_walk pos placed 3 (operands_of tokens) stands)
+    (λ given stays. stays_on placed given.placed _ stays
+    (after (align_of by (is_code given.placed.sections given.placed.current) given.values) (λ item. item_walk pos given.naming item given.placed stays.stands)))
+
+org_walk : (pos : Pos) (tokens : List SpelledToken) (placed : Placed) → PlacesStand placed → Walks placed (place_org pos tokens placed)
+unfolding place_org
+org_walk pos tokens placed stands =
+    after (up_to_three_trees 2 (operands_of tokens))
+    (λ trees. let named = with_names pos (up_to_three_listed trees) placed in
+    let names = names_stay pos (up_to_three_listed trees) placed stands in
+    stays_on placed named _ names
+    (after (up_to_three_forms (known_here named) trees)
+    (λ forms. after (known_origin (origin_by named forms.first.terms))
+    (λ origin. after (if_some constant_in forms.second)
+    (λ fill. after (org_of origin.from origin.offset forms.first.constant (unwrap_or fill 0))
+    (λ item. item_walk pos (naming_of (up_to_three_listed trees) placed.table) item named names.stands))))))
+
+number_walk : (pos : Pos) (signed : Bool) (terms : List Term) (form : Form) (placed : Placed) → PlacesStand placed → Walks placed (put_number_by terms pos signed form placed)
+number_walk pos signed [] form placed stands = bytes_walk pos placed.current (least_leb128 signed form.constant) placed stands
+number_walk pos signed (term ∷ terms) form placed stands = growing_walk pos placed.current (Leb128 signed) Absent form placed stands
+
+numbers_walk : (pos : Pos) (signed : Bool) (forms : List Form) (placed : Placed) → PlacesStand placed → Walks placed (put_numbers pos signed forms placed)
+unfolding put_numbers all_steps
+numbers_walk pos signed [] placed stands = made placed (unmoved placed stands)
+numbers_walk pos signed (form ∷ forms) placed stands = walked placed (number_walk pos signed form.terms form placed stands) (λ put now. numbers_walk pos signed forms put now)
+
+put_leb128_walk : (pos : Pos) (signed : Bool) (naming : Naming) (forms : List Form) (placed : Placed) → PlacesStand placed → Walks placed (put_leb128 pos signed naming forms placed)
+unfolding put_leb128
+put_leb128_walk pos signed naming forms placed stands =
+    step (numbers_walk pos signed forms placed stands)
+    (λ put stays. stays_on placed put _ stays (table_walk put (end_naming pos naming (here placed) (list_any (uses_place (known_here placed).place) forms) put.table) stays.stands
+    (here_stand pos naming (list_any (uses_place (known_here placed).place) forms) placed put stands stays)))
+
+leb128_walk : (pos : Pos) (signed : Bool) (tokens : List SpelledToken) (placed : Placed) → PlacesStand placed → Walks placed (place_leb128 pos signed tokens placed)
+unfolding place_leb128
+leb128_walk pos signed tokens placed stands =
+    after (some_expressions (operands_of tokens))
+    (λ trees. after (each (form_in (known_here (with_names pos trees placed))) trees)
+    (λ forms. let names = names_stay pos trees placed stands in
+    stays_on placed (with_names pos trees placed) _ names (put_leb128_walk pos signed (naming_of trees placed.table) forms (with_names pos trees placed) names.stands)))
+
+-- SYMBOLS
+
+pub dot_walk : (dot : Bool) (before placed : Placed) → Stays before placed → Walks before (unless_dot dot placed)
+dot_walk true before placed stays = refused _
+dot_walk false before placed stays = made placed stays
+
+said_walk : (pos : Pos) (attribute : SymbolAttribute) (tokens : List SpelledToken) (placed : Placed) → PlacesStand placed → Walks placed (place_said pos attribute tokens placed)
+unfolding place_said
+said_walk pos attribute [] placed stands = refused _
+said_walk pos attribute (token ∷ rest) placed stands =
+    after (each plain_of (operands_of (token ∷ rest)))
+    (λ names. step (say_all_stand placed.sections pos attribute names placed.table)
+    (λ table kept. dot_walk (list_any is_dot (token ∷ rest)) placed (with_table placed table) (table_stays placed table kept stands)))
+
+type_walk : (pos : Pos) (tokens : List SpelledToken) (placed : Placed) → PlacesStand placed → Walks placed (place_type pos tokens placed)
+unfolding place_type
+type_walk pos tokens placed stands =
+    after (named_kind (operands_of tokens))
+    (λ words. step (named_change_stand placed.sections pos (kind_said words.kind) words.name placed.table (kind_stand placed.sections words.kind))
+    (λ table kept. dot_walk (begins_with_place tokens) placed (with_table placed table) (table_stays placed table kept stands)))
+
+words_stay : (pos : Pos) (words : NamedTree) (placed : Placed) → PlacesStand placed → Stays placed (with_words pos words placed)
+words_stay pos words placed stands =
+    let one = with_name pos words.name placed.table in
+    table_stays placed (with_tree pos words.tree one)
+    (both placed.sections placed.table.symbols one.symbols (with_tree pos words.tree one).symbols (with_name_stand placed.sections pos words.name placed.table)
+    (tree_stand placed.sections pos words.tree one)) stands
+
+size_words_walk : (pos : Pos) (words : NamedTree) (placed : Placed) → PlacesStand placed → Walks placed (size_words pos words placed)
+unfolding size_words
+size_words_walk pos words placed stands =
+    let named = with_words pos words placed in
+    let names = words_stay pos words placed stands in
+    stays_on placed named _ names
+    (after (form_in (known_here named) words.tree)
+    (λ form. let new = sized pos form (named.table, words_symbol words placed) in
+    table_walk named (end_words pos (words_naming words placed) form named new) names.stands
+    (onto named.sections named.table new (λ t. t) (sized_stand named.sections pos form (named.table, words_symbol words placed))
+    (end_stand named.sections pos (words_naming words placed) (here named) (uses_place (known_here named).place form) new
+    (spot_stands named.sections named.current names.stands.current)))))
+
+size_walk : (pos : Pos) (tokens : List SpelledToken) (placed : Placed) → PlacesStand placed → Walks placed (place_size pos tokens placed)
+unfolding place_size
+size_walk pos tokens placed stands =
+    after (named_tree (operands_of tokens)) (λ words. walked placed (size_words_walk pos words placed stands)
+    (λ sized now. dot_walk (begins_with_place tokens) sized sized (unmoved sized now)))
+
+assign_walk : (pos : Pos) (once : Bool) (words : NamedTree) (placed : Placed) → PlacesStand placed → Walks placed (assign_words pos once words placed)
+unfolding assign_words
+assign_walk pos once words placed stands =
+    let named = with_words pos words placed in
+    let names = words_stay pos words placed stands in
+    stays_on placed named _ names
+    (after (form_in (known_here named) words.tree)
+    (λ form. table_walk named (changed_by (λ map index. assigned map index form once) (named.table, words_symbol words placed) >>= end_words pos (words_naming words placed) form named)
+    names.stands
+    (step (change_stand named.sections (λ map index. assigned map index form once) (named.table, words_symbol words placed)
+    (assigned_stand named.sections form once named.table.symbols (words_symbol words placed)))
+    (λ next kept. onto named.sections named.table next (λ t. t) kept
+    (end_stand named.sections pos (words_naming words placed) (here named) (uses_place (known_here named).place form) next
+    (spot_stands named.sections named.current names.stands.current))))))
+
+set_walk : (pos : Pos) (once : Bool) (tokens : List SpelledToken) (placed : Placed) → PlacesStand placed → Walks placed (place_set pos once tokens placed)
+unfolding place_set
+set_walk pos once tokens placed stands = after (named_tree (operands_of tokens)) (λ words. assign_walk pos once words placed stands)
+
+pub assignment_walk : (pos : Pos) (token : SpelledToken) (tokens : List SpelledToken) (placed : Placed) → PlacesStand placed → Walks placed (place_assignment pos token tokens placed)
+unfolding place_assignment
+assignment_walk pos token tokens placed stands =
+    after (symbol_name token) (λ name. after (expression_of tokens) (λ tree. assign_walk pos false (record { name = naming.Plain name; tree = tree }) placed stands))
+
+-- space for symbols
+with_space_walk : (pos : Pos) (naming : Naming) (symbol size log : ℕ) (placed : Placed) → PlacesStand placed → Walks placed (with_space pos naming symbol size log placed)
+unfolding with_space
+with_space_walk pos naming symbol size log placed stands =
+    after (space_of size 0)
+    (λ space. walked placed (push_walk pos bss (content.Align (zeros_up_to log)) placed stands)
+    (λ aligned there. step (push_walk pos bss space aligned there)
+    (λ pushed stays. stays_on aligned pushed _ stays
+    (table_walk pushed (define_space naming symbol size (Space (spot_at aligned.sections bss)) pushed.table) stays.stands
+    (define_space_stand pushed.sections naming symbol size (Space (spot_at aligned.sections bss)) pushed.table
+    (items_grow aligned.sections pushed.sections (spot_at aligned.sections bss).section (spot_at aligned.sections bss).item stays.grows
+    (spot_stands aligned.sections bss (there.first bss (omega arith)))))))))
+
+with_common_walk : (naming : Naming) (symbol size log : ℕ) (placed : Placed) → PlacesStand placed → Walks placed (with_common naming symbol size log placed)
+unfolding with_common
+with_common_walk naming symbol size log placed stands =
+    table_walk placed (define_space naming symbol size (Common size (2 ^ log)) placed.table) stands
+    (define_space_stand placed.sections naming symbol size (Common size (2 ^ log)) placed.table tt)
+
+space_walk : (is_local : Bool) (pos : Pos) (naming : Naming) (symbol size log : ℕ) (placed : Placed) → PlacesStand placed → Walks placed (place_space is_local pos naming symbol size log placed)
+space_walk true pos naming symbol size log placed stands = with_space_walk pos naming symbol size log placed stands
+space_walk false pos naming symbol size log placed stands = with_common_walk naming symbol size log placed stands
+
+space_words_walk : (pos : Pos) (placed : Placed) (most : ℕ) (tokens : List SpelledToken) → PlacesStand placed
+    → Fine (λ (words : SpaceWords). Stays placed words.given.placed) (space_words pos placed most tokens)
+unfolding space_words
+space_words_walk pos placed most tokens stands =
+    after (needed name_of (operands_of tokens))
+    (λ name. let owned = with_own pos (naming.Plain name.0) placed in
+    let own = table_stays placed owned.table (with_name_stand placed.sections pos (naming.Plain name.0) placed.table) stands in
+    step (known_walk pos owned most name.1 own.stands)
+    (λ given stays. made _ (record { grows = grown_twice placed.sections owned.sections given.placed.sections own.grows stays.grows; stands = stays.stands })))
+
+comm_walk : (pos : Pos) (tokens : List SpelledToken) (placed : Placed) → PlacesStand placed → Walks placed (place_comm pos tokens placed)
+unfolding place_comm
+comm_walk pos tokens placed stands =
+    step (space_words_walk pos placed 2 tokens stands)
+    (λ words stays. stays_on placed words.given.placed _ stays
+    (after (space_size words.given.values.first)
+    (λ size. after (log_of words.given.values.second size)
+    (λ log. walked words.given.placed
+    (space_walk (is_said_local words.given.placed.table.symbols words.symbol) pos words.given.naming words.symbol size log words.given.placed stays.stands)
+    (λ made now. dot_walk (begins_with_place tokens) made made (unmoved made now))))))
+
+lcomm_walk : (pos : Pos) (tokens : List SpelledToken) (placed : Placed) → PlacesStand placed → Walks placed (place_lcomm pos tokens placed)
+unfolding place_lcomm
+lcomm_walk pos tokens placed stands =
+    step (space_words_walk pos placed 1 tokens stands)
+    (λ words stays. stays_on placed words.given.placed _ stays
+    (after (space_size words.given.values.first)
+    (λ size. after (log_of None size)
+    (λ log. walked words.given.placed (space_walk true pos words.given.naming words.symbol size log words.given.placed stays.stands)
+    (λ made now. dot_walk (begins_with_place tokens) made made (unmoved made now))))))
+
+-- texts
+ident_walk : (pos : Pos) (tokens : List SpelledToken) (placed : Placed) → PlacesStand placed → Walks placed (place_ident pos tokens placed)
+unfolding place_ident
+ident_walk pos tokens placed stands =
+    after (one_string tokens) (λ text. step (entered_adds placed.sections (codes ".comment") comment_header)
+    (λ pair adds. let more = sections_stay placed pair.0 adds.grows stands in
+    stays_on placed (record placed { sections = pair.0 }) _ more
+    (bytes_walk pos pair.1 (comment_bytes (items_in pair.0 pair.1) text) (record placed { sections = pair.0 }) more.stands)))
+
+file_walk : (tokens : List SpelledToken) (placed : Placed) → PlacesStand placed → Walks placed (place_file tokens placed)
+unfolding place_file
+file_walk tokens placed stands =
+    after (one_string tokens) (λ text. after (file_name text)
+    (λ name. table_walk placed (file_named (naming.Plain name) placed.table) stands (file_stand placed.sections (naming.Plain name) placed.table)))
+
+-- directives
+bare_walk : (tokens : List SpelledToken) (placed : Placed) (answer : Result Placed PlaceCause) → Walks placed answer → Walks placed (bare tokens answer)
+bare_walk [] placed answer steps = steps
+bare_walk (token ∷ rest) placed answer steps = refused _
+
+initial_few : (initial : InitialSection) → initial_number initial < 3
+initial_few initially.Text = omega arith
+initial_few initially.Data = omega arith
+initial_few initially.Bss = omega arith
+
+by_walk : (found : Directive) (pos : Pos) (tokens : List SpelledToken) (placed : Placed) → PlacesStand placed → Walks placed (place_by found pos tokens placed)
+unfolding place_by
+by_walk (directive.Data size) pos tokens placed stands = data_walk pos size tokens placed stands
+by_walk (directive.Strings ended) pos tokens placed stands = strings_walk pos ended tokens placed stands
+by_walk (directive.Leb128 signed) pos tokens placed stands = leb128_walk pos signed tokens placed stands
+by_walk directive.Zero pos tokens placed stands = zero_walk pos tokens placed stands
+by_walk directive.Skip pos tokens placed stands = skip_walk pos tokens placed stands
+by_walk directive.Fill pos tokens placed stands = fill_walk pos tokens placed stands
+by_walk (directive.Align by) pos tokens placed stands = align_walk pos by tokens placed stands
+by_walk directive.Org pos tokens placed stands = org_walk pos tokens placed stands
+by_walk (directive.Enter initial) pos tokens placed stands =
+    bare_walk tokens placed (Ok (with_current (initial_number initial) placed))
+    (made _ (current_stays (initial_number initial) placed (stands.first (initial_number initial) (initial_few initial)) stands))
+by_walk directive.Section pos tokens placed stands = section_walk pos tokens placed stands
+by_walk directive.PushSection pos tokens placed stands = pushed_walk pos tokens placed stands
+by_walk directive.PopSection pos tokens placed stands = bare_walk tokens placed (popped placed) (popped_walk placed stands)
+by_walk directive.Previous pos tokens placed stands =
+    bare_walk tokens placed (Ok (with_current placed.previous placed)) (made _ (current_stays placed.previous placed stands.previous stands))
+by_walk (directive.Say attribute) pos tokens placed stands = said_walk pos attribute tokens placed stands
+by_walk directive.Type pos tokens placed stands = type_walk pos tokens placed stands
+by_walk directive.Size pos tokens placed stands = size_walk pos tokens placed stands
+by_walk (directive.Assign once) pos tokens placed stands = set_walk pos once tokens placed stands
+by_walk directive.Comm pos tokens placed stands = comm_walk pos tokens placed stands
+by_walk directive.Lcomm pos tokens placed stands = lcomm_walk pos tokens placed stands
+by_walk directive.Ident pos tokens placed stands = ident_walk pos tokens placed stands
+by_walk directive.File pos tokens placed stands = file_walk tokens placed stands
+
+found_walk : (found : Option Directive) (pos : Pos) (tokens : List SpelledToken) (placed : Placed) → PlacesStand placed → Walks placed (place_found found pos tokens placed)
+found_walk None pos tokens placed stands = refused _
+found_walk (Some found) pos tokens placed stands = by_walk found pos tokens placed stands
+
+pub directive_walk : (pos : Pos) (name : List ℕ) (tokens : List SpelledToken) (placed : Placed) → PlacesStand placed → Walks placed (place_directive pos name tokens placed)
+unfolding place_directive
+directive_walk pos name tokens placed stands = found_walk _ pos tokens placed stands

@@ -1,0 +1,272 @@
+-- What is put into sections, and which are entered: each symbol that has a place stands in its section.
+use Rattle.std.proofs.Common.{◌≡◌, ℕ, Bool, true, false, cond, List, [], ◌∷◌, ◌++◌, length, Option, None, Some, Result, Ok, Err, refl, slice_get}
+use Rattle.std.specs.Prelude.{◌&&◌, ◌^◌, nat_lt, not}
+use Rattle.std.specs.List.{list_all}
+use Rattle.asm_operands.specs.declared.place_faults.PlaceCause.{PlaceCause}
+use Rattle.asm_operands.specs.declared.place_faults.PlaceCause.TheVariants.{BadSection}
+use Rattle.asm_base.specs.declared.notes.Noted.{Noted}
+use Rattle.asm_base.specs.declared.positions.Pos.{Pos}
+use Rattle.asm_base.specs.Tokens.{SpelledToken}
+use Rattle.asm_expr.specs.Forms.{Form}
+use Rattle.item_contents.specs.declared.contents.Content.{Content}
+use Rattle.asm_frags.specs.declared.faults.FragCause.{FragCause}
+use Rattle.asm_frags.specs.declared.fields.FieldSize.{FieldSize}
+use Rattle.asm_frags.specs.declared.faults.FragCause.TheVariants as frag
+use Rattle.asm_frags.specs.SectionOf.{new_section, is_alike, section_number}
+use Rattle.item_contents.specs.Zeros.{is_zero}
+use Rattle.item_contents.specs.Contents.{is_known_zeros}
+use Rattle.asm_frags.specs.declared.roles.FieldRole.{FieldRole}
+use Rattle.asm_frags.specs.declared.roles.Suffix.{Suffix}
+use Rattle.item_contents.specs.declared.kinds.Growth.{Growth}
+use Rattle.asm_frags.specs.Writing.{LooseSection, new_item, takes_zeros_alone, with_item, with_bytes, with_field, with_growing, bytes_put, field_put, item_put, growing_put}
+use Rattle.asm_frags.specs.Sections.{section_flags, entered_there, entered_by}
+use Rattle.asm_place.specs.declared.section_changes.Header.{Header}
+use Rattle.asm_values.specs.declared.stacks.Entered.{Entered}
+use Rattle.asm_base.specs.Refusals.{◌>>=◌}
+use Rattle.asm_operands.specs.Operands.{operands_of}
+use Rattle.asm_uses.specs.Places.{spot_at}
+use Rattle.asm_values.specs.State.{Placed, with_table, with_notes, with_names, known_here, put_section, put_bytes_into, put_field_into, put_growing_into, push_into}
+use Rattle.asm_words.specs.SectionWords.{SectionWords, section_words}
+use Rattle.asm_place.specs.SectionChanges.{with_current, option_trees, numbered, entered_as, enter_words, place_section, entered_now, place_pushed, back_to, popped, entry_size_in, header_by}
+use Rattle.asm_expr.specs.Trees.{Tree}
+use Rattle.asm_place.specs.Instructions.{Grows}
+use Rattle.asm_place.proofs.GrowthLemmas.{IsAdded, adds_nothing, item_added, bytes_added, field_added, growing_added}
+use Rattle.asm_place.proofs.Walks.{Fine, made, refused, step, after, either}
+use Rattle.asm_uses.specs.Tables.{naming_of, allowed}
+use Rattle.std.proofs.Common.{◌-◌, arith, length-append}
+use Rattle.std.proofs.lemmas.List.Elements.{All-push, All-take, All-weaker}
+use Rattle.asm_symbols.specs.declared.entries.Meaning.{Meaning}
+use Rattle.asm_symbols.specs.declared.entries.Meaning.TheVariants as meaning
+use Rattle.asm_symbols.specs.declared.entries.Symbol.{Symbol}
+use Rattle.asm_uses.specs.Tables.{Table, with_trees}
+use Rattle.asm_place.specs.Instructions.{with_more}
+use Rattle.asm_place.specs.SymbolPlaces.{HasItems, MeaningStands, PlacesStand}
+use Rattle.asm_place.proofs.GrowthLemmas.{All-there, continued_on}
+use Rattle.asm_place.proofs.PlacingLaws.{there_adds, entered_adds}
+use Rattle.asm_place.proofs.SymbolTables.{Tables, trees_stand, allowed_stand}
+
+-- WHAT IS KEPT
+
+-- sections only grow, and all places stand
+pub record Stays (before after : Placed) : Type 0 where
+  pub grows : Grows before.sections after.sections
+  pub stands : PlacesStand after
+
+abbrev pub Walks : {E : Type 0} → Placed → Result Placed E → Type 0
+Walks before = Fine (Stays before)
+
+not_grown : (sections : List LooseSection) → Grows sections sections
+not_grown sections = (adds_nothing sections).grows
+
+pub grown_twice : (one two three : List LooseSection) → Grows one two → Grows two three → Grows one three
+grown_twice one two three first last =
+    record { kept = λ number section there. continued_on section _ _ (first.kept number section there) (λ s is. last.kept number s is) }
+
+pub stays_on : {E : Type 0} (before between : Placed) (r : Result Placed E) → Stays before between → Walks between r → Walks before r
+stays_on before between (Ok x) stays later =
+    record { holds = record { grows = grown_twice before.sections between.sections x.sections stays.grows later.holds.grows; stands = later.holds.stands } }
+stays_on before between (Err fault) stays later = refused fault
+
+pub walked : {E : Type 0} (before : Placed) {r : Result Placed E} {f : Placed → Result Placed E} → Walks before r → ((x : Placed) → PlacesStand x → Walks x (f x)) → Walks before (r >>= f)
+walked before {f = f} first later = step first (λ x stays. stays_on before x (f x) stays (later x stays.stands))
+
+both_fine : {A E : Type 0} {P Q : A → Type 0} (r : Result A E) → Fine P r → Fine Q r → Fine (λ x. P x × Q x) r
+both_fine (Ok x) one other = made x (one.holds, other.holds)
+both_fine (Err fault) one other = refused fault
+
+pub unmoved : (placed : Placed) → PlacesStand placed → Stays placed placed
+unmoved placed stands = record { grows = not_grown placed.sections; stands = stands }
+
+-- what stands in sections stands there when they have grown
+pub items_grow : (before after : List LooseSection) (number items : ℕ) → Grows before after → HasItems before number items → HasItems after number items
+items_grow before after number items grows has =
+    let later = grows.kept number has.section has.there in
+    let enough = has.enough in
+    record { section = with_more has.section later.bytes later.fields later.items; there = later.there; enough = omega (arith, enough, length-append has.section.items later.items) }
+
+meaning_grows : (before after : List LooseSection) → Grows before after → (meant : Meaning) → MeaningStands before meant → MeaningStands after meant
+meaning_grows before after grows meaning.Undefined stands = tt
+meaning_grows before after grows (meaning.Label spot) stands = items_grow before after spot.section spot.item grows stands
+meaning_grows before after grows (meaning.Common size align) stands = tt
+meaning_grows before after grows (meaning.Space spot) stands = items_grow before after spot.section spot.item grows stands
+meaning_grows before after grows (meaning.Assigned form) stands = tt
+
+-- sections that are entered and come back to
+abbrev pub EntryStands : List LooseSection → Entered → Type 0
+EntryStands sections entered = HasItems sections entered.current 0 × HasItems sections entered.previous 0
+
+pub sections_stay : (placed : Placed) (sections : List LooseSection) → Grows placed.sections sections → PlacesStand placed → Stays placed (record placed { sections = sections })
+sections_stay placed sections grows stands = record {
+  grows = grows;
+  stands = record {
+    current = items_grow placed.sections sections placed.current 0 grows stands.current;
+    previous = items_grow placed.sections sections placed.previous 0 grows stands.previous;
+    stack = All-weaker (EntryStands placed.sections) (EntryStands sections)
+        (λ entered was. (items_grow placed.sections sections entered.current 0 grows was.0, items_grow placed.sections sections entered.previous 0 grows was.1))
+        placed.stack stands.stack;
+    first = λ number few. items_grow placed.sections sections number 0 grows (stands.first number few);
+    symbols = All-weaker (λ (symbol : Symbol). MeaningStands placed.sections symbol.meaning) (λ (symbol : Symbol). MeaningStands sections symbol.meaning)
+        (λ symbol was. meaning_grows placed.sections sections grows symbol.meaning was) placed.table.symbols.symbols stands.symbols;
+  };
+}
+
+pub table_stays : (placed : Placed) (table : Table) → Tables placed.sections placed.table table → PlacesStand placed → Stays placed (with_table placed table)
+table_stays placed table kept stands = record {
+  grows = not_grown placed.sections;
+  stands = record { current = stands.current; previous = stands.previous; stack = stands.stack; first = stands.first; symbols = kept.kept stands.symbols };
+}
+
+pub current_stays : (number : ℕ) (placed : Placed) → HasItems placed.sections number 0 → PlacesStand placed → Stays placed (with_current number placed)
+current_stays number placed there stands = record {
+  grows = not_grown placed.sections;
+  stands = record { current = there; previous = stands.current; stack = stands.stack; first = stands.first; symbols = stands.symbols };
+}
+
+pub notes_stay : (notes : List Noted) (before placed : Placed) → Stays before placed → Stays before (with_notes notes placed)
+notes_stay notes before placed stays = record {
+  grows = stays.grows;
+  stands = record { current = stays.stands.current; previous = stays.stands.previous; stack = stays.stands.stack; first = stays.stands.first; symbols = stays.stands.symbols };
+}
+
+pub names_stay : (pos : Pos) (trees : List Tree) (placed : Placed) → PlacesStand placed → Stays placed (with_names pos trees placed)
+names_stay pos trees placed stands = table_stays placed (with_trees pos trees placed.table) (trees_stand placed.sections pos trees placed.table) stands
+
+-- the place of a statement stands
+pub spot_stands : (sections : List LooseSection) (number : ℕ) → HasItems sections number 0 → HasItems sections (spot_at sections number).section (spot_at sections number).item
+unfolding spot_at
+spot_stands sections number has =
+    rw has.there (record { section = has.section; there = has.there; enough = omega arith })
+
+-- the table that a step makes on what is placed
+pub table_walk : (placed : Placed) (r : Result Table PlaceCause) → PlacesStand placed → Fine (Tables placed.sections placed.table) r → Walks placed (r >>= λ table. Ok (with_table placed table))
+table_walk placed r stands fine = step fine (λ table kept. made (with_table placed table) (table_stays placed table kept stands))
+
+-- WHAT IS PUT
+
+put_walk : (put : LooseSection → Result LooseSection FragCause) → ((section : LooseSection) → Fine (IsAdded section) (put section)) → (number : ℕ) (placed : Placed) → PlacesStand placed
+    → Walks placed (put_section put number placed)
+put_walk put puts number placed stands =
+    step (there_adds put puts placed.sections number (slice_get placed.sections number) refl)
+    (λ sections adds. made (record placed { sections = sections }) (sections_stay placed sections adds.grows stands))
+
+pub bytes_walk : (pos : Pos) (number : ℕ) (bytes : List ℕ) (placed : Placed) → PlacesStand placed → Walks placed (put_bytes_into pos number bytes placed)
+unfolding put_bytes_into
+bytes_walk pos number bytes placed stands =
+    put_walk (bytes_put pos bytes)
+    (λ section. either (takes_zeros_alone section && not (list_all is_zero bytes)) (refused _) (made (with_bytes pos bytes section) (bytes_added pos bytes section)))
+    number placed stands
+
+pub field_walk : (pos : Pos) (number : ℕ) (size : FieldSize) (role : FieldRole) (form : Form) (placed : Placed) → PlacesStand placed
+    → Walks placed (put_field_into pos number size role form placed)
+unfolding put_field_into
+field_walk pos number size role form placed stands =
+    put_walk (field_put pos number size role form)
+    (λ section. either (takes_zeros_alone section) (refused _)
+    (made (with_field pos number size role form section) (field_added pos number size role form section))) number placed stands
+
+pub push_walk : (pos : Pos) (number : ℕ) (item : Content) (placed : Placed) → PlacesStand placed → Walks placed (push_into pos number item placed)
+unfolding push_into
+push_walk pos number item placed stands =
+    put_walk (item_put (new_item pos item))
+    (λ section. either (takes_zeros_alone section && not (is_known_zeros item)) (refused _)
+    (made (with_item (new_item pos item) section) (item_added (new_item pos item) section))) number placed stands
+
+pub growing_walk : (pos : Pos) (number : ℕ) (kind : Growth) (suffix : Suffix) (form : Form) (placed : Placed) → PlacesStand placed
+    → Walks placed (put_growing_into pos number kind suffix form placed)
+unfolding put_growing_into
+growing_walk pos number kind suffix form placed stands =
+    put_walk (growing_put pos number kind suffix form)
+    (λ section. either (takes_zeros_alone section) (refused _)
+    (made (with_growing pos number kind suffix form section) (growing_added pos number kind suffix form section))) number placed stands
+
+-- SECTIONS THAT ARE ENTERED
+
+abbrev IsThere : List LooseSection × ℕ → Type 0
+IsThere pair = HasItems pair.0 pair.1 0
+
+last_there : (sections : List LooseSection) (new : LooseSection) → slice_get (sections ++ new ∷ []) (length sections) ≡ Some new
+last_there [] new = refl
+last_there (section ∷ sections) new = last_there sections new
+
+new_there : (sections : List LooseSection) (name : List ℕ) (header : Header) (test : Bool) → let new = new_section name (section_flags header.flags) header.kind header.entry_size in
+    Fine IsThere (numbered (cond test (Ok (length sections, sections ++ new ∷ [])) (Err frag.BadSection)))
+new_there sections name header true =
+    let new = new_section name (section_flags header.flags) header.kind header.entry_size in
+    made _ (record { section = new; there = last_there sections new; enough = omega arith })
+new_there sections name header false = refused _
+
+alike_there : (sections : List LooseSection) (number : ℕ) (test : Bool) → HasItems sections number 0
+    → Fine IsThere (numbered (cond test (Ok (number, sections)) (Err frag.BadSection)))
+alike_there sections number true has = made _ has
+alike_there sections number false has = refused _
+
+known_there : (sections : List LooseSection) (number : ℕ) (found : Option LooseSection) (header : Header) → slice_get sections number ≡ found
+    → Fine IsThere (numbered (entered_there sections number found (section_flags header.flags) header.kind header.entry_size))
+known_there sections number None header is = refused _
+known_there sections number (Some section) header is =
+    alike_there sections number (is_alike section (section_flags header.flags) header.kind header.entry_size) (record { section = section; there = is; enough = omega arith })
+
+by_there : (sections : List LooseSection) (number : Option ℕ) (name : List ℕ) (header : Header)
+    → Fine IsThere (numbered (entered_by sections number name (section_flags header.flags) header.kind header.entry_size))
+by_there sections None name header = new_there sections name header (nat_lt (length sections) 30003)
+by_there sections (Some number) name header = known_there sections number (slice_get sections number) header refl
+
+entered_is_there : (sections : List LooseSection) (name : List ℕ) (header : Header) → Fine IsThere (entered_as sections name header)
+unfolding entered_as
+entered_is_there sections name header = either (nat_lt (2 ^ 16) (length name)) (refused BadSection) (by_there sections (section_number name sections) name header)
+
+enter_walk : (pos : Pos) (words : SectionWords) (placed : Placed) → PlacesStand placed → Walks placed (enter_words pos words placed)
+unfolding enter_words
+enter_walk pos words placed stands =
+    let trees = option_trees words.entry_size in
+    let named = with_names pos trees placed in
+    let names = names_stay pos trees placed stands in
+    stays_on placed named _ names
+    (after (entry_size_in (known_here named) words.entry_size)
+    (λ size. after (header_by placed.sections words size)
+    (λ header. step (both_fine (entered_as placed.sections words.name header) (entered_adds placed.sections words.name header) (entered_is_there placed.sections words.name header))
+    (λ pair has. let more = sections_stay named pair.0 has.0.grows names.stands in
+    let there = current_stays pair.1 (record named { sections = pair.0 }) has.1 more.stands in
+    stays_on named (record named { sections = pair.0 }) _ more
+    (stays_on (record named { sections = pair.0 }) (with_current pair.1 (record named { sections = pair.0 })) _ there
+    (table_walk (with_current pair.1 (record named { sections = pair.0 })) (allowed (naming_of trees placed.table) named.table) there.stands
+    (allowed_stand pair.0 (naming_of trees placed.table) named.table)))))))
+
+pub section_walk : (pos : Pos) (tokens : List SpelledToken) (placed : Placed) → PlacesStand placed → Walks placed (place_section pos tokens placed)
+unfolding place_section
+section_walk pos tokens placed stands = after (section_words (operands_of tokens)) (λ words. enter_walk pos words placed stands)
+
+pub pushed_walk : (pos : Pos) (tokens : List SpelledToken) (placed : Placed) → PlacesStand placed → Walks placed (place_pushed pos tokens placed)
+unfolding place_pushed
+pushed_walk pos tokens placed stands =
+    step (section_walk pos tokens placed stands)
+    (λ entered stays. made _ (record {
+      grows = stays.grows;
+      stands = record {
+        current = stays.stands.current;
+        previous = stays.stands.previous;
+        stack = All-push (EntryStands entered.sections) entered.stack (entered_now placed) stays.stands.stack
+            (items_grow placed.sections entered.sections placed.current 0 stays.grows stands.current, items_grow placed.sections entered.sections placed.previous 0 stays.grows stands.previous);
+        first = stays.stands.first;
+        symbols = stays.stands.symbols;
+      };
+    }))
+
+back_walk : (entered : Option Entered) (placed : Placed) → slice_get placed.stack (length placed.stack - 1) ≡ entered → PlacesStand placed → Walks placed (back_to entered placed)
+back_walk None placed is stands = refused _
+back_walk (Some entered) placed is stands =
+    let entry = All-there (EntryStands placed.sections) placed.stack (length placed.stack - 1) entered is stands.stack in
+    made _ (record {
+      grows = not_grown placed.sections;
+      stands = record {
+        current = entry.0;
+        previous = entry.1;
+        stack = All-take (EntryStands placed.sections) (length placed.stack - 1) placed.stack stands.stack;
+        first = stands.first;
+        symbols = stands.symbols;
+      };
+    })
+
+pub popped_walk : (placed : Placed) → PlacesStand placed → Walks placed (popped placed)
+unfolding popped
+popped_walk placed stands = back_walk _ placed refl stands
