@@ -329,7 +329,6 @@ KNOWN = [
     Known(ours_says("no form with these operands", "^ *(rep|repe|repne) "), "a repeat prefix for other string instructions than its own"),
     Known(ours_says("no form with these operands", "^ *((rep|repe|repne) +)?(movs|cmps|stos|lods|scas)[bwlq]? +[^ ]"), "operands of string instructions"),
     Known(ours_says("no form with these operands", "^ *(ro[lr]|rc[lr]|s[ah][lr]|sh[lr]d)[bwlq]? +%[er]cx,"), "the whole of rcx or ecx as a count"),
-    Known(ours_says("no form with these operands", "^ *sh[lr]d[bwlq]? +[^,]*,[^,]*(\\(.*\\))?$"), "shld and shrd of two operands, by cl"),
     Known(ours_says("no form with these operands", "^ *(push|pop)w "), "pushw and popw of memory, and pushw of a number"),
     Known(ours_says("no relocation for this value", r"^ *movabsq? +\$\w+@tpoff"), "@TPOFF in a field of 64 bits"),
     Known(gnu_says("invalid character '~' in mnemonic", "^ *lock +[a-z0-9]+ +~"), "lock before an operand that begins with ~"),

@@ -110,6 +110,14 @@ abbrev pub by_one : InsnText → InsnText
 by_one insn =
     if is_absent insn.second && not (is_absent insn.first) then record insn { second = slot.Immediate; immediate = number_text 1 } else insn
 
+-- the register cl
+abbrev pub register_cl : Slot
+register_cl = slot.Register (record { class = class.Byte; number = 1 })
+
+-- two operands without a third are shifted by cl
+abbrev pub by_cl : InsnText → InsnText
+by_cl insn = if is_absent insn.third && not (is_absent insn.second) then record insn { third = register_cl } else insn
+
 -- a register before an immediate stands for the first two operands
 abbrev pub one_for_two : InsnText → InsnText
 one_for_two insn =
@@ -148,6 +156,7 @@ abbrev pub ruled : Rule → InsnText → InsnText
 ruled rule.Plain insn = insn
 ruled (rule.Predicate value) insn = with_predicate value insn
 ruled rule.ByOne insn = by_one insn
+ruled rule.ByCl insn = by_cl insn
 ruled rule.OneForTwo insn = one_for_two insn
 ruled rule.MemoryFirst insn = memory_first insn
 ruled rule.AccumulatorFirst insn = accumulator_first insn
@@ -164,6 +173,7 @@ abbrev pub is_branch : Rule → Bool
 is_branch rule.Plain = false
 is_branch (rule.Predicate value) = false
 is_branch rule.ByOne = false
+is_branch rule.ByCl = false
 is_branch rule.OneForTwo = false
 is_branch rule.MemoryFirst = false
 is_branch rule.AccumulatorFirst = false

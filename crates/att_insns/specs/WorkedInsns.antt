@@ -16,7 +16,7 @@ use Rattle.x86_insn.specs.declared.insns.Index.TheVariants as index
 use Rattle.x86_insn.specs.declared.insns.Address.{Address}
 use Rattle.x86_insn.specs.declared.insns.Slot.{Slot}
 use Rattle.x86_insn.specs.declared.insns.Slot.TheVariants as slot
-use Rattle.x86_table.specs.declared.mnemonics.integers.TheConstants.{ADD, MOV, MOVABS, LEA, XCHG, TEST, IMUL, SHL, PUSH, STOS, CALL, JMP, JNE, LOOP, RET, NOP}
+use Rattle.x86_table.specs.declared.mnemonics.integers.TheConstants.{ADD, MOV, MOVABS, LEA, XCHG, TEST, IMUL, SHL, SHLD, SHRD, PUSH, STOS, CALL, JMP, JNE, LOOP, RET, NOP}
 use Rattle.x86_table.specs.declared.mnemonics.vectors.TheConstants.{MOVQ, CMPPS, CVTSI2SS, CVTSI2SD, PBLENDVB, CRC32}
 use Rattle.att_operands.specs.declared.faults.OperandCause.{OperandCause}
 use Rattle.att_operands.specs.declared.faults.OperandCause.TheVariants.{UnknownMnemonic, BadExpression, BadOperand, UnknownOperandSize}
@@ -124,6 +124,9 @@ pub record WorkedRules : Type 0 where
       (with_immediate (plainly 5) (at_address (at_reg 0) no_displacement (made_of TEST 32 slot.Immediate slot.Memory slot.Absent)))
   pub shifted : Reads (codes "shl %eax") (with_immediate (plainly 1) (made_of SHL 32 (reg class.Long 0) slot.Immediate slot.Absent))
   pub shifted_by : Reads (codes "shl %cl,%eax") (made_of SHL 32 (reg class.Long 0) (reg class.Byte 1) slot.Absent)
+  pub shifted_double : Reads (codes "shldq %rdx,%rsi") (made_of SHLD 64 (reg class.Quad 6) (reg class.Quad 2) (reg class.Byte 1))
+  pub shifted_double_by : Reads (codes "shldq %cl,%rdx,%rsi") (made_of SHLD 64 (reg class.Quad 6) (reg class.Quad 2) (reg class.Byte 1))
+  pub shifted_memory : Reads (codes "shrd %rdx,(%rsi)") (at_address (at_reg 6) no_displacement (made_of SHRD 64 slot.Memory (reg class.Quad 2) (reg class.Byte 1)))
   pub multiplied : Reads (codes "imul $3,%ecx") (with_immediate (plainly 3) (made_of IMUL 32 (reg class.Long 1) (reg class.Long 1) slot.Immediate))
   pub compared : Reads (codes "cmpltps %xmm1,%xmm2") (with_immediate (plainly 1) (made_of CMPPS 0 (reg class.Xmm 2) (reg class.Xmm 1) slot.Immediate))
   pub moved : Reads (codes "movd %rax,%xmm1") (made_of MOVQ 0 (reg class.Xmm 1) (reg class.Quad 0) slot.Absent)

@@ -3,12 +3,12 @@
 ghost use Rattle.std.specs.Prelude.{◌≡◌};
 ghost use Rattle.att_operands.specs.Values.{ValueText, IsValueOf};
 ghost use Rattle.att_insns.specs.InsnTexts.{InsnText, IsInsnOf, text_of, HasTexts};
-ghost use Rattle.att_insns.specs.Rules.{number_text, with_predicate, by_one, one_for_two, memory_first, accumulator_first, without_xmm0, quad_is_movq, or_move, long_memory, ruled, is_branch};
+ghost use Rattle.att_insns.specs.Rules.{number_text, with_predicate, by_one, by_cl, one_for_two, memory_first, accumulator_first, without_xmm0, quad_is_movq, or_move, long_memory, ruled, is_branch};
 
 use crate::slots::{
     is_absent, is_accumulator, is_immediate, is_memory, is_quad, is_register, is_xmm, is_xmm0,
 };
-use x86_insn::{Amount, Insn, Mnemonic, Slot, Value};
+use x86_insn::{Amount, Class, Insn, Mnemonic, Reg, Slot, Value};
 use x86_lookup::Rule;
 use x86_table::mnemonics::integers::MOV;
 use x86_table::mnemonics::vectors::MOVQ;
@@ -46,6 +46,19 @@ fn by_one(insn: &mut Insn)
     if is_absent(insn.second) && !is_absent(insn.first) {
         insn.second = Slot::Immediate;
         insn.immediate = number_value(1);
+    }
+}
+
+/// Two operands without a third are shifted by cl.
+fn by_cl(insn: &mut Insn)
+    ensures { (i d : ValueText) → HasTexts insn.old i d
+        → IsInsnOf insn.new (by_cl (text_of insn.old i d)) }
+{
+    if is_absent(insn.third) && !is_absent(insn.second) {
+        insn.third = Slot::Register(Reg {
+            class: Class::Byte,
+            number: 1,
+        });
     }
 }
 
@@ -143,6 +156,7 @@ fn rarely(insn: &mut Insn, rule: Rule)
         Rule::Plain => {}
         Rule::Predicate(number) => with_predicate(insn, number),
         Rule::ByOne => by_one(insn),
+        Rule::ByCl => by_cl(insn),
         Rule::OneForTwo => one_for_two(insn),
         Rule::MemoryFirst => memory_first(insn),
         Rule::AccumulatorFirst => accumulator_first(insn),

@@ -8,8 +8,8 @@ use self::integers::integers;
 use self::vectors::vectors;
 use crate::names::Named;
 use crate::names::Rule::{
-    AccumulatorFirst, Branch, ByOne, LongMemory, MemoryFirst, OneForTwo, OrMove, Plain, Predicate,
-    QuadIsMovq, WithXmm0,
+    AccumulatorFirst, Branch, ByCl, ByOne, LongMemory, MemoryFirst, OneForTwo, OrMove, Plain,
+    Predicate, QuadIsMovq, WithXmm0,
 };
 use x86_insn::Mnemonic;
 use x86_table::mnemonics::integers::*;

@@ -17,6 +17,8 @@ pub enum Rule {
     Predicate(u8),
     /// Without a count it is by 1.
     ByOne,
+    /// Of two operands, without a count, it is by the register cl.
+    ByCl,
     /// A register before an immediate stands for the first two operands.
     OneForTwo,
     /// Of two operands, memory is the first.
