@@ -12,22 +12,22 @@ use Rattle.att_operands.specs.declared.faults.OperandCause.{OperandCause}
 use Rattle.att_operands.specs.declared.faults.OperandCause.TheVariants.{BadOperand}
 use Rattle.att_operands.specs.Marks.{mark_by, mark_at, begins_by}
 use Rattle.att_operands.specs.Addresses.{register_by, address_at}
-use Rattle.att_operands.specs.Values.{stated, suffix_at, without_suffix, as_value, value_with, value_at, begun_at}
+use Rattle.att_operands.specs.Values.{stated, suffixed_name, suffix_at, without_suffix, as_value, value_with, value_at, begun_at}
 use Rattle.att_operands.specs.OperandTexts.{ReadPart, no_displacement, addressed, displaced_by, memory_at, named_place, place_at, immediate_by, target_by, target_at, other_by, operand_by, ended, operand_at}
 use Rattle.att_operands.specs.Failing.{expression_by, ValueFails, BegunFails, PlaceFails, unnamed, segmented, ExpressionFails, immediate_of, place, target_of, indirect, SpellsNothing, HasFault, expression, bad_operand, HasFaultExactly}
 use Rattle.att_operands.proofs.FrontReadings.{placed_fails}
 use Rattle.att_operands.proofs.SpelledOperands.{token_is, mark_is, left_behind}
 use Rattle.att_operands.proofs.SpelledWhole.{operand_reads}
 use Rattle.att_operands.proofs.ReadOperands.{read_is_spelled}
-use Rattle.att_operands.proofs.RefusedFails.{here_is, same_suffix, same_opens, same_expression, err_is, Refused, operand_refused}
+use Rattle.att_operands.proofs.SuffixPlaces.{same_suffix, same_expression}
+use Rattle.att_operands.proofs.RefusedFails.{here_is, same_opens, err_is, Refused, operand_refused}
 
 -- a value fails where its expression does
 with_fails : (tokens : List SpelledToken) (at : ℕ) (own : ExprCause) (suffix : Option Suffix) → FailsAt (expression_by (drop at tokens) suffix) own
     → value_with tokens at suffix ≡ Err (stated own)
-unfolding without_suffix
 with_fails tokens at own None fails = ap (as_value None 0) (placed_fails tokens at own ((has_fault (drop at tokens) own).refused fails))
 with_fails tokens at own (Some suffix) fails =
-    ap (as_value (Some suffix) 2) (placed_fails (without_suffix tokens at) at own (ap (reading 1 0) (same_expression tokens at) ∙ (has_fault (expression_by (drop at tokens) (Some suffix)) own).refused fails))
+    ap (as_value (Some suffix) 2) (placed_fails (without_suffix tokens (suffixed_name tokens at)) at own (ap (reading 1 0) (same_expression tokens at) ∙ (has_fault (expression_by (drop at tokens) (Some suffix)) own).refused fails))
 
 value_fails : (tokens : List SpelledToken) (at : ℕ) (own : ExprCause) → ValueFails (drop at tokens) own → value_at tokens at ≡ Err (stated own)
 unfolding value_at

@@ -1,5 +1,5 @@
 -- The reading of an expression at a place, by the text that stands there.
-use Rattle.std.proofs.Common.{◌≡◌, ℕ, zero, suc, ◌+◌, ◌-◌, ◌≤◌, false, List, [], ◌∷◌, ◌++◌, None, Ok, Err, length, map, drop, take, slice_get, refl, sym, ap, subst, ◌∙◌, arith, length-drop}
+use Rattle.std.proofs.Common.{◌≡◌, ℕ, zero, suc, ◌+◌, ◌-◌, ◌≤◌, false, List, [], ◌∷◌, ◌++◌, None, Ok, Err, length, map, drop, take, refl, sym, ap, subst, ◌∙◌, arith, length-drop}
 use Rattle.std.proofs.lemmas.List.{drop-map, take-append-drop, map-append, length-map, take_all, append-nil}
 use Rattle.std.proofs.Math.ListN.{drop_of_length-le}
 use Rattle.asm_base.specs.declared.tokens.Token.{Token}
@@ -13,6 +13,7 @@ use Rattle.expr_texts.specs.Grammar.{IsTextOf, operator_follows}
 use Rattle.expr_texts.specs.Found.{spelled_from}
 use Rattle.att_operands.specs.declared.faults.OperandCause.TheVariants.{BadExpression}
 use Rattle.att_operands.specs.Marks.{mark_by}
+use Rattle.att_operands.proofs.SuffixPlaces.{none_there, few_suffix}
 use Rattle.att_operands.specs.Values.{suffix_at, as_value, value_with, value_at}
 use Rattle.expr_texts.proofs.Marks.{in_one, in_higher}
 use Rattle.expr_texts.proofs.ParsingLemmas.{stops}
@@ -44,18 +45,13 @@ pub placed_fails : (tokens : List SpelledToken) (at : ℕ) (cause : ExprCause) �
 unfolding reading_of
 placed_fails tokens at cause is = ap (λ (r : Read). r >>= (λ found. Ok (record { tree = found.tree; next = length tokens - length found.rest }))) is
 
-none_there : (tokens : List SpelledToken) (at : ℕ) → length tokens ≤ at → slice_get tokens at ≡ None
-none_there [] at within = refl
-none_there (token ∷ tokens) zero within = absurd (omega arith)
-none_there (token ∷ tokens) (suc at) within = none_there tokens at (omega arith)
-
 nothing_reads : reading 1 0 [] ≡ Err cause.BadExpression
 unfolding reading read_at
 nothing_reads = refl
 
 unsuffixed : (tokens : List SpelledToken) (at : ℕ) → length tokens ≤ at → suffix_at tokens at ≡ None
 unfolding mark_by
-unsuffixed tokens at within = let none = none_there tokens (at + 1) (omega arith) in rw none refl
+unsuffixed tokens at within = few_suffix tokens at (let none = none_there tokens (at + 1) (omega arith) in rw none refl) (omega arith)
 
 -- where nothing stands, an expression is missing
 pub nothing_due : (tokens : List Token) (at : ℕ) → length tokens ≤ at → value_at (map spelled tokens) at ≡ Err BadExpression

@@ -4,6 +4,8 @@ pub mod FrontReadings
 pub mod AmountLemmas
 pub mod SuffixLemmas
 pub mod SpelledIsRead
+pub mod SuffixPlaces
+pub mod TextEnds
 pub mod SpelledOperands
 pub mod SpelledValues
 pub mod SpelledWhole

@@ -1,5 +1,5 @@
 -- A value that is read is written.
-use Rattle.std.proofs.Common.{◌≡◌, ℕ, suc, ◌+◌, ◌<◌, ◌==◌, Bool, true, false, cond, List, [], ◌∷◌, ◌++◌, Option, Some, None, Result, Ok, Err, length, drop, take, slice_get, refl, sym, ap, subst, ◌∙◌, arith, length-drop}
+use Rattle.std.proofs.Common.{◌≡◌, ℕ, suc, ◌+◌, ◌<◌, ◌==◌, Bool, true, false, cond, List, [], ◌∷◌, ◌++◌, Option, Some, None, Result, Ok, Err, length, drop, slice_get, refl, sym, ap, subst, ◌∙◌, arith, length-drop, length-append, append_assoc}
 use Rattle.std.proofs.Math.Seq.{drop-append_seam}
 use Rattle.asm_base.specs.Tokens.{SpelledToken}
 use Rattle.asm_expr.specs.declared.faults.ExprCause.{ExprCause}
@@ -11,10 +11,11 @@ use Rattle.x86_insn.specs.declared.amounts.Suffix.{Suffix}
 use Rattle.att_operands.specs.declared.faults.OperandCause.{OperandCause}
 use Rattle.att_operands.specs.declared.faults.OperandCause.TheVariants.{BadOperand}
 use Rattle.att_operands.specs.Marks.{mark_at, begins_by}
-use Rattle.att_operands.specs.Values.{ReadText, names_by, suffix_by, suffix_at, without_suffix, as_value, value_with, value_at, begun_at}
+use Rattle.att_operands.specs.Values.{ReadText, names_by, before_name, suffix_by, suffix_at, without_suffix, as_value, value_with, value_at, begun_at}
 use Rattle.att_operands.specs.Spells.{WritesValue, plain, suffixed}
-use Rattle.att_operands.proofs.SuffixLemmas.{joined}
-use Rattle.att_operands.proofs.SpelledIsRead.{text_some}
+use Rattle.att_operands.proofs.SuffixLemmas.{joined_front}
+use Rattle.att_operands.proofs.SuffixPlaces.{FrontRead, front_read}
+use Rattle.att_operands.proofs.TextEnds.{parted, text_ends}
 use Rattle.att_operands.proofs.SpelledOperands.{left_behind}
 use Rattle.att_operands.proofs.ReadAddresses.{Marked, marked, three_stand}
 
@@ -60,55 +61,66 @@ begun name rest (first ∷ more) behind some is =
     record { more = more; is = ap (λ (t : SpelledToken). t ∷ more) (sym same); left = others }
 
 -- with a suffix
-suffixed_read : (tokens : List SpelledToken) (at : ℕ) (found : ReadText) (suffix : Suffix) (name word : SpelledToken) (mark : Marked tokens (at + 1) 64) (read : Result ReadTree ExprCause)
-    → slice_get tokens at ≡ Some name → names_by (Some name) ≡ true → slice_get tokens (at + 2) ≡ Some word → suffix_by (Some word) ≡ Some suffix
-    → reading_of (without_suffix tokens at) at ≡ read → as_value (Some suffix) 2 read ≡ Ok found → ValueRead tokens at found
+suffixed_read : (tokens : List SpelledToken) (at n : ℕ) (found : ReadText) (suffix : Suffix) (name word : SpelledToken) (mark : Marked tokens ((at + n) + 1) 64) (read : Result ReadTree ExprCause)
+    → FrontRead tokens at n → slice_get tokens (at + n) ≡ Some name → names_by (Some name) ≡ true → slice_get tokens ((at + n) + 2) ≡ Some word → suffix_by (Some word) ≡ Some suffix
+    → reading_of (without_suffix tokens (at + n)) at ≡ read → as_value (Some suffix) 2 read ≡ Ok found → ValueRead tokens at found
 unfolding read_as
-suffixed_read tokens at found suffix name word mark (Err fault) here named there words reads is = cc
-suffixed_read tokens at found suffix name word mark (Ok tree) here named there words reads is =
-    let front = three_stand tokens at name mark.token word here mark.there there in
-    let many : at + 2 < length tokens = omega (arith, length-drop at tokens, ap length front, length-drop (at + 3) tokens) in
-    let all : drop at (without_suffix tokens at) ≡ name ∷ drop (at + 3) tokens = joined tokens at many ∙ ap (λ (ts : List SpelledToken). take 1 ts ++ drop (at + 3) tokens) front in
-    let in_tokens = read_is_text (without_suffix tokens at) at tree reads in
-    let parts = begun name (drop (at + 3) tokens) in_tokens.text in_tokens.behind (text_some 64 tree.tree 1 in_tokens.text in_tokens.is_text.writes) (sym all ∙ in_tokens.stands) in
-    let left : drop ((at + 3) + length parts.more) tokens ≡ in_tokens.behind =
-    left_behind (length parts.more) tokens (parts.more ++ in_tokens.behind) (at + 3) ((at + 3) + length parts.more) parts.left refl ∙ drop-append_seam parts.more in_tokens.behind in
+suffixed_read tokens at n found suffix name word mark (Err fault) led here named there words reads is = cc
+suffixed_read tokens at n found suffix name word mark (Ok tree) led here named there words reads is =
+    let rest = drop ((at + n) + 3) tokens in
+    let behind_front = three_stand tokens (at + n) name mark.token word here mark.there there in
+    let front : drop at tokens ≡ led.front ++ (name ∷ mark.token ∷ word ∷ rest) = led.stands ∙ ap (λ (ts : List SpelledToken). led.front ++ ts) behind_front in
+    let many : (at + n) + 2 < length tokens = omega (arith, length-drop (at + n) tokens, ap length behind_front, length-drop ((at + n) + 3) tokens) in
+    let all : drop at (without_suffix tokens (at + n)) ≡ led.front ++ (name ∷ rest) = joined_front tokens at n led.front name mark.token word rest led.is front many in
+    let in_tokens = read_is_text (without_suffix tokens (at + n)) at tree reads in
+    let split = parted led.front (name ∷ rest) in_tokens.text in_tokens.behind led.writes (text_ends 64 tree.tree 1 in_tokens.text in_tokens.is_text.writes) in_tokens.ends (sym in_tokens.stands ∙ all) in
+    let parts = begun name rest split.more in_tokens.behind split.some split.left in
+    let text_is : in_tokens.text ≡ led.front ++ (name ∷ parts.more) = split.is ∙ ap (λ (ts : List SpelledToken). led.front ++ ts) parts.is in
+    let left : drop (((at + n) + 3) + length parts.more) tokens ≡ in_tokens.behind =
+    left_behind (length parts.more) tokens (parts.more ++ in_tokens.behind) ((at + n) + 3) (((at + n) + 3) + length parts.more) parts.left refl ∙ drop-append_seam parts.more in_tokens.behind in
     let same : read_as (Some suffix) tree.tree (tree.next + 2) ≡ found = ok_is is in
-    let end : (at + 3) + length parts.more ≡ at + length (name ∷ mark.token ∷ word ∷ parts.more) = omega arith in
-    let count : length in_tokens.text ≡ suc (length parts.more) = ap length parts.is in
+    let written = led.front ++ (name ∷ mark.token ∷ word ∷ parts.more) in
+    let counts = length-append led.front (name ∷ mark.token ∷ word ∷ parts.more) in
+    let lead = led.is in
+    let end : ((at + n) + 3) + length parts.more ≡ at + length written = omega arith in
+    let count : length in_tokens.text ≡ length led.front + suc (length parts.more) = ap length text_is ∙ length-append led.front (name ∷ parts.more) in
     subst (ValueRead tokens at) same (record {
-      text = name ∷ mark.token ∷ word ∷ parts.more;
-      writes = suffixed tree.tree suffix name mark.token word parts.more named mark.is words (subst (IsTextOf tree.tree) parts.is in_tokens.is_text);
-      stands = front ∙ ap (λ (ts : List SpelledToken). name ∷ mark.token ∷ word ∷ ts) (parts.left ∙ ap (λ (ts : List SpelledToken). parts.more ++ ts) (sym left ∙ ap (λ (n : ℕ). drop n tokens) end));
+      text = written;
+      writes = suffixed tree.tree suffix name mark.token word led.front parts.more written led.writes named mark.is words (subst (IsTextOf tree.tree) text_is in_tokens.is_text) refl;
+      stands = front
+          ∙ ap (λ (ts : List SpelledToken). led.front ++ (name ∷ mark.token ∷ word ∷ ts)) (parts.left ∙ ap (λ (ts : List SpelledToken). parts.more ++ ts) (sym left ∙ ap (λ (m : ℕ). drop m tokens) end))
+          ∙ sym (append_assoc led.front (name ∷ mark.token ∷ word ∷ parts.more) (drop (at + length written) tokens));
       next = (let n = in_tokens.next in omega arith);
     })
 
-suffix_word : (tokens : List SpelledToken) (at : ℕ) (found : ReadText) (suffix : Suffix) (name : SpelledToken) (word : Option SpelledToken) → Marked tokens (at + 1) 64
-    → slice_get tokens at ≡ Some name → names_by (Some name) ≡ true → slice_get tokens (at + 2) ≡ word → suffix_by word ≡ Some suffix
-    → as_value (Some suffix) 2 (reading_of (without_suffix tokens at) at) ≡ Ok found → ValueRead tokens at found
+suffix_word : (tokens : List SpelledToken) (at n : ℕ) (found : ReadText) (suffix : Suffix) (name : SpelledToken) (word : Option SpelledToken) → Marked tokens ((at + n) + 1) 64 → FrontRead tokens at n
+    → slice_get tokens (at + n) ≡ Some name → names_by (Some name) ≡ true → slice_get tokens ((at + n) + 2) ≡ word → suffix_by word ≡ Some suffix
+    → as_value (Some suffix) 2 (reading_of (without_suffix tokens (at + n)) at) ≡ Ok found → ValueRead tokens at found
 unfolding suffix_by
-suffix_word tokens at found suffix name None mark here named there words is = cc
-suffix_word tokens at found suffix name (Some word) mark here named there words is =
-    suffixed_read tokens at found suffix name word mark (reading_of (without_suffix tokens at) at) here named there words refl is
+suffix_word tokens at n found suffix name None mark led here named there words is = cc
+suffix_word tokens at n found suffix name (Some word) mark led here named there words is =
+    suffixed_read tokens at n found suffix name word mark (reading_of (without_suffix tokens (at + n)) at) led here named there words refl is
 
-suffix_name : (tokens : List SpelledToken) (at : ℕ) (found : ReadText) (suffix : Suffix) (name : Option SpelledToken) (b : Bool) → Marked tokens (at + 1) 64
-    → slice_get tokens at ≡ name → names_by name ≡ b → cond b (suffix_by (slice_get tokens (at + 2))) None ≡ Some suffix
-    → as_value (Some suffix) 2 (reading_of (without_suffix tokens at) at) ≡ Ok found → ValueRead tokens at found
+suffix_name : (tokens : List SpelledToken) (at n : ℕ) (found : ReadText) (suffix : Suffix) (name : Option SpelledToken) (b : Bool) → Marked tokens ((at + n) + 1) 64 → FrontRead tokens at n
+    → slice_get tokens (at + n) ≡ name → names_by name ≡ b → cond b (suffix_by (slice_get tokens ((at + n) + 2))) None ≡ Some suffix
+    → as_value (Some suffix) 2 (reading_of (without_suffix tokens (at + n)) at) ≡ Ok found → ValueRead tokens at found
 unfolding names_by
-suffix_name tokens at found suffix name false mark here named words is = cc
-suffix_name tokens at found suffix None true mark here named words is = cc
-suffix_name tokens at found suffix (Some name) true mark here named words is = suffix_word tokens at found suffix name (slice_get tokens (at + 2)) mark here named refl words is
+suffix_name tokens at n found suffix name false mark led here named words is = cc
+suffix_name tokens at n found suffix None true mark led here named words is = cc
+suffix_name tokens at n found suffix (Some name) true mark led here named words is =
+    suffix_word tokens at n found suffix name (slice_get tokens ((at + n) + 2)) mark led here named refl words is
 
-suffix_mark : (tokens : List SpelledToken) (at : ℕ) (found : ReadText) (suffix : Suffix) (b : Bool) → (mark_at tokens (at + 1) == 64) ≡ b
-    → cond b (cond (names_by (slice_get tokens at)) (suffix_by (slice_get tokens (at + 2))) None) None ≡ Some suffix
-    → as_value (Some suffix) 2 (reading_of (without_suffix tokens at) at) ≡ Ok found → ValueRead tokens at found
-suffix_mark tokens at found suffix false test words is = cc
-suffix_mark tokens at found suffix true test words is =
-    suffix_name tokens at found suffix (slice_get tokens at) (names_by (slice_get tokens at)) (marked tokens (at + 1) 64 test refl) refl refl words is
+suffix_mark : (tokens : List SpelledToken) (at n : ℕ) (found : ReadText) (suffix : Suffix) (b : Bool) → FrontRead tokens at n → (mark_at tokens ((at + n) + 1) == 64) ≡ b
+    → cond b (cond (names_by (slice_get tokens (at + n))) (suffix_by (slice_get tokens ((at + n) + 2))) None) None ≡ Some suffix
+    → as_value (Some suffix) 2 (reading_of (without_suffix tokens (at + n)) at) ≡ Ok found → ValueRead tokens at found
+suffix_mark tokens at n found suffix false led test words is = cc
+suffix_mark tokens at n found suffix true led test words is =
+    suffix_name tokens at n found suffix (slice_get tokens (at + n)) (names_by (slice_get tokens (at + n))) (marked tokens ((at + n) + 1) 64 test refl) led refl refl words is
 
 value_by : (tokens : List SpelledToken) (at : ℕ) (found : ReadText) (suffix : Option Suffix) → suffix_at tokens at ≡ suffix → value_with tokens at suffix ≡ Ok found → ValueRead tokens at found
 value_by tokens at found None there is = plain_read tokens at found (reading_of tokens at) refl is
-value_by tokens at found (Some suffix) there is = suffix_mark tokens at found suffix (mark_at tokens (at + 1) == 64) refl there is
+value_by tokens at found (Some suffix) there is =
+    suffix_mark tokens at (before_name tokens at) found suffix (mark_at tokens ((at + before_name tokens at) + 1) == 64) (front_read tokens at) refl there is
 
 -- a value that is read is written
 pub value_written : (tokens : List SpelledToken) (at : ℕ) (found : ReadText) → value_at tokens at ≡ Ok found → ValueRead tokens at found

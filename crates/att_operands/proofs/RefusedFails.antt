@@ -1,5 +1,5 @@
 -- An operand is refused exactly where its expression fails, or where nothing is spelled.
-use Rattle.std.proofs.Common.{◌≡◌, ℕ, zero, suc, ◌+◌, ◌-◌, ◌==◌, Bool, true, false, cond, List, [], ◌∷◌, ◌++◌, Option, Some, None, Result, Ok, Err, length, drop, take, slice_get, refl, sym, ap, subst, ◌∙◌, inl, inr, ◌⊎◌, arith}
+use Rattle.std.proofs.Common.{◌≡◌, ℕ, ◌+◌, ◌-◌, ◌==◌, Bool, true, false, cond, List, ◌∷◌, Option, Some, None, Result, Ok, Err, length, drop, slice_get, refl, sym, ap, subst, ◌∙◌, inl, inr, ◌⊎◌, arith}
 use Rattle.asm_base.specs.Tokens.{SpelledToken}
 use Rattle.asm_base.specs.Refusals.{◌>>=◌}
 use Rattle.asm_expr.specs.declared.faults.ExprCause.{ExprCause}
@@ -16,39 +16,22 @@ use Rattle.att_operands.specs.declared.addresses.ReadAddress.{ReadAddress}
 use Rattle.att_operands.specs.Registers.{register_of}
 use Rattle.att_operands.specs.Marks.{mark_at, ends_at, begins_by}
 use Rattle.att_operands.specs.Addresses.{register_by, address_at}
-use Rattle.att_operands.specs.Values.{ReadText, ValueText, stated, suffix_at, without_suffix, as_value, value_with, value_at, begun_at}
+use Rattle.att_operands.specs.Values.{ReadText, ValueText, stated, suffixed_name, suffix_at, without_suffix, as_value, value_with, value_at, begun_at}
 use Rattle.att_operands.specs.OperandTexts.{ReadPart, no_displacement, addressed, displaced, displaced_by, displaced_alone, opens_address, memory_at, named_place, place_at, immediate_by, target_by, target_at, other_by, operand_by, ended, operand_at}
 use Rattle.att_operands.specs.Failing.{expression_by, ValueFails, BegunFails, PlaceFails, unnamed, segmented, ExpressionFails, immediate_of, place, target_of, indirect}
 use Rattle.att_operands.proofs.SpelledIsRead.{stands_at}
+use Rattle.att_operands.proofs.SuffixPlaces.{same_suffix, same_expression}
 use Rattle.att_operands.proofs.ReadAddresses.{front_is, Marked, marked, three_stand}
 
 -- what is read at a place is read at the front of what is left there
 pub here_is : (tokens : List SpelledToken) (at : ℕ) → slice_get tokens at ≡ slice_get (drop at tokens) 0
 here_is tokens at = stands_at 0 tokens (drop at tokens) at at refl (omega arith)
 
-pub same_suffix : (tokens : List SpelledToken) (at : ℕ) → suffix_at (drop at tokens) 0 ≡ suffix_at tokens at
-same_suffix tokens at =
-    let g0 = here_is tokens at in
-    let g1 : slice_get tokens (at + 1) ≡ slice_get (drop at tokens) 1 = stands_at 1 tokens (drop at tokens) at (at + 1) refl refl in
-    let g2 : slice_get tokens (at + 2) ≡ slice_get (drop at tokens) 2 = stands_at 2 tokens (drop at tokens) at (at + 2) refl refl in
-    rw (g0, g1, g2) refl
-
 pub same_opens : (tokens : List SpelledToken) (at : ℕ) → opens_address tokens at ≡ opens_address (drop at tokens) 0
 same_opens tokens at =
     let g0 = here_is tokens at in
     let g1 : slice_get tokens (at + 1) ≡ slice_get (drop at tokens) 1 = stands_at 1 tokens (drop at tokens) at (at + 1) refl refl in
     rw (g0, g1) refl
-
-pub same_expression : (tokens : List SpelledToken) (at : ℕ) → drop at (take (at + 1) tokens ++ drop (at + 3) tokens) ≡ take 1 (drop at tokens) ++ drop 3 (drop at tokens)
-same_expression tokens zero = refl
-same_expression [] (suc at) =
-    let one : suc at + 1 ≡ suc (at + 1) = omega arith in
-    let three : suc at + 3 ≡ suc (at + 3) = omega arith in
-    rw (one, three) refl
-same_expression (token ∷ tokens) (suc at) =
-    let one : suc at + 1 ≡ suc (at + 1) = omega arith in
-    let three : suc at + 3 ≡ suc (at + 3) = omega arith in
-    rw (one, three) (same_expression tokens at)
 
 -- the fault is that of an expression which fails
 pub record Failed (Fails : ExprCause → Type 0) (cause : OperandCause) : Type 0 where
@@ -73,10 +56,9 @@ placed_refused tokens text at more suffix fault stands is =
 
 with_refused : (tokens : List SpelledToken) (at : ℕ) (fault : OperandCause) (suffix : Option Suffix) → value_with tokens at suffix ≡ Err fault
     → Failed (FailsAt (expression_by (drop at tokens) suffix)) fault
-unfolding without_suffix
 with_refused tokens at fault None is = placed_refused tokens (drop at tokens) at 0 None fault refl is
 with_refused tokens at fault (Some suffix) is =
-    placed_refused (without_suffix tokens at) (expression_by (drop at tokens) (Some suffix)) at 2 (Some suffix) fault (same_expression tokens at) is
+    placed_refused (without_suffix tokens (suffixed_name tokens at)) (expression_by (drop at tokens) (Some suffix)) at 2 (Some suffix) fault (same_expression tokens at) is
 
 value_refused : (tokens : List SpelledToken) (at : ℕ) (fault : OperandCause) → value_at tokens at ≡ Err fault → Failed (ValueFails (drop at tokens)) fault
 unfolding value_at

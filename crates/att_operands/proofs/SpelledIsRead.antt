@@ -8,7 +8,7 @@ use Rattle.asm_base.specs.declared.tokens.TokenKind.TheVariants as kind
 use Rattle.asm_expr.specs.declared.trees.UnaryOp.{UnaryOp}
 use Rattle.asm_expr.specs.declared.trees.BinaryOp.{BinaryOp}
 use Rattle.asm_expr.specs.Trees.{Tree}
-use Rattle.expr_texts.specs.Operators.{opens, mark_of, prefix_of, prefix_by, prefix_byte, operator_of, operator_by, operator_byte, level_of, prefix_level}
+use Rattle.expr_texts.specs.Operators.{opens, mark_of, prefix_of, prefix_by, prefix_byte, operator_of, operator_by, operator_byte, level_of}
 use Rattle.expr_texts.specs.Leaves.{leaf_of, leaf_by}
 use Rattle.expr_texts.specs.Grammar.{Writes, leaf, prefixed, between, enclosed}
 use Rattle.att_operands.specs.Marks.{mark_byte, mark_by, mark_at, begins_by}
@@ -36,7 +36,7 @@ leaf_kind kind.Operator bytes start tree is = cc
 leaf_kind kind.Other bytes start tree is = cc
 
 -- a number and a name are no marks
-leaf_mark : (token : SpelledToken) (tree : Tree) → leaf_of token ≡ Ok tree → mark_by (Some token) ≡ 0
+pub leaf_mark : (token : SpelledToken) (tree : Tree) → leaf_of token ≡ Ok tree → mark_by (Some token) ≡ 0
 unfolding leaf_of
 leaf_mark token tree is = leaf_kind token.kind token.bytes token.start tree is
 
@@ -53,12 +53,12 @@ prefix_is (byte ∷ []) op is = elim (cases_Bool (byte == 45)) [
 ]
 prefix_is (first ∷ second ∷ others) op is = cc
 
-prefix_mark : (token : SpelledToken) (op : UnaryOp) → prefix_of token ≡ Some op → (mark_by (Some token) ≡ 45) ⊎ (mark_by (Some token) ≡ 126)
+pub prefix_mark : (token : SpelledToken) (op : UnaryOp) → prefix_of token ≡ Some op → (mark_by (Some token) ≡ 45) ⊎ (mark_by (Some token) ≡ 126)
 unfolding mark_by
 prefix_mark token op is = prefix_is (mark_of token) op is
 
 -- `(` is a mark
-opens_mark : (token : SpelledToken) → opens token ≡ true → mark_by (Some token) ≡ 40
+pub opens_mark : (token : SpelledToken) → opens token ≡ true → mark_by (Some token) ≡ 40
 unfolding mark_by
 opens_mark token is = ap mark_byte ((bytes_decides (mark_of token) (40 ∷ [])).0 is)
 
@@ -73,7 +73,7 @@ operator_is (byte ∷ []) op is = elim (cases_Bool (byte == 64)) [
 operator_is (first ∷ second ∷ []) op is = refl
 operator_is (first ∷ second ∷ third ∷ others) op is = refl
 
-operator_mark : (token : SpelledToken) (op : BinaryOp) → operator_of token ≡ Some op → (mark_by (Some token) == 64) ≡ false
+pub operator_mark : (token : SpelledToken) (op : BinaryOp) → operator_of token ≡ Some op → (mark_by (Some token) == 64) ≡ false
 unfolding mark_by
 operator_mark token op is = operator_is (mark_of token) op is
 
@@ -95,19 +95,6 @@ apart_from other mark none is = elim (cases_Bool (mark == other)) [
   | inl t ↦ absurd (let same : mark ≡ other = eqb-true mark other t in let bad : leads other ≡ true = rw same at is in cc)
   | inr f ↦ f
 ]
-
-apart : (mark : ℕ) → leads mark ≡ true → (mark == 64) ≡ false
-apart mark is = apart_from 64 mark refl is
-
--- `@` is not the second token of a text
-pub second_apart : (most : ℕ) (tree : Tree) (level : ℕ) (text behind : List SpelledToken) → Writes most tree level text → (mark_at behind 0 == 64) ≡ false
-    → (mark_at (text ++ behind) 1 == 64) ≡ false
-second_apart _ _ _ _ behind (leaf most level tree token is) none = none
-second_apart _ _ _ _ behind (prefixed most level op operand token text is inside) none = apart (mark_at (text ++ behind) 0) (first_leads most operand prefix_level text behind inside)
-second_apart _ _ _ _ after (between most level op left right token before behind text low is one other stands) none =
-    rw (stands, append_assoc before (token ∷ behind) after) (second_apart most left (level_of op) before ((token ∷ behind) ++ after) one (operator_mark token op is))
-second_apart _ _ _ _ after (enclosed most level tree opening closing inside text starts stops inner stands) none =
-    rw (stands, append_assoc inside (closing ∷ []) after) (apart (mark_at (inside ++ ((closing ∷ []) ++ after)) 0) (first_leads most tree 1 inside ((closing ∷ []) ++ after) inner))
 
 either_other : (mark : ℕ) → (mark ≡ 45) ⊎ (mark ≡ 126) → (mark == 40) ≡ true → ⊥
 either_other mark (inl is) other = let none : (mark == 40) ≡ false = rw is refl in cc

@@ -1,6 +1,6 @@
 -- Tokens without the two of a suffix.
-use Rattle.std.proofs.Common.{◌≡◌, ℕ, ◌+◌, ◌-◌, ◌<◌, false, List, [], ◌∷◌, ◌++◌, Result, Ok, Err, length, map, drop, take, get_or, refl, sym, ap, subst, ◌∙◌, arith, length-drop, length-append, drop-cons}
-use Rattle.std.proofs.lemmas.List.{drop-map, length-map, drop-append-le, drop-take, length-take-le}
+use Rattle.std.proofs.Common.{◌≡◌, ℕ, suc, ◌+◌, ◌-◌, ◌≤◌, ◌<◌, false, List, [], ◌∷◌, ◌++◌, Result, Ok, Err, length, map, drop, take, refl, sym, ap, subst, ◌∙◌, arith, length-drop, length-append}
+use Rattle.std.proofs.lemmas.List.{map-append, drop-map, length-map, drop-append-le, drop-take, length-take-le}
 use Rattle.std.specs.List.{take-map}
 use Rattle.asm_base.specs.declared.refusals.Refusal.{Refusal}
 use Rattle.asm_base.specs.declared.refusals.Refusal.TheVariants.{Fault, NoMemory}
@@ -21,13 +21,34 @@ use Rattle.att_operands.specs.Amounts.{IsAmountRead, in_operand, GivesAmount}
 use Rattle.att_operands.proofs.FrontReadings.{text_reads, whole_is_text, placed_reads, left_at}
 use Rattle.att_operands.proofs.AmountLemmas.{amount_is}
 
--- what is left at the name's place: the name, and all behind the suffix
-pub joined : (tokens : List SpelledToken) (at : ℕ) → at + 2 < length tokens → drop at (without_suffix tokens at) ≡ take 1 (drop at tokens) ++ drop (at + 3) tokens
+-- what is left at a place so many tokens before the name: these, the name, and all behind the suffix
+pub joined_from : (tokens : List SpelledToken) (at name n : ℕ) → name ≡ at + n → name + 2 < length tokens
+    → drop at (without_suffix tokens name) ≡ take (n + 1) (drop at tokens) ++ drop (name + 3) tokens
 unfolding without_suffix
-joined tokens at within =
-    let few = length-take-le (at + 1) tokens (omega arith) in
-    drop-append-le at (take (at + 1) tokens) (drop (at + 3) tokens) (omega arith)
-    ∙ ap (λ (ts : List SpelledToken). ts ++ drop (at + 3) tokens) (drop-take at 1 tokens)
+joined_from tokens at name n is within =
+    let few = length-take-le (name + 1) tokens (omega arith) in
+    let sum : name + 1 ≡ at + (n + 1) = omega arith in
+    drop-append-le at (take (name + 1) tokens) (drop (name + 3) tokens) (omega arith)
+    ∙ ap (λ (m : ℕ). drop at (take m tokens) ++ drop (name + 3) tokens) sum
+    ∙ ap (λ (ts : List SpelledToken). ts ++ drop (name + 3) tokens) (drop-take at (n + 1) tokens)
+
+pub joined : (tokens : List SpelledToken) (at : ℕ) → at + 2 < length tokens → drop at (without_suffix tokens at) ≡ take 1 (drop at tokens) ++ drop (at + 3) tokens
+joined tokens at within = joined_from tokens at at 0 (omega arith) within
+
+take_front : (front : List SpelledToken) (name : SpelledToken) (rest more : List SpelledToken) → take (length front + 1) (front ++ (name ∷ rest)) ++ more ≡ front ++ (name ∷ more)
+take_front [] name rest more = refl
+take_front (token ∷ front) name rest more =
+    let one : length (token ∷ front) + 1 ≡ suc (length front + 1) = omega arith in
+    rw one (ap (λ (ts : List SpelledToken). token ∷ ts) (take_front front name rest more))
+
+-- the same, where these tokens are known
+pub joined_front : (tokens : List SpelledToken) (at n : ℕ) (front : List SpelledToken) (name mark word : SpelledToken) (rest : List SpelledToken) → n ≡ length front
+    → drop at tokens ≡ front ++ (name ∷ mark ∷ word ∷ rest) → (at + n) + 2 < length tokens → drop at (without_suffix tokens (at + n)) ≡ front ++ (name ∷ drop ((at + n) + 3) tokens)
+joined_front tokens at n front name mark word rest is stands within =
+    joined_from tokens at (at + n) n refl within
+    ∙ ap (λ (ts : List SpelledToken). take (n + 1) ts ++ drop ((at + n) + 3) tokens) stands
+    ∙ ap (λ (m : ℕ). take (m + 1) (front ++ (name ∷ mark ∷ word ∷ rest)) ++ drop ((at + n) + 3) tokens) is
+    ∙ take_front front name (mark ∷ word ∷ rest) (drop ((at + n) + 3) tokens)
 
 pub joined_length : (tokens : List SpelledToken) (at : ℕ) → at + 2 < length tokens → length (without_suffix tokens at) + 2 ≡ length tokens
 unfolding without_suffix
@@ -53,18 +74,20 @@ bare_is tokens at tree held within is none of =
     omega (arith, joined_length all at more, length-map tokens spelled, length-map (drop (at + 3) tokens) spelled, length-drop (at + 3) tokens) in
     amount_is (without_suffix all at) at (at + 1) tree held (placed_reads (without_suffix all at) at (at + 1) tree (spelled_from tokens (at + 3)) (ap (reading 1 0) stands ∙ begins) lengths) of
 
--- a list of these tokens
-pub joined_list : (tokens : List Token) (at : ℕ) (d : Token) → at + 2 < length tokens
-    → map spelled (get_or tokens at d ∷ take (length tokens - (at + 3)) (drop (at + 3) tokens)) ≡ drop at (without_suffix (map spelled tokens) at)
-joined_list tokens at d within =
+-- the tokens up to the name, and all behind its suffix
+pub joined_list : (tokens : List Token) (at name : ℕ) → at ≤ name → name + 2 < length tokens
+    → map spelled (take ((name + 1) - at) (drop at tokens) ++ take (length tokens - (name + 3)) (drop (name + 3) tokens)) ≡ drop at (without_suffix (map spelled tokens) name)
+joined_list tokens at name order within =
     let all = map spelled tokens in
-    let token = get_or tokens at d in
-    let more : at + 2 < length all = rw (length-map tokens spelled) within in
-    let front : take 1 (drop at tokens) ≡ token ∷ [] = ap (λ (ts : List Token). take 1 ts) (drop-cons tokens at d (omega arith)) in
-    ap (λ (ts : List Token). map spelled (token ∷ ts)) (left_at tokens (at + 3))
-    ∙ sym (joined all at more
-    ∙ ap (λ (ts : List SpelledToken). ts ++ drop (at + 3) all) (ap (λ (ts : List SpelledToken). take 1 ts) (drop-map spelled at tokens) ∙ take-map spelled 1 (drop at tokens) ∙ ap (λ (ts : List Token). map spelled ts) front)
-    ∙ ap (λ (ts : List SpelledToken). spelled token ∷ ts) (drop-map spelled (at + 3) tokens))
+    let more : name + 2 < length all = rw (length-map tokens spelled) within in
+    let sum : name ≡ at + (name - at) = omega arith in
+    let few : (name + 1) - at ≡ (name - at) + 1 = omega arith in
+    map-append spelled (take ((name + 1) - at) (drop at tokens)) (take (length tokens - (name + 3)) (drop (name + 3) tokens))
+    ∙ ap (λ (ts : List Token). map spelled (take ((name + 1) - at) (drop at tokens)) ++ map spelled ts) (left_at tokens (name + 3))
+    ∙ sym (joined_from all at name (name - at) sum more
+    ∙ ap (λ (ts : List SpelledToken). ts ++ drop (name + 3) all)
+    (ap (λ (n : ℕ). take n (drop at all)) (sym few) ∙ ap (λ (ts : List SpelledToken). take ((name + 1) - at) ts) (drop-map spelled at tokens) ∙ take-map spelled ((name + 1) - at) (drop at tokens))
+    ∙ ap (λ (ts : List SpelledToken). map spelled (take ((name + 1) - at) (drop at tokens)) ++ ts) (drop-map spelled (name + 3) tokens))
 
 -- what is read of a list is read where the list is left
 moved_by : (list tokens : List SpelledToken) (at : ℕ) (found : ReadAmount) (due : Read) → list ≡ drop at tokens → length tokens ≡ at + length list → reading 1 0 list ≡ due
@@ -97,5 +120,5 @@ moved_fails list tokens at (Fault cause) left is =
     (fault_moved (reading 1 0 list) (λ r. length list - length r.rest) (λ r. length tokens - length r.rest) cause is)
 moved_fails list tokens at NoMemory left is = tt
 
-pub left_length : (tokens : List SpelledToken) (at : ℕ) → at + 2 < length tokens → length (without_suffix tokens at) ≡ at + length (drop at (without_suffix tokens at))
-left_length tokens at within = let all = joined_length tokens at within in omega (arith, length-drop at (without_suffix tokens at))
+pub left_length : (tokens : List SpelledToken) (at name : ℕ) → at ≤ name → name + 2 < length tokens → length (without_suffix tokens name) ≡ at + length (drop at (without_suffix tokens name))
+left_length tokens at name order within = let all = joined_length tokens name within in omega (arith, length-drop at (without_suffix tokens name))

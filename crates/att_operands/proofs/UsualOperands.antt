@@ -11,17 +11,15 @@ use Rattle.att_operands.specs.declared.addresses.ReadAddress.{ReadAddress}
 use Rattle.att_operands.specs.declared.values.ReadAmount.{ReadAmount}
 use Rattle.att_operands.specs.Marks.{mark_by, mark_at, ends_by, ends_at, begins_by}
 use Rattle.att_operands.specs.Addresses.{register_by, address_at}
-use Rattle.att_operands.specs.Values.{GivesSo, IsValueOf, ReadText, ValueText, suffix_at, as_value, value_with, value_at, begun_at}
+use Rattle.att_operands.specs.Values.{GivesSo, IsValueOf, ReadText, ValueText, numbers_by, suffix_at, as_value, value_with, value_at, begun_at}
 use Rattle.att_operands.specs.Amounts.{IsAmountRead, FindsRead}
 use Rattle.att_operands.specs.Usual.{found_memory, memory_of, immediate_of}
 use Rattle.att_operands.specs.OperandTexts.{immediate, memory, ReadPart, part, no_displacement, addressed, displaced, displaced_by, opens_address, memory_at, named_place, place_at, immediate_by, other_by, ended, operand_at, IsPartRead}
+use Rattle.att_operands.proofs.SuffixPlaces.{unnumbered, quiet_suffix}
 
-quiet_suffix : (tokens : List SpelledToken) (at : ℕ) → (mark_at tokens (at + 1) == 64) ≡ false → suffix_at tokens at ≡ None
-quiet_suffix tokens at quiet = rw quiet refl
-
-plain_value : (tokens : List SpelledToken) (at : ℕ) (read : Result ReadTree ExprCause) → (mark_at tokens (at + 1) == 64) ≡ false → reading_of tokens at ≡ read → value_at tokens at ≡ as_value None 0 read
+plain_value : (tokens : List SpelledToken) (at : ℕ) (read : Result ReadTree ExprCause) → suffix_at tokens at ≡ None → reading_of tokens at ≡ read → value_at tokens at ≡ as_value None 0 read
 unfolding value_at
-plain_value tokens at read quiet reads = ap (value_with tokens at) (quiet_suffix tokens at quiet) ∙ ap (as_value None 0) reads
+plain_value tokens at read quiet reads = ap (value_with tokens at) quiet ∙ ap (as_value None 0) reads
 
 begun_unsigned : (found : Option SpelledToken) → begins_by found ≡ true → (mark_by found == 36) ≡ false
 unfolding begins_by mark_by
@@ -46,7 +44,7 @@ opened_by mark rest false test is = cc
 opening_mark : (tokens : List SpelledToken) (at : ℕ) → opens_address tokens at ≡ true → mark_at tokens at ≡ 40
 opening_mark tokens at opens = opened_by (mark_at tokens at) (mark_at tokens (at + 1) == 37 || mark_at tokens (at + 1) == 44) (mark_at tokens at == 40) refl opens
 
-begun_so : (tokens : List SpelledToken) (at : ℕ) (due : ReadTree) → begins_by (slice_get tokens at) ≡ true → (mark_at tokens (at + 1) == 64) ≡ false → reading_of tokens at ≡ Ok due
+begun_so : (tokens : List SpelledToken) (at : ℕ) (due : ReadTree) → begins_by (slice_get tokens at) ≡ true → suffix_at tokens at ≡ None → reading_of tokens at ≡ Ok due
     → begun_at tokens at ≡ as_value None 0 (Ok due)
 unfolding begun_at
 begun_so tokens at due begins quiet reads = rw begins (plain_value tokens at (Ok due) quiet reads)
@@ -59,7 +57,7 @@ unfolding operand_at place_at memory_at displaced
 displaced_is tokens at found place (Err cause) unsigned unnamed unopened begins mark next reads given finds ends = absurd given
 displaced_is tokens at found place (Ok due) unsigned unnamed unopened begins mark next reads given finds ends =
     let same = given.next in
-    let quiet : (mark_at tokens (at + 1) == 64) ≡ false = rw mark refl in
+    let quiet = quiet_suffix tokens at (rw mark refl) (rw mark refl) (unnumbered (slice_get tokens (at + 1)) (rw mark refl)) in
     let value = begun_so tokens at due begins quiet reads in
     let here : due.next + 0 ≡ at + 1 = omega arith in
     let text : ValueText = record { tree = due.tree; suffix = None } in
@@ -100,10 +98,13 @@ bare_memory_is tokens at place opens finds ends held is_none =
     subst (λ (r : Result ReadPart OperandCause). GivesSo IsPartRead (Ok (found_memory place held)) r) (sym is)
     (record { operand = record { address = refl; value = is_none }; next = refl })
 
-ended_quiet : (found : Option SpelledToken) → ends_by found ≡ true → (mark_by found == 64) ≡ false
-unfolding ends_by mark_by
-ended_quiet None ends = refl
-ended_quiet (Some token) ends = let same = eqb-true (mark_by (Some token)) 44 ends in rw same refl
+-- behind one token at which an operand ends there is no suffix
+ended_by : (tokens : List SpelledToken) (at : ℕ) (found : Option SpelledToken) → slice_get tokens (at + 1) ≡ found → ends_by found ≡ true → suffix_at tokens at ≡ None
+unfolding ends_by mark_by numbers_by
+ended_by tokens at None there ends = quiet_suffix tokens at (rw there refl) (rw there refl) (rw there refl)
+ended_by tokens at (Some token) there ends =
+    let same = eqb-true (mark_by (Some token)) 44 ends in
+    quiet_suffix tokens at (rw (there, same) refl) (rw (there, same) refl) (rw there (unnumbered (Some token) (rw same refl)))
 
 immediate_is : (tokens : List SpelledToken) (at : ℕ) (found : ReadAmount) (read : Result ReadTree ExprCause) → mark_at tokens at ≡ 36 → ends_at tokens (at + 2) ≡ true → found.next ≡ at + 2
     → reading_of tokens (at + 1) ≡ read → GivesSo IsAmountRead (Ok found) read → GivesSo IsPartRead (Ok (immediate_of found)) (operand_at false tokens at)
@@ -113,7 +114,7 @@ immediate_is tokens at found (Ok due) mark ends next reads given =
     let same = given.next in
     let signed : (mark_at tokens at == 36) ≡ true = rw mark refl in
     let two : (at + 1) + 1 ≡ at + 2 = omega arith in
-    let quiet = ended_quiet (slice_get tokens ((at + 1) + 1)) (ap (ends_at tokens) two ∙ ends) in
+    let quiet = ended_by tokens (at + 1) (slice_get tokens ((at + 1) + 1)) refl (ap (ends_at tokens) two ∙ ends) in
     let value = plain_value tokens (at + 1) (Ok due) quiet reads in
     let here : due.next + 0 ≡ at + 2 = omega arith in
     let behind : ends_at tokens (due.next + 0) ≡ true = ap (ends_at tokens) here ∙ ends in

@@ -10,14 +10,14 @@ use Rattle.att_operands.specs.declared.faults.OperandCause.TheVariants.{BadOpera
 use Rattle.att_operands.specs.declared.registers.NamedRegister.TheVariants as named
 use Rattle.att_operands.specs.Registers.{register_of}
 use Rattle.att_operands.specs.Marks.{begins_by}
-use Rattle.att_operands.specs.Values.{stated, suffix_at, without_suffix}
+use Rattle.att_operands.specs.Values.{stated, suffixed_name, suffix_at, without_suffix}
 use Rattle.att_operands.specs.OperandTexts.{OperandText, opens_address, operand_at}
 use Rattle.att_operands.specs.Spells.{IsMark, SpellsOperand, ends}
 
 -- the tokens of the expression of a value: those without its suffix
 abbrev pub expression_by : List SpelledToken → Option Suffix → List SpelledToken
 expression_by tokens None = tokens
-expression_by tokens (Some suffix) = without_suffix tokens 0
+expression_by tokens (Some suffix) = without_suffix tokens (suffixed_name tokens 0)
 
 -- the expression of the value at the front of the tokens fails
 abbrev pub ValueFails : List SpelledToken → ExprCause → Type 0

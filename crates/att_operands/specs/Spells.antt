@@ -15,7 +15,7 @@ use Rattle.att_operands.specs.declared.registers.NamedRegister.TheVariants as na
 use Rattle.att_operands.specs.Registers.{register_of}
 use Rattle.att_operands.specs.Marks.{mark_by, ends_by}
 use Rattle.att_operands.specs.Addresses.{base_by, index_by, takes_index, scale_by}
-use Rattle.att_operands.specs.Values.{ValueText, names_by, suffix_by}
+use Rattle.att_operands.specs.Values.{ValueText, names_by, numbers_by, suffix_by}
 use Rattle.att_operands.specs.OperandTexts.{OperandText, register, immediate, memory, target, part, no_displacement, ReadPart, operand_at}
 
 -- the token is the mark of this byte
@@ -45,11 +45,21 @@ pub data WritesAddress : (base : Base) (index : Index) (text : List SpelledToken
   lone : (comma digits closing : SpelledToken) → IsMark 44 comma → scale_by (Some digits) ≡ Some 0 → IsMark 41 closing
       → WritesAddress base.Absent index.Absent (comma ∷ digits ∷ closing ∷ [])
 
--- The text writes a value: a text of its tree, which has the suffix behind its first token where there is one.
+-- The tokens may stand in a value before the name that its suffix belongs to.
+pub data LeadsName : (front : List SpelledToken) → Type 0 where
+  -- nothing
+  nothing : LeadsName []
+  -- a number and `+`
+  number : (digits plus : SpelledToken) → numbers_by (Some digits) ≡ true → IsMark 43 plus → LeadsName (digits ∷ plus ∷ [])
+  -- `-`, a number and `+`
+  negative : (minus digits plus : SpelledToken) → IsMark 45 minus → numbers_by (Some digits) ≡ true → IsMark 43 plus → LeadsName (minus ∷ digits ∷ plus ∷ [])
+
+-- The text writes a value: a text of its tree, which has the suffix, where there is one, behind the name that begins it or that is added to its first number.
 pub data WritesValue : (value : ValueText) (text : List SpelledToken) → Type 0 where
   plain : (tree : Tree) (text : List SpelledToken) → IsTextOf tree text → WritesValue (record { tree = tree; suffix = None }) text
-  suffixed : (tree : Tree) (suffix : Suffix) (name mark word : SpelledToken) (rest : List SpelledToken) → names_by (Some name) ≡ true → IsMark 64 mark
-      → suffix_by (Some word) ≡ Some suffix → IsTextOf tree (name ∷ rest) → WritesValue (record { tree = tree; suffix = Some suffix }) (name ∷ mark ∷ word ∷ rest)
+  suffixed : (tree : Tree) (suffix : Suffix) (name mark word : SpelledToken) (front rest text : List SpelledToken) → LeadsName front → names_by (Some name) ≡ true
+      → IsMark 64 mark → suffix_by (Some word) ≡ Some suffix → IsTextOf tree (front ++ (name ∷ rest)) → text ≡ front ++ (name ∷ mark ∷ word ∷ rest)
+      → WritesValue (record { tree = tree; suffix = Some suffix }) text
 
 -- an address in a segment, or in none
 abbrev pub in_segment : Option Segment → Base → Index → Address

@@ -1,4 +1,4 @@
--- The values of operands as they are written: an expression, and a suffix as `@PLT` behind a name that begins it.
+-- The values of operands as they are written: an expression, and a suffix as `@PLT` behind the name that begins it, or that is added to its first number.
 use Rattle.std.specs.Prelude.{◌≡◌, ℕ, ◌+◌, ◌^◌, ◌<◌, ◌==◌, Bool, true, false, not, All, List, ◌++◌, take, drop, Option, Some, None, Result, Ok, Err, slice_get, if◌then◌else◌, codes}
 use Rattle.std.specs.Str.{bytes_eq, str_eq_ignore_ascii_case}
 use Rattle.asm_base.specs.declared.refusals.Refusal.{Refusal}
@@ -86,10 +86,36 @@ unfoldable pub names_by : Option SpelledToken → Bool
 names_by None = false
 names_by (Some token) = is_name token.kind token.bytes
 
+-- digits that are no numeric label are a number
+abbrev pub is_number : TokenKind → List ℕ → Bool
+is_number Digits bytes = not (is_numeric_label bytes)
+is_number _ bytes = false
+
+-- the token is a number
+unfoldable pub numbers_by : Option SpelledToken → Bool
+numbers_by None = false
+numbers_by (Some token) = is_number token.kind token.bytes
+
+-- a number and a `+` stand at this place
+abbrev pub adds_at : List SpelledToken → ℕ → Bool
+adds_at tokens at = if mark_at tokens (at + 1) == 43 then numbers_by (slice_get tokens at) else false
+
+-- so many tokens stand in a value before the name that its suffix belongs to: none, or a number and a `+`, or these and a `-` before them
+unfoldable pub before_name : List SpelledToken → ℕ → ℕ
+before_name tokens at = if adds_at tokens at then 2 else (if mark_at tokens at == 45 then (if adds_at tokens (at + 1) then 3 else 0) else 0)
+
+-- the place of that name
+abbrev pub suffixed_name : List SpelledToken → ℕ → ℕ
+suffixed_name tokens at = at + before_name tokens at
+
 -- the suffix behind the name at this place, if `@` and a suffix stand there
-abbrev pub suffix_at : List SpelledToken → ℕ → Option Suffix
-suffix_at tokens at =
+abbrev pub suffix_behind : List SpelledToken → ℕ → Option Suffix
+suffix_behind tokens at =
     if mark_at tokens (at + 1) == 64 then (if names_by (slice_get tokens at) then suffix_by (slice_get tokens (at + 2)) else None) else None
+
+-- the suffix of the value at this place
+abbrev pub suffix_at : List SpelledToken → ℕ → Option Suffix
+suffix_at tokens at = suffix_behind tokens (suffixed_name tokens at)
 
 -- the tokens without the `@` and the word behind the name at this place
 unfoldable pub without_suffix : List SpelledToken → ℕ → List SpelledToken
@@ -113,7 +139,7 @@ as_value suffix more (Err fault) = Err (stated fault)
 -- the value at this place, with this suffix
 abbrev pub value_with : List SpelledToken → ℕ → Option Suffix → Result ReadText OperandCause
 value_with tokens at None = as_value None 0 (reading_of tokens at)
-value_with tokens at (Some suffix) = as_value (Some suffix) 2 (reading_of (without_suffix tokens at) at)
+value_with tokens at (Some suffix) = as_value (Some suffix) 2 (reading_of (without_suffix tokens (suffixed_name tokens at)) at)
 
 -- the value at this place, where an expression is due
 unfoldable pub value_at : List SpelledToken → ℕ → Result ReadText OperandCause

@@ -7,7 +7,7 @@ use Rattle.asm_expr.specs.declared.trees.BinaryOp.TheVariants.{Add}
 use Rattle.asm_expr.specs.Trees.{Tree, number, name, unary, binary}
 use Rattle.x86_insn.specs.declared.registers.Class.TheVariants as class
 use Rattle.x86_insn.specs.declared.amounts.Suffix.{Suffix}
-use Rattle.x86_insn.specs.declared.amounts.Suffix.TheVariants.{Plt, GotPcRel}
+use Rattle.x86_insn.specs.declared.amounts.Suffix.TheVariants.{Plt, GotPcRel, TpOff}
 use Rattle.x86_insn.specs.declared.insns.Segment.TheVariants as segment
 use Rattle.x86_insn.specs.declared.insns.Base.TheVariants as base
 use Rattle.x86_insn.specs.declared.insns.Index.TheVariants as index
@@ -40,6 +40,9 @@ pub record WorkedOperands : Type 0 where
   pub lone_scale : Begins false (codes "8(,1)") (memory (in_segment None base.Absent index.Absent) (valued (number 8) None)) 5
   pub segmented : Begins false (codes "%fs:40, %rax") (memory (in_segment (Some segment.Fs) base.Absent index.Absent) (valued (number 40) None)) 4
   pub got : Begins false (codes "x@gotpcrel+4(%rip)") (memory (in_segment None base.Rip index.Absent) (valued (binary Add (name (Plain (codes "x"))) (number 4)) (Some GotPcRel))) 9
+  pub local : Begins false (codes "%fs:8+x@tpoff(,%rdx,8)")
+      (memory (in_segment (Some segment.Fs) base.Absent (index.By 2 3)) (valued (binary Add (number 8) (name (Plain (codes "x")))) (Some TpOff))) 15
+  pub local_before : Begins false (codes "$-8+x@tpoff") (immediate (valued (binary Add (unary Minus (number 8)) (name (Plain (codes "x")))) (Some TpOff))) 7
   pub called : Begins true (codes "f@PLT") (target (valued (name (Plain (codes "f"))) (Some Plt))) 3
   pub called_ahead : Begins true (codes "1f@plt") (target (valued (name (Next 1)) (Some Plt))) 3
   pub indirect : Begins true (codes "*%rax") (register (record { class = class.Quad; number = 0 })) 3
@@ -54,7 +57,9 @@ pub record WorkedOperands : Type 0 where
   pub lone_two : Refuses false (codes "(,2)") BadOperand
   pub unknown_suffix : Refuses false (codes "x@BAR") BadOperand
   pub numbered : Refuses false (codes "0x1f@PLT") BadOperand
-  pub late_suffix : Refuses false (codes "4+x@PLT") BadOperand
+  pub late_suffix : Refuses false (codes "8*2+x@PLT") BadOperand
+  pub labelled : Refuses false (codes "1b+x@PLT") BadOperand
+  pub taken_away : Refuses false (codes "8-x@PLT") BadOperand
   pub inner_suffix : Refuses false (codes "$(x@PLT)") BadExpression
   pub unstarred : Refuses true (codes "%rax") BadOperand
   pub unstarred_memory : Refuses true (codes "(%rax)") BadOperand

@@ -10,6 +10,7 @@ mod operands;
 mod prefixes;
 mod register_slots;
 mod registers;
+mod suffixes;
 mod usual;
 mod values;
 

@@ -1,22 +1,22 @@
-//! The values of operands: an expression, and a suffix as `@PLT` behind the name that begins it.
+//! The values of operands: an expression, and its suffix.
 
-ghost use Rattle.std.specs.Prelude.{◌≡◌, ◌+◌, ◌^◌, ◌<◌, ◌≤◌, List, true, false, length, map, drop, slice_get, IsTrue, IfOk, IfErr, IsSome, IfSome};
+ghost use Rattle.std.specs.Prelude.{◌≡◌, ◌+◌, ◌^◌, ◌<◌, ◌≤◌, List, true, false, length, map, drop, option_map, IsTrue, IfOk, IfErr, IfSome};
 ghost use Rattle.asm_base.specs.declared.refusals.Refusal.TheVariants.{NoMemory};
 ghost use Rattle.asm_base.specs.Tokens.{SpelledToken, spelled};
 ghost use Rattle.asm_expr.specs.Forms.{signed};
 ghost use Rattle.expr_texts.specs.Found.{spelled_from};
 ghost use Rattle.expr_texts.specs.Grammar.{operator_follows};
-ghost use Rattle.expr_texts.specs.Leaves.{is_numeric_label};
-ghost use Rattle.att_operands.specs.Values.{GivesSo, suffix_of, suffix_by, suffix_at, names_by, without_suffix, value_with, value_at, begun_at};
+ghost use Rattle.att_operands.specs.Values.{GivesSo, suffixed_name, without_suffix, value_with, value_at, begun_at};
 ghost use Rattle.att_operands.specs.Amounts.{FindsAmount, FindsRead, GivesAmount, IsValueRead};
 
 use crate::faults::{OperandCause, OperandFault};
-use crate::marks::{begins_value, mark_at, token_at};
+use crate::marks::{begins_value, mark_at};
+use crate::suffixes::{NamedSuffix, suffix_at};
 use asm_base::{Token, TokenKind};
 use asm_operands::{Addend, Sum, Summand, front_constant, single_constant, sum_operand};
-use expr_texts::{all_digits, parse_front};
+use expr_texts::parse_front;
 use std::alloc::Global;
-use x86_insn::{Amount, Suffix, Value};
+use x86_insn::{Amount, Value};
 
 /// An amount, and the index of the first token behind it.
 #[derive(Drop)]
@@ -201,84 +201,6 @@ fn amount_at<'a>(
     long_amount(alloc, tokens, at)
 }
 
-/// The suffix that a word is.
-#[inline(never)]
-fn suffix_of(word: &[u8]) -> Option<Suffix>
-    ensures { result ≡ suffix_of word.now }
-{
-    if word.eq_ignore_ascii_case(b"plt".as_slice()) {
-        Some(Suffix::Plt)
-    } else if word.eq_ignore_ascii_case(b"gotpcrel".as_slice()) {
-        Some(Suffix::GotPcRel)
-    } else if word.eq_ignore_ascii_case(b"gottpoff".as_slice()) {
-        Some(Suffix::GotTpOff)
-    } else if word.eq_ignore_ascii_case(b"tpoff".as_slice()) {
-        Some(Suffix::TpOff)
-    } else {
-        None
-    }
-}
-
-/// The suffix that the token at this place is.
-#[inline(always)]
-#[tactic(auto, unfolding(crate::specs::Values::suffix_by))]
-fn suffix_by(tokens: &[Token], at: usize) -> Option<Suffix>
-    ensures value { result ≡ suffix_by (slice_get (map spelled tokens.now) at) }
-    ensures within { IsSome result → at < length tokens.now }
-{
-    match token_at(tokens, at) {
-        Some(token) => suffix_of(token.bytes),
-        None => None,
-    }
-}
-
-/// Whether the digits are a numeric label: decimal, with a `b` or an `f` behind them.
-#[inline(never)]
-fn is_numeric_label(digits: &[u8]) -> bool
-    ensures { result ≡ is_numeric_label digits.now }
-{
-    if digits.is_empty() {
-        return false;
-    }
-    let end = digits.len() - 1;
-    (digits[end] == b'b' || digits[end] == b'f') && all_digits(10, &digits[..end])
-}
-
-/// Whether the token at this place is a name.
-#[inline(always)]
-#[tactic(auto, unfolding(crate::specs::Values::names_by))]
-fn names_at(tokens: &[Token], at: usize) -> bool
-    ensures { result ≡ names_by (slice_get (map spelled tokens.now) at) }
-{
-    match token_at(tokens, at) {
-        Some(token) => match token.kind {
-            TokenKind::Name => token.bytes != b".".as_slice(),
-            TokenKind::String => true,
-            TokenKind::Digits => is_numeric_label(token.bytes),
-            _ => false,
-        },
-        None => false,
-    }
-}
-
-/// The suffix behind the name at this place.
-#[inline(always)]
-fn suffix_at(tokens: &[Token], at: usize) -> Option<Suffix>
-    requires { at < length tokens.now }
-    ensures value { result ≡ suffix_at (map spelled tokens.now) at }
-    ensures within { IsSome result → at + 2 < length tokens.now }
-{
-    if mark_at(tokens, at + 1) == b'@' {
-        if names_at(tokens, at) {
-            suffix_by(tokens, at + 2)
-        } else {
-            None
-        }
-    } else {
-        None
-    }
-}
-
 /// The amount of the name at this place alone, where a suffix stands behind it and no operator
 /// behind that.
 #[inline(always)]
@@ -297,22 +219,24 @@ fn bare_amount<'a>(tokens: &[Token<'a>], at: usize) -> Option<ReadAmount<'a>>
     })
 }
 
-/// The name at this place, and all tokens behind its suffix.
+/// The tokens from this place up to the name, and all behind its suffix.
 #[inline(never)]
 fn joined_tokens<'a>(
     alloc: Global,
     tokens: &[Token<'a>],
     at: usize,
+    name: usize,
 ) -> Result<Vec<Token<'a>>, OperandFault>
-    requires { at + 2 < length tokens.now }
+    requires order { at ≤ name }
+    requires within { name + 2 < length tokens.now }
     ensures value { IfOk result (λ list.
-        map spelled list.items ≡ drop at (without_suffix (map spelled tokens.now) at)) }
+        map spelled list.items ≡ drop at (without_suffix (map spelled tokens.now) name)) }
     ensures length { IfOk result (λ list. at + length list.items + 2 ≡ length tokens.now) }
     ensures memory { IfErr result (λ refusal. refusal ≡ NoMemory) }
 {
     let mut list = Vec::new(alloc);
-    list.push(tokens[at])?;
-    list.extend_from_slice(&tokens[at + 3..])?;
+    list.extend_from_slice(&tokens[at..name + 1])?;
+    list.extend_from_slice(&tokens[name + 3..])?;
     Ok(list)
 }
 
@@ -337,35 +261,42 @@ fn moved_amount<'a>(
     }
 }
 
-/// The amount of the name at this place and what stands behind its suffix.
+/// The amount of the expression at this place, without the suffix behind this name, by a list of
+/// the tokens that are left.
 fn joined_amount<'a>(
     alloc: Global,
     tokens: &[Token<'a>],
     at: usize,
+    name: usize,
 ) -> Result<ReadAmount<'a>, OperandFault>
-    requires { at + 2 < length tokens.now }
-    ensures value { GivesAmount (without_suffix (map spelled tokens.now) at) at result }
+    requires order { at ≤ name }
+    requires within { name + 2 < length tokens.now }
+    ensures value { GivesAmount (without_suffix (map spelled tokens.now) name) at result }
     ensures within { IfOk result (λ found. found.next + 2 ≤ length tokens.now) }
 {
-    let list = joined_tokens(alloc, tokens, at)?;
+    let list = joined_tokens(alloc, tokens, at, name)?;
     moved_amount(alloc, list.as_slice(), at)
 }
 
-/// The amount of the expression at this place, without the suffix behind the name that begins it.
+/// The amount of the expression at this place, without the suffix behind this name of it.
 #[inline(never)]
 fn suffixed_amount<'a>(
     alloc: Global,
     tokens: &[Token<'a>],
     at: usize,
+    name: usize,
 ) -> Result<ReadAmount<'a>, OperandFault>
-    requires { at + 2 < length tokens.now }
-    ensures value { GivesAmount (without_suffix (map spelled tokens.now) at) at result }
+    requires order { at ≤ name }
+    requires within { name + 2 < length tokens.now }
+    ensures value { GivesAmount (without_suffix (map spelled tokens.now) name) at result }
     ensures within { IfOk result (λ found. found.next + 2 ≤ length tokens.now) }
 {
-    if let Some(found) = bare_amount(tokens, at) {
-        return Ok(found);
+    if name == at {
+        if let Some(found) = bare_amount(tokens, name) {
+            return Ok(found);
+        }
     }
-    joined_amount(alloc, tokens, at)
+    joined_amount(alloc, tokens, at, name)
 }
 
 /// The value at this place, with this suffix.
@@ -374,24 +305,32 @@ fn value_with<'a>(
     alloc: Global,
     tokens: &[Token<'a>],
     at: usize,
-    suffix: Option<Suffix>,
+    named: Option<NamedSuffix>,
 ) -> Result<ReadValue<'a>, OperandFault>
     requires begins { at < length tokens.now }
-    requires suffixed { IsSome suffix → at + 2 < length tokens.now }
-    ensures value { GivesSo IsValueRead result (value_with (map spelled tokens.now) at suffix) }
+    requires name { IfSome named (λ found. found.name ≡ suffixed_name (map spelled tokens.now) at) }
+    requires within { IfSome named (λ found. found.name + 2 < length tokens.now) }
+    ensures value { let suffix = option_map (λ found. found.suffix) named in
+        GivesSo IsValueRead result (value_with (map spelled tokens.now) at suffix) }
     ensures within { IfOk result (λ found. found.next ≤ length tokens.now) }
 {
-    match suffix {
-        Some(_) => match suffixed_amount(alloc, tokens, at) {
+    match named {
+        Some(NamedSuffix { suffix, name }) => match suffixed_amount(alloc, tokens, at, name) {
             Ok(ReadAmount { amount, next }) => Ok(ReadValue {
-                value: Value { amount, suffix },
+                value: Value {
+                    amount,
+                    suffix: Some(suffix),
+                },
                 next: next + 2,
             }),
             Err(refusal) => Err(refusal),
         },
         None => match amount_at(alloc, tokens, at) {
             Ok(ReadAmount { amount, next }) => Ok(ReadValue {
-                value: Value { amount, suffix },
+                value: Value {
+                    amount,
+                    suffix: None,
+                },
                 next,
             }),
             Err(refusal) => Err(refusal),
@@ -411,8 +350,8 @@ fn value_from<'a>(
     ensures value { GivesSo IsValueRead result (value_at (map spelled tokens.now) at) }
     ensures within { IfOk result (λ found. found.next ≤ length tokens.now) }
 {
-    let suffix = suffix_at(tokens, at);
-    value_with(alloc, tokens, at, suffix)
+    let named = suffix_at(tokens, at);
+    value_with(alloc, tokens, at, named)
 }
 
 /// The value at this place, where an expression is due.

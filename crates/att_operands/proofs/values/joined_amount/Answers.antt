@@ -12,5 +12,5 @@ returns-clause-value c =
     let left = ap (λ (ts : List Token). map spelled ts) c.as_slice.ensures.value ∙ c.in_ok-list.ensures.value in
     let same = length-map c.args.tokens.now spelled in
     let list = length-map c.as_slice.result.now spelled in
-    let rest = left_length all c.args.at (rw same c.requires) in
-    c.moved_amount.ensures.value (without_suffix all c.args.at) left (rest ∙ ap (λ (n : ℕ). c.args.at + n) (ap length (sym left) ∙ list))
+    let rest = left_length all c.args.at c.args.name c.requires.order (rw same c.requires.within) in
+    c.moved_amount.ensures.value (without_suffix all c.args.name) left (rest ∙ ap (λ (n : ℕ). c.args.at + n) (ap length (sym left) ∙ list))
