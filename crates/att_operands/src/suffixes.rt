@@ -4,6 +4,7 @@
 ghost use Rattle.std.specs.Prelude.{◌≡◌, ◌+◌, ◌^◌, ◌<◌, ◌≤◌, map, length, slice_get, option_map, Some, IsSome, IfSome};
 ghost use Rattle.asm_base.specs.Tokens.{spelled};
 ghost use Rattle.expr_texts.specs.Leaves.{is_numeric_label};
+ghost use Rattle.att_operands.specs.Marks.{mark_at};
 ghost use Rattle.att_operands.specs.Values.{suffix_of, suffix_by, suffix_behind, suffix_at, names_by, numbers_by, adds_at, before_name, suffixed_name};
 
 use crate::marks::{mark_at, token_at};
@@ -71,19 +72,29 @@ fn names_at(tokens: &[Token], at: usize) -> bool
     }
 }
 
-/// The suffix behind the name at this place.
+/// The suffix behind the name at this place, where `@` stands behind it.
 #[inline(always)]
+fn marked_suffix(tokens: &[Token], name: usize) -> Option<Suffix>
+    requires within { name + 1 < length tokens.now }
+    requires marked { mark_at (map spelled tokens.now) (name + 1) ≡ 64 }
+    ensures value { result ≡ suffix_behind (map spelled tokens.now) name }
+    ensures within { IsSome result → name + 2 < length tokens.now }
+{
+    if names_at(tokens, name) {
+        suffix_by(tokens, name + 2)
+    } else {
+        None
+    }
+}
+
+/// The suffix behind the name at this place.
 fn suffix_behind(tokens: &[Token], name: usize) -> Option<Suffix>
     requires { name < length tokens.now }
     ensures value { result ≡ suffix_behind (map spelled tokens.now) name }
     ensures within { IsSome result → name + 2 < length tokens.now }
 {
     if mark_at(tokens, name + 1) == b'@' {
-        if names_at(tokens, name) {
-            suffix_by(tokens, name + 2)
-        } else {
-            None
-        }
+        marked_suffix(tokens, name)
     } else {
         None
     }
@@ -177,7 +188,7 @@ pub(crate) fn suffix_at(tokens: &[Token], at: usize) -> Option<NamedSuffix>
 {
     let mark = mark_at(tokens, at + 1);
     if mark == b'@' {
-        return match suffix_behind(tokens, at) {
+        return match marked_suffix(tokens, at) {
             Some(suffix) => Some(NamedSuffix { suffix, name: at }),
             None => None,
         };
