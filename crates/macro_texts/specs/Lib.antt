@@ -1,0 +1,5 @@
+-- The definitions that the contracts cite, in reading order.
+pub mod TokenTexts
+pub mod Parameters
+pub mod ParametersSeen
+pub mod PartLengths

@@ -1,0 +1,11 @@
+//! The texts of macros: parameters and arguments, the values of repeats, and what is put into a body (GNU as manual,
+//! ".macro", ".irp" and ".irpc").
+#![tactic(auto)]
+
+mod causes;
+mod parameters;
+mod token_texts;
+
+pub use causes::{MacroLineCause, MacroLineFault};
+pub use parameters::{MacroLine, Parameter, ParameterKind, macro_line};
+pub use token_texts::{Value, push_text, push_value, value_of};
