@@ -1,3 +1,4 @@
 -- The proofs of this crate.
 pub mod TextLemmas
 pub mod ParameterLemmas
+pub mod ArgumentLemmas

@@ -66,15 +66,15 @@ part_within : (first : SpelledToken) (rest : List SpelledToken) → part_length 
 part_within first [] = omega arith
 part_within first (next ∷ rest) = within_by (goes_on first next) (part_length (next ∷ rest)) (length rest) (part_within next rest)
 
--- one parameter more, in front of what the others give
-ahead : (made : List ParameterAs) (one : ParameterAs) (part : List SpelledToken) (others : Result (List ParameterAs) MacroLineCause)
+-- one more, in front of what the others give
+pub ahead : {A : Type 0} (made : List A) (one : A) (others : Result (List A) MacroLineCause)
     → behind (made ++ one ∷ []) others ≡ behind made (others >>= λ more. Ok (one ∷ more))
-ahead made one part (Ok more) = ap Ok (append_assoc made (one ∷ []) more)
-ahead made one part (Err cause) = refl
+ahead made one (Ok more) = ap Ok (append_assoc made (one ∷ []) more)
+ahead made one (Err cause) = refl
 
-given_by : (found : Result ParameterAs MacroLineCause) (made : List ParameterAs) (one : ParameterAs) (part : List SpelledToken) (others : Result (List ParameterAs) MacroLineCause)
+given_by : (found : Result ParameterAs MacroLineCause) (made : List ParameterAs) (one : ParameterAs) (others : Result (List ParameterAs) MacroLineCause)
     → found ≡ Ok one → behind (made ++ one ∷ []) others ≡ behind made (found >>= λ parameter. others >>= λ more. Ok (parameter ∷ more))
-given_by found made one part others is = rw is (ahead made one part others)
+given_by found made one others is = rw is (ahead made one others)
 
 read_some : (made : List ParameterAs) (one : ParameterAs) (first : SpelledToken) (rest : List SpelledToken) (n : ℕ)
     → n ≡ part_length (first ∷ rest) → parameter_of (take n (first ∷ rest)) ≡ Ok one → IsFirstRead made (made ++ one ∷ []) (first ∷ rest) n
@@ -84,7 +84,7 @@ read_some made one first rest n is found =
     record {
       some = omega (arith, some_part first rest);
       within = omega (arith, part_within first rest);
-      gives = rw here (given_by (parameter_of (take n (first ∷ rest))) made one (take n (first ∷ rest)) (each_parameter (parameter_parts (drop n (first ∷ rest)))) found);
+      gives = rw here (given_by (parameter_of (take n (first ∷ rest))) made one (each_parameter (parameter_parts (drop n (first ∷ rest)))) found);
     }
 
 pub one_read : (made now : List ParameterAs) (one : ParameterAs) (tokens : List Token) (n : ℕ) → 0 < length tokens → n ≡ part_length (map spelled tokens)
@@ -95,7 +95,7 @@ one_read made now one (token ∷ rest) n some is found e =
     rw e (read_some made one (spelled token) (map spelled rest) n is (ap parameter_of (sym taken) ∙ found))
 
 -- the first parameter has a fault, and so have all
-refused_by : {A B : Type 0} (front : List B) (refusal : Refusal MacroLineCause) (found : Result A MacroLineCause) (step : A → Result (List B) MacroLineCause)
+pub refused_by : {A B : Type 0} (front : List B) (refusal : Refusal MacroLineCause) (found : Result A MacroLineCause) (step : A → Result (List B) MacroLineCause)
     → Fails refusal found → Fails refusal (behind front (found >>= step))
 refused_by front (Fault cause) found step is = rw is refl
 refused_by front NoMemory found step is = tt

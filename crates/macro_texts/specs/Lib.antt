@@ -3,3 +3,5 @@ pub mod TokenTexts
 pub mod Parameters
 pub mod ParametersSeen
 pub mod PartLengths
+pub mod Arguments
+pub mod ArgumentsSeen

@@ -2,10 +2,12 @@
 //! ".macro", ".irp" and ".irpc").
 #![tactic(auto)]
 
+mod arguments;
 mod causes;
 mod parameters;
 mod token_texts;
 
+pub use arguments::Argument;
 pub use causes::{MacroLineCause, MacroLineFault};
 pub use parameters::{MacroLine, Parameter, ParameterKind, macro_line};
 pub use token_texts::{Value, push_text, push_value, value_of};

@@ -1,0 +1,194 @@
+//! The arguments of a call (GNU as manual, ".macro").
+
+ghost use Rattle.std.specs.Prelude.{◌≡◌, ◌<◌, ◌≤◌, map, length, false, IsTrue, IfOk};
+ghost use Rattle.std.specs.List.{list_any, find, position_or_len};
+ghost use Rattle.std.specs.Option.{option_map};
+ghost use Rattle.asm_base.specs.Refusals.{GivesBy};
+ghost use Rattle.asm_base.specs.Tokens.{spelled};
+ghost use Rattle.asm_operands.specs.Operands.{is_comma};
+ghost use Rattle.macro_texts.specs.TokenTexts.{value_seen};
+ghost use Rattle.macro_texts.specs.ParametersSeen.{parameter_seen};
+ghost use Rattle.macro_texts.specs.Arguments as spec;
+ghost use Rattle.macro_texts.specs.ArgumentsSeen.{given_seen, argument_seen, passed_length, ReadsArgument};
+
+use crate::causes::{MacroLineCause, MacroLineFault};
+use crate::parameters::{Parameter, ParameterKind};
+use crate::token_texts::{Value, value_of};
+use asm_base::{Token, TokenKind};
+use asm_operands::{is_mark, is_name};
+use expr_texts::between_quotes;
+use std::alloc::Global;
+
+/// What a call gives to the parameter of this number.
+#[derive(Clone, Copy)]
+struct Given<'t, 'a> {
+    parameter: usize,
+    /// Whether the parameter takes the rest of the call.
+    rest: bool,
+    tokens: &'t [Token<'a>],
+}
+
+/// How many tokens an argument has with the comma behind it, and the place behind it.
+#[derive(Clone, Copy)]
+struct Passed {
+    length: usize,
+    place: usize,
+}
+
+/// A parameter with what stands for it in a call.
+#[derive(Clone, Copy)]
+pub struct Argument<'t, 'a> {
+    pub name: &'t [u8],
+    pub value: Value<'t, 'a>,
+}
+
+/// How many tokens stand before the first comma, or all.
+pub(crate) fn length_to_comma(tokens: &[Token]) -> usize
+    ensures value { result ≡ position_or_len is_comma (map spelled tokens.now) }
+    ensures within { result ≤ length tokens.now }
+{
+    for (at, token) in tokens.iter().enumerate() {
+        if is_mark(token, b',') {
+            return at;
+        }
+    }
+    tokens.len()
+}
+
+/// What stands before the next comma.
+pub(crate) fn up_to_comma<'t, 'a>(tokens: &'t [Token<'a>]) -> &'t [Token<'a>]
+    ensures { map spelled result.now ≡ spec.up_to_comma (map spelled tokens.entry.now) }
+{
+    &tokens[..length_to_comma(tokens)]
+}
+
+/// The number of the parameter of this name, or how many there are.
+fn number_named(parameters: &[Parameter], name: &[u8]) -> usize
+    ensures { result ≡ spec.number_named (map parameter_seen parameters.now) name.now }
+{
+    for (at, parameter) in parameters.iter().enumerate() {
+        if parameter.name.as_slice() == name {
+            return at;
+        }
+    }
+    parameters.len()
+}
+
+/// What stands here, for a parameter that takes the rest or one that does not.
+fn taken_by<'t, 'a>(rest: bool, tokens: &'t [Token<'a>]) -> &'t [Token<'a>]
+    ensures { map spelled result.now ≡ spec.taken_by rest (map spelled tokens.entry.now) }
+{
+    if rest { tokens } else { up_to_comma(tokens) }
+}
+
+/// What stands here, given to the parameter of this number.
+fn gift<'t, 'a>(
+    parameters: &[Parameter],
+    number: usize,
+    tokens: &'t [Token<'a>],
+) -> Result<Given<'t, 'a>, MacroLineFault>
+    ensures gives { GivesBy given_seen result
+        (spec.gift (map parameter_seen parameters.now) number (map spelled tokens.entry.now)) }
+    ensures number { IfOk result (λ given. number < length parameters.now) }
+{
+    let Some(parameter) = parameters.get(number) else {
+        return Err(MacroLineFault::Fault(MacroLineCause::BadMacroLine));
+    };
+    let rest = parameter.takes_rest();
+    Ok(Given {
+        parameter: number,
+        rest,
+        tokens: taken_by(rest, tokens),
+    })
+}
+
+/// Whether an argument begins with a name and `=`.
+fn names_parameter(tokens: &[Token]) -> bool
+    ensures value { result ≡ spec.names_parameter (map spelled tokens.now) }
+    ensures long { IsTrue result → 2 ≤ length tokens.now }
+{
+    match tokens {
+        [name, mark, ..] => is_name(name) && is_mark(mark, b'='),
+        _ => false,
+    }
+}
+
+/// What the argument gives that begins here, where this is the next place.
+fn given_by<'t, 'a>(
+    parameters: &[Parameter],
+    place: usize,
+    tokens: &'t [Token<'a>],
+) -> Result<Given<'t, 'a>, MacroLineFault>
+    ensures gives { GivesBy given_seen result
+        (spec.given_by (map parameter_seen parameters.now) place (map spelled tokens.entry.now)) }
+    ensures place { IfOk result (λ given.
+        spec.names_parameter (map spelled tokens.entry.now) ≡ false → place < length parameters.now) }
+{
+    if names_parameter(tokens) {
+        let number = number_named(parameters, tokens[0].bytes);
+        gift(parameters, number, &tokens[2..])
+    } else {
+        gift(parameters, place, tokens)
+    }
+}
+
+/// How many tokens an argument has with the comma behind it, or all where it takes the rest.
+fn passed_length(rest: bool, tokens: &[Token]) -> usize
+    ensures { result ≡ passed_length rest (map spelled tokens.now) }
+{
+    let length = length_to_comma(tokens);
+    if rest || length >= tokens.len() { tokens.len() } else { length + 1 }
+}
+
+/// Appends what the argument gives that begins here, and answers where the next one begins.
+fn push_argument<'t, 'a>(
+    parameters: &[Parameter],
+    given: &mut Vec<Given<'t, 'a>>,
+    place: usize,
+    tokens: &'t [Token<'a>],
+) -> Result<Passed, MacroLineFault>
+    requires tokens { 0 < length tokens.now }
+    requires place { place ≤ length parameters.now }
+    ensures read { ReadsArgument (map parameter_seen parameters.now) (map given_seen given.old.items)
+        (map given_seen given.new.items) place (map spelled tokens.entry.now) result }
+    ensures place { IfOk result (λ passed. passed.place ≤ length parameters.now) }
+{
+    let one = match given_by(parameters, place, tokens) {
+        Ok(one) => one,
+        Err(refusal) => return Err(refusal),
+    };
+    given.push(one)?;
+    let length = passed_length(one.rest, tokens);
+    if names_parameter(tokens) {
+        Ok(Passed {
+            length,
+            place: parameters.len(),
+        })
+    } else {
+        Ok(Passed {
+            length,
+            place: place + 1,
+        })
+    }
+}
+
+/// What the arguments give, one after the other.
+fn given_in<'t, 'a>(
+    alloc: Global,
+    parameters: &[Parameter],
+    tokens: &'t [Token<'a>],
+) -> Result<Vec<Given<'t, 'a>>, MacroLineFault>
+    ensures { GivesBy (λ given. map given_seen given.items) result
+        (spec.given_from (map parameter_seen parameters.now) 0
+            (spec.arguments_of (map spelled tokens.entry.now))) }
+{
+    let mut given = Vec::new(alloc);
+    let mut at = 0;
+    let mut place = 0;
+    while at < tokens.len() {
+        let passed = push_argument(parameters, &mut given, place, &tokens[at..])?;
+        at += passed.length;
+        place = passed.place;
+    }
+    Ok(given)
+}
