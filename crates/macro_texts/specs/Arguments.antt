@@ -1,6 +1,7 @@
 -- The arguments of a call (GNU as manual, ".macro"): commas separate them, and each is for a parameter by its name or by its place.
 use Rattle.std.specs.Prelude.{ℕ, suc, ◌==◌, Bool, true, false, not, ◌&&◌, ◌||◌, List, [], ◌∷◌, ◌++◌, length, take, drop, slice_get, if◌then◌else◌, Option, Some, None, Result, Ok, Err}
 use Rattle.std.specs.List.{list_any, find, position_or_len}
+use Rattle.std.specs.Option.{option_map}
 use Rattle.asm_base.specs.Tokens.{SpelledToken}
 use Rattle.asm_base.specs.Refusals.{◌>>=◌}
 use Rattle.expr_texts.specs.Leaves.{between_quotes}
@@ -117,9 +118,13 @@ text_without Optional default = Ok default
 text_without Required default = Err MissingArgument
 text_without Rest default = Ok default
 
--- the text of a parameter: the value that is given to it, or its default
-abbrev pub text_by : Option GivenAs → ParameterAs → Result (List ℕ) MacroLineCause
-text_by (Some given) parameter = Ok (given_text given.rest given.tokens)
+-- the text of what is given
+abbrev pub text_given : GivenAs → List ℕ
+text_given given = given_text given.rest given.tokens
+
+-- the text of a parameter: that of the value that is given to it, or its default
+abbrev pub text_by : Option (List ℕ) → ParameterAs → Result (List ℕ) MacroLineCause
+text_by (Some text) parameter = Ok text
 text_by None parameter = text_without parameter.kind parameter.default
 
 -- a parameter with its text
@@ -131,7 +136,7 @@ pub record ArgumentAs : Type 0 where
 abbrev pub filled : List GivenAs → ℕ → List ParameterAs → Result (List ArgumentAs) MacroLineCause
 filled given number [] = Ok []
 filled given number (parameter ∷ others) =
-    text_by (find (is_value_for number) given) parameter >>= λ text. filled given (suc number) others
+    text_by (option_map text_given (find (is_value_for number) given)) parameter >>= λ text. filled given (suc number) others
     >>= λ more. Ok (record { name = parameter.name; text = text } ∷ more)
 
 -- the parameters with their texts, where no parameter has two values

@@ -192,3 +192,147 @@ fn given_in<'t, 'a>(
     }
     Ok(given)
 }
+
+/// Whether there is no token, or one string with nothing between its quotes.
+fn has_no_text(tokens: &[Token]) -> bool
+    ensures { result ≡ spec.has_no_text (map spelled tokens.now) }
+{
+    match tokens {
+        [] => true,
+        [token] => token.kind == TokenKind::String && between_quotes(token.bytes).is_empty(),
+        _ => false,
+    }
+}
+
+impl<'t, 'a> Given<'t, 'a> {
+    ghost use Rattle.std.specs.Prelude.{◌≡◌};
+    ghost use Rattle.macro_texts.specs.Arguments.{is_nothing_by, is_value_for, given_text};
+    ghost use Rattle.macro_texts.specs.ArgumentsSeen.{given_seen};
+    ghost use Rattle.macro_texts.specs.TokenTexts.{value_seen};
+
+    /// Whether nothing is given.
+    fn is_nothing(&self) -> bool
+        ensures { result ≡ is_nothing_by (given_seen self.now).rest (given_seen self.now).tokens }
+    {
+        if self.rest {
+            self.tokens.is_empty()
+        } else {
+            has_no_text(self.tokens)
+        }
+    }
+
+    /// Whether this is a value for the parameter of this number.
+    fn is_value_for(&self, number: usize) -> bool
+        ensures { result ≡ is_value_for number (given_seen self.now) }
+    {
+        self.parameter == number && !self.is_nothing()
+    }
+
+    /// What stands for the parameter: all of the rest with its commas, or one value.
+    fn value(self) -> Value<'t, 'a>
+        ensures { value_seen result
+            ≡ given_text (given_seen self.entry).rest (given_seen self.entry).tokens }
+    {
+        if self.rest {
+            Value::Tokens(self.tokens)
+        } else {
+            value_of(self.tokens)
+        }
+    }
+}
+
+/// Whether one of these is a value for the parameter of this number.
+fn has_value_for(given: &[Given], number: usize) -> bool
+    ensures { result ≡ list_any (spec.is_value_for number) (map given_seen given.now) }
+{
+    for one in given {
+        if one.is_value_for(number) {
+            return true;
+        }
+    }
+    false
+}
+
+/// Whether no parameter has two values.
+fn given_once(given: &[Given]) -> bool
+    ensures { result ≡ spec.given_once (map given_seen given.now) }
+{
+    for (at, one) in given.iter().enumerate() {
+        if !one.is_nothing() && has_value_for(&given[at + 1..], one.parameter) {
+            return false;
+        }
+    }
+    true
+}
+
+/// What stands for the parameter of this number, if a value is given to it.
+fn value_for<'t, 'a>(given: &[Given<'t, 'a>], number: usize) -> Option<Value<'t, 'a>>
+    ensures { option_map value_seen result
+        ≡ option_map spec.text_given (find (spec.is_value_for number) (map given_seen given.now)) }
+{
+    for one in given {
+        if one.is_value_for(number) {
+            return Some(one.value());
+        }
+    }
+    None
+}
+
+/// What stands for a parameter: the value that is given to it, or its default.
+fn argument_for<'t, 'a>(
+    given: &[Given<'t, 'a>],
+    number: usize,
+    parameter: &'t Parameter,
+) -> Result<Value<'t, 'a>, MacroLineFault>
+    ensures { GivesBy value_seen result (spec.text_by
+        (option_map spec.text_given (find (spec.is_value_for number) (map given_seen given.now)))
+        (parameter_seen parameter.entry.now)) }
+{
+    if let Some(value) = value_for(given, number) {
+        return Ok(value);
+    }
+    match parameter.kind {
+        ParameterKind::Required => Err(MacroLineFault::Fault(MacroLineCause::MissingArgument)),
+        ParameterKind::Optional | ParameterKind::Rest => Ok(Value::Bytes(&parameter.default)),
+    }
+}
+
+/// The parameters, each with what stands for it.
+fn filled<'t, 'a>(
+    alloc: Global,
+    parameters: &'t [Parameter],
+    given: &[Given<'t, 'a>],
+) -> Result<Vec<Argument<'t, 'a>>, MacroLineFault>
+    ensures { GivesBy (λ arguments. map argument_seen arguments.items) result
+        (spec.filled (map given_seen given.now) 0 (map parameter_seen parameters.entry.now)) }
+{
+    let mut arguments = Vec::new(alloc);
+    for (number, parameter) in parameters.iter().enumerate() {
+        match argument_for(given, number, parameter) {
+            Ok(value) => arguments.push(Argument {
+                name: &parameter.name,
+                value,
+            })?,
+            Err(refusal) => return Err(refusal),
+        }
+    }
+    Ok(arguments)
+}
+
+/// The parameters of a macro, each with what stands for it in a call with these tokens behind the macro's name.
+#[tactic(auto, unfolding(crate::specs::Arguments::call_arguments, crate::specs::Arguments::filled_once))]
+pub fn call_arguments<'t, 'a>(
+    alloc: Global,
+    parameters: &'t [Parameter],
+    tokens: &'t [Token<'a>],
+) -> Result<Vec<Argument<'t, 'a>>, MacroLineFault>
+    ensures { GivesBy (λ arguments. map argument_seen arguments.items) result
+        (spec.call_arguments (map parameter_seen parameters.entry.now) (map spelled tokens.entry.now)) }
+{
+    let given = given_in(alloc, parameters, tokens)?;
+    if given_once(&given) {
+        filled(alloc, parameters, &given)
+    } else {
+        Err(MacroLineFault::Fault(MacroLineCause::BadMacroLine))
+    }
+}

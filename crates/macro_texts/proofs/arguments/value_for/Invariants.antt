@@ -1,0 +1,9 @@
+-- So far no value is for the parameter.
+use Rattle.std.proofs.Common.{◌≡◌, map, drop}
+use Rattle.std.specs.List.{find}
+use Rattle.macro_texts.specs.Arguments.{is_value_for}
+use Rattle.macro_texts.specs.ArgumentsSeen.{given_seen}
+use Rattle.macro_texts.proofs.arguments.value_for.Given as goal
+
+abbrev pub invariant-loop-one : goal.invariant-loop-one
+invariant-loop-one l = find (is_value_for l.number) (map given_seen (drop l.one-index l.given)) ≡ find (is_value_for l.number) (map given_seen l.given)
