@@ -2,3 +2,4 @@
 pub mod TextLemmas
 pub mod ParameterLemmas
 pub mod ArgumentLemmas
+pub mod PuttingLemmas

@@ -5,3 +5,5 @@ pub mod ParametersSeen
 pub mod PartLengths
 pub mod Arguments
 pub mod ArgumentsSeen
+pub mod Putting
+pub mod PuttingSeen

@@ -5,9 +5,13 @@
 mod arguments;
 mod causes;
 mod parameters;
+mod putting;
+mod repeats;
 mod token_texts;
 
 pub use arguments::Argument;
 pub use causes::{MacroLineCause, MacroLineFault};
 pub use parameters::{MacroLine, Parameter, ParameterKind, macro_line};
+pub use putting::{has_backslash, put_in};
+pub use repeats::{EachLine, irp_line, irpc_line};
 pub use token_texts::{Value, push_text, push_value, value_of};
