@@ -1,5 +1,5 @@
 -- The arguments of a call, one after the other.
-use Rattle.std.proofs.Common.{◌≡◌, ℕ, zero, suc, not, nat_le, ◌||◌, ◌+◌, ◌-◌, ◌<◌, ◌≤◌, Bool, true, false, cond, List, [], ◌∷◌, ◌++◌, length, get_or, take, drop, map, refl, sym, subst, ap, ◌∙◌, append_assoc, arith, Result, Ok, Err}
+use Rattle.std.proofs.Common.{◌≡◌, ℕ, suc, not, nat_le, ◌||◌, ◌+◌, ◌-◌, ◌<◌, ◌≤◌, Bool, true, false, cond, List, [], ◌∷◌, ◌++◌, length, take, drop, map, refl, sym, ap, ◌∙◌, arith, Result, Ok}
 use Rattle.std.proofs.lemmas.List.{append-nil, length-drop, length-map}
 use Rattle.std.proofs.Math.Seq.{drop-length}
 use Rattle.std.proofs.Math.ListN.{drop_of_length-le}
@@ -8,7 +8,6 @@ use Rattle.std.specs.List.{position_or_len}
 use Rattle.asm_base.specs.Tokens.{SpelledToken, spelled}
 use Rattle.asm_base.specs.declared.tokens.Token.{Token}
 use Rattle.asm_base.specs.declared.refusals.Refusal.{Refusal}
-use Rattle.asm_base.specs.declared.refusals.Refusal.TheVariants.{Fault, NoMemory}
 use Rattle.asm_base.specs.Refusals.{Fails, ◌>>=◌}
 use Rattle.asm_operands.specs.Operands.{is_comma}
 use Rattle.macro_texts.specs.declared.causes.MacroLineCause.{MacroLineCause}
@@ -26,7 +25,7 @@ later_by false rest n is =
     let one : 1 + n ≡ suc n = omega arith in
     rw one is
 
-later_is : (tokens : List SpelledToken) → later_arguments tokens ≡ arguments_of (drop (suc (position_or_len is_comma tokens)) tokens)
+pub later_is : (tokens : List SpelledToken) → later_arguments tokens ≡ arguments_of (drop (suc (position_or_len is_comma tokens)) tokens)
 later_is [] = refl
 later_is (token ∷ rest) = later_by (is_comma token) rest (position_or_len is_comma rest) (later_is rest)
 
@@ -41,7 +40,7 @@ passed_by tokens n false is =
     let one : n + 1 ≡ suc n = omega arith in
     rw one refl
 
-behind_comma : (tokens : List SpelledToken) → drop (passed_length false tokens) tokens ≡ drop (suc (position_or_len is_comma tokens)) tokens
+pub behind_comma : (tokens : List SpelledToken) → drop (passed_length false tokens) tokens ≡ drop (suc (position_or_len is_comma tokens)) tokens
 behind_comma tokens = passed_by tokens (position_or_len is_comma tokens) (nat_le (length tokens) (position_or_len is_comma tokens)) refl
 
 -- what one gives, in front of what the others give
@@ -61,12 +60,12 @@ given_with : (parameters : List ParameterAs) (found : Result GivenAs MacroLineCa
 given_with parameters found made one tokens place is = rw is (given_rest one.rest parameters made one tokens place)
 
 -- something is passed, and no more than there is
-passed_some : (rest test : Bool) (k n : ℕ) → 0 < k → 0 < cond (rest || test) k (n + 1)
+pub passed_some : (rest test : Bool) (k n : ℕ) → 0 < k → 0 < cond (rest || test) k (n + 1)
 passed_some true test k n some = some
 passed_some false true k n some = some
 passed_some false false k n some = omega arith
 
-passed_fits : (rest test : Bool) (k n : ℕ) → nat_le k n ≡ test → cond (rest || test) k (n + 1) ≤ k
+pub passed_fits : (rest test : Bool) (k n : ℕ) → nat_le k n ≡ test → cond (rest || test) k (n + 1) ≤ k
 passed_fits true test k n is = omega arith
 passed_fits false true k n is = omega arith
 passed_fits false false k n is = grind (arith, nat_tests)
@@ -79,7 +78,7 @@ read_given parameters made one token rest place found =
       some = passed_some one.rest (nat_le (length (token ∷ rest)) (position_or_len is_comma (token ∷ rest))) (length (token ∷ rest)) (position_or_len is_comma (token ∷ rest)) (omega arith);
       within = passed_fits one.rest (nat_le (length (token ∷ rest)) (position_or_len is_comma (token ∷ rest))) (length (token ∷ rest)) (position_or_len is_comma (token ∷ rest)) refl;
       gives = given_with parameters (given_by parameters place (token ∷ rest)) made one (token ∷ rest) (place_behind parameters place (token ∷ rest)) found
-        ∙ ap (λ xs. behind made (given_by parameters place (token ∷ rest) >>= λ given. (cond given.rest (Ok (given ∷ [])) (given_from parameters (place_behind parameters place (token ∷ rest)) xs >>= λ others. Ok (given ∷ others))))) (sym later);
+          ∙ ap (λ xs. behind made (given_by parameters place (token ∷ rest) >>= λ given. (cond given.rest (Ok (given ∷ [])) (given_from parameters (place_behind parameters place (token ∷ rest)) xs >>= λ others. Ok (given ∷ others))))) (sym later);
     }
 
 pub one_given : (parameters : List ParameterAs) (made now : List GivenAs) (one : GivenAs) (tokens : List SpelledToken) (place n next : ℕ) → 0 < length tokens → given_by parameters place tokens ≡ Ok one

@@ -3,3 +3,4 @@ pub mod TextLemmas
 pub mod ParameterLemmas
 pub mod ArgumentLemmas
 pub mod PuttingLemmas
+pub mod RepeatLemmas

@@ -7,3 +7,5 @@ pub mod Arguments
 pub mod ArgumentsSeen
 pub mod Putting
 pub mod PuttingSeen
+pub mod Repeats
+pub mod RepeatsSeen

@@ -133,11 +133,15 @@ fn given_by<'t, 'a>(
 }
 
 /// How many tokens an argument has with the comma behind it, or all where it takes the rest.
-fn passed_length(rest: bool, tokens: &[Token]) -> usize
+pub(crate) fn passed_length(rest: bool, tokens: &[Token]) -> usize
     ensures { result ≡ passed_length rest (map spelled tokens.now) }
 {
     let length = length_to_comma(tokens);
-    if rest || length >= tokens.len() { tokens.len() } else { length + 1 }
+    if rest || length >= tokens.len() {
+        tokens.len()
+    } else {
+        length + 1
+    }
 }
 
 /// Appends what the argument gives that begins here, and answers where the next one begins.
@@ -180,7 +184,7 @@ fn given_in<'t, 'a>(
 ) -> Result<Vec<Given<'t, 'a>>, MacroLineFault>
     ensures { GivesBy (λ given. map given_seen given.items) result
         (spec.given_from (map parameter_seen parameters.now) 0
-            (spec.arguments_of (map spelled tokens.entry.now))) }
+        (spec.arguments_of (map spelled tokens.entry.now))) }
 {
     let mut given = Vec::new(alloc);
     let mut at = 0;

@@ -2,7 +2,7 @@
 
 ghost use Rattle.std.specs.Prelude.{◌≡◌, ◌++◌, map, OnOk};
 ghost use Rattle.asm_base.specs.Tokens.{spelled};
-ghost use Rattle.macro_texts.specs.TokenTexts.{follows, space_between, text_of, value_text, value_seen};
+ghost use Rattle.macro_texts.specs.TokenTexts.{follows, space_between, lone_text, text_of, value_text, value_seen};
 
 use asm_base::{Token, TokenKind};
 use expr_texts::between_quotes;
@@ -52,6 +52,17 @@ pub fn push_text(text: &mut Vec<u8>, tokens: &[Token]) -> Result<(), AllocError>
         push_behind(text, &tokens[at - 1], &tokens[at])?;
     }
     Ok(())
+}
+
+/// What one token stands for: a string for what is between its quotes.
+pub(crate) fn lone_text<'a>(token: &Token<'a>) -> &'a [u8]
+    ensures { result.now ≡ lone_text (spelled token.now) }
+{
+    if token.kind == TokenKind::String {
+        between_quotes(token.bytes)
+    } else {
+        token.bytes
+    }
 }
 
 /// What an argument, a default or a value stands for: its text, or what is between the quotes where it is one string.

@@ -1,5 +1,5 @@
 -- Argument by argument.
-use Rattle.std.proofs.Common.{rules, ◌≡◌, ◌-◌, length, map, drop, sym, ap, ◌∙◌, arith}
+use Rattle.std.proofs.Common.{map, sym, ap, ◌∙◌}
 use Rattle.macro_texts.specs.ParametersSeen.{parameter_seen}
 use Rattle.macro_texts.specs.Arguments.{given_from, arguments_of}
 use Rattle.macro_texts.specs.ArgumentsSeen.{given_seen}
@@ -18,10 +18,10 @@ loop-at-preserved c =
     let new = map given_seen c.push_argument.new.given.items in
     record {
       read =
-        ap (λ xs. behind new (given_from parameters passed.place (arguments_of xs))) (sym (next_is all at passed.length))
-        ∙ c.in_ok-passed.ensures.read.gives
-        ∙ ap (λ xs. behind old (given_from parameters c.loop-at.place (arguments_of xs))) (left_is all at)
-        ∙ c.loop-at.invariant.read;
+          ap (λ xs. behind new (given_from parameters passed.place (arguments_of xs))) (sym (next_is all at passed.length))
+          ∙ c.in_ok-passed.ensures.read.gives
+          ∙ ap (λ xs. behind old (given_from parameters c.loop-at.place (arguments_of xs))) (left_is all at)
+          ∙ c.loop-at.invariant.read;
       within = rest_within all at passed.length c.loop-at.invariant.within c.in_ok-passed.ensures.read.within;
       places = c.in_ok-passed.ensures.place;
     }

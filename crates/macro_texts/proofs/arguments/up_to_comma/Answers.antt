@@ -1,5 +1,5 @@
 -- The tokens before the comma.
-use Rattle.std.proofs.Common.{◌≡◌, map, take, sym, ap, ◌∙◌}
+use Rattle.std.proofs.Common.{map, take, sym, ap, ◌∙◌}
 use Rattle.std.proofs.lemmas.List.{take-map}
 use Rattle.asm_base.specs.Tokens.{spelled}
 use Rattle.macro_texts.proofs.arguments.up_to_comma.Goals as goal

@@ -1,7 +1,6 @@
 -- All bytes stand for themselves.
-use Rattle.std.proofs.Common.{rules, ◌≡◌, ℕ, ◌≤◌, List, length, false, arith}
+use Rattle.std.proofs.Common.{arith}
 use Rattle.std.proofs.lemmas.Bool.Decides.{nat_tests}
-use Rattle.macro_texts.specs.Arguments.{ArgumentAs}
 use Rattle.macro_texts.proofs.PuttingLemmas.{put_whole}
 use Rattle.macro_texts.proofs.putting.has_backslash.Goals as goal
 

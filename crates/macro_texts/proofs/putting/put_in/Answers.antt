@@ -1,5 +1,5 @@
 -- Piece by piece.
-use Rattle.std.proofs.Common.{rules, ◌≡◌, ◌-◌, ◌++◌, length, map, drop, sym, ap, ◌∙◌, arith}
+use Rattle.std.proofs.Common.{◌++◌, map, sym, ap, ◌∙◌, arith}
 use Rattle.macro_texts.specs.ArgumentsSeen.{argument_seen}
 use Rattle.macro_texts.specs.Putting.{put}
 use Rattle.macro_texts.proofs.PuttingLemmas.{put_end, body_left, body_next, body_within}
@@ -13,10 +13,10 @@ loop-at-preserved c =
     let arguments = map argument_seen c.args.arguments.now in
     record {
       made =
-        ap (λ xs. c.push_piece.new.text.items ++ put arguments c.args.number xs) (sym (body_next all at n))
-        ∙ c.in_ok-at.ensures.makes
-        ∙ ap (λ xs. c.loop-at.text.items ++ put arguments c.args.number xs) (body_left all at)
-        ∙ c.loop-at.invariant.made;
+          ap (λ xs. c.push_piece.new.text.items ++ put arguments c.args.number xs) (sym (body_next all at n))
+          ∙ c.in_ok-at.ensures.makes
+          ∙ ap (λ xs. c.loop-at.text.items ++ put arguments c.args.number xs) (body_left all at)
+          ∙ c.loop-at.invariant.made;
       within = body_within all at n c.loop-at.invariant.within c.in_ok-at.ensures.within;
     }
 
