@@ -4,3 +4,4 @@ pub mod ParameterLemmas
 pub mod ArgumentLemmas
 pub mod PuttingLemmas
 pub mod RepeatLemmas
+mod Samples
