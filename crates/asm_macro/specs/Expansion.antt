@@ -1,0 +1,367 @@
+-- Expansion: the list of statements and end marks is rewritten at its head, until a statement is handed out (GNU as manual, ".macro",
+-- ".rept", ".irp", ".irpc", ".if", ".include").
+use Rattle.std.specs.Prelude.{ℕ, zero, suc, ◌+◌, ◌-◌, ◌^◌, not, nat_le, Bool, true, false, if◌then◌else◌, List, [], ◌∷◌, ◌++◌, Option, Some, None, length, take, find, filter, count_by, Result, Ok, Err}
+use Rattle.std.specs.List.{list_any}
+use Rattle.std.specs.Str.{bytes_eq}
+use Rattle.asm_base.specs.Tokens.{SpelledToken}
+use Rattle.asm_base.specs.Refusals.{◌>>=◌}
+use Rattle.asm_base.specs.declared.positions.Pos.{Pos}
+use Rattle.asm_lines.specs.NextStatements.{TokenStatement}
+use Rattle.asm_operands.specs.Operands.{is_name}
+use Rattle.macro_texts.specs.declared.causes.MacroLineCause.{MacroLineCause}
+use Rattle.macro_texts.specs.declared.causes.MacroLineCause.TheVariants as line
+use Rattle.macro_texts.specs.Parameters.{ParameterAs, MacroLineAs, macro_line}
+use Rattle.macro_texts.specs.Arguments.{call_arguments}
+use Rattle.macro_texts.specs.Putting.{put}
+use Rattle.macro_texts.specs.Repeats.{EachLineAs, irp_line, irpc_line}
+use Rattle.asm_macro.specs.declared.blocks.Block.TheVariants as block
+use Rattle.asm_macro.specs.declared.blocks.Ending.{Ending}
+use Rattle.asm_macro.specs.declared.blocks.Ending.TheVariants as ending
+use Rattle.asm_macro.specs.declared.causes.MacroCause.{MacroCause}
+use Rattle.asm_macro.specs.declared.causes.MacroCause.TheVariants.{BadMacroLine, MissingArgument, UnclosedBlock, EndWithoutBeginning, NestedTooDeeply, ExpansionTooLong, MacroAlreadyDefined}
+use Rattle.asm_macro.specs.declared.words.Condition.{Condition}
+use Rattle.asm_macro.specs.declared.words.Condition.TheVariants.{NotZero}
+use Rattle.asm_macro.specs.declared.words.Word.{Word}
+use Rattle.asm_macro.specs.declared.words.Word.TheVariants as word
+use Rattle.asm_macro.specs.Statements.{pos_of, with_tokens, labels_of, behind_labels, named_by, word_in, operands_in, body_text, made_statements}
+use Rattle.asm_macro.specs.Blocks.{Cut, ends, of_word, cut, cut_block}
+use Rattle.asm_macro.specs.Conditions.{Knowledge, count_of, holds}
+use Rattle.asm_base.specs.Inputs.{Contents}
+use Rattle.asm_macro.specs.Files.{FileFault, file_name, file_statements}
+
+-- a macro that is known: the text of its body
+pub record MacroAs : Type 0 where
+  pub name : List ℕ
+  pub parameters : List ParameterAs
+  pub body : List ℕ
+
+-- a part of the list: the statements up to an end mark, what this ends, and where the chosen conditionals begin that are open in it,
+-- outermost first
+pub record Level : Type 0 where
+  pub statements : List TokenStatement
+  pub ends : Ending
+  pub open_at : List Pos
+
+-- the list, innermost part first; the macros that are known; how many calls began, and how many statements left the head; and the names
+-- of the files that were started
+pub record State : Type 0 where
+  pub levels : List Level
+  pub macros : List MacroAs
+  pub begun : ℕ
+  pub given : ℕ
+  pub files : List (List ℕ)
+
+-- what becomes of the head: it is handed out, or rewritten; or there is none, or it has a fault, or starts a file of this name that has
+-- one; or it names a file that is not there, or one of which nothing is told
+pub data Turn : Type 0 where
+  hands : TokenStatement → State → Turn
+  goes : State → Turn
+  ended : Turn
+  fails : MacroCause → Pos → Turn
+  breaks : List ℕ → FileFault → Turn
+  misses : Turn
+  untold : Turn
+
+-- the list with this part in front
+abbrev pub under : Level → State → State
+under level state = record state { levels = level ∷ state.levels }
+
+abbrev pub with_statements : List TokenStatement → Level → Level
+with_statements statements level = record level { statements = statements }
+
+abbrev pub with_open : List Pos → Level → Level
+with_open open_at level = record level { open_at = open_at }
+
+-- where the outermost block begins that is open: a conditional's, or else the one that begins here
+abbrev pub first_open : Pos → List Pos → Pos
+first_open pos [] = pos
+first_open pos (first ∷ others) = first
+
+-- a block that begins here is not closed
+abbrev pub unclosed : Pos → Level → Turn
+unclosed pos level = fails UnclosedBlock (first_open pos level.open_at)
+
+-- what this gives goes on so, and its fault is one of this place
+abbrev pub with_made : {A : Type 0} → Pos → Result A MacroCause → (A → Turn) → Turn
+with_made pos (Ok made) on = on made
+with_made pos (Err cause) on = fails cause pos
+
+-- a fault of a line of a macro as one of expansion
+abbrev pub raised : MacroLineCause → MacroCause
+raised line.BadMacroLine = BadMacroLine
+raised line.MissingArgument = MissingArgument
+
+abbrev pub with_read : {A : Type 0} → Pos → Result A MacroLineCause → (A → Turn) → Turn
+with_read pos (Ok read) on = on read
+with_read pos (Err cause) on = fails (raised cause) pos
+
+-- a new part in front of the list, if not too many calls and repeats are open
+abbrev pub is_inner : Ending → Bool
+is_inner ending.File = false
+is_inner _ = true
+
+abbrev pub enter : Pos → Ending → Result (List TokenStatement) MacroCause → State → Turn
+enter pos ends made state =
+    if nat_le 64 (count_by (λ (level : Level). is_inner level.ends) state.levels) then fails NestedTooDeeply pos
+    else with_made pos made (λ statements. goes (under (record { statements = statements; ends = ends; open_at = [] }) state))
+
+-- Conditionals
+
+-- whether a branch begins at a statement that is chosen, where none was before
+abbrev pub verdict_by : Knowledge → Option Word → List SpelledToken → Result Bool MacroCause
+verdict_by known (Some word.Else) operands = Ok true
+verdict_by known (Some word.ElseIf) operands = holds known NotZero operands
+verdict_by known _ operands = Ok false
+
+unfoldable pub verdict : Knowledge → TokenStatement → Result Bool MacroCause
+verdict known statement = verdict_by known (word_in statement) (operands_in statement)
+
+-- not known false: true, or a fault
+abbrev pub is_not_false : Result Bool MacroCause → Bool
+is_not_false (Ok held) = held
+is_not_false (Err cause) = true
+
+-- a branch that is not chosen ends at its conditional's end, and where one begins that is chosen or whose condition has a fault
+abbrev pub ends_branch : Knowledge → TokenStatement → Bool
+ends_branch known statement =
+    if of_word (ends block.Conditional) (word_in statement) then true else is_not_false (verdict known statement)
+
+-- the conditional that began here goes on in a chosen branch, which is open from here on, or behind its end
+abbrev pub go_on : Pos → Bool → Level → State → Turn
+go_on pos true level state = goes (under (with_open (level.open_at ++ pos ∷ []) level) state)
+go_on pos false level state = goes (under level state)
+
+abbrev pub search_branch : Knowledge → Pos → Option Cut → Level → State → Turn
+search_branch known pos None level state = unclosed pos level
+search_branch known pos (Some c) level state =
+    with_made (pos_of c.stop) (verdict known c.stop) (λ chosen. go_on pos chosen (with_statements c.rest level) state)
+
+abbrev pub conditional_by : Knowledge → Pos → Bool → Level → State → Turn
+conditional_by known pos true level state = go_on pos true level state
+conditional_by known pos false level state =
+    search_branch known pos (cut block.Conditional (ends_branch known) 0 level.statements) level state
+
+-- a conditional becomes the list from its chosen branch on
+unfoldable pub conditional : Knowledge → Condition → TokenStatement → Level → State → Turn
+conditional known condition s level state =
+    with_made (pos_of s) (holds known condition (operands_in s)) (λ held. conditional_by known (pos_of s) held level state)
+
+-- without the innermost open conditional
+abbrev pub but_last : List Pos → List Pos
+but_last open_at = take (length open_at - 1) open_at
+
+abbrev pub passed_over : Pos → Option Cut → Level → State → Turn
+passed_over pos None level state = unclosed pos level
+passed_over pos (Some c) level state = goes (under (with_open (but_last level.open_at) (with_statements c.rest level)) state)
+
+-- the end of a chosen branch leaves the list with the rest of its conditional
+abbrev pub branch_end_by : List Pos → Pos → Level → State → Turn
+branch_end_by [] pos level state = fails EndWithoutBeginning pos
+branch_end_by (first ∷ others) pos level state = passed_over pos (cut_block block.Conditional level.statements) level state
+
+unfoldable pub branch_end : TokenStatement → Level → State → Turn
+branch_end s level state = branch_end_by level.open_at (pos_of s) level state
+
+abbrev pub conditional_end_by : List Pos → Pos → Level → State → Turn
+conditional_end_by [] pos level state = fails EndWithoutBeginning pos
+conditional_end_by (first ∷ others) pos level state = goes (under (with_open (but_last level.open_at) level) state)
+
+unfoldable pub conditional_end : TokenStatement → Level → State → Turn
+conditional_end s level state = conditional_end_by level.open_at (pos_of s) level state
+
+-- Repeats
+
+-- these statements so many times
+abbrev pub repeated : ℕ → List TokenStatement → List TokenStatement
+repeated zero statements = []
+repeated (suc n) statements = statements ++ repeated n statements
+
+abbrev pub copies_of : ℕ → Result (List TokenStatement) MacroCause → Result (List TokenStatement) MacroCause
+copies_of count made = made >>= λ statements. Ok (repeated count statements)
+
+-- what becomes of the body of a block that begins here, or it is not closed
+abbrev pub with_body : Pos → Option Cut → Level → State → (List TokenStatement → State → Turn) → Turn
+with_body pos None level state on = unclosed pos level
+with_body pos (Some c) level state on = on c.inside (under (with_statements c.rest level) state)
+
+abbrev pub repeat_copies : Pos → ℕ → List TokenStatement → State → Turn
+repeat_copies pos count [] state = goes state
+repeat_copies pos count (first ∷ others) state =
+    enter pos ending.Repeat (copies_of count (made_statements pos (body_text (first ∷ others)))) state
+
+-- a repeat becomes its copies and an end mark; with an empty body it becomes nothing
+unfoldable pub repeat : Knowledge → TokenStatement → Level → State → Turn
+repeat known s level state =
+    with_made (pos_of s) (known.value (operands_in s)) (λ n. with_body (pos_of s) (cut_block block.Repeat level.statements) level state
+    (λ body now. repeat_copies (pos_of s) (count_of n) body now))
+
+-- a copy of a body for each of these texts of a name
+abbrev pub each_copy : Pos → List ℕ → ℕ → List ℕ → List (List ℕ) → Result (List TokenStatement) MacroCause
+each_copy pos name begun body [] = Ok []
+each_copy pos name begun body (text ∷ texts) =
+    made_statements pos (put (record { name = name; text = text } ∷ []) begun body) >>= λ first.
+    each_copy pos name begun body texts >>= λ others. Ok (first ++ others)
+
+abbrev pub each_copies : Pos → EachLineAs → List TokenStatement → State → Turn
+each_copies pos line [] state = goes state
+each_copies pos line (first ∷ others) state =
+    enter pos ending.Repeat (each_copy pos line.name state.begun (body_text (first ∷ others)) line.values) state
+
+-- the same with a name that stands for another text in each copy
+unfoldable pub each : (List SpelledToken → Result EachLineAs MacroLineCause) → TokenStatement → Level → State → Turn
+each read s level state =
+    with_read (pos_of s) (read (operands_in s)) (λ line. with_body (pos_of s) (cut_block block.Repeat level.statements) level state
+    (λ body now. each_copies (pos_of s) line body now))
+
+-- Macros
+
+abbrev pub is_called : List ℕ → MacroAs → Bool
+is_called name one = bytes_eq one.name name
+
+abbrev pub known_macro : List ℕ → MacroAs → Bool
+known_macro name one = not (is_called name one)
+
+abbrev pub add_macro : MacroLineAs → List TokenStatement → State → State
+add_macro line body state =
+    record state { macros = state.macros ++ record { name = line.name; parameters = line.parameters; body = body_text body } ∷ [] }
+
+-- a definition leaves the list, and the macro is known
+unfoldable pub define : TokenStatement → Level → State → Turn
+define s level state =
+    with_read (pos_of s) (macro_line (operands_in s)) (λ line.
+    (if list_any (is_called line.name) state.macros then fails MacroAlreadyDefined (pos_of s)
+    else with_body (pos_of s) (cut_block block.Macro level.statements) level state (λ body now. goes (add_macro line body now))))
+
+-- a call becomes its body with arguments put in, and an end mark
+unfoldable pub call : MacroAs → TokenStatement → Level → State → Turn
+call one s level state =
+    with_read (pos_of s) (call_arguments one.parameters (operands_in s)) (λ arguments.
+    enter (pos_of s) ending.Call (made_statements (pos_of s) (put arguments state.begun one.body)) (under level (record state { begun = state.begun + 1 })))
+
+-- the name that one token is
+abbrev pub one_name : List SpelledToken → Result (List ℕ) MacroCause
+one_name [] = Err BadMacroLine
+one_name (token ∷ []) = if is_name token then Ok token.bytes else Err BadMacroLine
+one_name (token ∷ next ∷ rest) = Err BadMacroLine
+
+-- a macro that is known is forgotten
+abbrev pub forget : Pos → List ℕ → State → Turn
+forget pos name state =
+    if list_any (is_called name) state.macros then goes (record state { macros = filter (known_macro name) state.macros })
+    else fails BadMacroLine pos
+
+unfoldable pub purge : TokenStatement → Level → State → Turn
+purge s level state = with_made (pos_of s) (one_name (operands_in s)) (λ name. forget (pos_of s) name (under level state))
+
+-- the list behind the end mark of its innermost call
+abbrev pub is_call : Ending → Bool
+is_call ending.Call = true
+is_call _ = false
+
+unfoldable pub after_call : List Level → Option (List Level)
+after_call [] = None
+after_call (level ∷ below) = if is_call level.ends then Some below else after_call below
+
+abbrev pub exit_by : Pos → Option (List Level) → State → Turn
+exit_by pos None state = fails EndWithoutBeginning pos
+exit_by pos (Some levels) state = goes (record state { levels = levels })
+
+-- `.exitm` takes the list away up to the end mark of its innermost call, that mark included
+unfoldable pub exit : TokenStatement → Level → State → Turn
+exit s level state = exit_by (pos_of s) (after_call (level ∷ state.levels)) state
+
+-- Files
+
+abbrev pub is_file : Ending → Bool
+is_file ending.File = true
+is_file _ = false
+
+-- a file in front of the list, with its name behind those of the files before it
+abbrev pub start_file : List ℕ → Result (List TokenStatement) FileFault → State → Turn
+start_file name (Ok statements) state =
+    goes (under (record { statements = statements; ends = ending.File; open_at = [] }) (record state { files = state.files ++ name ∷ [] }))
+start_file name (Err fault) state = breaks name fault
+
+abbrev pub include_file : List ℕ → Option (List ℕ) → State → Turn
+include_file name None state = misses
+include_file name (Some bytes) state = start_file name (file_statements (length state.files) bytes) state
+
+abbrev pub include_told : List ℕ → Option Contents → State → Turn
+include_told name None state = untold
+include_told name (Some contents) state = include_file name (contents name) state
+
+-- an include becomes the file's statements and an end mark
+unfoldable pub include : Option Contents → TokenStatement → Level → State → Turn
+include contents s level state =
+    with_made (pos_of s) (file_name (operands_in s)) (λ name.
+    (if nat_le 32 (count_by (λ (one : Level). is_file one.ends) (level ∷ state.levels)) then fails NestedTooDeeply (pos_of s)
+    else include_told name contents (under level state)))
+
+-- The head of the list
+
+-- a head that is a word of expansion, by its word
+abbrev pub rewritten : Knowledge → Option Contents → Word → TokenStatement → Level → State → Turn
+rewritten known contents (word.If condition) s level state = conditional known condition s level state
+rewritten known contents word.ElseIf s level state = branch_end s level state
+rewritten known contents word.Else s level state = branch_end s level state
+rewritten known contents word.EndIf s level state = conditional_end s level state
+rewritten known contents word.Repeat s level state = repeat known s level state
+rewritten known contents word.EachValue s level state = each irp_line s level state
+rewritten known contents word.EachCharacter s level state = each irpc_line s level state
+rewritten known contents word.EndRepeat s level state = fails EndWithoutBeginning (pos_of s)
+rewritten known contents word.Macro s level state = define s level state
+rewritten known contents word.EndMacro s level state = fails EndWithoutBeginning (pos_of s)
+rewritten known contents word.ExitMacro s level state = exit s level state
+rewritten known contents word.Purge s level state = purge s level state
+rewritten known contents word.Include s level state = include contents s level state
+
+-- the macro of a name, if it is known
+abbrev pub macro_named : List MacroAs → Option (List ℕ) → Option MacroAs
+macro_named macros None = None
+macro_named macros (Some name) = find (is_called name) macros
+
+-- the labels before a word stand, as a statement of their own, before what the word becomes
+abbrev pub behind_own_labels : List SpelledToken → TokenStatement → Level → State → Turn → Turn
+behind_own_labels [] s level state bare = bare
+behind_own_labels (label ∷ others) s level state bare =
+    hands (with_tokens (label ∷ others) s) (under (with_statements (with_tokens (behind_labels s.tokens) s ∷ level.statements) level) state)
+
+abbrev pub head_by : Knowledge → Option Contents → Option Word → Option MacroAs → TokenStatement → Level → State → Turn
+head_by known contents (Some one) called s level state =
+    behind_own_labels (labels_of s.tokens) s level state (rewritten known contents one s level state)
+head_by known contents None (Some one) s level state = behind_own_labels (labels_of s.tokens) s level state (call one s level state)
+head_by known contents None None s level state = hands s (under level state)
+
+-- the head is a word, a call of a macro that is known, or a statement that is handed out
+unfoldable pub head : Knowledge → Option Contents → TokenStatement → Level → State → Turn
+head known contents s level state =
+    head_by known contents (word_in s) (macro_named state.macros (named_by (behind_labels s.tokens))) s level state
+
+-- the most statements that leave the head
+abbrev pub most_given : ℕ
+most_given = 2 ^ 22
+
+-- an end mark leaves the list where no conditional is open
+abbrev pub close_by : List Pos → State → Turn
+close_by [] state = goes state
+close_by (first ∷ others) state = fails UnclosedBlock first
+
+abbrev pub turn_level : Knowledge → Option Contents → List TokenStatement → Level → State → Turn
+turn_level known contents [] level state = close_by level.open_at state
+turn_level known contents (s ∷ rest) level state =
+    if nat_le most_given state.given then fails ExpansionTooLong (pos_of s)
+    else head known contents s (with_statements rest level) (record state { given = state.given + 1 })
+
+abbrev pub turn_levels : Knowledge → Option Contents → List Level → State → Turn
+turn_levels known contents [] state = ended
+turn_levels known contents (level ∷ below) state =
+    turn_level known contents level.statements level (record state { levels = below })
+
+-- the head of the list is rewritten or handed out
+unfoldable pub turn : Knowledge → Option Contents → State → Turn
+turn known contents state = turn_levels known contents state.levels state
+
+-- the list of a source: its statements and the end mark of its file
+abbrev pub started : List ℕ → List TokenStatement → State
+started name statements =
+    record { levels = record { statements = statements; ends = ending.File; open_at = [] } ∷ []; macros = []; begun = 0; given = 0; files = name ∷ [] }

@@ -1,0 +1,140 @@
+//! The words of macros, repeats, conditionals and files.
+
+ghost use Rattle.std.specs.Prelude.{◌≡◌, option_map, find, IsTrue};
+ghost use Rattle.std.specs.List.{list_all};
+ghost use Rattle.asm_macro.specs.Words as spec;
+
+/// What a condition asks (GNU as manual, ".if").
+#[derive(Clone, Copy, Debug, PartialEq, Eq)]
+pub enum Condition {
+    /// `.if`, `.ifne`: the value is not 0.
+    NotZero,
+    /// `.ifeq`: the value is 0.
+    Zero,
+    /// `.iflt`: the value, with its sign, is below 0.
+    Negative,
+    /// `.ifle`
+    NotPositive,
+    /// `.ifgt`
+    Positive,
+    /// `.ifge`
+    NotNegative,
+    /// `.ifdef`: the symbol is defined.
+    Defined,
+    /// `.ifndef`
+    NotDefined,
+    /// `.ifb`: there is no operand.
+    Blank,
+    /// `.ifnb`
+    NotBlank,
+    /// `.ifc`: both texts are the same.
+    Same,
+    /// `.ifnc`
+    Different,
+}
+
+/// A word of macros, repeats, conditionals and files.
+#[derive(Clone, Copy, Debug, PartialEq, Eq)]
+pub enum Word {
+    If(Condition),
+    ElseIf,
+    Else,
+    EndIf,
+    /// `.rept`
+    Repeat,
+    /// `.irp`
+    EachValue,
+    /// `.irpc`
+    EachCharacter,
+    EndRepeat,
+    Macro,
+    EndMacro,
+    ExitMacro,
+    /// `.purgem`
+    Purge,
+    Include,
+}
+
+/// A word's name, with spaces after it up to eight bytes, and its length.
+pub struct WordRow {
+    pub name: [u8; 8],
+    pub length: usize,
+    pub word: Word,
+}
+
+/// The rows, each a line: the name with its spaces, its length, and the word.
+macro_rules! words {
+    ($($name:literal $length:literal $word:expr;)*) => {
+        [$(WordRow { name: *$name, length: $length, word: $word }),*]
+    };
+}
+
+/// The table of words.
+#[rattlefmt::skip]
+pub static WORDS: [WordRow; 25] = words! {
+    b".if     " 3 Word::If(Condition::NotZero);
+    b".ifne   " 5 Word::If(Condition::NotZero);
+    b".ifeq   " 5 Word::If(Condition::Zero);
+    b".iflt   " 5 Word::If(Condition::Negative);
+    b".ifle   " 5 Word::If(Condition::NotPositive);
+    b".ifgt   " 5 Word::If(Condition::Positive);
+    b".ifge   " 5 Word::If(Condition::NotNegative);
+    b".ifdef  " 6 Word::If(Condition::Defined);
+    b".ifndef " 7 Word::If(Condition::NotDefined);
+    b".ifb    " 4 Word::If(Condition::Blank);
+    b".ifnb   " 5 Word::If(Condition::NotBlank);
+    b".ifc    " 4 Word::If(Condition::Same);
+    b".ifnc   " 5 Word::If(Condition::Different);
+    b".elseif " 7 Word::ElseIf;
+    b".else   " 5 Word::Else;
+    b".endif  " 6 Word::EndIf;
+    b".rept   " 5 Word::Repeat;
+    b".irp    " 4 Word::EachValue;
+    b".irpc   " 5 Word::EachCharacter;
+    b".endr   " 5 Word::EndRepeat;
+    b".macro  " 6 Word::Macro;
+    b".endm   " 5 Word::EndMacro;
+    b".exitm  " 6 Word::ExitMacro;
+    b".purgem " 7 Word::Purge;
+    b".include" 8 Word::Include;
+};
+
+/// The table.
+#[tactic(auto, unfolding(crate::specs::Words::the_words))]
+fn words() -> &'static [WordRow]
+    ensures { result.now ≡ spec.the_words }
+{
+    &WORDS
+}
+
+/// Whether the row has the name: what stands before the spaces.
+#[tactic(auto, using(std::proofs::lemmas::List::take_min))]
+fn is_word(name: &[u8], row: &WordRow) -> bool
+    ensures { result ≡ spec.is_word name.now row.now }
+{
+    let padded = row.name.as_slice();
+    &padded[..row.length.min(padded.len())] == name
+}
+
+/// The word of the name.
+#[tactic(auto, unfolding(crate::specs::Words::word_of))]
+pub fn word_of(name: &[u8]) -> Option<Word>
+    ensures { result ≡ spec.word_of name.now }
+{
+    for row in words() {
+        if is_word(name, row) {
+            return Some(row.word);
+        }
+    }
+    None
+}
+
+/// Each row's name ends where the spaces after it begin.
+pub fn words_are_whole()
+    ensures { IsTrue (list_all spec.has_whole_name WORDS) }
+{}
+
+/// No two rows have one name.
+pub fn words_apart()
+    ensures { IsTrue (spec.all_named_apart WORDS) }
+{}
