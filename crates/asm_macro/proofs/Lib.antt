@@ -1,1 +1,3 @@
 -- The proofs of this crate.
+mod Samples
+pub mod Turns

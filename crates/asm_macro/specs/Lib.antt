@@ -6,3 +6,4 @@ pub mod Conditions
 pub mod Files
 pub mod Expansion
 pub mod Placing
+pub mod Laws

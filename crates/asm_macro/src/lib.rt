@@ -4,8 +4,10 @@
 
 mod blocks;
 mod causes;
+mod laws;
 mod words;
 
 pub use blocks::{Block, Ending};
 pub use causes::MacroCause;
+pub use laws::{one_outcome, plain_statements_are_placed};
 pub use words::{Condition, WORDS, Word, WordRow, word_of, words_apart, words_are_whole};
