@@ -1,5 +1,5 @@
 -- The definition of expansion computed on sources written out.
-use Rattle.std.specs.Prelude.{◌≡◌, ℕ, ◌-◌, List, [], ◌∷◌, ◌++◌, codes, Bool, true, false, if◌then◌else◌, Option, None, Some, Result, Ok, Err, refl, slice_index}
+use Rattle.std.specs.Prelude.{◌≡◌, ℕ, ◌-◌, List, [], ◌∷◌, ◌++◌, codes, false, if◌then◌else◌, None, Some, Result, Ok, Err, refl, slice_index}
 use Rattle.std.specs.Str.{bytes_eq, is_utf8, chars}
 use Rattle.asm_base.specs.ByteClasses.{is_blank, is_name_start, is_name_byte, is_operator_byte}
 use Rattle.asm_base.specs.Dividing.{comment_length, quoted_length, piece_kind, piece_length, pieces_from}

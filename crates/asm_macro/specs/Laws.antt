@@ -6,7 +6,7 @@ use Rattle.asm_lines.specs.Placing.{placed_in_order}
 use Rattle.asm_macro.specs.Statements.{word_in}
 use Rattle.asm_macro.specs.Conditions.{Knowledge}
 use Rattle.asm_macro.specs.Expansion.{most_given, started}
-use Rattle.asm_macro.specs.Placing.{Step, goes, ended, fails, breaks, refused, misses, untold, steps}
+use Rattle.asm_macro.specs.Placing.{Step, goes, ended, refused, steps}
 
 -- there is no list to go on with
 abbrev pub is_final : {S F : Type 0} → Step S F → Bool

@@ -1,5 +1,4 @@
 -- By the turns.
-use Rattle.std.proofs.Common.{◌≡◌}
 use Rattle.asm_macro.specs.Expansion.{started}
 use Rattle.asm_macro.proofs.Turns.{one_result}
 use Rattle.asm_macro.proofs.laws.one_outcome.Goals as goal
