@@ -28,16 +28,17 @@ abbrev pub of_word : (Word → Bool) → Option Word → Bool
 of_word test None = false
 of_word test (Some one) = test one
 
-abbrev pub begins_at : Block → TokenStatement → Bool
-begins_at b statement = of_word (begins b) (word_in statement)
-
 abbrev pub ends_at : Block → TokenStatement → Bool
 ends_at b statement = of_word (ends b) (word_in statement)
 
--- how many blocks are open behind a statement
+-- how many blocks are open behind a statement of this word, before which so many are
+abbrev pub depth_by : Block → ℕ → Option Word → ℕ
+depth_by b deep one =
+    if of_word (begins b) one then deep + 1 else (if of_word (ends b) one then deep - 1 else deep)
+
+-- the same of a statement
 unfoldable pub depth_behind : Block → ℕ → TokenStatement → ℕ
-depth_behind b deep statement =
-    if begins_at b statement then deep + 1 else (if ends_at b statement then deep - 1 else deep)
+depth_behind b deep statement = depth_by b deep (word_in statement)
 
 -- with nothing open inside, a block stops where this test holds
 unfoldable pub stops : (TokenStatement → Bool) → ℕ → TokenStatement → Bool

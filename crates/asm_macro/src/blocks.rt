@@ -1,5 +1,7 @@
 //! Blocks, and what stands at the end of a part of the list.
 
+use crate::words::Word;
+
 /// What a block is, by the words that begin and end it.
 #[derive(Clone, Copy, Debug, PartialEq, Eq)]
 pub enum Block {
@@ -20,4 +22,68 @@ pub enum Ending {
     Call,
     /// A repeat with all its copies.
     Repeat,
+}
+
+impl Block {
+    ghost use Rattle.std.specs.Prelude.{◌≡◌, ◌<◌, ◌^◌};
+    ghost use Rattle.asm_macro.specs.Blocks as spec;
+
+    /// Whether the word begins a block of this kind.
+    pub fn begins(self, word: Word) -> bool
+        ensures { result ≡ spec.begins self word }
+    {
+        match self {
+            Block::Conditional => matches!(word, Word::If(_)),
+            Block::Repeat => matches!(
+                word,
+                Word::Repeat | Word::EachValue | Word::EachCharacter
+            ),
+            Block::Macro => matches!(word, Word::Macro),
+        }
+    }
+
+    /// Whether the word ends one.
+    pub fn ends(self, word: Word) -> bool
+        ensures { result ≡ spec.ends self word }
+    {
+        match self {
+            Block::Conditional => matches!(word, Word::EndIf),
+            Block::Repeat => matches!(word, Word::EndRepeat),
+            Block::Macro => matches!(word, Word::EndMacro),
+        }
+    }
+
+    /// Whether the statement of this word, if it has one, begins a block of this kind.
+    fn begins_at(self, word: Option<Word>) -> bool
+        ensures { result ≡ spec.of_word (spec.begins self) word }
+    {
+        match word {
+            Some(word) => self.begins(word),
+            None => false,
+        }
+    }
+
+    /// Whether the statement of this word, if it has one, ends one.
+    pub fn ends_at(self, word: Option<Word>) -> bool
+        ensures { result ≡ spec.of_word (spec.ends self) word }
+    {
+        match word {
+            Some(word) => self.ends(word),
+            None => false,
+        }
+    }
+
+    /// How many blocks are open behind a statement of this word, before which so many are.
+    pub fn depth_behind(self, deep: usize, word: Option<Word>) -> usize
+        requires { deep < 2 ^ 63 }
+        ensures { result ≡ spec.depth_by self deep word }
+    {
+        if self.begins_at(word) {
+            deep + 1
+        } else if self.ends_at(word) {
+            deep.saturating_sub(1)
+        } else {
+            deep
+        }
+    }
 }
