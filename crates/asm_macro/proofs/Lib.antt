@@ -1,3 +1,4 @@
 -- The proofs of this crate.
 mod Samples
 pub mod Turns
+pub mod Labels
