@@ -1,7 +1,7 @@
 -- The labels of a statement, one after the other.
-use Rattle.std.proofs.Common.{◌≡◌, ℕ, ◌+◌, ◌-◌, ◌≤◌, Bool, true, false, List, [], ◌∷◌, ◌++◌, length, take, drop, map, refl, sym, ap, ◌∙◌, append_assoc, take-add, arith}
+use Rattle.std.proofs.Common.{◌≡◌, ℕ, ◌+◌, ◌-◌, ◌≤◌, true, false, List, [], ◌∷◌, ◌++◌, length, take, drop, map, refl, sym, ap, ◌∙◌, append_assoc, take-add, arith}
 use Rattle.std.proofs.lemmas.Bool.{false≢true}
-use Rattle.std.proofs.lemmas.List.{append-nil, drop-drop, drop-map, take_rest, length-map, length-drop}
+use Rattle.std.proofs.lemmas.List.{append-nil, drop-drop, drop-map, take_rest, length-drop}
 use Rattle.asm_base.specs.Tokens.{SpelledToken, spelled}
 use Rattle.asm_base.specs.declared.tokens.Token.{Token}
 use Rattle.asm_operands.specs.Operands.{begins_with_label}

@@ -2,3 +2,4 @@
 mod Samples
 pub mod Turns
 pub mod Labels
+pub mod Cuts

@@ -34,10 +34,7 @@ impl Block {
     {
         match self {
             Block::Conditional => matches!(word, Word::If(_)),
-            Block::Repeat => matches!(
-                word,
-                Word::Repeat | Word::EachValue | Word::EachCharacter
-            ),
+            Block::Repeat => matches!(word, Word::Repeat | Word::EachValue | Word::EachCharacter),
             Block::Macro => matches!(word, Word::Macro),
         }
     }

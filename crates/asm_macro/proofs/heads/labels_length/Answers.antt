@@ -1,5 +1,5 @@
 -- Label by label.
-use Rattle.std.proofs.Common.{rules, ◌≡◌, ◌∙◌, ap, sym, map, drop, length, arith}
+use Rattle.std.proofs.Common.{◌∙◌, ap, sym, map}
 use Rattle.asm_base.specs.Tokens.{spelled}
 use Rattle.asm_operands.specs.Operands.{begins_with_label}
 use Rattle.asm_macro.specs.Statements.{labels_of, behind_labels}
