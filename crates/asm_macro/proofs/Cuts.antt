@@ -22,7 +22,7 @@ first_none : (s : TokenStatement) (found : Option Cut) → with_first s found �
 first_none s None is = refl
 first_none s (Some c) is = absurd cc
 
-either : (test : Bool) → (test ≡ true) ⊎ (test ≡ false)
+pub either : (test : Bool) → (test ≡ true) ⊎ (test ≡ false)
 either true = inl refl
 either false = inr refl
 

@@ -3,3 +3,4 @@ mod Samples
 pub mod Turns
 pub mod Labels
 pub mod Cuts
+pub mod WordNames

@@ -1,6 +1,6 @@
 -- The words of macros, repeats, conditionals and files, by their names.
-use Rattle.std.specs.Prelude.{ℕ, ◌==◌, ◌&&◌, not, Bool, true, List, [], ◌∷◌, take, drop, find, Option, option_map}
-use Rattle.std.specs.List.{list_all}
+use Rattle.std.specs.Prelude.{ℕ, ◌==◌, ◌&&◌, not, Bool, true, false, List, [], ◌∷◌, codes, take, drop, find, Option, option_map}
+use Rattle.std.specs.List.{list_all, list_any}
 use Rattle.std.specs.Str.{bytes_eq}
 use Rattle.asm_macro.specs.declared.words.Word.{Word}
 use Rattle.asm_macro.specs.declared.words.WordRow.{WordRow}
@@ -30,3 +30,14 @@ has_whole_name row = list_all (λ b. not (b == 32)) (word_name row) && list_all 
 abbrev pub all_named_apart : List WordRow → Bool
 all_named_apart [] = true
 all_named_apart (row ∷ rows) = list_all (λ other. not (is_word (word_name row) other)) rows && all_named_apart rows
+
+-- a word's name may go on so behind its first byte
+abbrev pub may_go_on : ℕ → ℕ → Bool
+may_go_on second third = list_any (λ byte. byte == second) (codes "iermp") && list_any (λ byte. byte == third) (codes "frnlxeau")
+
+-- a word's name may begin so
+abbrev pub may_be_word : List ℕ → Bool
+may_be_word [] = false
+may_be_word (first ∷ []) = false
+may_be_word (first ∷ second ∷ []) = false
+may_be_word (first ∷ second ∷ third ∷ rest) = may_go_on second third

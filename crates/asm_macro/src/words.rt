@@ -116,11 +116,30 @@ fn is_word(name: &[u8], row: &WordRow) -> bool
     &padded[..row.length.min(padded.len())] == name
 }
 
+/// Whether a word's name may begin so: most directives are no words, and need no search.
+fn may_be_word(name: &[u8]) -> bool
+    ensures { result ≡ spec.may_be_word name.now }
+{
+    match name {
+        [_, second, third, ..] => {
+            matches!(*second, b'i' | b'e' | b'r' | b'm' | b'p')
+                && matches!(
+                    *third,
+                    b'f' | b'r' | b'n' | b'l' | b'x' | b'e' | b'a' | b'u'
+                )
+        }
+        _ => false,
+    }
+}
+
 /// The word of the name.
-#[tactic(auto, unfolding(crate::specs::Words::word_of))]
+#[tactic(auto, using(crate::proofs::WordNames::no_word), unfolding(crate::specs::Words::word_of))]
 pub fn word_of(name: &[u8]) -> Option<Word>
     ensures { result ≡ spec.word_of name.now }
 {
+    if !may_be_word(name) {
+        return None;
+    }
     for row in words() {
         if is_word(name, row) {
             return Some(row.word);
