@@ -1,11 +1,12 @@
 -- Arguments put in, piece by piece.
-use Rattle.std.proofs.Common.{◌≡◌, ℕ, zero, suc, ◌+◌, ◌-◌, ◌<◌, ◌≤◌, Bool, true, false, cond, List, [], ◌∷◌, ◌++◌, length, take, drop, get_or, refl, sym, ap, ◌∙◌, append_assoc, arith}
+use Rattle.std.proofs.Common.{◌≡◌, ℕ, zero, suc, not, ◌==◌, ◌||◌, ◌+◌, ◌-◌, ◌<◌, ◌≤◌, Bool, true, false, cond, List, [], ◌∷◌, ◌++◌, length, take, drop, get_or, refl, sym, ap, ◌∙◌, append_assoc, arith}
 use Rattle.std.proofs.lemmas.List.{append-nil, drop-drop, take_all, take_rest, length-drop}
 use Rattle.std.proofs.Math.ListN.{drop_of_length-le}
+use Rattle.std.proofs.lemmas.Bool.{false≢true}
 use Rattle.std.proofs.lemmas.Bool.Decides.{nat_tests}
 use Rattle.std.specs.List.{prefix_len}
 use Rattle.macro_texts.specs.Arguments.{ArgumentAs}
-use Rattle.macro_texts.specs.Putting.{is_plain, put_at, put_from, put}
+use Rattle.macro_texts.specs.Putting.{is_plain, has_backslash, put_at, put_from, put}
 use Rattle.macro_texts.specs.PuttingSeen.{IsPutOn}
 
 -- bytes that are left out are passed over
@@ -89,10 +90,20 @@ unfolding put_from
 put_end arguments number made body at all is =
     sym (append-nil made) ∙ ap (λ xs. made ++ put arguments number xs) (sym (drop_of_length-le body all)) ∙ is
 
+-- without a backslash all bytes stand for themselves
+none_by : (found : Bool) (other : Bool) (n k : ℕ) → (found || other) ≡ false → (other ≡ false → k ≤ n) → suc k ≤ cond (not found) (1 + n) 0
+none_by true other n k is rest = absurd (false≢true (sym is))
+none_by false other n k is rest = omega (arith, rest is)
+
+all_plain : (body : List ℕ) → has_backslash body ≡ false → length body ≤ prefix_len is_plain body
+all_plain [] is = omega arith
+all_plain (byte ∷ rest) is = none_by (byte == 92) (has_backslash rest) (prefix_len is_plain rest) (length rest) is (all_plain rest)
+
 -- a body without a backslash stays as it is
-pub put_whole : (arguments : List ArgumentAs) (number : ℕ) (body : List ℕ) → length body ≤ prefix_len is_plain body → put arguments number body ≡ body
+pub put_whole : (arguments : List ArgumentAs) (number : ℕ) (body : List ℕ) → has_backslash body ≡ false → put arguments number body ≡ body
 unfolding put_from
-put_whole arguments number body all =
+put_whole arguments number body is =
+    let all = all_plain body is in
     plain_run arguments number body ∙ ap (λ xs. take (prefix_len is_plain body) body ++ put arguments number xs) (drop_of_length-le body all) ∙ append-nil (take (prefix_len is_plain body) body) ∙ take_all (prefix_len is_plain body) body all
 
 -- what is left behind so many bytes of what is left

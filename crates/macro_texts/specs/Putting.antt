@@ -1,6 +1,6 @@
 -- Arguments put into the text of a body (GNU as manual, ".macro": `\` and a name, `\@`, `\()`).
 use Rattle.std.specs.Prelude.{ℕ, zero, suc, ◌==◌, Bool, not, List, [], ◌∷◌, ◌++◌, take, if◌then◌else◌, Option, Some, None}
-use Rattle.std.specs.List.{find, prefix_len}
+use Rattle.std.specs.List.{find, list_any, prefix_len}
 use Rattle.std.specs.Option.{option_map}
 use Rattle.std.specs.Str.{bytes_eq}
 use Rattle.std.specs.Fmt.{decimal}
@@ -10,6 +10,10 @@ use Rattle.macro_texts.specs.Arguments.{ArgumentAs}
 -- any byte but a backslash stands for itself
 abbrev pub is_plain : ℕ → Bool
 is_plain byte = not (byte == 92)
+
+-- a backslash stands in the body
+abbrev pub has_backslash : List ℕ → Bool
+has_backslash body = list_any (λ byte. byte == 92) body
 
 -- the parameter has this name
 abbrev pub has_name : List ℕ → ArgumentAs → Bool

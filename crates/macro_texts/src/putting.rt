@@ -165,8 +165,9 @@ pub fn put_in(
 
 /// Whether a backslash stands in a body: without one it stays as it is, whatever is put in.
 pub fn has_backslash(body: &[u8]) -> bool
-    ensures { result ≡ false → (arguments : List ArgumentAs) → (number : ℕ)
+    ensures value { result ≡ spec.has_backslash body.now }
+    ensures whole { result ≡ false → (arguments : List ArgumentAs) → (number : ℕ)
         → spec.put arguments number body.now ≡ body.now }
 {
-    plain_length(body) < body.len()
+    body.contains(&b'\\')
 }
