@@ -28,6 +28,7 @@ abbrev pub of_word : (Word → Bool) → Option Word → Bool
 of_word test None = false
 of_word test (Some one) = test one
 
+-- a statement of this word ends the block
 abbrev pub ends_at : Block → TokenStatement → Bool
 ends_at b statement = of_word (ends b) (word_in statement)
 

@@ -66,9 +66,11 @@ pub data Turn : Type 0 where
 abbrev pub under : Level → State → State
 under level state = record state { levels = level ∷ state.levels }
 
+-- the part with these statements left
 abbrev pub with_statements : List TokenStatement → Level → Level
 with_statements statements level = record level { statements = statements }
 
+-- the part with these conditionals open
 abbrev pub with_open : List Pos → Level → Level
 with_open open_at level = record level { open_at = open_at }
 
@@ -91,15 +93,17 @@ abbrev pub raised : MacroLineCause → MacroCause
 raised line.BadMacroLine = BadMacroLine
 raised line.MissingArgument = MissingArgument
 
+-- the same of what is read from a line of a macro
 abbrev pub with_read : {A : Type 0} → Pos → Result A MacroLineCause → (A → Turn) → Turn
 with_read pos (Ok read) on = on read
 with_read pos (Err cause) on = fails (raised cause) pos
 
--- a new part in front of the list, if not too many calls and repeats are open
+-- the end mark is that of a call or a repeat
 abbrev pub is_inner : Ending → Bool
 is_inner ending.File = false
 is_inner _ = true
 
+-- statements and an end mark in front of the list, if not too many calls and repeats are open
 abbrev pub enter : Pos → Ending → Result (List TokenStatement) MacroCause → State → Turn
 enter pos ends made state =
     if nat_le 64 (count_by (λ (level : Level). is_inner level.ends) state.levels) then fails NestedTooDeeply pos
@@ -113,6 +117,7 @@ verdict_by known (Some word.Else) operands = Ok true
 verdict_by known (Some word.ElseIf) operands = holds known NotZero operands
 verdict_by known _ operands = Ok false
 
+-- the same of a statement
 unfoldable pub verdict : Knowledge → TokenStatement → Result Bool MacroCause
 verdict known statement = verdict_by known (word_in statement) (operands_in statement)
 
@@ -131,11 +136,13 @@ abbrev pub go_on : Pos → Bool → Level → State → Turn
 go_on pos true level state = goes (under (with_open (level.open_at ++ pos ∷ []) level) state)
 go_on pos false level state = goes (under level state)
 
+-- a conditional that began here goes on at the statement that ends what is passed over
 abbrev pub search_branch : Knowledge → Pos → Option Cut → Level → State → Turn
 search_branch known pos None level state = unclosed pos level
 search_branch known pos (Some c) level state =
     with_made (pos_of c.stop) (verdict known c.stop) (λ chosen. go_on pos chosen (with_statements c.rest level) state)
 
+-- a conditional that began here goes on at once where its condition holds, and else behind what is passed over
 abbrev pub conditional_by : Knowledge → Pos → Bool → Level → State → Turn
 conditional_by known pos true level state = go_on pos true level state
 conditional_by known pos false level state =
@@ -150,6 +157,7 @@ conditional known condition s level state =
 abbrev pub but_last : List Pos → List Pos
 but_last open_at = take (length open_at - 1) open_at
 
+-- the list goes on behind the end of the innermost conditional that is open
 abbrev pub passed_over : Pos → Option Cut → Level → State → Turn
 passed_over pos None level state = unclosed pos level
 passed_over pos (Some c) level state = goes (under (with_open (but_last level.open_at) (with_statements c.rest level)) state)
@@ -159,13 +167,16 @@ abbrev pub branch_end_by : List Pos → Pos → Level → State → Turn
 branch_end_by [] pos level state = fails EndWithoutBeginning pos
 branch_end_by (first ∷ others) pos level state = passed_over pos (cut_block block.Conditional level.statements) level state
 
+-- the end of a chosen branch, where one is open
 unfoldable pub branch_end : TokenStatement → Level → State → Turn
 branch_end s level state = branch_end_by level.open_at (pos_of s) level state
 
+-- the end of a conditional leaves the list, and the innermost one is open no more
 abbrev pub conditional_end_by : List Pos → Pos → Level → State → Turn
 conditional_end_by [] pos level state = fails EndWithoutBeginning pos
 conditional_end_by (first ∷ others) pos level state = goes (under (with_open (but_last level.open_at) level) state)
 
+-- the end of a conditional, where one is open
 unfoldable pub conditional_end : TokenStatement → Level → State → Turn
 conditional_end s level state = conditional_end_by level.open_at (pos_of s) level state
 
@@ -176,6 +187,7 @@ abbrev pub repeated : ℕ → List TokenStatement → List TokenStatement
 repeated zero statements = []
 repeated (suc n) statements = statements ++ repeated n statements
 
+-- so many copies of what was made
 abbrev pub copies_of : ℕ → Result (List TokenStatement) MacroCause → Result (List TokenStatement) MacroCause
 copies_of count made = made >>= λ statements. Ok (repeated count statements)
 
@@ -184,6 +196,7 @@ abbrev pub with_body : Pos → Option Cut → Level → State → (List TokenSta
 with_body pos None level state on = unclosed pos level
 with_body pos (Some c) level state on = on c.inside (under (with_statements c.rest level) state)
 
+-- the copies of a body and an end mark, and nothing of an empty body
 abbrev pub repeat_copies : Pos → ℕ → List TokenStatement → State → Turn
 repeat_copies pos count [] state = goes state
 repeat_copies pos count (first ∷ others) state =
@@ -202,6 +215,7 @@ each_copy pos name begun body (text ∷ texts) =
     made_statements pos (put (record { name = name; text = text } ∷ []) begun body) >>= λ first.
     each_copy pos name begun body texts >>= λ others. Ok (first ++ others)
 
+-- the copies of a body for the values of a line and an end mark, and nothing of an empty body
 abbrev pub each_copies : Pos → EachLineAs → List TokenStatement → State → Turn
 each_copies pos line [] state = goes state
 each_copies pos line (first ∷ others) state =
@@ -215,12 +229,15 @@ each read s level state =
 
 -- Macros
 
+-- the macro has this name
 abbrev pub is_called : List ℕ → MacroAs → Bool
 is_called name one = bytes_eq one.name name
 
+-- the macro has another name
 abbrev pub known_macro : List ℕ → MacroAs → Bool
 known_macro name one = not (is_called name one)
 
+-- the macro of this line and this body is known from here on
 abbrev pub add_macro : MacroLineAs → List TokenStatement → State → State
 add_macro line body state =
     record state { macros = state.macros ++ record { name = line.name; parameters = line.parameters; body = body_text body } ∷ [] }
@@ -250,18 +267,21 @@ forget pos name state =
     if list_any (is_called name) state.macros then goes (record state { macros = filter (known_macro name) state.macros })
     else fails BadMacroLine pos
 
+-- `.purgem` leaves the list, and the macro is known no more
 unfoldable pub purge : TokenStatement → Level → State → Turn
 purge s level state = with_made (pos_of s) (one_name (operands_in s)) (λ name. forget (pos_of s) name (under level state))
 
--- the list behind the end mark of its innermost call
+-- the end mark is that of a call
 abbrev pub is_call : Ending → Bool
 is_call ending.Call = true
 is_call _ = false
 
+-- the parts behind that of the innermost call
 unfoldable pub after_call : List Level → Option (List Level)
 after_call [] = None
 after_call (level ∷ below) = if is_call level.ends then Some below else after_call below
 
+-- the list becomes these parts
 abbrev pub exit_by : Pos → Option (List Level) → State → Turn
 exit_by pos None state = fails EndWithoutBeginning pos
 exit_by pos (Some levels) state = goes (record state { levels = levels })
@@ -272,6 +292,7 @@ exit s level state = exit_by (pos_of s) (after_call (level ∷ state.levels)) st
 
 -- Files
 
+-- the end mark is that of a file
 abbrev pub is_file : Ending → Bool
 is_file ending.File = true
 is_file _ = false
@@ -282,10 +303,12 @@ start_file name (Ok statements) state =
     goes (under (record { statements = statements; ends = ending.File; open_at = [] }) (record state { files = state.files ++ name ∷ [] }))
 start_file name (Err fault) state = breaks name fault
 
+-- a file that is there is started
 abbrev pub include_file : List ℕ → Option (List ℕ) → State → Turn
 include_file name None state = misses
 include_file name (Some bytes) state = start_file name (file_statements (length state.files) bytes) state
 
+-- a file is started by what is told of all files
 abbrev pub include_told : List ℕ → Option Contents → State → Turn
 include_told name None state = untold
 include_told name (Some contents) state = include_file name (contents name) state
@@ -326,6 +349,7 @@ behind_own_labels [] s level state bare = bare
 behind_own_labels (label ∷ others) s level state bare =
     hands (with_tokens (label ∷ others) s) (under (with_statements (with_tokens (behind_labels s.tokens) s ∷ level.statements) level) state)
 
+-- the head by the word that it is, or by the macro that it calls
 abbrev pub head_by : Knowledge → Option Contents → Option Word → Option MacroAs → TokenStatement → Level → State → Turn
 head_by known contents (Some one) called s level state =
     behind_own_labels (labels_of s.tokens) s level state (rewritten known contents one s level state)
@@ -346,12 +370,14 @@ abbrev pub close_by : List Pos → State → Turn
 close_by [] state = goes state
 close_by (first ∷ others) state = fails UnclosedBlock first
 
+-- the head of this part, or its end mark where no statement is left
 abbrev pub turn_level : Knowledge → Option Contents → List TokenStatement → Level → State → Turn
 turn_level known contents [] level state = close_by level.open_at state
 turn_level known contents (s ∷ rest) level state =
     if nat_le most_given state.given then fails ExpansionTooLong (pos_of s)
     else head known contents s (with_statements rest level) (record state { given = state.given + 1 })
 
+-- the head of the innermost part
 abbrev pub turn_levels : Knowledge → Option Contents → List Level → State → Turn
 turn_levels known contents [] state = ended
 turn_levels known contents (level ∷ below) state =

@@ -38,6 +38,7 @@ line_of_cause (lines.UnclosedString line) = line
 line_of_cause (lines.UnclosedComment line) = line
 line_of_cause (lines.StatementTooLong line) = line
 
+-- the statements of a file, or the fault of its lines
 abbrev pub in_file : Result (List StatementAt) LineCause → Result (List TokenStatement) FileFault
 in_file (Ok statements) = Ok (map in_tokens statements)
 in_file (Err cause) = Err (record { cause = line_cause cause; line = line_of_cause cause })

@@ -25,6 +25,7 @@ abbrev pub with_placed : {S F : Type 0} → State → Result S F → Step S F
 with_placed state (Ok placer) = goes state placer
 with_placed state (Err fault) = refused fault
 
+-- the pair behind a turn of the list: what is handed out is placed
 abbrev pub placed_by_turn : {S F : Type 0} → (S → TokenStatement → Result S F) → S → Turn → Step S F
 placed_by_turn placed placer (list.hands statement state) = with_placed state (placed placer statement)
 placed_by_turn placed placer (list.goes state) = goes state placer

@@ -31,6 +31,7 @@ labels_of [] = []
 labels_of (first ∷ []) = []
 labels_of (first ∷ second ∷ rest) = if is_label first second then first ∷ second ∷ labels_of rest else []
 
+-- the tokens behind the labels in front of a statement
 abbrev pub behind_labels : List SpelledToken → List SpelledToken
 behind_labels [] = []
 behind_labels (first ∷ []) = first ∷ []
@@ -70,5 +71,6 @@ abbrev pub made_by : Pos → Result (List StatementAt) LineCause → Result (Lis
 made_by pos (Ok statements) = Ok (map (λ statement. standing_at pos (in_tokens statement)) statements)
 made_by pos (Err cause) = Err (line_cause cause)
 
+-- the statements of a text that was made, each standing at this place, or the fault of its lines
 unfoldable pub made_statements : Pos → List ℕ → Result (List TokenStatement) MacroCause
 made_statements pos text = made_by pos (statements_of 0 text)

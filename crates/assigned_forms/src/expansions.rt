@@ -139,12 +139,7 @@ impl<'a> Expansions<'a> {
 
     /// Expands a form in place that names assigned symbols.
     #[inline(never)]
-    fn replace(
-        &self,
-        alloc: Global,
-        symbols: &Symbols,
-        form: &mut Linear,
-    ) -> Result<(), NoMemory>
+    fn replace(&self, alloc: Global, symbols: &Symbols, form: &mut Linear) -> Result<(), NoMemory>
         requires expansions { AreExpansions symbols.now self.now }
         requires assigned { names_assigned symbols.now form.old ≡ true }
         ensures { OnOk result (form.new ≡ expanded symbols.now form.old) }
