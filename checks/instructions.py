@@ -320,7 +320,7 @@ SYMBOL = r"\$\(?(far|further|one|two|shown|later|i\d+)\b"
 KNOWN = [
     Known(ours_says("operand size is not known", warning="no instruction mnemonic suffix given"), "no operand says the size: GNU as takes one, and warns"),
     Known(ours_says("bad operand", "^ *(notrack +)?callq? +%", "indirect call without"), "an indirect call without its *: GNU as warns"),
-    Known(ours_says("unknown mnemonic", "^ *(notrack +)?jmpq? +%", "indirect jmp without"), "an indirect jump without its *: GNU as warns"),
+    Known(ours_says("bad operand", "^ *(notrack +)?jmpq? +%", "indirect jmp without"), "an indirect jump without its *: GNU as warns"),
     Known(ours_says("no relocation for this value", RELATIVE_NUMBER), "a number as the distance from rip"),
     Known(ours_says("no relocation for this value", "@plt"), "@PLT elsewhere than in the target of a branch"),
     Known(ours_says("value out of range", warning="shortened to"), "an immediate that is too wide: GNU as cuts it, and warns"),
