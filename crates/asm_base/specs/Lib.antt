@@ -6,6 +6,7 @@ pub mod Console
 pub mod FaultTexts
 pub mod Messages
 pub mod WholeFile
+pub mod History
 pub mod ByteClasses
 pub mod Pieces
 pub mod Refusals

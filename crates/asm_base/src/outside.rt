@@ -6,6 +6,7 @@ ghost use Rattle.std.specs.Option.{option_map};
 ghost use Rattle.std.specs.Io.KnownBytes.{ReadConsumes};
 ghost use Rattle.asm_base.specs.Counts.{HasCause, HasRisen};
 ghost use Rattle.asm_base.specs.Inputs.{Contents, Starts, CountsMissing, CountsTaken};
+ghost use Rattle.asm_base.specs.History.{FileEvent, HappensAtStart, HappensAtRead};
 ghost use Rattle.asm_base.specs.Output.{Made, after_create, after_write, after_finish};
 
 /// A call of the outside failed. The object's count of failures has risen.
@@ -38,6 +39,9 @@ pub trait Inputs {
     /// How many bytes were read in all.
     ghost taken: { Self → ℕ };
 
+    /// Which files were started so far, and which of them were read to their end, where this input tells it.
+    ghost history: { Self → Option (List FileEvent) };
+
     /// Starts a file by its name; the empty name is standard input.
     fn start(&mut self, name: &str) -> Result<(), Failed>
         ensures contents { contents self.new ≡ contents self.old }
@@ -46,6 +50,7 @@ pub trait Inputs {
             (missing self.old) (missing self.new) }
         ensures found { OnOk result (missing self.new ≡ missing self.old) }
         ensures taken { taken self.new ≡ taken self.old }
+        ensures history { HappensAtStart name.now result (history self.old) (history self.new) }
         ensures started { Starts (contents self.old) name.now result (rest self.new) }
         ensures err { OnErr result (rest self.new ≡ rest self.old) };
 
@@ -56,6 +61,8 @@ pub trait Inputs {
         ensures cause { HasCause (faults self.old) (faults self.new) result }
         ensures missing { missing self.new ≡ missing self.old }
         ensures taken { CountsTaken result (taken self.old) (taken self.new) }
+        ensures history { HappensAtRead (length buffer.old) result
+            (history self.old) (history self.new) }
         ensures rest { ReadConsumes (rest self.old) (rest self.new) result buffer.new };
 }
 

@@ -5,6 +5,7 @@ ghost use Rattle.std.specs.Io.KnownBytes.{IsAtEnd};
 ghost use Rattle.asm_base.specs.Counts.{grown};
 ghost use Rattle.asm_base.specs.declared.reading.TextFault.TheVariants.{Read, NoMemory};
 ghost use Rattle.asm_base.specs.Inputs.{CountsMissing};
+ghost use Rattle.asm_base.specs.History.{end_events, happened, HappensToFile, HappensToRest};
 ghost use Rattle.asm_base.specs.WholeFile.{most_bytes, ReadsOn, StopsReading, ReadsRest, ReadsName, HasReadCause, TakesBytes};
 
 use crate::outside::{Failed, Inputs};
@@ -73,6 +74,9 @@ fn read_piece<I: Inputs>(
     ensures taken { IfOk result (λ count. I.taken ins.new ≡ grown count (I.taken ins.old)) }
     ensures kept { I.taken ins.old ≤ I.taken ins.new }
     ensures room { I.taken ins.new + vec_len bytes.old ≤ I.taken ins.old + (most_bytes + 1) }
+    ensures history { IfOk result (λ count.
+        I.history ins.new ≡ happened (I.history ins.old) (end_events 1 count)) }
+    ensures unread { result ≡ Err TextFault.Read → I.history ins.new ≡ I.history ins.old }
     ensures contents { I.contents ins.new ≡ I.contents ins.old }
     ensures missing { I.missing ins.new ≡ I.missing ins.old }
 {
@@ -90,6 +94,7 @@ fn read_rest<I: Inputs>(alloc: Global, ins: &mut I) -> Result<Text, TextFault>
     ensures cause { HasReadCause result (I.faults ins.old) (I.faults ins.new) }
     ensures taken { TakesBytes result (I.taken ins.old) (I.taken ins.new) }
     ensures whole { OnOk result (IsAtEnd (I.rest ins.new)) }
+    ensures history { HappensToRest result (I.history ins.old) (I.history ins.new) }
     ensures contents { I.contents ins.new ≡ I.contents ins.old }
     ensures missing { I.missing ins.new ≡ I.missing ins.old }
 {
@@ -116,6 +121,7 @@ pub fn read_text<I: Inputs>(alloc: Global, ins: &mut I, name: &str) -> Result<Te
     ensures cause { HasReadCause result (I.faults ins.old) (I.faults ins.new) }
     ensures taken { TakesBytes result (I.taken ins.old) (I.taken ins.new) }
     ensures whole { OnOk result (IsAtEnd (I.rest ins.new)) }
+    ensures history { HappensToFile name.now result (I.history ins.old) (I.history ins.new) }
     ensures contents { I.contents ins.new ≡ I.contents ins.old }
     ensures unchanged { result ≡ Err TextFault.Read
         ⊎ (I.missing ins.new ≡ I.missing ins.old) }

@@ -52,6 +52,8 @@ impl<'a, R: Files + Input> Inputs for FileInputs<'a, R> {
 
     ghost taken = { λ i. i.taken };
 
+    ghost history = { λ _. None };
+
     fn start(&mut self, name: &str) -> Result<(), Failed> {
         if name.is_empty() {
             self.file = None;

@@ -13,6 +13,7 @@ invariant-pieces g l = record {
   faults : g.I.Inputs.faults l.ins ≡ g.I.Inputs.faults l.fn.ins;
   contents : g.I.Inputs.contents l.ins ≡ g.I.Inputs.contents l.fn.ins;
   missing : g.I.Inputs.missing l.ins ≡ g.I.Inputs.missing l.fn.ins;
+  history : g.I.Inputs.history l.ins ≡ g.I.Inputs.history l.fn.ins;
   at_least : min (g.I.Inputs.taken l.fn.ins + vec_len l.bytes) last_count ≤ g.I.Inputs.taken l.ins;
   later : g.I.Inputs.taken l.fn.ins ≤ g.I.Inputs.taken l.ins;
   at_most : g.I.Inputs.taken l.ins ≤ g.I.Inputs.taken l.fn.ins + vec_len l.bytes;
