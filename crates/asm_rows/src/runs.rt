@@ -55,6 +55,7 @@ pub fn run_row<'a>(
     failing: Failing<'a>,
 ) -> Ran<'a> {
     let mut ins = FaultyInputs::new(
+        alloc,
         files,
         Unlisted::Missing,
         Calls::new(failing.input, row.pieces),

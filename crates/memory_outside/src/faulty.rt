@@ -91,13 +91,24 @@ fn contents_named<'a>(
     }
 }
 
-/// An input of files in memory whose calls may fail.
+/// What happened to the files of an input.
+#[derive(Drop)]
+enum Event {
+    /// The file of this name was started.
+    Starts(String),
+    /// The file that was started last was read to its end.
+    Ends,
+}
+
+/// An input of files in memory whose calls may fail. A call fails too where memory for its history is refused.
 #[derive(Drop)]
 pub struct FaultyInputs<'a> {
+    alloc: Global,
     files: &'a [MemoryFile<'a>],
     unlisted: Unlisted,
     calls: Calls<'a>,
     rest: &'a [u8],
+    history: Vec<Event>,
     faults: u64,
     missing: u64,
     taken: u64,
@@ -106,6 +117,7 @@ pub struct FaultyInputs<'a> {
 impl<'a> FaultyInputs<'a> {
     /// No file is started, so nothing is left to read.
     pub fn new(
+        alloc: Global,
         files: &'a [MemoryFile<'a>],
         unlisted: Unlisted,
         calls: Calls<'a>,
@@ -114,15 +126,18 @@ impl<'a> FaultyInputs<'a> {
         ensures unlisted { result.unlisted ≡ unlisted }
         ensures calls { result.calls ≡ calls.entry }
         ensures rest { result.rest.now ≡ [] }
+        ensures history { result.history.items ≡ [] }
         ensures faults { result.faults ≡ 0 }
         ensures missing { result.missing ≡ 0 }
         ensures taken { result.taken ≡ 0 }
     {
         FaultyInputs {
+            alloc,
             files,
             unlisted,
             calls,
             rest: &[],
+            history: Vec::new(alloc),
             faults: 0,
             missing: 0,
             taken: 0,
@@ -138,8 +153,8 @@ impl<'a> FaultyInputs<'a> {
 }
 
 impl<'a> Inputs for FaultyInputs<'a> {
-    ghost use Rattle.std.specs.Prelude.{Some};
-    ghost use Rattle.memory_outside.specs.Faulty.{contents_named};
+    ghost use Rattle.std.specs.Prelude.{Some, map};
+    ghost use Rattle.memory_outside.specs.Faulty.{contents_named, event_of};
 
     ghost contents = { λ m. Some (contents_named m.files.now m.unlisted) };
 
@@ -150,6 +165,8 @@ impl<'a> Inputs for FaultyInputs<'a> {
     ghost missing = { λ m. m.missing };
 
     ghost taken = { λ m. m.taken };
+
+    ghost history = { λ m. Some (map event_of m.history.items) };
 
     fn start(&mut self, name: &str) -> Result<(), Failed> {
         let fails = self.calls.next_fails();
@@ -162,8 +179,16 @@ impl<'a> Inputs for FaultyInputs<'a> {
                 if fails {
                     return Err(failure(&mut self.faults));
                 }
-                self.rest = bytes;
-                Ok(())
+                let Ok(owned) = String::from_str(self.alloc, name) else {
+                    return Err(failure(&mut self.faults));
+                };
+                match self.history.push(Event::Starts(owned)) {
+                    Ok(()) => {
+                        self.rest = bytes;
+                        Ok(())
+                    }
+                    Err(_) => Err(failure(&mut self.faults)),
+                }
             }
         }
     }
@@ -173,6 +198,12 @@ impl<'a> Inputs for FaultyInputs<'a> {
             return Err(failure(&mut self.faults));
         }
         let count = self.calls.piece(buffer.len().min(self.rest.len()));
+        if count == 0 && !buffer.is_empty() {
+            return match self.history.push(Event::Ends) {
+                Ok(()) => Ok(0),
+                Err(_) => Err(failure(&mut self.faults)),
+            };
+        }
         let (piece, rest) = self.rest.split_at(count);
         buffer[..count].copy_from_slice(piece);
         self.rest = rest;

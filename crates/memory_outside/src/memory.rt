@@ -1,6 +1,6 @@
 //! The outside in memory: an input that never fails, and an output and a console that fail only where memory is refused.
 
-ghost use Rattle.std.specs.Prelude.{◌≡◌, [], Some, string_bytes};
+ghost use Rattle.std.specs.Prelude.{◌≡◌, [], None, Some, string_bytes};
 ghost use Rattle.memory_outside.specs.Memory as named;
 
 use asm_base::{Channel, Console, Failed, Inputs, Output, failure};
@@ -60,6 +60,9 @@ impl<'a> Inputs for MemoryInputs<'a> {
     ghost missing = { λ _. 0 };
 
     ghost taken = { λ m. m.taken };
+
+    // It keeps no list of what was started, which could want memory.
+    ghost history = { λ _. None };
 
     fn start(&mut self, name: &str) -> Result<(), Failed> {
         self.rest = bytes_named(self.files, name);
