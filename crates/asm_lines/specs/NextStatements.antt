@@ -1,15 +1,16 @@
 -- What stands next in a source: a statement as its tokens, the end, or a fault of its lines.
-use Rattle.std.specs.Prelude.{◌≡◌, ℕ, ◌<◌, ◌≤◌, List, [], ◌∷◌, length, take, map, Option, Some, None}
+use Rattle.std.specs.Prelude.{◌≡◌, ℕ, ◌<◌, ◌≤◌, List, [], ◌∷◌, length, take, map, Option, Some, None, Result, Ok, Err}
 use Rattle.std.specs.List.{filter_map}
 use Rattle.asm_base.specs.Tokens.{SpelledToken, spelled, tokens_of}
 use Rattle.asm_base.specs.declared.tokens.Token.{Token}
 use Rattle.asm_lines.specs.declared.faults.Found.{Found}
+use Rattle.asm_lines.specs.declared.faults.LineCause.{LineCause}
 use Rattle.asm_lines.specs.declared.cursors.NextStatement.{NextStatement}
 use Rattle.asm_lines.specs.declared.cursors.NextStatement.TheVariants.{Statement, End, Faulty}
 use Rattle.asm_lines.specs.Intervals.{intervals_of}
 use Rattle.asm_lines.specs.LineNumbers.{line_of}
 use Rattle.asm_lines.specs.Faults.{earlier, first_long, first_open}
-use Rattle.asm_lines.specs.Statements.{StatementAt, statement_in}
+use Rattle.asm_lines.specs.Statements.{StatementAt, statement_in, statements_of}
 use Rattle.asm_lines.specs.Scan.{pieces_at}
 
 -- a statement as its tokens, with its file and line
@@ -58,3 +59,13 @@ StandsNext source at read (Statement line next there count) =
     (count ≤ length read) × IsNext source at (take count read) line next there
 StandsNext source at read End = IsEnd source at
 StandsNext source at read Faulty = (found : Found) × (found_left source at ≡ Some found)
+
+-- the lines of a text have no fault: its statements are those that are left at its beginning
+pub record HasNoLineFault (file : ℕ) (text : List ℕ) : Type 0 where
+  pub statements : statements_of file text ≡ Ok (statements_left file text 0)
+  pub faults : found_left text 0 ≡ None
+
+-- the first fault of the lines of a text, or that they have none
+abbrev pub IsLineCheck : ℕ → List ℕ → Option LineCause → Type 0
+IsLineCheck file text (Some cause) = statements_of file text ≡ Err cause
+IsLineCheck file text None = HasNoLineFault file text

@@ -25,7 +25,7 @@ pub(crate) struct Point {
 
 /// What stands next in a source.
 #[derive(Clone, Copy, Debug)]
-pub(crate) enum NextStatement {
+pub enum NextStatement {
     /// A statement on this line, the offset behind its end, the line there, and how many tokens it
     /// has.
     Statement(u32, usize, u32, usize),
@@ -92,9 +92,10 @@ fn more_slots<'a>(tokens: &mut Vec<Token<'a>>) -> Result<(), AllocError>
     tokens.resize(room + room.max(16), Token::default())
 }
 
-/// Reads the statement that stands next into the first of the tokens, in place of those that are
-/// there. A statement that has more tokens than there are is read again.
-pub(crate) fn next_statement<'a>(
+/// Reads the statement that stands next, from this offset in bytes and its line on, into the first
+/// of the tokens, in place of those that are there. A statement that has more tokens than there are
+/// is read again.
+pub fn next_statement<'a>(
     source: &'a [u8],
     from: usize,
     line: u32,

@@ -8,6 +8,7 @@ mod faults;
 mod intervals;
 mod laws;
 mod lexemes;
+mod line_checks;
 mod line_numbers;
 mod placing;
 mod reading;
@@ -16,8 +17,10 @@ mod statement_tokens;
 mod statements;
 
 pub use classes::every_byte_has_its_class;
+pub use cursors::{NextStatement, next_statement};
 pub use faults::{LineCause, LineFault};
 pub use laws::{lines_never_fall, no_statement_has_nul, one_list_of_tokens, statements_are_whole};
+pub use line_checks::fault_of_lines;
 pub use placing::{Placer, place_source};
 pub use reading::read_statements;
 pub use source_causes::{SourceCause, SourceFault};

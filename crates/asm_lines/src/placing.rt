@@ -1,16 +1,14 @@
 //! Placing all statements of a source, in one pass over its bytes.
 
-ghost use Rattle.std.specs.Prelude.{◌≡◌, nat_lt, length, map, Result, IfOk};
+ghost use Rattle.std.specs.Prelude.{map, Result};
 ghost use Rattle.asm_base.specs.Refusals.{Gives};
 ghost use Rattle.asm_base.specs.Tokens.{spelled};
-ghost use Rattle.asm_lines.specs.Faults.{nul_offset};
 ghost use Rattle.asm_lines.specs.Statements.{statements_of};
 ghost use Rattle.asm_lines.specs.NextStatements.{TokenStatement};
-ghost use Rattle.asm_lines.specs.Placing.{IsFaultOfLines, IsRefused, RefusesLines, source_placed};
+ghost use Rattle.asm_lines.specs.Placing.{IsRefused, RefusesLines, source_placed};
 
 use crate::cursors::{NextStatement, next_statement};
-use crate::faults::LineCause;
-use crate::reading::read_statements;
+use crate::line_checks::{has_nul, line_fault};
 use crate::source_causes::{SourceCause, SourceFault};
 use asm_base::{Pos, Refusal, Text, Token};
 use std::alloc::{AllocError, Global};
@@ -25,25 +23,6 @@ pub trait Placer {
     fn place(&mut self, pos: Pos, tokens: &[Token]) -> Result<(), Refusal<Self::Fault>>
         ensures { Gives self.new result (placed self.old
             (record { file = pos.file; line = pos.line; tokens = map spelled tokens.now })) };
-}
-
-/// Whether a byte 0 stands in the source.
-fn has_nul(source: &[u8]) -> bool
-    ensures { result ≡ nat_lt (nul_offset source.now) (length source.now) }
-{
-    source.contains(&0)
-}
-
-/// The first fault of the lines. Only a source that is refused is read for it.
-#[inline(never)]
-fn line_fault(alloc: Global, text: &Text, file: u32) -> Result<Option<LineCause>, AllocError>
-    ensures { IfOk result (λ found. IsFaultOfLines found (statements_of file text.now)) }
-{
-    match read_statements(alloc, text, file) {
-        Ok(_) => Ok(None),
-        Err(Refusal::NoMemory) => Err(AllocError),
-        Err(Refusal::Fault(cause)) => Ok(Some(cause)),
-    }
 }
 
 /// The fault of the lines where they have one, and else this one of placing.

@@ -1,0 +1,64 @@
+//! The first fault of the lines of a text.
+
+ghost use Rattle.std.specs.Prelude.{◌≡◌, nat_lt, length, IfOk};
+ghost use Rattle.asm_lines.specs.Faults.{nul_offset};
+ghost use Rattle.asm_lines.specs.Statements.{statements_of};
+ghost use Rattle.asm_lines.specs.NextStatements.{IsLineCheck};
+ghost use Rattle.asm_lines.specs.Placing.{IsFaultOfLines};
+
+use crate::cursors::{NextStatement, next_statement};
+use crate::faults::LineCause;
+use crate::reading::read_statements;
+use asm_base::{Refusal, Text};
+use std::alloc::{AllocError, Global};
+
+/// Whether a byte 0 stands in the source.
+pub(crate) fn has_nul(source: &[u8]) -> bool
+    ensures { result ≡ nat_lt (nul_offset source.now) (length source.now) }
+{
+    source.contains(&0)
+}
+
+/// The first fault of the lines. Only a source that is refused is read for it.
+#[inline(never)]
+pub(crate) fn line_fault(
+    alloc: Global,
+    text: &Text,
+    file: u32,
+) -> Result<Option<LineCause>, AllocError>
+    ensures { IfOk result (λ found. IsFaultOfLines found (statements_of file text.now)) }
+{
+    match read_statements(alloc, text, file) {
+        Ok(_) => Ok(None),
+        Err(Refusal::NoMemory) => Err(AllocError),
+        Err(Refusal::Fault(cause)) => Ok(Some(cause)),
+    }
+}
+
+/// The first fault of the lines of a text, in one pass over its bytes that keeps no list of
+/// statements.
+pub fn fault_of_lines(
+    alloc: Global,
+    text: &Text,
+    file: u32,
+) -> Result<Option<LineCause>, AllocError>
+    ensures { IfOk result (λ found. IsLineCheck file text.now found) }
+{
+    let source = text.as_bytes();
+    if has_nul(source) {
+        return line_fault(alloc, text, file);
+    }
+    let mut tokens = Vec::new(alloc);
+    let mut at = 0;
+    let mut line = 1;
+    loop {
+        match next_statement(source, at, line, &mut tokens)? {
+            NextStatement::Statement(_, next, there, _) => {
+                at = next;
+                line = there;
+            }
+            NextStatement::End => return Ok(None),
+            NextStatement::Faulty => return line_fault(alloc, text, file),
+        }
+    }
+}
