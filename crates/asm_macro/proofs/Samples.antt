@@ -16,13 +16,13 @@ use Rattle.macro_texts.specs.TokenTexts.{text_of, value_text}
 use Rattle.macro_texts.specs.Parameters.{parameter_of, parameters_of}
 use Rattle.macro_texts.specs.Arguments.{filled_once, call_arguments}
 use Rattle.macro_texts.specs.Putting.{argument_named, put_by, put_from}
-use Rattle.asm_macro.specs.declared.causes.MacroCause.{MacroCause}
-use Rattle.asm_macro.specs.declared.causes.MacroCause.TheVariants.{BadMacroLine, MissingArgument, UnclosedBlock, EndWithoutBeginning, NestedTooDeeply, MacroAlreadyDefined, UnclosedString, ValueNotKnown}
-use Rattle.asm_macro.specs.Words.{the_words, word_of}
-use Rattle.asm_macro.specs.Statements.{word_in, made_statements}
-use Rattle.asm_macro.specs.Blocks.{depth_behind, stops, cut}
-use Rattle.asm_macro.specs.Conditions.{Knowledge, holds}
-use Rattle.asm_macro.specs.Files.{FileFault, file_statements}
+use Rattle.macro_words.specs.declared.causes.MacroCause.{MacroCause}
+use Rattle.macro_words.specs.declared.causes.MacroCause.TheVariants.{BadMacroLine, MissingArgument, UnclosedBlock, EndWithoutBeginning, NestedTooDeeply, MacroAlreadyDefined, UnclosedString, ValueNotKnown}
+use Rattle.macro_words.specs.Words.{the_words, word_of}
+use Rattle.macro_words.specs.Statements.{word_in, made_statements}
+use Rattle.macro_blocks.specs.Blocks.{depth_behind, stops, cut}
+use Rattle.macro_words.specs.Conditions.{Knowledge, holds}
+use Rattle.macro_words.specs.Files.{FileFault, file_statements}
 use Rattle.asm_macro.specs.Expansion.{started, verdict, conditional, branch_end, conditional_end, repeat, each, define, call, purge, after_call, exit, include, head, turn}
 use Rattle.asm_macro.specs.Placing.{Step, ended, fails, breaks, misses, steps}
 

@@ -5,9 +5,9 @@ use Rattle.std.proofs.lemmas.Bool.Decides.{nat_tests}
 use Rattle.asm_base.specs.Inputs.{Contents}
 use Rattle.asm_lines.specs.NextStatements.{TokenStatement}
 use Rattle.asm_lines.specs.Placing.{placed_next}
-use Rattle.asm_macro.specs.declared.blocks.Ending.TheVariants as ending
-use Rattle.asm_macro.specs.Statements.{named_by, behind_labels}
-use Rattle.asm_macro.specs.Conditions.{Knowledge}
+use Rattle.macro_blocks.specs.declared.blocks.Ending.TheVariants as ending
+use Rattle.macro_words.specs.Statements.{named_by, behind_labels}
+use Rattle.macro_words.specs.Conditions.{Knowledge}
 use Rattle.asm_macro.specs.Expansion as list
 use Rattle.asm_macro.specs.Expansion.{State, Level, MacroAs, head, macro_named, most_given, started, turn}
 use Rattle.asm_macro.specs.Placing.{Step, goes, ended, fails, breaks, refused, misses, untold, with_placed, and_then, step, steps}

@@ -14,20 +14,20 @@ use Rattle.macro_texts.specs.Parameters.{ParameterAs, MacroLineAs, macro_line}
 use Rattle.macro_texts.specs.Arguments.{call_arguments}
 use Rattle.macro_texts.specs.Putting.{put}
 use Rattle.macro_texts.specs.Repeats.{EachLineAs, irp_line, irpc_line}
-use Rattle.asm_macro.specs.declared.blocks.Block.TheVariants as block
-use Rattle.asm_macro.specs.declared.blocks.Ending.{Ending}
-use Rattle.asm_macro.specs.declared.blocks.Ending.TheVariants as ending
-use Rattle.asm_macro.specs.declared.causes.MacroCause.{MacroCause}
-use Rattle.asm_macro.specs.declared.causes.MacroCause.TheVariants.{BadMacroLine, MissingArgument, UnclosedBlock, EndWithoutBeginning, NestedTooDeeply, ExpansionTooLong, MacroAlreadyDefined}
-use Rattle.asm_macro.specs.declared.words.Condition.{Condition}
-use Rattle.asm_macro.specs.declared.words.Condition.TheVariants.{NotZero}
-use Rattle.asm_macro.specs.declared.words.Word.{Word}
-use Rattle.asm_macro.specs.declared.words.Word.TheVariants as word
-use Rattle.asm_macro.specs.Statements.{pos_of, with_tokens, labels_of, behind_labels, named_by, word_in, operands_in, body_text, made_statements}
-use Rattle.asm_macro.specs.Blocks.{Cut, ends, of_word, cut, cut_block}
-use Rattle.asm_macro.specs.Conditions.{Knowledge, count_of, holds}
+use Rattle.macro_blocks.specs.declared.blocks.Block.TheVariants as block
+use Rattle.macro_blocks.specs.declared.blocks.Ending.{Ending}
+use Rattle.macro_blocks.specs.declared.blocks.Ending.TheVariants as ending
+use Rattle.macro_words.specs.declared.causes.MacroCause.{MacroCause}
+use Rattle.macro_words.specs.declared.causes.MacroCause.TheVariants.{BadMacroLine, MissingArgument, UnclosedBlock, EndWithoutBeginning, NestedTooDeeply, ExpansionTooLong, MacroAlreadyDefined}
+use Rattle.macro_words.specs.declared.words.Condition.{Condition}
+use Rattle.macro_words.specs.declared.words.Condition.TheVariants.{NotZero}
+use Rattle.macro_words.specs.declared.words.Word.{Word}
+use Rattle.macro_words.specs.declared.words.Word.TheVariants as word
+use Rattle.macro_words.specs.Statements.{pos_of, with_tokens, labels_of, behind_labels, named_by, word_in, operands_in, body_text, made_statements}
+use Rattle.macro_blocks.specs.Blocks.{Cut, ends, of_word, cut, cut_block, repeated}
+use Rattle.macro_words.specs.Conditions.{Knowledge, count_of, holds}
 use Rattle.asm_base.specs.Inputs.{Contents}
-use Rattle.asm_macro.specs.Files.{FileFault, file_name, file_statements}
+use Rattle.macro_words.specs.Files.{FileFault, file_name, file_statements}
 
 -- a macro that is known: the text of its body
 pub record MacroAs : Type 0 where
@@ -181,11 +181,6 @@ unfoldable pub conditional_end : TokenStatement → Level → State → Turn
 conditional_end s level state = conditional_end_by level.open_at (pos_of s) level state
 
 -- Repeats
-
--- these statements so many times
-abbrev pub repeated : ℕ → List TokenStatement → List TokenStatement
-repeated zero statements = []
-repeated (suc n) statements = statements ++ repeated n statements
 
 -- so many copies of what was made
 abbrev pub copies_of : ℕ → Result (List TokenStatement) MacroCause → Result (List TokenStatement) MacroCause

@@ -3,11 +3,9 @@ use Rattle.std.specs.Prelude.{◌≡◌, ℕ, ◌+◌, ◌≤◌, Bool, true, fa
 use Rattle.asm_base.specs.Inputs.{Contents}
 use Rattle.asm_lines.specs.NextStatements.{TokenStatement}
 use Rattle.asm_lines.specs.Placing.{placed_in_order}
-use Rattle.asm_macro.specs.declared.blocks.Block.{Block}
-use Rattle.asm_macro.specs.Statements.{word_in}
-use Rattle.asm_macro.specs.Blocks.{ends_at, cut}
-use Rattle.asm_macro.specs.Conditions.{Knowledge}
-use Rattle.asm_macro.specs.Expansion.{most_given, repeated, started}
+use Rattle.macro_words.specs.Statements.{word_in}
+use Rattle.macro_words.specs.Conditions.{Knowledge}
+use Rattle.asm_macro.specs.Expansion.{most_given, started}
 use Rattle.asm_macro.specs.Placing.{Step, goes, ended, refused, steps}
 
 -- there is no list to go on with
@@ -36,12 +34,3 @@ abbrev pub PlacesPlain : {S F : Type 0} → (S → TokenStatement → Result S F
 PlacesPlain placed known name statements contents placer =
     All IsPlain statements → length statements ≤ most_given
     → steps placed known contents (length statements + 2) (started name statements) placer ≡ outcome (placed_in_order placed placer statements)
-
--- a search stops at the end of its block
-abbrev pub StopsAtEnds : Block → (TokenStatement → Bool) → Type 0
-StopsAtEnds b stop = (s : TokenStatement) → ends_at b s ≡ true → stop s ≡ true
-
--- a search that does not end in one copy's length of statements, from a place in a copy on, ends in no further copy
-abbrev pub StaysOpen : Block → (TokenStatement → Bool) → List TokenStatement → List TokenStatement → ℕ → Type 0
-StaysOpen b stop front back copies =
-    cut b stop 0 (back ++ front) ≡ None → cut b stop 0 (back ++ repeated copies (front ++ back)) ≡ None

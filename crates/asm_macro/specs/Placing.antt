@@ -3,9 +3,9 @@ use Rattle.std.specs.Prelude.{ℕ, zero, suc, List, Option, Result, Ok, Err}
 use Rattle.asm_base.specs.declared.positions.Pos.{Pos}
 use Rattle.asm_base.specs.Inputs.{Contents}
 use Rattle.asm_lines.specs.NextStatements.{TokenStatement}
-use Rattle.asm_macro.specs.declared.causes.MacroCause.{MacroCause}
-use Rattle.asm_macro.specs.Conditions.{Knowledge}
-use Rattle.asm_macro.specs.Files.{FileFault}
+use Rattle.macro_words.specs.declared.causes.MacroCause.{MacroCause}
+use Rattle.macro_words.specs.Conditions.{Knowledge}
+use Rattle.macro_words.specs.Files.{FileFault}
 use Rattle.asm_macro.specs.Expansion as list
 use Rattle.asm_macro.specs.Expansion.{State, Turn, turn}
 

@@ -1,11 +1,10 @@
 //! What holds of every list that is rewritten.
 
-ghost use Rattle.std.specs.Prelude.{ℕ, Bool, List, Option};
+ghost use Rattle.std.specs.Prelude.{ℕ, List, Option};
 ghost use Rattle.asm_base.specs.Inputs.{Contents};
 ghost use Rattle.asm_lines.specs.NextStatements.{TokenStatement};
-ghost use Rattle.asm_macro.specs.declared.blocks.Block.{Block};
-ghost use Rattle.asm_macro.specs.Conditions.{Knowledge};
-ghost use Rattle.asm_macro.specs.Laws.{HasOneOutcome, PlacesPlain, StaysOpen, StopsAtEnds};
+ghost use Rattle.macro_words.specs.Conditions.{Knowledge};
+ghost use Rattle.asm_macro.specs.Laws.{HasOneOutcome, PlacesPlain};
 
 use asm_lines::Placer;
 
@@ -21,11 +20,4 @@ pub fn plain_statements_are_placed<P: Placer>()
     ensures { (known : P → Knowledge) → (name : List ℕ) → (statements : List TokenStatement)
         → (contents : Option Contents) → (placer : P)
         → PlacesPlain P.placed known name statements contents placer }
-{}
-
-/// In copies that are alike, a search for the end of a block needs one copy's length.
-pub fn open_blocks_stay_open()
-    ensures { (b : Block) → (stop : TokenStatement → Bool)
-        → (front : List TokenStatement) → (back : List TokenStatement) → (copies : ℕ)
-        → StopsAtEnds b stop → StaysOpen b stop front back copies }
 {}

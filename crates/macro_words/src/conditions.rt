@@ -1,7 +1,7 @@
 //! What conditions and counts ask (GNU as manual, ".if" and ".rept").
 
 ghost use Rattle.std.specs.Prelude.{◌≡◌};
-ghost use Rattle.asm_macro.specs.Conditions as spec;
+ghost use Rattle.macro_words.specs.Conditions as spec;
 
 use crate::words::Condition;
 
@@ -24,7 +24,7 @@ pub fn count_of(value: u64) -> u64
 
 impl Condition {
     ghost use Rattle.std.specs.Prelude.{◌≡◌};
-    ghost use Rattle.asm_macro.specs.Conditions as spec;
+    ghost use Rattle.macro_words.specs.Conditions as spec;
 
     /// What a condition asks of a value; one that asks for none never holds.
     pub fn asks(self, value: u64) -> bool

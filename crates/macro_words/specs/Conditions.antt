@@ -7,10 +7,10 @@ use Rattle.asm_base.specs.Refusals.{◌>>=◌}
 use Rattle.asm_operands.specs.Operands.{is_comma}
 use Rattle.macro_texts.specs.TokenTexts.{text_of}
 use Rattle.macro_texts.specs.Arguments.{up_to_comma}
-use Rattle.asm_macro.specs.declared.causes.MacroCause.{MacroCause}
-use Rattle.asm_macro.specs.declared.causes.MacroCause.TheVariants.{BadMacroLine}
-use Rattle.asm_macro.specs.declared.words.Condition.{Condition}
-use Rattle.asm_macro.specs.declared.words.Condition.TheVariants.{NotZero, Zero, Negative, NotPositive, Positive, NotNegative, Defined, NotDefined, Blank, NotBlank, Same, Different}
+use Rattle.macro_words.specs.declared.causes.MacroCause.{MacroCause}
+use Rattle.macro_words.specs.declared.causes.MacroCause.TheVariants.{BadMacroLine}
+use Rattle.macro_words.specs.declared.words.Condition.{Condition}
+use Rattle.macro_words.specs.declared.words.Condition.TheVariants.{NotZero, Zero, Negative, NotPositive, Positive, NotNegative, Defined, NotDefined, Blank, NotBlank, Same, Different}
 
 -- what is known at a statement: the value modulo 2^64 of the one expression that operands are, and whether the one symbol that they name
 -- is defined; or their fault

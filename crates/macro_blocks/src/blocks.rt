@@ -1,6 +1,6 @@
 //! Blocks, and what stands at the end of a part of the list.
 
-use crate::words::Word;
+use macro_words::Word;
 
 /// What a block is, by the words that begin and end it.
 #[derive(Clone, Copy, Debug, PartialEq, Eq)]
@@ -26,7 +26,7 @@ pub enum Ending {
 
 impl Block {
     ghost use Rattle.std.specs.Prelude.{◌≡◌, ◌<◌, ◌^◌};
-    ghost use Rattle.asm_macro.specs.Blocks as spec;
+    ghost use Rattle.macro_blocks.specs.Blocks as spec;
 
     /// Whether the word begins a block of this kind.
     pub fn begins(self, word: Word) -> bool

@@ -1,8 +1,8 @@
 -- The labels so far, and those that are left.
 use Rattle.std.proofs.Common.{◌≡◌, ◌≤◌, ◌-◌, ◌++◌, length, map, take, drop}
 use Rattle.asm_base.specs.Tokens.{spelled}
-use Rattle.asm_macro.specs.Statements.{labels_of, behind_labels}
-use Rattle.asm_macro.proofs.heads.labels_length.Given as goal
+use Rattle.macro_words.specs.Statements.{labels_of, behind_labels}
+use Rattle.macro_words.proofs.heads.labels_length.Given as goal
 
 abbrev pub invariant-labels : goal.invariant-labels
 invariant-labels l = record {

@@ -8,10 +8,10 @@ use Rattle.asm_lines.specs.Statements.{StatementAt, statements_of}
 use Rattle.asm_lines.specs.NextStatements.{TokenStatement, in_tokens}
 use Rattle.asm_operands.specs.Operands.{is_name, is_label, is_assignment}
 use Rattle.macro_texts.specs.TokenTexts.{text_of}
-use Rattle.asm_macro.specs.declared.causes.MacroCause.{MacroCause}
-use Rattle.asm_macro.specs.declared.causes.MacroCause.TheVariants.{NulByte, UnclosedString, UnclosedComment, StatementTooLong}
-use Rattle.asm_macro.specs.declared.words.Word.{Word}
-use Rattle.asm_macro.specs.Words.{word_of}
+use Rattle.macro_words.specs.declared.causes.MacroCause.{MacroCause}
+use Rattle.macro_words.specs.declared.causes.MacroCause.TheVariants.{NulByte, UnclosedString, UnclosedComment, StatementTooLong}
+use Rattle.macro_words.specs.declared.words.Word.{Word}
+use Rattle.macro_words.specs.Words.{word_of}
 
 -- where a statement stands
 abbrev pub pos_of : TokenStatement → Pos

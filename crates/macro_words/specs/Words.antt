@@ -2,9 +2,9 @@
 use Rattle.std.specs.Prelude.{ℕ, ◌==◌, ◌&&◌, not, Bool, true, false, List, [], ◌∷◌, codes, take, drop, find, Option, option_map}
 use Rattle.std.specs.List.{list_all, list_any}
 use Rattle.std.specs.Str.{bytes_eq}
-use Rattle.asm_macro.specs.declared.words.Word.{Word}
-use Rattle.asm_macro.specs.declared.words.WordRow.{WordRow}
-use Rattle.asm_macro.specs.declared.words.TheConstants.{WORDS}
+use Rattle.macro_words.specs.declared.words.Word.{Word}
+use Rattle.macro_words.specs.declared.words.WordRow.{WordRow}
+use Rattle.macro_words.specs.declared.words.TheConstants.{WORDS}
 
 -- the rows of the table
 unfoldable pub the_words : List WordRow

@@ -1,11 +1,11 @@
 -- Blocks, found by counting how deep they nest.
-use Rattle.std.specs.Prelude.{ℕ, ◌+◌, ◌-◌, ◌==◌, ◌&&◌, Bool, true, false, List, [], ◌∷◌, if◌then◌else◌, Option, Some, None}
+use Rattle.std.specs.Prelude.{ℕ, zero, suc, ◌+◌, ◌-◌, ◌==◌, ◌&&◌, Bool, true, false, List, [], ◌∷◌, ◌++◌, if◌then◌else◌, Option, Some, None}
 use Rattle.asm_lines.specs.NextStatements.{TokenStatement}
-use Rattle.asm_macro.specs.declared.blocks.Block.{Block}
-use Rattle.asm_macro.specs.declared.blocks.Block.TheVariants as block
-use Rattle.asm_macro.specs.declared.words.Word.{Word}
-use Rattle.asm_macro.specs.declared.words.Word.TheVariants as word
-use Rattle.asm_macro.specs.Statements.{word_in}
+use Rattle.macro_blocks.specs.declared.blocks.Block.{Block}
+use Rattle.macro_blocks.specs.declared.blocks.Block.TheVariants as block
+use Rattle.macro_words.specs.declared.words.Word.{Word}
+use Rattle.macro_words.specs.declared.words.Word.TheVariants as word
+use Rattle.macro_words.specs.Statements.{word_in}
 
 -- the word begins a block of this kind
 abbrev pub begins : Block → Word → Bool
@@ -66,3 +66,8 @@ cut b stop deep (statement ∷ rest) =
 -- a block up to its end
 abbrev pub cut_block : Block → List TokenStatement → Option Cut
 cut_block b statements = cut b (ends_at b) 0 statements
+
+-- these statements so many times
+abbrev pub repeated : ℕ → List TokenStatement → List TokenStatement
+repeated zero statements = []
+repeated (suc n) statements = statements ++ repeated n statements

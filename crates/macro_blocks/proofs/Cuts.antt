@@ -3,11 +3,10 @@ use Rattle.std.proofs.Common.{◌≡◌, ℕ, zero, suc, ◌+◌, ◌-◌, Bool,
 use Rattle.std.proofs.lemmas.List.{append_assoc, append-nil}
 use Rattle.std.proofs.lemmas.Bool.Decides.{nat_tests}
 use Rattle.asm_lines.specs.NextStatements.{TokenStatement}
-use Rattle.asm_macro.specs.declared.blocks.Block.{Block}
-use Rattle.asm_macro.specs.Statements.{word_in}
-use Rattle.asm_macro.specs.Blocks.{Cut, begins, ends, of_word, depth_behind, stops, with_first, cut}
-use Rattle.asm_macro.specs.Expansion.{repeated}
-use Rattle.asm_macro.specs.Laws.{StopsAtEnds}
+use Rattle.macro_blocks.specs.declared.blocks.Block.{Block}
+use Rattle.macro_words.specs.Statements.{word_in}
+use Rattle.macro_blocks.specs.Blocks.{Cut, begins, ends, of_word, depth_behind, stops, with_first, cut, repeated}
+use Rattle.macro_blocks.specs.Laws.{StopsAtEnds}
 
 -- with these statements inside, before the others
 abbrev with_front : List TokenStatement → Option Cut → Option Cut

@@ -11,9 +11,9 @@ use Rattle.asm_lines.specs.Statements.{StatementAt, statements_of}
 use Rattle.asm_lines.specs.NextStatements.{TokenStatement, in_tokens}
 use Rattle.expr_texts.specs.Leaves.{between_quotes}
 use Rattle.macro_texts.specs.TokenTexts.{is_string_kind}
-use Rattle.asm_macro.specs.declared.causes.MacroCause.{MacroCause}
-use Rattle.asm_macro.specs.declared.causes.MacroCause.TheVariants.{BadMacroLine, BadFileName, FileTooLarge}
-use Rattle.asm_macro.specs.Statements.{line_cause}
+use Rattle.macro_words.specs.declared.causes.MacroCause.{MacroCause}
+use Rattle.macro_words.specs.declared.causes.MacroCause.TheVariants.{BadMacroLine, BadFileName, FileTooLarge}
+use Rattle.macro_words.specs.Statements.{line_cause}
 
 -- a name of a file: some bytes, none of them 0, that are UTF-8
 abbrev pub checked_name : List ℕ → Result (List ℕ) MacroCause

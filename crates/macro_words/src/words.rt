@@ -2,7 +2,7 @@
 
 ghost use Rattle.std.specs.Prelude.{◌≡◌, option_map, find, IsTrue};
 ghost use Rattle.std.specs.List.{list_all};
-ghost use Rattle.asm_macro.specs.Words as spec;
+ghost use Rattle.macro_words.specs.Words as spec;
 
 /// What a condition asks (GNU as manual, ".if").
 #[derive(Clone, Copy, Debug, PartialEq, Eq)]

@@ -2,7 +2,7 @@
 
 ghost use Rattle.std.specs.Prelude.{◌≡◌, ◌≤◌, map, length, take, drop};
 ghost use Rattle.asm_base.specs.Tokens.{spelled};
-ghost use Rattle.asm_macro.specs.Statements as spec;
+ghost use Rattle.macro_words.specs.Statements as spec;
 
 use crate::words::{Word, word_of};
 use asm_base::Token;

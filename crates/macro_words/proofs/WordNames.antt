@@ -1,12 +1,16 @@
 -- A name that begins as no word does is no word.
-use Rattle.std.proofs.Common.{◌≡◌, inl, inr, ◌&&◌, Bool, true, false, cond, ℕ, List, [], ◌∷◌, find, Option, None, Some, refl, sym, ap, ◌∙◌}
+use Rattle.std.proofs.Common.{◌≡◌, inl, inr, ◌&&◌, Bool, true, false, ◌⊎◌, cond, ℕ, List, [], ◌∷◌, find, Option, None, Some, refl, sym, ap, ◌∙◌}
 use Rattle.std.specs.List.{list_all}
 use Rattle.std.specs.Option.{option_map}
 use Rattle.std.proofs.lemmas.Bool.{false≢true}
 use Rattle.std.proofs.lemmas.Slice.Eq.{bytes_eq-Decides}
-use Rattle.asm_macro.specs.declared.words.WordRow.{WordRow}
-use Rattle.asm_macro.specs.Words.{the_words, word_name, is_word, word_of, may_be_word}
-use Rattle.asm_macro.proofs.Cuts.{either}
+use Rattle.macro_words.specs.declared.words.WordRow.{WordRow}
+use Rattle.macro_words.specs.Words.{the_words, word_name, is_word, word_of, may_be_word}
+
+-- a test is one of the two
+either : (test : Bool) → (test ≡ true) ⊎ (test ≡ false)
+either true = inl refl
+either false = inr refl
 
 -- the name of a row begins as words do
 abbrev begins_well : WordRow → Bool

@@ -5,7 +5,7 @@ use Rattle.std.proofs.lemmas.List.{append-nil, drop-drop, drop-map, take_rest, l
 use Rattle.asm_base.specs.Tokens.{SpelledToken, spelled}
 use Rattle.asm_base.specs.declared.tokens.Token.{Token}
 use Rattle.asm_operands.specs.Operands.{begins_with_label}
-use Rattle.asm_macro.specs.Statements.{labels_of, behind_labels}
+use Rattle.macro_words.specs.Statements.{labels_of, behind_labels}
 
 labels_step : (tokens : List SpelledToken) → begins_with_label tokens ≡ true → labels_of tokens ≡ take 2 tokens ++ labels_of (drop 2 tokens)
 labels_step [] is = absurd (false≢true is)

@@ -1,0 +1,5 @@
+-- The definitions that the contracts cite, in reading order.
+pub mod Words
+pub mod Statements
+pub mod Conditions
+pub mod Files
