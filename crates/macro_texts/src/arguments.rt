@@ -43,7 +43,7 @@ pub struct Argument<'t, 'a> {
 }
 
 /// How many tokens stand before the first comma, or all.
-pub(crate) fn length_to_comma(tokens: &[Token]) -> usize
+pub fn length_to_comma(tokens: &[Token]) -> usize
     ensures value { result ≡ position_or_len is_comma (map spelled tokens.now) }
     ensures within { result ≤ length tokens.now }
 {

@@ -9,7 +9,7 @@ mod putting;
 mod repeats;
 mod token_texts;
 
-pub use arguments::Argument;
+pub use arguments::{Argument, call_arguments, length_to_comma};
 pub use causes::{MacroLineCause, MacroLineFault};
 pub use parameters::{MacroLine, Parameter, ParameterKind, macro_line};
 pub use putting::{has_backslash, put_in};
