@@ -26,6 +26,10 @@ is_negative n = nat_le (2 ^ 63) n
 abbrev pub count_of : ℕ → ℕ
 count_of n = if is_negative n then 0 else n
 
+-- how often a repeat stands with these operands, or their fault
+unfoldable pub repeat_count : Knowledge → List SpelledToken → Result ℕ MacroCause
+repeat_count known operands = known.value operands >>= λ n. Ok (count_of n)
+
 -- what a condition asks of a value
 abbrev pub asks : Condition → ℕ → Bool
 asks NotZero n = not (n == 0)
@@ -35,6 +39,10 @@ asks NotPositive n = is_negative n || n == 0
 asks Positive n = not (is_negative n) && not (n == 0)
 asks NotNegative n = not (is_negative n)
 asks _ n = false
+
+-- the same of the value of these operands
+abbrev pub asked : Knowledge → Condition → List SpelledToken → Result Bool MacroCause
+asked known condition operands = known.value operands >>= λ n. Ok (asks condition n)
 
 -- no operand stands there
 abbrev pub is_blank : List SpelledToken → Bool
@@ -59,4 +67,4 @@ holds known Blank operands = Ok (is_blank operands)
 holds known NotBlank operands = Ok (not (is_blank operands))
 holds known Same operands = same_texts operands
 holds known Different operands = opposite (same_texts operands)
-holds known condition operands = known.value operands >>= λ n. Ok (asks condition n)
+holds known condition operands = asked known condition operands

@@ -1,5 +1,5 @@
 -- Included files (GNU as manual, ".include"): the name that a line has, and the statements of a file.
-use Rattle.std.specs.Prelude.{ℕ, ◌==◌, ◌&&◌, not, nat_lt, List, [], ◌∷◌, length, map, if◌then◌else◌, Result, Ok, Err}
+use Rattle.std.specs.Prelude.{ℕ, ◌==◌, ◌&&◌, not, nat_lt, Bool, List, [], ◌∷◌, length, map, if◌then◌else◌, Result, Ok, Err}
 use Rattle.std.specs.List.{list_any}
 use Rattle.std.specs.Str.{is_utf8}
 use Rattle.asm_base.specs.Tokens.{SpelledToken}
@@ -15,10 +15,13 @@ use Rattle.macro_words.specs.declared.causes.MacroCause.{MacroCause}
 use Rattle.macro_words.specs.declared.causes.MacroCause.TheVariants.{BadMacroLine, BadFileName, FileTooLarge}
 use Rattle.macro_words.specs.Statements.{line_cause}
 
+-- some bytes, none of them 0
+abbrev pub may_name : List ℕ → Bool
+may_name bytes = not (length bytes == 0) && not (list_any (λ byte. byte == 0) bytes)
+
 -- a name of a file: some bytes, none of them 0, that are UTF-8
 abbrev pub checked_name : List ℕ → Result (List ℕ) MacroCause
-checked_name name =
-    if not (length name == 0) && not (list_any (λ byte. byte == 0) name) && is_utf8 name then Ok name else Err BadFileName
+checked_name name = if may_name name && is_utf8 name then Ok name else Err BadFileName
 
 -- the name that one string is
 abbrev pub file_name : List SpelledToken → Result (List ℕ) MacroCause

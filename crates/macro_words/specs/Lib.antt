@@ -2,4 +2,5 @@
 pub mod Words
 pub mod Statements
 pub mod Conditions
+pub mod Branches
 pub mod Files

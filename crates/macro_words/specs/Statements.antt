@@ -1,5 +1,5 @@
 -- Statements as expansion sees them: their labels, the word behind these, and the text of a body.
-use Rattle.std.specs.Prelude.{ℕ, not, ◌&&◌, List, [], ◌∷◌, ◌++◌, drop, map, flat_map, if◌then◌else◌, Option, None, Some, Result, Ok, Err}
+use Rattle.std.specs.Prelude.{ℕ, not, ◌&&◌, Bool, false, List, [], ◌∷◌, ◌++◌, drop, map, flat_map, if◌then◌else◌, Option, None, Some, Result, Ok, Err}
 use Rattle.asm_base.specs.Tokens.{SpelledToken}
 use Rattle.asm_base.specs.declared.positions.Pos.{Pos}
 use Rattle.asm_lines.specs.declared.faults.LineCause.{LineCause}
@@ -7,11 +7,13 @@ use Rattle.asm_lines.specs.declared.faults.LineCause.TheVariants as lines
 use Rattle.asm_lines.specs.Statements.{StatementAt, statements_of}
 use Rattle.asm_lines.specs.NextStatements.{TokenStatement, in_tokens}
 use Rattle.asm_operands.specs.Operands.{is_name, is_label, is_assignment}
+use Rattle.macro_texts.specs.declared.causes.MacroLineCause.{MacroLineCause}
+use Rattle.macro_texts.specs.declared.causes.MacroLineCause.TheVariants as macro_line
 use Rattle.macro_texts.specs.TokenTexts.{text_of}
 use Rattle.macro_words.specs.declared.causes.MacroCause.{MacroCause}
-use Rattle.macro_words.specs.declared.causes.MacroCause.TheVariants.{NulByte, UnclosedString, UnclosedComment, StatementTooLong}
+use Rattle.macro_words.specs.declared.causes.MacroCause.TheVariants.{NulByte, UnclosedString, UnclosedComment, StatementTooLong, BadMacroLine, MissingArgument}
 use Rattle.macro_words.specs.declared.words.Word.{Word}
-use Rattle.macro_words.specs.Words.{word_of}
+use Rattle.macro_words.specs.Words.{word_of, may_be_word}
 
 -- where a statement stands
 abbrev pub pos_of : TokenStatement → Pos
@@ -47,6 +49,11 @@ abbrev pub word_named : Option (List ℕ) → Option Word
 word_named None = None
 word_named (Some name) = word_of name
 
+-- the first name may be that of a word
+abbrev pub may_begin_with_word : List SpelledToken → Bool
+may_begin_with_word [] = false
+may_begin_with_word (token ∷ rest) = may_be_word token.bytes
+
 -- the word behind the labels of a statement
 unfoldable pub word_in : TokenStatement → Option Word
 word_in statement = word_named (named_by (behind_labels statement.tokens))
@@ -54,6 +61,17 @@ word_in statement = word_named (named_by (behind_labels statement.tokens))
 -- what stands behind the word
 abbrev pub operands_in : TokenStatement → List SpelledToken
 operands_in statement = drop 1 (behind_labels statement.tokens)
+
+-- the name that one token is
+abbrev pub one_name : List SpelledToken → Result (List ℕ) MacroCause
+one_name [] = Err BadMacroLine
+one_name (token ∷ []) = if is_name token then Ok token.bytes else Err BadMacroLine
+one_name (token ∷ next ∷ rest) = Err BadMacroLine
+
+-- a fault of a line of a macro as one of expansion
+abbrev pub raised : MacroLineCause → MacroCause
+raised macro_line.BadMacroLine = BadMacroLine
+raised macro_line.MissingArgument = MissingArgument
 
 -- the text of a body: each statement's tokens on a line of their own
 abbrev pub body_text : List TokenStatement → List ℕ

@@ -1,6 +1,6 @@
 //! The words of macros, repeats, conditionals and files.
 
-ghost use Rattle.std.specs.Prelude.{◌≡◌, option_map, find, IsTrue};
+ghost use Rattle.std.specs.Prelude.{◌≡◌, ◌<◌, IsTrue};
 ghost use Rattle.std.specs.List.{list_all};
 ghost use Rattle.macro_words.specs.Words as spec;
 
@@ -99,12 +99,45 @@ pub static WORDS: [WordRow; 25] = words! {
     b".include" 8 Word::Include;
 };
 
+/// How many slots there are.
+const SLOTS: usize = 64;
+
+/// The number of the row whose name has a slot, in that slot, or 255.
+#[rattlefmt::skip]
+pub static WORD_SLOTS: [u8; 64] = [
+     19,   6, 255, 255, 255, 255,   4, 255,   1, 255, 255, 255, 255,  14,  21, 255,
+    255,   7, 255, 255, 255,  15,  24,   5, 255,   8,   9, 255,   3,  13, 255,  23,
+     16, 255, 255, 255,  11, 255,  22, 255, 255, 255,  10, 255, 255, 255, 255, 255,
+    255, 255,  17, 255,  12, 255,  18,   2,  20, 255, 255, 255, 255,   0, 255, 255,
+];
+
 /// The table.
 #[tactic(auto, unfolding(crate::specs::Words::the_words))]
 fn words() -> &'static [WordRow]
     ensures { result.now ≡ spec.the_words }
 {
     &WORDS
+}
+
+/// The slot of a name of this length with these last two bytes. Multipliers and size are chosen so that no two words
+/// share one.
+fn slot_of(length: usize, before: u8, last: u8) -> usize
+    ensures value { result ≡ spec.slot_of length before last }
+    ensures within { result < 64 }
+{
+    (8 * (length % SLOTS) + before as usize + 10 * last as usize) % SLOTS
+}
+
+/// The slot of a name.
+#[tactic(auto, using(crate::proofs::WordSlots::long_slot, crate::proofs::WordSlots::short_slot))]
+fn slot(name: &[u8]) -> usize
+    ensures value { result ≡ spec.slot name.now }
+    ensures within { result < 64 }
+{
+    if name.len() < 2 {
+        return 0;
+    }
+    slot_of(name.len(), name[name.len() - 2], name[name.len() - 1])
 }
 
 /// Whether the row has the name: what stands before the spaces.
@@ -116,13 +149,41 @@ fn is_word(name: &[u8], row: &WordRow) -> bool
     &padded[..row.length.min(padded.len())] == name
 }
 
-/// Whether a word's name may begin so: most directives are no words, and need no search.
-fn may_be_word(name: &[u8]) -> bool
+/// The number of the row that the slot of the name leads to, or 255.
+#[tactic(auto, unfolding(crate::specs::Words::the_word_slots))]
+fn word_number(name: &[u8]) -> usize
+    ensures { result ≡ spec.row_in spec.the_word_slots name.now }
+{
+    WORD_SLOTS[slot(name)] as usize
+}
+
+/// The word of the name.
+#[inline(never)]
+#[tactic(auto, unfolding(crate::specs::Words::word_of))]
+pub(crate) fn slotted_word(name: &[u8]) -> Option<Word>
+    ensures { result ≡ spec.word_of name.now }
+{
+    match words().get(word_number(name)) {
+        Some(row) => {
+            if is_word(name, row) {
+                Some(row.word)
+            } else {
+                None
+            }
+        }
+        None => None,
+    }
+}
+
+/// Whether a word's name may begin so. Most names do not, and are looked at no further.
+#[inline(always)]
+pub(crate) fn may_be_word(name: &[u8]) -> bool
     ensures { result ≡ spec.may_be_word name.now }
 {
     match name {
-        [_, second, third, ..] => {
-            matches!(*second, b'i' | b'e' | b'r' | b'm' | b'p')
+        [first, second, third, ..] => {
+            *first == b'.'
+                && matches!(*second, b'i' | b'e' | b'r' | b'm' | b'p')
                 && matches!(
                     *third,
                     b'f' | b'r' | b'n' | b'l' | b'x' | b'e' | b'a' | b'u'
@@ -133,19 +194,16 @@ fn may_be_word(name: &[u8]) -> bool
 }
 
 /// The word of the name.
-#[tactic(auto, using(crate::proofs::WordNames::no_word), unfolding(crate::specs::Words::word_of))]
+#[inline(always)]
+#[tactic(auto, using(crate::proofs::WordNames::no_word))]
 pub fn word_of(name: &[u8]) -> Option<Word>
     ensures { result ≡ spec.word_of name.now }
 {
-    if !may_be_word(name) {
-        return None;
+    if may_be_word(name) {
+        slotted_word(name)
+    } else {
+        None
     }
-    for row in words() {
-        if is_word(name, row) {
-            return Some(row.word);
-        }
-    }
-    None
 }
 
 /// Each row's name ends where the spaces after it begin.

@@ -4,7 +4,7 @@ use Rattle.asm_base.specs.Tokens.{spelled}
 use Rattle.asm_operands.specs.Operands.{begins_with_label}
 use Rattle.macro_words.specs.Statements.{labels_of, behind_labels}
 use Rattle.macro_words.proofs.Labels.{labels_more, behind_more, labels_all, behind_all, left_seen, two_within}
-use Rattle.macro_words.proofs.heads.labels_length.Goals as goal
+use Rattle.macro_words.proofs.heads.all_labels_length.Goals as goal
 
 pub labels-preserved : goal.labels-preserved
 labels-preserved c =

@@ -2,7 +2,7 @@
 use Rattle.std.proofs.Common.{◌≡◌, ◌≤◌, ◌-◌, ◌++◌, length, map, take, drop}
 use Rattle.asm_base.specs.Tokens.{spelled}
 use Rattle.macro_words.specs.Statements.{labels_of, behind_labels}
-use Rattle.macro_words.proofs.heads.labels_length.Given as goal
+use Rattle.macro_words.proofs.heads.all_labels_length.Given as goal
 
 abbrev pub invariant-labels : goal.invariant-labels
 invariant-labels l = record {
