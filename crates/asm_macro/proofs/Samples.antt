@@ -21,9 +21,10 @@ use Rattle.macro_words.specs.declared.causes.MacroCause.TheVariants.{BadMacroLin
 use Rattle.macro_words.specs.Words.{the_words, word_of}
 use Rattle.macro_words.specs.Statements.{word_in, made_statements}
 use Rattle.macro_blocks.specs.Blocks.{depth_behind, stops, cut}
-use Rattle.macro_words.specs.Conditions.{Knowledge, holds}
+use Rattle.macro_words.specs.Conditions.{Knowledge, repeat_count, holds}
 use Rattle.macro_words.specs.Files.{FileFault, file_statements}
-use Rattle.asm_macro.specs.Expansion.{started, verdict, conditional, branch_end, conditional_end, repeat, each, define, call, purge, after_call, exit, include, head, turn}
+use Rattle.macro_words.specs.Branches.{verdict}
+use Rattle.asm_macro.specs.Expansion.{started, conditional, branch_end, conditional_end, repeat, each, define, call, purge, after_call, exit, include, head, turn}
 use Rattle.asm_macro.specs.Placing.{Step, ended, fails, breaks, misses, steps}
 
 -- a number of one digit is known, and no symbol is defined
@@ -54,117 +55,117 @@ abbrev at : ℕ → ℕ → Pos
 at file line = record { file = file; line = line }
 
 two_copies : expanded 9 (codes ".rept 2\nnop\n.endr") ≡ ended ((codes "nop") ∷ (codes "nop") ∷ [])
-unfolding is_blank is_name_start is_name_byte is_operator_byte is_long_operator comment_length quoted_length piece_kind piece_length token_kind token_length tokens_from pieces_from line_of trimmed nul_found source_found statements_in statements_of value_text parameter_of parameters_of filled_once call_arguments argument_named put_by put_from the_words word_of word_in made_statements depth_behind stops cut holds verdict conditional branch_end conditional_end repeat each define call purge after_call exit include head turn steps file_statements
+unfolding is_blank is_name_start is_name_byte is_operator_byte is_long_operator comment_length quoted_length piece_kind piece_length token_kind token_length tokens_from pieces_from line_of trimmed nul_found source_found statements_in statements_of value_text parameter_of parameters_of filled_once call_arguments argument_named put_by put_from the_words word_of word_in made_statements depth_behind stops cut holds repeat_count verdict conditional branch_end conditional_end repeat each define call purge after_call exit include head turn steps file_statements
 two_copies = refl
 
 -- without copies or without a body
 no_copies : expanded 9 (codes ".rept 0\nnop\n.endr\n.rept 2\n.endr\nret") ≡ ended ((codes "ret") ∷ [])
-unfolding is_blank is_name_start is_name_byte is_operator_byte is_long_operator comment_length quoted_length piece_kind piece_length token_kind token_length tokens_from pieces_from line_of trimmed nul_found source_found statements_in statements_of value_text parameter_of parameters_of filled_once call_arguments argument_named put_by put_from the_words word_of word_in made_statements depth_behind stops cut holds verdict conditional branch_end conditional_end repeat each define call purge after_call exit include head turn steps file_statements
+unfolding is_blank is_name_start is_name_byte is_operator_byte is_long_operator comment_length quoted_length piece_kind piece_length token_kind token_length tokens_from pieces_from line_of trimmed nul_found source_found statements_in statements_of value_text parameter_of parameters_of filled_once call_arguments argument_named put_by put_from the_words word_of word_in made_statements depth_behind stops cut holds repeat_count verdict conditional branch_end conditional_end repeat each define call purge after_call exit include head turn steps file_statements
 no_copies = refl
 
 calls : expanded 12 (codes ".macro t a, b=3\n.byte \\a+\\b\n.endm\nt 1\nt b=1,a=4") ≡ ended ((codes ".byte 1+3") ∷ (codes ".byte 4+1") ∷ [])
-unfolding is_blank is_name_start is_name_byte is_operator_byte is_long_operator comment_length quoted_length piece_kind piece_length token_kind token_length tokens_from pieces_from line_of trimmed nul_found source_found statements_in statements_of value_text parameter_of parameters_of filled_once call_arguments argument_named put_by put_from the_words word_of word_in made_statements depth_behind stops cut holds verdict conditional branch_end conditional_end repeat each define call purge after_call exit include head turn steps file_statements
+unfolding is_blank is_name_start is_name_byte is_operator_byte is_long_operator comment_length quoted_length piece_kind piece_length token_kind token_length tokens_from pieces_from line_of trimmed nul_found source_found statements_in statements_of value_text parameter_of parameters_of filled_once call_arguments argument_named put_by put_from the_words word_of word_in made_statements depth_behind stops cut holds repeat_count verdict conditional branch_end conditional_end repeat each define call purge after_call exit include head turn steps file_statements
 calls = refl
 
 values : expanded 12 (codes ".irp x,1,2\n.byte \\x\n.endr\n.irpc c,56\n.byte \\c\n.endr") ≡ ended ((codes ".byte 1") ∷ (codes ".byte 2") ∷ (codes ".byte 5") ∷ (codes ".byte 6") ∷ [])
-unfolding is_blank is_name_start is_name_byte is_operator_byte is_long_operator comment_length quoted_length piece_kind piece_length token_kind token_length tokens_from pieces_from line_of trimmed nul_found source_found statements_in statements_of value_text parameter_of parameters_of filled_once call_arguments argument_named put_by put_from the_words word_of word_in made_statements depth_behind stops cut holds verdict conditional branch_end conditional_end repeat each define call purge after_call exit include head turn steps file_statements
+unfolding is_blank is_name_start is_name_byte is_operator_byte is_long_operator comment_length quoted_length piece_kind piece_length token_kind token_length tokens_from pieces_from line_of trimmed nul_found source_found statements_in statements_of value_text parameter_of parameters_of filled_once call_arguments argument_named put_by put_from the_words word_of word_in made_statements depth_behind stops cut holds repeat_count verdict conditional branch_end conditional_end repeat each define call purge after_call exit include head turn steps file_statements
 values = refl
 
 other_branch : expanded 9 (codes ".ifdef q\n.byte 1\n.else\n.byte 2\n.endif") ≡ ended ((codes ".byte 2") ∷ [])
-unfolding is_blank is_name_start is_name_byte is_operator_byte is_long_operator comment_length quoted_length piece_kind piece_length token_kind token_length tokens_from pieces_from line_of trimmed nul_found source_found statements_in statements_of value_text parameter_of parameters_of filled_once call_arguments argument_named put_by put_from the_words word_of word_in made_statements depth_behind stops cut holds verdict conditional branch_end conditional_end repeat each define call purge after_call exit include head turn steps file_statements
+unfolding is_blank is_name_start is_name_byte is_operator_byte is_long_operator comment_length quoted_length piece_kind piece_length token_kind token_length tokens_from pieces_from line_of trimmed nul_found source_found statements_in statements_of value_text parameter_of parameters_of filled_once call_arguments argument_named put_by put_from the_words word_of word_in made_statements depth_behind stops cut holds repeat_count verdict conditional branch_end conditional_end repeat each define call purge after_call exit include head turn steps file_statements
 other_branch = refl
 
 -- what is not chosen is passed over, with the blocks in it
 branches : expanded 9 (codes ".if 0\n.if 1\nnop\n.endif\n.elseif 1\nret\n.else\nnop\n.endif") ≡ ended ((codes "ret") ∷ [])
-unfolding is_blank is_name_start is_name_byte is_operator_byte is_long_operator comment_length quoted_length piece_kind piece_length token_kind token_length tokens_from pieces_from line_of trimmed nul_found source_found statements_in statements_of value_text parameter_of parameters_of filled_once call_arguments argument_named put_by put_from the_words word_of word_in made_statements depth_behind stops cut holds verdict conditional branch_end conditional_end repeat each define call purge after_call exit include head turn steps file_statements
+unfolding is_blank is_name_start is_name_byte is_operator_byte is_long_operator comment_length quoted_length piece_kind piece_length token_kind token_length tokens_from pieces_from line_of trimmed nul_found source_found statements_in statements_of value_text parameter_of parameters_of filled_once call_arguments argument_named put_by put_from the_words word_of word_in made_statements depth_behind stops cut holds repeat_count verdict conditional branch_end conditional_end repeat each define call purge after_call exit include head turn steps file_statements
 branches = refl
 
 exits : expanded 20 (codes ".macro e\n.byte 1\n.exitm\n.byte 2\n.endm\ne\n.rept 2\n.rept 2\n.byte 3\n.endr\n.endr") ≡ ended ((codes ".byte 1") ∷ (codes ".byte 3") ∷ (codes ".byte 3") ∷ (codes ".byte 3") ∷ (codes ".byte 3") ∷ [])
-unfolding is_blank is_name_start is_name_byte is_operator_byte is_long_operator comment_length quoted_length piece_kind piece_length token_kind token_length tokens_from pieces_from line_of trimmed nul_found source_found statements_in statements_of value_text parameter_of parameters_of filled_once call_arguments argument_named put_by put_from the_words word_of word_in made_statements depth_behind stops cut holds verdict conditional branch_end conditional_end repeat each define call purge after_call exit include head turn steps file_statements
+unfolding is_blank is_name_start is_name_byte is_operator_byte is_long_operator comment_length quoted_length piece_kind piece_length token_kind token_length tokens_from pieces_from line_of trimmed nul_found source_found statements_in statements_of value_text parameter_of parameters_of filled_once call_arguments argument_named put_by put_from the_words word_of word_in made_statements depth_behind stops cut holds repeat_count verdict conditional branch_end conditional_end repeat each define call purge after_call exit include head turn steps file_statements
 exits = refl
 
 -- all that began in the call ends with it
 exit_leaves_repeats : expanded 20 (codes ".macro e\n.rept 2\nnop\n.if 1\n.exitm\n.endif\n.endr\nret\n.endm\ne\nhlt") ≡ ended ((codes "nop") ∷ (codes "hlt") ∷ [])
-unfolding is_blank is_name_start is_name_byte is_operator_byte is_long_operator comment_length quoted_length piece_kind piece_length token_kind token_length tokens_from pieces_from line_of trimmed nul_found source_found statements_in statements_of value_text parameter_of parameters_of filled_once call_arguments argument_named put_by put_from the_words word_of word_in made_statements depth_behind stops cut holds verdict conditional branch_end conditional_end repeat each define call purge after_call exit include head turn steps file_statements
+unfolding is_blank is_name_start is_name_byte is_operator_byte is_long_operator comment_length quoted_length piece_kind piece_length token_kind token_length tokens_from pieces_from line_of trimmed nul_found source_found statements_in statements_of value_text parameter_of parameters_of filled_once call_arguments argument_named put_by put_from the_words word_of word_in made_statements depth_behind stops cut holds repeat_count verdict conditional branch_end conditional_end repeat each define call purge after_call exit include head turn steps file_statements
 exit_leaves_repeats = refl
 
 labels : expanded 12 (codes "x: .macro q\n.endm\ny: q\n.quad x, y") ≡ ended ((codes "x:") ∷ (codes "y:") ∷ (codes ".quad x, y") ∷ [])
-unfolding is_blank is_name_start is_name_byte is_operator_byte is_long_operator comment_length quoted_length piece_kind piece_length token_kind token_length tokens_from pieces_from line_of trimmed nul_found source_found statements_in statements_of value_text parameter_of parameters_of filled_once call_arguments argument_named put_by put_from the_words word_of word_in made_statements depth_behind stops cut holds verdict conditional branch_end conditional_end repeat each define call purge after_call exit include head turn steps file_statements
+unfolding is_blank is_name_start is_name_byte is_operator_byte is_long_operator comment_length quoted_length piece_kind piece_length token_kind token_length tokens_from pieces_from line_of trimmed nul_found source_found statements_in statements_of value_text parameter_of parameters_of filled_once call_arguments argument_named put_by put_from the_words word_of word_in made_statements depth_behind stops cut holds repeat_count verdict conditional branch_end conditional_end repeat each define call purge after_call exit include head turn steps file_statements
 labels = refl
 
 -- labels before the end of what is passed over or of a body are dropped
 labels_of_ends : expanded 9 (codes ".if 0\nz: .endif\n.rept 1\nnop\nz: .endr") ≡ ended ((codes "nop") ∷ [])
-unfolding is_blank is_name_start is_name_byte is_operator_byte is_long_operator comment_length quoted_length piece_kind piece_length token_kind token_length tokens_from pieces_from line_of trimmed nul_found source_found statements_in statements_of value_text parameter_of parameters_of filled_once call_arguments argument_named put_by put_from the_words word_of word_in made_statements depth_behind stops cut holds verdict conditional branch_end conditional_end repeat each define call purge after_call exit include head turn steps file_statements
+unfolding is_blank is_name_start is_name_byte is_operator_byte is_long_operator comment_length quoted_length piece_kind piece_length token_kind token_length tokens_from pieces_from line_of trimmed nul_found source_found statements_in statements_of value_text parameter_of parameters_of filled_once call_arguments argument_named put_by put_from the_words word_of word_in made_statements depth_behind stops cut holds repeat_count verdict conditional branch_end conditional_end repeat each define call purge after_call exit include head turn steps file_statements
 labels_of_ends = refl
 
 -- a name that is assigned or defined is no call; one that is forgotten neither
 own_names : expanded 12 (codes ".macro m\nnop\n.endm\nm = 3\nm: ret\n.purgem m\nm") ≡ ended ((codes "m = 3") ∷ (codes "m: ret") ∷ (codes "m") ∷ [])
-unfolding is_blank is_name_start is_name_byte is_operator_byte is_long_operator comment_length quoted_length piece_kind piece_length token_kind token_length tokens_from pieces_from line_of trimmed nul_found source_found statements_in statements_of value_text parameter_of parameters_of filled_once call_arguments argument_named put_by put_from the_words word_of word_in made_statements depth_behind stops cut holds verdict conditional branch_end conditional_end repeat each define call purge after_call exit include head turn steps file_statements
+unfolding is_blank is_name_start is_name_byte is_operator_byte is_long_operator comment_length quoted_length piece_kind piece_length token_kind token_length tokens_from pieces_from line_of trimmed nul_found source_found statements_in statements_of value_text parameter_of parameters_of filled_once call_arguments argument_named put_by put_from the_words word_of word_in made_statements depth_behind stops cut holds repeat_count verdict conditional branch_end conditional_end repeat each define call purge after_call exit include head turn steps file_statements
 own_names = refl
 
 -- comments are no part of a body and of an argument
 comments : expanded 12 (codes ".macro m a\n.byte \\a /* \\a */ # x\n.endm\nm 1 /* */ + 2") ≡ ended ((codes ".byte 1 + 2") ∷ [])
-unfolding is_blank is_name_start is_name_byte is_operator_byte is_long_operator comment_length quoted_length piece_kind piece_length token_kind token_length tokens_from pieces_from line_of trimmed nul_found source_found statements_in statements_of value_text parameter_of parameters_of filled_once call_arguments argument_named put_by put_from the_words word_of word_in made_statements depth_behind stops cut holds verdict conditional branch_end conditional_end repeat each define call purge after_call exit include head turn steps file_statements
+unfolding is_blank is_name_start is_name_byte is_operator_byte is_long_operator comment_length quoted_length piece_kind piece_length token_kind token_length tokens_from pieces_from line_of trimmed nul_found source_found statements_in statements_of value_text parameter_of parameters_of filled_once call_arguments argument_named put_by put_from the_words word_of word_in made_statements depth_behind stops cut holds repeat_count verdict conditional branch_end conditional_end repeat each define call purge after_call exit include head turn steps file_statements
 comments = refl
 
 -- an argument moves the bounds of statements
 bounds : expanded 12 (codes ".macro m a\n.byte \\a\n.endm\nm \"1;nop\"") ≡ ended ((codes ".byte 1") ∷ (codes "nop") ∷ [])
-unfolding is_blank is_name_start is_name_byte is_operator_byte is_long_operator comment_length quoted_length piece_kind piece_length token_kind token_length tokens_from pieces_from line_of trimmed nul_found source_found statements_in statements_of value_text parameter_of parameters_of filled_once call_arguments argument_named put_by put_from the_words word_of word_in made_statements depth_behind stops cut holds verdict conditional branch_end conditional_end repeat each define call purge after_call exit include head turn steps file_statements
+unfolding is_blank is_name_start is_name_byte is_operator_byte is_long_operator comment_length quoted_length piece_kind piece_length token_kind token_length tokens_from pieces_from line_of trimmed nul_found source_found statements_in statements_of value_text parameter_of parameters_of filled_once call_arguments argument_named put_by put_from the_words word_of word_in made_statements depth_behind stops cut holds repeat_count verdict conditional branch_end conditional_end repeat each define call purge after_call exit include head turn steps file_statements
 bounds = refl
 
 missing : expanded 12 (codes ".macro v a:req, r:vararg\n.ascii \"\\a,\\r\"\n.endm\nv 1,2,3\nv") ≡ fails MissingArgument (at 0 5)
-unfolding is_blank is_name_start is_name_byte is_operator_byte is_long_operator comment_length quoted_length piece_kind piece_length token_kind token_length tokens_from pieces_from line_of trimmed nul_found source_found statements_in statements_of value_text parameter_of parameters_of filled_once call_arguments argument_named put_by put_from the_words word_of word_in made_statements depth_behind stops cut holds verdict conditional branch_end conditional_end repeat each define call purge after_call exit include head turn steps file_statements
+unfolding is_blank is_name_start is_name_byte is_operator_byte is_long_operator comment_length quoted_length piece_kind piece_length token_kind token_length tokens_from pieces_from line_of trimmed nul_found source_found statements_in statements_of value_text parameter_of parameters_of filled_once call_arguments argument_named put_by put_from the_words word_of word_in made_statements depth_behind stops cut holds repeat_count verdict conditional branch_end conditional_end repeat each define call purge after_call exit include head turn steps file_statements
 missing = refl
 
 -- the lines of what is made have a fault: it stands at the call
 unclosed_string : expanded 9 (codes ".macro m a\n.byte \\a\n.endm\nm \"\\\"\"") ≡ fails UnclosedString (at 0 4)
-unfolding is_blank is_name_start is_name_byte is_operator_byte is_long_operator comment_length quoted_length piece_kind piece_length token_kind token_length tokens_from pieces_from line_of trimmed nul_found source_found statements_in statements_of value_text parameter_of parameters_of filled_once call_arguments argument_named put_by put_from the_words word_of word_in made_statements depth_behind stops cut holds verdict conditional branch_end conditional_end repeat each define call purge after_call exit include head turn steps file_statements
+unfolding is_blank is_name_start is_name_byte is_operator_byte is_long_operator comment_length quoted_length piece_kind piece_length token_kind token_length tokens_from pieces_from line_of trimmed nul_found source_found statements_in statements_of value_text parameter_of parameters_of filled_once call_arguments argument_named put_by put_from the_words word_of word_in made_statements depth_behind stops cut holds repeat_count verdict conditional branch_end conditional_end repeat each define call purge after_call exit include head turn steps file_statements
 unclosed_string = refl
 
 end_alone : expanded 3 (codes ".endm") ≡ fails EndWithoutBeginning (at 0 1)
-unfolding is_blank is_name_start is_name_byte is_operator_byte is_long_operator comment_length quoted_length piece_kind piece_length token_kind token_length tokens_from pieces_from line_of trimmed nul_found source_found statements_in statements_of value_text parameter_of parameters_of filled_once call_arguments argument_named put_by put_from the_words word_of word_in made_statements depth_behind stops cut holds verdict conditional branch_end conditional_end repeat each define call purge after_call exit include head turn steps file_statements
+unfolding is_blank is_name_start is_name_byte is_operator_byte is_long_operator comment_length quoted_length piece_kind piece_length token_kind token_length tokens_from pieces_from line_of trimmed nul_found source_found statements_in statements_of value_text parameter_of parameters_of filled_once call_arguments argument_named put_by put_from the_words word_of word_in made_statements depth_behind stops cut holds repeat_count verdict conditional branch_end conditional_end repeat each define call purge after_call exit include head turn steps file_statements
 end_alone = refl
 
 twice : expanded 9 (codes ".macro m\n.endm\n.macro m\n.endm") ≡ fails MacroAlreadyDefined (at 0 3)
-unfolding is_blank is_name_start is_name_byte is_operator_byte is_long_operator comment_length quoted_length piece_kind piece_length token_kind token_length tokens_from pieces_from line_of trimmed nul_found source_found statements_in statements_of value_text parameter_of parameters_of filled_once call_arguments argument_named put_by put_from the_words word_of word_in made_statements depth_behind stops cut holds verdict conditional branch_end conditional_end repeat each define call purge after_call exit include head turn steps file_statements
+unfolding is_blank is_name_start is_name_byte is_operator_byte is_long_operator comment_length quoted_length piece_kind piece_length token_kind token_length tokens_from pieces_from line_of trimmed nul_found source_found statements_in statements_of value_text parameter_of parameters_of filled_once call_arguments argument_named put_by put_from the_words word_of word_in made_statements depth_behind stops cut holds repeat_count verdict conditional branch_end conditional_end repeat each define call purge after_call exit include head turn steps file_statements
 twice = refl
 
 forgotten : expanded 9 (codes ".macro m\n.endm\n.purgem m\n.macro m\n.endm") ≡ ended ([])
-unfolding is_blank is_name_start is_name_byte is_operator_byte is_long_operator comment_length quoted_length piece_kind piece_length token_kind token_length tokens_from pieces_from line_of trimmed nul_found source_found statements_in statements_of value_text parameter_of parameters_of filled_once call_arguments argument_named put_by put_from the_words word_of word_in made_statements depth_behind stops cut holds verdict conditional branch_end conditional_end repeat each define call purge after_call exit include head turn steps file_statements
+unfolding is_blank is_name_start is_name_byte is_operator_byte is_long_operator comment_length quoted_length piece_kind piece_length token_kind token_length tokens_from pieces_from line_of trimmed nul_found source_found statements_in statements_of value_text parameter_of parameters_of filled_once call_arguments argument_named put_by put_from the_words word_of word_in made_statements depth_behind stops cut holds repeat_count verdict conditional branch_end conditional_end repeat each define call purge after_call exit include head turn steps file_statements
 forgotten = refl
 
 exit_outside : expanded 3 (codes ".exitm") ≡ fails EndWithoutBeginning (at 0 1)
-unfolding is_blank is_name_start is_name_byte is_operator_byte is_long_operator comment_length quoted_length piece_kind piece_length token_kind token_length tokens_from pieces_from line_of trimmed nul_found source_found statements_in statements_of value_text parameter_of parameters_of filled_once call_arguments argument_named put_by put_from the_words word_of word_in made_statements depth_behind stops cut holds verdict conditional branch_end conditional_end repeat each define call purge after_call exit include head turn steps file_statements
+unfolding is_blank is_name_start is_name_byte is_operator_byte is_long_operator comment_length quoted_length piece_kind piece_length token_kind token_length tokens_from pieces_from line_of trimmed nul_found source_found statements_in statements_of value_text parameter_of parameters_of filled_once call_arguments argument_named put_by put_from the_words word_of word_in made_statements depth_behind stops cut holds repeat_count verdict conditional branch_end conditional_end repeat each define call purge after_call exit include head turn steps file_statements
 exit_outside = refl
 
 -- the outermost block that is open
 open_conditional : expanded 9 (codes "nop\n.if 1\n.rept 1\nnop") ≡ fails UnclosedBlock (at 0 2)
-unfolding is_blank is_name_start is_name_byte is_operator_byte is_long_operator comment_length quoted_length piece_kind piece_length token_kind token_length tokens_from pieces_from line_of trimmed nul_found source_found statements_in statements_of value_text parameter_of parameters_of filled_once call_arguments argument_named put_by put_from the_words word_of word_in made_statements depth_behind stops cut holds verdict conditional branch_end conditional_end repeat each define call purge after_call exit include head turn steps file_statements
+unfolding is_blank is_name_start is_name_byte is_operator_byte is_long_operator comment_length quoted_length piece_kind piece_length token_kind token_length tokens_from pieces_from line_of trimmed nul_found source_found statements_in statements_of value_text parameter_of parameters_of filled_once call_arguments argument_named put_by put_from the_words word_of word_in made_statements depth_behind stops cut holds repeat_count verdict conditional branch_end conditional_end repeat each define call purge after_call exit include head turn steps file_statements
 open_conditional = refl
 
 open_in_a_copy : expanded 9 (codes ".rept 2\n.if 1\n.endr\n.endif\n.endif") ≡ fails UnclosedBlock (at 0 1)
-unfolding is_blank is_name_start is_name_byte is_operator_byte is_long_operator comment_length quoted_length piece_kind piece_length token_kind token_length tokens_from pieces_from line_of trimmed nul_found source_found statements_in statements_of value_text parameter_of parameters_of filled_once call_arguments argument_named put_by put_from the_words word_of word_in made_statements depth_behind stops cut holds verdict conditional branch_end conditional_end repeat each define call purge after_call exit include head turn steps file_statements
+unfolding is_blank is_name_start is_name_byte is_operator_byte is_long_operator comment_length quoted_length piece_kind piece_length token_kind token_length tokens_from pieces_from line_of trimmed nul_found source_found statements_in statements_of value_text parameter_of parameters_of filled_once call_arguments argument_named put_by put_from the_words word_of word_in made_statements depth_behind stops cut holds repeat_count verdict conditional branch_end conditional_end repeat each define call purge after_call exit include head turn steps file_statements
 open_in_a_copy = refl
 
 -- a body that begins in one copy and ends in the next
 body_over_copies : expanded 9 (codes ".rept 2\n.if 0\n.endm\n.endif\n.macro w\n.endr") ≡ fails EndWithoutBeginning (at 0 1)
-unfolding is_blank is_name_start is_name_byte is_operator_byte is_long_operator comment_length quoted_length piece_kind piece_length token_kind token_length tokens_from pieces_from line_of trimmed nul_found source_found statements_in statements_of value_text parameter_of parameters_of filled_once call_arguments argument_named put_by put_from the_words word_of word_in made_statements depth_behind stops cut holds verdict conditional branch_end conditional_end repeat each define call purge after_call exit include head turn steps file_statements
+unfolding is_blank is_name_start is_name_byte is_operator_byte is_long_operator comment_length quoted_length piece_kind piece_length token_kind token_length tokens_from pieces_from line_of trimmed nul_found source_found statements_in statements_of value_text parameter_of parameters_of filled_once call_arguments argument_named put_by put_from the_words word_of word_in made_statements depth_behind stops cut holds repeat_count verdict conditional branch_end conditional_end repeat each define call purge after_call exit include head turn steps file_statements
 body_over_copies = refl
 
 -- a conditional of a file does not end in another
 other_file : expanded 9 (codes ".if 1\n.include \"b.inc\"\n.endif") ≡ fails EndWithoutBeginning (at 1 2)
-unfolding is_blank is_name_start is_name_byte is_operator_byte is_long_operator comment_length quoted_length piece_kind piece_length token_kind token_length tokens_from pieces_from line_of trimmed nul_found source_found statements_in statements_of value_text parameter_of parameters_of filled_once call_arguments argument_named put_by put_from the_words word_of word_in made_statements depth_behind stops cut holds verdict conditional branch_end conditional_end repeat each define call purge after_call exit include head turn steps file_statements string_value_from is_utf8 chars lib.Utf8.encode
+unfolding is_blank is_name_start is_name_byte is_operator_byte is_long_operator comment_length quoted_length piece_kind piece_length token_kind token_length tokens_from pieces_from line_of trimmed nul_found source_found statements_in statements_of value_text parameter_of parameters_of filled_once call_arguments argument_named put_by put_from the_words word_of word_in made_statements depth_behind stops cut holds repeat_count verdict conditional branch_end conditional_end repeat each define call purge after_call exit include head turn steps file_statements string_value_from is_utf8 chars lib.Utf8.encode
 other_file = refl
 
 no_file : expanded 5 (codes ".include \"none.inc\"") ≡ misses
-unfolding is_blank is_name_start is_name_byte is_operator_byte is_long_operator comment_length quoted_length piece_kind piece_length token_kind token_length tokens_from pieces_from line_of trimmed nul_found source_found statements_in statements_of value_text parameter_of parameters_of filled_once call_arguments argument_named put_by put_from the_words word_of word_in made_statements depth_behind stops cut holds verdict conditional branch_end conditional_end repeat each define call purge after_call exit include head turn steps file_statements string_value_from is_utf8 chars lib.Utf8.encode
+unfolding is_blank is_name_start is_name_byte is_operator_byte is_long_operator comment_length quoted_length piece_kind piece_length token_kind token_length tokens_from pieces_from line_of trimmed nul_found source_found statements_in statements_of value_text parameter_of parameters_of filled_once call_arguments argument_named put_by put_from the_words word_of word_in made_statements depth_behind stops cut holds repeat_count verdict conditional branch_end conditional_end repeat each define call purge after_call exit include head turn steps file_statements string_value_from is_utf8 chars lib.Utf8.encode
 no_file = refl
 
 bad_line : expanded 5 (codes ".include b") ≡ fails BadMacroLine (at 0 1)
-unfolding is_blank is_name_start is_name_byte is_operator_byte is_long_operator comment_length quoted_length piece_kind piece_length token_kind token_length tokens_from pieces_from line_of trimmed nul_found source_found statements_in statements_of value_text parameter_of parameters_of filled_once call_arguments argument_named put_by put_from the_words word_of word_in made_statements depth_behind stops cut holds verdict conditional branch_end conditional_end repeat each define call purge after_call exit include head turn steps file_statements
+unfolding is_blank is_name_start is_name_byte is_operator_byte is_long_operator comment_length quoted_length piece_kind piece_length token_kind token_length tokens_from pieces_from line_of trimmed nul_found source_found statements_in statements_of value_text parameter_of parameters_of filled_once call_arguments argument_named put_by put_from the_words word_of word_in made_statements depth_behind stops cut holds repeat_count verdict conditional branch_end conditional_end repeat each define call purge after_call exit include head turn steps file_statements
 bad_line = refl
 
 -- 64 calls may be open
 nested_calls : expanded 80 (codes ".macro m\nm\n.endm\nm") ≡ fails NestedTooDeeply (at 0 4)
-unfolding is_blank is_name_start is_name_byte is_operator_byte is_long_operator comment_length quoted_length piece_kind piece_length token_kind token_length tokens_from pieces_from line_of trimmed nul_found source_found statements_in statements_of value_text parameter_of parameters_of filled_once call_arguments argument_named put_by put_from the_words word_of word_in made_statements depth_behind stops cut holds verdict conditional branch_end conditional_end repeat each define call purge after_call exit include head turn steps file_statements
+unfolding is_blank is_name_start is_name_byte is_operator_byte is_long_operator comment_length quoted_length piece_kind piece_length token_kind token_length tokens_from pieces_from line_of trimmed nul_found source_found statements_in statements_of value_text parameter_of parameters_of filled_once call_arguments argument_named put_by put_from the_words word_of word_in made_statements depth_behind stops cut holds repeat_count verdict conditional branch_end conditional_end repeat each define call purge after_call exit include head turn steps file_statements
 nested_calls = refl

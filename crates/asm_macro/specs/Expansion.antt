@@ -1,15 +1,13 @@
 -- Expansion: the list of statements and end marks is rewritten at its head, until a statement is handed out (GNU as manual, ".macro",
 -- ".rept", ".irp", ".irpc", ".if", ".include").
-use Rattle.std.specs.Prelude.{ℕ, zero, suc, ◌+◌, ◌-◌, ◌^◌, not, nat_le, Bool, true, false, if◌then◌else◌, List, [], ◌∷◌, ◌++◌, Option, Some, None, length, take, find, filter, count_by, Result, Ok, Err}
+use Rattle.std.specs.Prelude.{ℕ, ◌+◌, ◌-◌, ◌^◌, not, nat_le, Bool, true, false, if◌then◌else◌, List, [], ◌∷◌, ◌++◌, Option, Some, None, length, take, find, filter, count_by, Result, Ok, Err}
 use Rattle.std.specs.List.{list_any}
 use Rattle.std.specs.Str.{bytes_eq}
 use Rattle.asm_base.specs.Tokens.{SpelledToken}
 use Rattle.asm_base.specs.Refusals.{◌>>=◌}
 use Rattle.asm_base.specs.declared.positions.Pos.{Pos}
 use Rattle.asm_lines.specs.NextStatements.{TokenStatement}
-use Rattle.asm_operands.specs.Operands.{is_name}
 use Rattle.macro_texts.specs.declared.causes.MacroLineCause.{MacroLineCause}
-use Rattle.macro_texts.specs.declared.causes.MacroLineCause.TheVariants as line
 use Rattle.macro_texts.specs.Parameters.{ParameterAs, MacroLineAs, macro_line}
 use Rattle.macro_texts.specs.Arguments.{call_arguments}
 use Rattle.macro_texts.specs.Putting.{put}
@@ -18,14 +16,15 @@ use Rattle.macro_blocks.specs.declared.blocks.Block.TheVariants as block
 use Rattle.macro_blocks.specs.declared.blocks.Ending.{Ending}
 use Rattle.macro_blocks.specs.declared.blocks.Ending.TheVariants as ending
 use Rattle.macro_words.specs.declared.causes.MacroCause.{MacroCause}
-use Rattle.macro_words.specs.declared.causes.MacroCause.TheVariants.{BadMacroLine, MissingArgument, UnclosedBlock, EndWithoutBeginning, NestedTooDeeply, ExpansionTooLong, MacroAlreadyDefined}
+use Rattle.macro_words.specs.declared.causes.MacroCause.TheVariants.{BadMacroLine, UnclosedBlock, EndWithoutBeginning, NestedTooDeeply, ExpansionTooLong, MacroAlreadyDefined}
 use Rattle.macro_words.specs.declared.words.Condition.{Condition}
-use Rattle.macro_words.specs.declared.words.Condition.TheVariants.{NotZero}
 use Rattle.macro_words.specs.declared.words.Word.{Word}
 use Rattle.macro_words.specs.declared.words.Word.TheVariants as word
-use Rattle.macro_words.specs.Statements.{pos_of, with_tokens, labels_of, behind_labels, named_by, word_in, operands_in, body_text, made_statements}
-use Rattle.macro_blocks.specs.Blocks.{Cut, ends, of_word, cut, cut_block, repeated}
-use Rattle.macro_words.specs.Conditions.{Knowledge, count_of, holds}
+use Rattle.macro_words.specs.Statements.{pos_of, with_tokens, labels_of, behind_labels, named_by, word_in, operands_in, one_name, raised, body_text, made_statements}
+use Rattle.macro_blocks.specs.Blocks.{Cut, cut, cut_block, repeated}
+use Rattle.macro_blocks.specs.Branches.{ends_branch}
+use Rattle.macro_words.specs.Branches.{verdict}
+use Rattle.macro_words.specs.Conditions.{Knowledge, repeat_count, holds}
 use Rattle.asm_base.specs.Inputs.{Contents}
 use Rattle.macro_words.specs.Files.{FileFault, file_name, file_statements}
 
@@ -88,11 +87,6 @@ abbrev pub with_made : {A : Type 0} → Pos → Result A MacroCause → (A → T
 with_made pos (Ok made) on = on made
 with_made pos (Err cause) on = fails cause pos
 
--- a fault of a line of a macro as one of expansion
-abbrev pub raised : MacroLineCause → MacroCause
-raised line.BadMacroLine = BadMacroLine
-raised line.MissingArgument = MissingArgument
-
 -- the same of what is read from a line of a macro
 abbrev pub with_read : {A : Type 0} → Pos → Result A MacroLineCause → (A → Turn) → Turn
 with_read pos (Ok read) on = on read
@@ -110,26 +104,6 @@ enter pos ends made state =
     else with_made pos made (λ statements. goes (under (record { statements = statements; ends = ends; open_at = [] }) state))
 
 -- Conditionals
-
--- whether a branch begins at a statement that is chosen, where none was before
-abbrev pub verdict_by : Knowledge → Option Word → List SpelledToken → Result Bool MacroCause
-verdict_by known (Some word.Else) operands = Ok true
-verdict_by known (Some word.ElseIf) operands = holds known NotZero operands
-verdict_by known _ operands = Ok false
-
--- the same of a statement
-unfoldable pub verdict : Knowledge → TokenStatement → Result Bool MacroCause
-verdict known statement = verdict_by known (word_in statement) (operands_in statement)
-
--- not known false: true, or a fault
-abbrev pub is_not_false : Result Bool MacroCause → Bool
-is_not_false (Ok held) = held
-is_not_false (Err cause) = true
-
--- a branch that is not chosen ends at its conditional's end, and where one begins that is chosen or whose condition has a fault
-abbrev pub ends_branch : Knowledge → TokenStatement → Bool
-ends_branch known statement =
-    if of_word (ends block.Conditional) (word_in statement) then true else is_not_false (verdict known statement)
 
 -- the conditional that began here goes on in a chosen branch, which is open from here on, or behind its end
 abbrev pub go_on : Pos → Bool → Level → State → Turn
@@ -200,8 +174,8 @@ repeat_copies pos count (first ∷ others) state =
 -- a repeat becomes its copies and an end mark; with an empty body it becomes nothing
 unfoldable pub repeat : Knowledge → TokenStatement → Level → State → Turn
 repeat known s level state =
-    with_made (pos_of s) (known.value (operands_in s)) (λ n. with_body (pos_of s) (cut_block block.Repeat level.statements) level state
-    (λ body now. repeat_copies (pos_of s) (count_of n) body now))
+    with_made (pos_of s) (repeat_count known (operands_in s)) (λ count. with_body (pos_of s) (cut_block block.Repeat level.statements) level state
+    (λ body now. repeat_copies (pos_of s) count body now))
 
 -- a copy of a body for each of these texts of a name
 abbrev pub each_copy : Pos → List ℕ → ℕ → List ℕ → List (List ℕ) → Result (List TokenStatement) MacroCause
@@ -249,12 +223,6 @@ unfoldable pub call : MacroAs → TokenStatement → Level → State → Turn
 call one s level state =
     with_read (pos_of s) (call_arguments one.parameters (operands_in s)) (λ arguments.
     enter (pos_of s) ending.Call (made_statements (pos_of s) (put arguments state.begun one.body)) (under level (record state { begun = state.begun + 1 })))
-
--- the name that one token is
-abbrev pub one_name : List SpelledToken → Result (List ℕ) MacroCause
-one_name [] = Err BadMacroLine
-one_name (token ∷ []) = if is_name token then Ok token.bytes else Err BadMacroLine
-one_name (token ∷ next ∷ rest) = Err BadMacroLine
 
 -- a macro that is known is forgotten
 abbrev pub forget : Pos → List ℕ → State → Turn

@@ -1,8 +1,7 @@
 -- The name of a file, by whether its bytes are UTF-8.
-use Rattle.std.proofs.Common.{◌≡◌, ◌&&◌, Bool, true, false, cond, ℕ, List, Result, Ok, Err, refl, ap, ◌∙◌}
+use Rattle.std.proofs.Common.{◌≡◌, ◌&&◌, Bool, true, false, cond, ℕ, List, Ok, Err, refl}
 use Rattle.std.specs.Str.{IsUtf8, is_utf8}
 use Rattle.std.proofs.lemmas.Str.{IsUtf8-from_is_utf8, is_utf8-from_IsUtf8}
-use Rattle.macro_words.specs.declared.causes.MacroCause.{MacroCause}
 use Rattle.macro_words.specs.declared.causes.MacroCause.TheVariants.{BadFileName}
 use Rattle.macro_words.specs.Files.{may_name, checked_name}
 
