@@ -25,7 +25,8 @@ use Rattle.macro_words.specs.Conditions.{Knowledge, repeat_count, holds}
 use Rattle.macro_words.specs.Files.{FileFault, file_statements}
 use Rattle.macro_words.specs.Branches.{verdict}
 use Rattle.asm_macro.specs.Expansion.{started, conditional, branch_end, conditional_end, repeat, each, define, call, purge, after_call, exit, include, head, turn}
-use Rattle.asm_macro.specs.Placing.{Step, ended, fails, breaks, misses, steps}
+use Rattle.asm_macro.specs.Placing.{Step, steps}
+use Rattle.asm_macro.specs.Placing as pair
 
 -- a number of one digit is known, and no symbol is defined
 abbrev value_told : List SpelledToken → Result ℕ MacroCause
@@ -43,12 +44,26 @@ kept placed statement = Ok (placed ++ text_of statement.tokens ∷ [])
 abbrev contents : Contents
 contents name = if bytes_eq name (codes "b.inc") then Some (codes "nop\n.endif") else None
 
--- what comes of a source after so many turns
-abbrev begun_by : ℕ → Result (List TokenStatement) FileFault → Step (List (List ℕ)) ℕ
-begun_by n (Ok statements) = steps kept told (Some contents) n (started [] statements) []
-begun_by n (Err fault) = breaks [] fault
+-- what a sample shows: the texts of the statements that were handed out, or the fault
+data Seen : Type 0 where
+  ended : List (List ℕ) → Seen
+  fails : MacroCause → Pos → Seen
+  misses : Seen
+  other : Seen
 
-abbrev expanded : ℕ → List ℕ → Step (List (List ℕ)) ℕ
+-- what is shown of a step
+abbrev seen : Step (List (List ℕ)) ℕ → Seen
+seen (pair.ended files texts) = ended texts
+seen (pair.fails files cause pos texts) = fails cause pos
+seen pair.misses = misses
+seen _ = other
+
+-- what comes of a source after so many turns
+abbrev begun_by : ℕ → Result (List TokenStatement) FileFault → Seen
+begun_by n (Ok statements) = seen (steps kept told (Some contents) n (started ([] ∷ []) statements) [])
+begun_by n (Err fault) = other
+
+abbrev expanded : ℕ → List ℕ → Seen
 expanded n source = begun_by n (file_statements 0 source)
 
 abbrev at : ℕ → ℕ → Pos

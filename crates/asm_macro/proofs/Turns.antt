@@ -10,7 +10,7 @@ use Rattle.macro_words.specs.Statements.{named_by, behind_labels}
 use Rattle.macro_words.specs.Conditions.{Knowledge}
 use Rattle.asm_macro.specs.Expansion as list
 use Rattle.asm_macro.specs.Expansion.{State, Level, MacroAs, head, macro_named, most_given, started, turn}
-use Rattle.asm_macro.specs.Placing.{Step, goes, ended, fails, breaks, refused, misses, untold, with_placed, and_then, step, steps}
+use Rattle.asm_macro.specs.Placing.{Step, goes, ended, fails, refused, misses, untold, with_placed, and_then, step, steps}
 use Rattle.asm_macro.specs.Laws.{is_final, outcome, IsPlain}
 
 module _ {S F : Type 0} (placed : S → TokenStatement → Result S F) (known : S → Knowledge) (contents : Option Contents) where
@@ -21,10 +21,9 @@ module _ {S F : Type 0} (placed : S → TokenStatement → Result S F) (known : 
       → is_final (and_then (steps placed known contents n) x) ≡ true → is_final (and_then (steps placed known contents m) x) ≡ true
       → and_then (steps placed known contents n) x ≡ and_then (steps placed known contents m) x
   one_by n m (goes state placer) more p q = more state placer p q
-  one_by n m (ended placer) more p q = refl
-  one_by n m (fails cause pos) more p q = refl
-  one_by n m (breaks name fault) more p q = refl
-  one_by n m (refused fault) more p q = refl
+  one_by n m (ended files placer) more p q = refl
+  one_by n m (fails files cause pos placer) more p q = refl
+  one_by n m (refused files fault) more p q = refl
   one_by n m misses more p q = refl
   one_by n m untold more p q = refl
 
@@ -36,39 +35,39 @@ module _ {S F : Type 0} (placed : S → TokenStatement → Result S F) (known : 
   one_result (suc n) (suc m) state placer p q = one_by n m (step placed known contents state placer) (one_result n m) p q
 
 -- the list of a source without macros, of which so many statements left the head
-abbrev plain : List ℕ → ℕ → List TokenStatement → State
-plain name given statements =
-    record { levels = record { statements = statements; ends = ending.File; open_at = [] } ∷ []; macros = []; begun = 0; given = given; files = name ∷ [] }
+abbrev plain : List (List ℕ) → ℕ → List TokenStatement → State
+plain files given statements =
+    record { levels = record { statements = statements; ends = ending.File; open_at = [] } ∷ []; macros = []; begun = 0; given = given; files = files }
 
 none_named : (name : Option (List ℕ)) → macro_named [] name ≡ None
 none_named None = refl
 none_named (Some name) = refl
 
 -- a statement without a word of expansion is handed out
-plain_turn : (known : Knowledge) (contents : Option Contents) (name : List ℕ) (given : ℕ) (s : TokenStatement) (rest : List TokenStatement) → IsPlain s → given < most_given
-    → turn known contents (plain name given (s ∷ rest)) ≡ list.hands s (plain name (given + 1) rest)
+plain_turn : (known : Knowledge) (contents : Option Contents) (files : List (List ℕ)) (given : ℕ) (s : TokenStatement) (rest : List TokenStatement) → IsPlain s → given < most_given
+    → turn known contents (plain files given (s ∷ rest)) ≡ list.hands s (plain files (given + 1) rest)
 unfolding turn head
-plain_turn known contents name given s rest is few =
+plain_turn known contents files given s rest is few =
     let low : nat_le most_given given ≡ false = grind (arith, nat_tests) in
     let none = none_named (named_by (behind_labels s.tokens)) in
     rw (low, is, none) refl
 
-module _ {S F : Type 0} (placed : S → TokenStatement → Result S F) (known : S → Knowledge) (contents : Option Contents) (name : List ℕ) where
+module _ {S F : Type 0} (placed : S → TokenStatement → Result S F) (known : S → Knowledge) (contents : Option Contents) (files : List (List ℕ)) where
   refused_stays : (fault : F) (rest : List TokenStatement) → fold (placed_next placed) (Err fault) rest ≡ Err fault
   refused_stays fault [] = refl
   refused_stays fault (s ∷ rest) = refused_stays fault rest
 
   after_placed : (result : Result S F) (n given : ℕ) (rest : List TokenStatement)
-      → ((placer : S) → steps placed known contents n (plain name given rest) placer ≡ outcome (fold (placed_next placed) (Ok placer) rest))
-      → and_then (steps placed known contents n) (with_placed (plain name given rest) result) ≡ outcome (fold (placed_next placed) result rest)
+      → ((placer : S) → steps placed known contents n (plain files given rest) placer ≡ outcome files (fold (placed_next placed) (Ok placer) rest))
+      → and_then (steps placed known contents n) (with_placed (plain files given rest) result) ≡ outcome files (fold (placed_next placed) result rest)
   after_placed (Ok placer) n given rest more = more placer
-  after_placed (Err fault) n given rest more = ap outcome (sym (refused_stays fault rest))
+  after_placed (Err fault) n given rest more = ap (outcome files) (sym (refused_stays fault rest))
 
   pub plain_steps : (statements : List TokenStatement) (given : ℕ) (placer : S) → All IsPlain statements → given + length statements ≤ most_given
-      → steps placed known contents (length statements + 2) (plain name given statements) placer ≡ outcome (fold (placed_next placed) (Ok placer) statements)
+      → steps placed known contents (length statements + 2) (plain files given statements) placer ≡ outcome files (fold (placed_next placed) (Ok placer) statements)
   unfolding steps turn
   plain_steps [] given placer all few = refl
   plain_steps (s ∷ rest) given placer all few =
       let count : length (s ∷ rest) + 2 ≡ suc (length rest + 2) = omega arith in
-      let handed = plain_turn (known placer) contents name given s rest (all zero s (omega arith)) (omega (arith, few)) in
+      let handed = plain_turn (known placer) contents files given s rest (all zero s (omega arith)) (omega (arith, few)) in
       rw (count, handed) (after_placed (placed placer s) (length rest + 2) (given + 1) rest (λ next. plain_steps rest (given + 1) next (λ k d within. all (suc k) d (omega (arith, within))) (omega (arith, few))))

@@ -350,7 +350,7 @@ turn_levels known contents (level ∷ below) state =
 unfoldable pub turn : Knowledge → Option Contents → State → Turn
 turn known contents state = turn_levels known contents state.levels state
 
--- the list of a source: its statements and the end mark of its file
-abbrev pub started : List ℕ → List TokenStatement → State
-started name statements =
-    record { levels = record { statements = statements; ends = ending.File; open_at = [] } ∷ []; macros = []; begun = 0; given = 0; files = name ∷ [] }
+-- the list of a source: its statements and the end mark of its file; the names of the files started so far, of which it is the last
+abbrev pub started : List (List ℕ) → List TokenStatement → State
+started files statements =
+    record { levels = record { statements = statements; ends = ending.File; open_at = [] } ∷ []; macros = []; begun = 0; given = 0; files = files }

@@ -1,4 +1,5 @@
 -- The definitions that the contracts cite, in reading order.
 pub mod Expansion
 pub mod Placing
+pub mod Expanding
 pub mod Laws

@@ -2,6 +2,10 @@
 //! ".irp", ".irpc", ".if", ".include").
 #![tactic(auto)]
 
+mod expanding;
+mod faults;
 mod laws;
 
+pub use expanding::expand_source;
+pub use faults::ExpandFault;
 pub use laws::{one_outcome, plain_statements_are_placed};

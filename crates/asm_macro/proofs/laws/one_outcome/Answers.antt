@@ -4,4 +4,4 @@ use Rattle.asm_macro.proofs.Turns.{one_result}
 use Rattle.asm_macro.proofs.laws.one_outcome.Goals as goal
 
 pub returns : goal.returns
-returns g c known name statements contents placer n m = one_result g.P.Placer.placed known contents n m (started name statements) placer
+returns g c known files statements contents placer n m = one_result g.P.Placer.placed known contents n m (started files statements) placer
