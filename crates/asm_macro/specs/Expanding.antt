@@ -5,7 +5,6 @@ use Rattle.asm_base.specs.History.{FileEvent, happened, whole_files}
 use Rattle.asm_base.specs.WholeFile.{most_bytes}
 use Rattle.asm_lines.specs.declared.faults.LineCause.{LineCause}
 use Rattle.asm_lines.specs.Statements.{StatementAt}
-use Rattle.macro_words.specs.declared.causes.MacroCause.{MacroCause}
 use Rattle.macro_words.specs.declared.causes.MacroCause.TheVariants.{FileTooLarge}
 use Rattle.asm_macro.specs.Placing.{Step, ended, fails, refused, misses, untold}
 use Rattle.asm_macro.specs.declared.faults.ExpandFault.{ExpandFault}

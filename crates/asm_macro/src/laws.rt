@@ -4,7 +4,7 @@ ghost use Rattle.std.specs.Prelude.{ℕ, List, Option};
 ghost use Rattle.asm_base.specs.Inputs.{Contents};
 ghost use Rattle.asm_lines.specs.NextStatements.{TokenStatement};
 ghost use Rattle.macro_words.specs.Conditions.{Knowledge};
-ghost use Rattle.asm_macro.specs.Laws.{HasOneOutcome, PlacesPlain};
+ghost use Rattle.asm_macro.specs.Laws.{Ends, HasOneOutcome, PlacesHanded, PlacesPlain};
 
 use asm_lines::Placer;
 
@@ -20,4 +20,18 @@ pub fn plain_statements_are_placed<P: Placer>()
     ensures { (known : P → Knowledge) → (files : List (List ℕ)) → (statements : List TokenStatement)
         → (contents : Option Contents) → (placer : P)
         → PlacesPlain P.placed known files statements contents placer }
+{}
+
+/// Every list comes to its outcome: each turn takes a statement or an end mark away, and each end mark but the first comes of a statement.
+pub fn expansions_end<P: Placer>()
+    ensures { (known : P → Knowledge) → (files : List (List ℕ)) → (statements : List TokenStatement)
+        → (contents : Option Contents) → (placer : P)
+        → Ends P.placed known files statements contents placer }
+{}
+
+/// Where a list comes to its end, the statements that it handed out, placed in order, make what was made.
+pub fn handed_statements_are_placed<P: Placer>()
+    ensures { (known : P → Knowledge) → (files : List (List ℕ)) → (statements : List TokenStatement)
+        → (contents : Option Contents) → (placer : P)
+        → PlacesHanded P.placed known files statements contents placer }
 {}

@@ -8,4 +8,6 @@ mod laws;
 
 pub use expanding::expand_source;
 pub use faults::ExpandFault;
-pub use laws::{one_outcome, plain_statements_are_placed};
+pub use laws::{
+    expansions_end, handed_statements_are_placed, one_outcome, plain_statements_are_placed,
+};
