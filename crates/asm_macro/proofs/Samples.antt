@@ -22,8 +22,8 @@ use Rattle.macro_words.specs.Words.{the_words, word_of}
 use Rattle.macro_words.specs.Statements.{word_in, made_statements}
 use Rattle.macro_blocks.specs.Blocks.{depth_behind, stops, cut}
 use Rattle.macro_words.specs.Conditions.{Knowledge, repeat_count, holds}
-use Rattle.macro_words.specs.Files.{FileFault, file_statements}
 use Rattle.macro_words.specs.Branches.{verdict}
+use Rattle.macro_words.specs.Files.{FileFault, file_statements}
 use Rattle.asm_macro.specs.Expansion.{started, conditional, branch_end, conditional_end, repeat, each, define, call, purge, after_call, exit, include, head, turn}
 use Rattle.asm_macro.specs.Placing.{Step, steps}
 use Rattle.asm_macro.specs.Placing as pair

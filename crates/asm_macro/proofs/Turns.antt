@@ -8,8 +8,9 @@ use Rattle.asm_lines.specs.Placing.{placed_next}
 use Rattle.macro_blocks.specs.declared.blocks.Ending.TheVariants as ending
 use Rattle.macro_words.specs.Statements.{named_by, behind_labels}
 use Rattle.macro_words.specs.Conditions.{Knowledge}
+use Rattle.macro_blocks.specs.Levels.{Level}
 use Rattle.asm_macro.specs.Expansion as list
-use Rattle.asm_macro.specs.Expansion.{State, Level, MacroAs, head, macro_named, most_given, started, turn}
+use Rattle.asm_macro.specs.Expansion.{State, MacroAs, head, macro_named, most_given, started, turn}
 use Rattle.asm_macro.specs.Placing.{Step, goes, ended, fails, refused, misses, untold, with_placed, and_then, step, steps}
 use Rattle.asm_macro.specs.Laws.{is_final, outcome, IsPlain}
 

@@ -21,8 +21,8 @@ use Rattle.macro_words.specs.declared.words.Condition.{Condition}
 use Rattle.macro_words.specs.declared.words.Word.{Word}
 use Rattle.macro_words.specs.declared.words.Word.TheVariants as word
 use Rattle.macro_words.specs.Statements.{pos_of, with_tokens, labels_of, behind_labels, named_by, word_in, operands_in, one_name, raised, body_text, made_statements}
-use Rattle.macro_blocks.specs.Blocks.{Cut, cut, cut_block, repeated}
-use Rattle.macro_blocks.specs.Branches.{ends_branch}
+use Rattle.macro_blocks.specs.Blocks.{Cut, cut_block, cut_branch}
+use Rattle.macro_blocks.specs.Levels.{Level, with_statements, with_open, first_open, but_last, level_with, copies_of, each_copy}
 use Rattle.macro_words.specs.Branches.{verdict}
 use Rattle.macro_words.specs.Conditions.{Knowledge, repeat_count, holds}
 use Rattle.asm_base.specs.Inputs.{Contents}
@@ -33,13 +33,6 @@ pub record MacroAs : Type 0 where
   pub name : List ℕ
   pub parameters : List ParameterAs
   pub body : List ℕ
-
--- a part of the list: the statements up to an end mark, what this ends, and where the chosen conditionals begin that are open in it,
--- outermost first
-pub record Level : Type 0 where
-  pub statements : List TokenStatement
-  pub ends : Ending
-  pub open_at : List Pos
 
 -- the list, innermost part first; the macros that are known; how many calls began, and how many statements left the head; and the names
 -- of the files that were started
@@ -65,19 +58,6 @@ pub data Turn : Type 0 where
 abbrev pub under : Level → State → State
 under level state = record state { levels = level ∷ state.levels }
 
--- the part with these statements left
-abbrev pub with_statements : List TokenStatement → Level → Level
-with_statements statements level = record level { statements = statements }
-
--- the part with these conditionals open
-abbrev pub with_open : List Pos → Level → Level
-with_open open_at level = record level { open_at = open_at }
-
--- where the outermost block begins that is open: a conditional's, or else the one that begins here
-abbrev pub first_open : Pos → List Pos → Pos
-first_open pos [] = pos
-first_open pos (first ∷ others) = first
-
 -- a block that begins here is not closed
 abbrev pub unclosed : Pos → Level → Turn
 unclosed pos level = fails UnclosedBlock (first_open pos level.open_at)
@@ -101,7 +81,7 @@ is_inner _ = true
 abbrev pub enter : Pos → Ending → Result (List TokenStatement) MacroCause → State → Turn
 enter pos ends made state =
     if nat_le 64 (count_by (λ (level : Level). is_inner level.ends) state.levels) then fails NestedTooDeeply pos
-    else with_made pos made (λ statements. goes (under (record { statements = statements; ends = ends; open_at = [] }) state))
+    else with_made pos made (λ statements. goes (under (level_with ends statements) state))
 
 -- Conditionals
 
@@ -120,16 +100,12 @@ search_branch known pos (Some c) level state =
 abbrev pub conditional_by : Knowledge → Pos → Bool → Level → State → Turn
 conditional_by known pos true level state = go_on pos true level state
 conditional_by known pos false level state =
-    search_branch known pos (cut block.Conditional (ends_branch known) 0 level.statements) level state
+    search_branch known pos (cut_branch known level.statements) level state
 
 -- a conditional becomes the list from its chosen branch on
 unfoldable pub conditional : Knowledge → Condition → TokenStatement → Level → State → Turn
 conditional known condition s level state =
     with_made (pos_of s) (holds known condition (operands_in s)) (λ held. conditional_by known (pos_of s) held level state)
-
--- without the innermost open conditional
-abbrev pub but_last : List Pos → List Pos
-but_last open_at = take (length open_at - 1) open_at
 
 -- the list goes on behind the end of the innermost conditional that is open
 abbrev pub passed_over : Pos → Option Cut → Level → State → Turn
@@ -156,10 +132,6 @@ conditional_end s level state = conditional_end_by level.open_at (pos_of s) leve
 
 -- Repeats
 
--- so many copies of what was made
-abbrev pub copies_of : ℕ → Result (List TokenStatement) MacroCause → Result (List TokenStatement) MacroCause
-copies_of count made = made >>= λ statements. Ok (repeated count statements)
-
 -- what becomes of the body of a block that begins here, or it is not closed
 abbrev pub with_body : Pos → Option Cut → Level → State → (List TokenStatement → State → Turn) → Turn
 with_body pos None level state on = unclosed pos level
@@ -176,13 +148,6 @@ unfoldable pub repeat : Knowledge → TokenStatement → Level → State → Tur
 repeat known s level state =
     with_made (pos_of s) (repeat_count known (operands_in s)) (λ count. with_body (pos_of s) (cut_block block.Repeat level.statements) level state
     (λ body now. repeat_copies (pos_of s) count body now))
-
--- a copy of a body for each of these texts of a name
-abbrev pub each_copy : Pos → List ℕ → ℕ → List ℕ → List (List ℕ) → Result (List TokenStatement) MacroCause
-each_copy pos name begun body [] = Ok []
-each_copy pos name begun body (text ∷ texts) =
-    made_statements pos (put (record { name = name; text = text } ∷ []) begun body) >>= λ first.
-    each_copy pos name begun body texts >>= λ others. Ok (first ++ others)
 
 -- the copies of a body for the values of a line and an end mark, and nothing of an empty body
 abbrev pub each_copies : Pos → EachLineAs → List TokenStatement → State → Turn
@@ -263,7 +228,7 @@ is_file _ = false
 -- a file in front of the list, with its name behind those of the files before it
 abbrev pub start_file : List ℕ → Result (List TokenStatement) FileFault → State → Turn
 start_file name (Ok statements) state =
-    goes (under (record { statements = statements; ends = ending.File; open_at = [] }) (record state { files = state.files ++ name ∷ [] }))
+    goes (under (level_with ending.File statements) (record state { files = state.files ++ name ∷ [] }))
 start_file name (Err fault) state = breaks name fault
 
 -- a file that is there is started
@@ -353,4 +318,4 @@ turn known contents state = turn_levels known contents state.levels state
 -- the list of a source: its statements and the end mark of its file; the names of the files started so far, of which it is the last
 abbrev pub started : List (List ℕ) → List TokenStatement → State
 started files statements =
-    record { levels = record { statements = statements; ends = ending.File; open_at = [] } ∷ []; macros = []; begun = 0; given = 0; files = files }
+    record { levels = level_with ending.File statements ∷ []; macros = []; begun = 0; given = 0; files = files }

@@ -6,6 +6,8 @@ use Rattle.macro_blocks.specs.declared.blocks.Block.TheVariants as block
 use Rattle.macro_words.specs.declared.words.Word.{Word}
 use Rattle.macro_words.specs.declared.words.Word.TheVariants as word
 use Rattle.macro_words.specs.Statements.{word_in}
+use Rattle.macro_words.specs.Conditions.{Knowledge}
+use Rattle.macro_words.specs.Branches.{verdict, is_not_false}
 
 -- the word begins a block of this kind
 abbrev pub begins : Block → Word → Bool
@@ -63,9 +65,18 @@ cut b stop deep (statement ∷ rest) =
     if stops stop deep statement then Some (record { inside = []; stop = statement; rest = rest })
     else with_first statement (cut b stop (depth_behind b deep statement) rest)
 
+-- a branch that is not chosen ends at its conditional's end, and where one begins that is chosen or whose condition has a fault
+abbrev pub ends_branch : Knowledge → TokenStatement → Bool
+ends_branch known statement =
+    if of_word (ends block.Conditional) (word_in statement) then true else is_not_false (verdict known statement)
+
 -- a block up to its end
 abbrev pub cut_block : Block → List TokenStatement → Option Cut
 cut_block b statements = cut b (ends_at b) 0 statements
+
+-- a branch that is not chosen
+abbrev pub cut_branch : Knowledge → List TokenStatement → Option Cut
+cut_branch known statements = cut block.Conditional (ends_branch known) 0 statements
 
 -- these statements so many times
 abbrev pub repeated : ℕ → List TokenStatement → List TokenStatement

@@ -1,4 +1,6 @@
 -- The definitions that the contracts cite, in reading order.
 pub mod Blocks
-pub mod Branches
 pub mod Laws
+pub mod Levels
+pub mod Places
+pub mod Frames
