@@ -12,16 +12,17 @@ use Rattle.macro_texts.specs.Repeats.{EachLineAs, irp_line, irpc_line}
 use Rattle.macro_blocks.specs.declared.blocks.Ending.{Ending}
 use Rattle.macro_blocks.specs.declared.blocks.Block.TheVariants as block
 use Rattle.macro_blocks.specs.Blocks.{Cut, cut_block}
+use Rattle.macro_blocks.specs.Levels.{Level}
 use Rattle.macro_words.specs.declared.causes.MacroCause.{MacroCause}
 use Rattle.macro_words.specs.declared.causes.MacroCause.TheVariants.{NestedTooDeeply, ExpansionTooLong, MacroAlreadyDefined}
 use Rattle.macro_words.specs.declared.words.Condition.{Condition}
 use Rattle.macro_words.specs.declared.words.Word.{Word}
 use Rattle.macro_words.specs.declared.words.Word.TheVariants as word
-use Rattle.macro_words.specs.Statements.{pos_of, operands_in}
-use Rattle.macro_words.specs.Conditions.{Knowledge, count_of}
+use Rattle.macro_words.specs.Statements.{pos_of, operands_in, raised}
+use Rattle.macro_words.specs.Conditions.{Knowledge, repeat_count}
 use Rattle.macro_words.specs.Files.{FileFault, file_name}
 use Rattle.asm_macro.specs.Expansion as list
-use Rattle.asm_macro.specs.Expansion.{State, Level, MacroAs, Turn, hands, goes, ended, fails, breaks, misses, untold, with_made, with_read, enter, go_on, search_branch, conditional_by, conditional, passed_over, branch_end_by, branch_end, conditional_end_by, conditional_end, with_body, repeat_copies, repeat, each_copies, each, define, call, forget, purge, after_call, is_call, exit_by, exit, start_file, include_file, include_told, include, rewritten, macro_named, behind_own_labels, head_by, head, most_given, turn, started}
+use Rattle.asm_macro.specs.Expansion.{State, MacroAs, Turn, hands, goes, ended, fails, breaks, misses, untold, with_made, with_read, enter, go_on, search_branch, conditional_by, conditional, passed_over, branch_end_by, branch_end, conditional_end_by, conditional_end, with_body, repeat_copies, repeat, each_copies, each, define, call, forget, purge, after_call, is_call, exit_by, exit, start_file, include_file, include_told, include, rewritten, macro_named, behind_own_labels, head_by, head, most_given, turn, started}
 use Rattle.asm_macro.specs.Placing.{with_placed, placed_by_turn, and_then, steps, most_turns}
 use Rattle.asm_macro.specs.Laws.{is_final}
 
@@ -62,7 +63,7 @@ made_within given deep pos (Err cause) on all = fails_within given deep cause po
 
 read_within : {A : Type 0} (given deep : ℕ) (pos : Pos) (read : Result A MacroLineCause) (on : A → Turn) → ((x : A) → Within given deep (on x)) → Within given deep (with_read pos read on)
 read_within given deep pos (Ok x) on all = all x
-read_within given deep pos (Err cause) on all = fails_within given deep (list.raised cause) pos
+read_within given deep pos (Err cause) on all = fails_within given deep (raised cause) pos
 
 entered_within : (deep : ℕ) (pos : Pos) (ends : Ending) (made : Result (List TokenStatement) MacroCause) (state : State) → length state.levels + 1 ≤ deep → Within state.given deep (enter pos ends made state)
 entered_within deep pos ends made state few =
@@ -117,8 +118,8 @@ as_before deep given state t same is = subst (λ n. Within n deep t) same is
 repeat_within : (deep : ℕ) (known : Knowledge) (s : TokenStatement) (level : Level) (state : State) → length state.levels + 2 ≤ deep → Within state.given deep (repeat known s level state)
 unfolding repeat
 repeat_within deep known s level state few =
-    made_within state.given deep (pos_of s) (known.value (operands_in s)) _ (λ n. body_within deep (pos_of s) (cut_block block.Repeat level.statements) level state (repeat_copies (pos_of s) (count_of n)) (λ body now same more.
-    as_before deep state.given now _ same (copies_within deep (pos_of s) (count_of n) body now (omega (arith, few, more)))))
+    made_within state.given deep (pos_of s) (repeat_count known (operands_in s)) _ (λ count. body_within deep (pos_of s) (cut_block block.Repeat level.statements) level state (repeat_copies (pos_of s) count) (λ body now same more.
+    as_before deep state.given now _ same (copies_within deep (pos_of s) count body now (omega (arith, few, more)))))
 
 each_within : (deep : ℕ) (read : List SpelledToken → Result EachLineAs MacroLineCause) (s : TokenStatement) (level : Level) (state : State) → length state.levels + 2 ≤ deep → Within state.given deep (each read s level state)
 unfolding each
