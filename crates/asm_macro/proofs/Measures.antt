@@ -81,10 +81,10 @@ held_within : (deep : ℕ) (known : Knowledge) (pos : Pos) (held : Bool) (level 
 held_within deep known pos true level state few = goes_on_within deep pos true level state few
 held_within deep known pos false level state few = branch_within deep known pos _ level state few
 
-conditional_within : (deep : ℕ) (known : Knowledge) (condition : Condition) (s : TokenStatement) (level : Level) (state : State) → length state.levels + 1 ≤ deep → Within state.given deep (conditional known condition s level state)
+conditional_within : (deep : ℕ) (known : Knowledge) (condition : Condition) (pos : Pos) (operands : List SpelledToken) (level : Level) (state : State) → length state.levels + 1 ≤ deep → Within state.given deep (conditional known condition pos operands level state)
 unfolding conditional
-conditional_within deep known condition s level state few =
-    made_within _ _ _ _ _ (λ held. held_within deep known (pos_of s) held level state few)
+conditional_within deep known condition pos operands level state few =
+    made_within _ _ _ _ _ (λ held. held_within deep known pos held level state few)
 
 passed_within : (deep : ℕ) (pos : Pos) (found : Option Cut) (level : Level) (state : State) → length state.levels + 1 ≤ deep → Within state.given deep (passed_over pos found level state)
 passed_within deep pos None level state few = fails_within _ _ _ _
@@ -115,35 +115,35 @@ each_copies_within deep pos line (first ∷ others) state few = entered_within d
 as_before : (deep given : ℕ) (state : State) (t : Turn) → state.given ≡ given → Within state.given deep t → Within given deep t
 as_before deep given state t same is = subst (λ n. Within n deep t) same is
 
-repeat_within : (deep : ℕ) (known : Knowledge) (s : TokenStatement) (level : Level) (state : State) → length state.levels + 2 ≤ deep → Within state.given deep (repeat known s level state)
+repeat_within : (deep : ℕ) (known : Knowledge) (pos : Pos) (operands : List SpelledToken) (level : Level) (state : State) → length state.levels + 2 ≤ deep → Within state.given deep (repeat known pos operands level state)
 unfolding repeat
-repeat_within deep known s level state few =
-    made_within state.given deep (pos_of s) (repeat_count known (operands_in s)) _ (λ count. body_within deep (pos_of s) (cut_block block.Repeat level.statements) level state (repeat_copies (pos_of s) count) (λ body now same more.
-    as_before deep state.given now _ same (copies_within deep (pos_of s) count body now (omega (arith, few, more)))))
+repeat_within deep known pos operands level state few =
+    made_within state.given deep pos (repeat_count known operands) _ (λ count. body_within deep pos (cut_block block.Repeat level.statements) level state (repeat_copies pos count) (λ body now same more.
+    as_before deep state.given now _ same (copies_within deep pos count body now (omega (arith, few, more)))))
 
-each_within : (deep : ℕ) (read : List SpelledToken → Result EachLineAs MacroLineCause) (s : TokenStatement) (level : Level) (state : State) → length state.levels + 2 ≤ deep → Within state.given deep (each read s level state)
+each_within : (deep : ℕ) (pos : Pos) (read : Result EachLineAs MacroLineCause) (level : Level) (state : State) → length state.levels + 2 ≤ deep → Within state.given deep (each pos read level state)
 unfolding each
-each_within deep read s level state few =
-    read_within state.given deep (pos_of s) (read (operands_in s)) _ (λ line. body_within deep (pos_of s) (cut_block block.Repeat level.statements) level state (each_copies (pos_of s) line) (λ body now same more.
-    as_before deep state.given now _ same (each_copies_within deep (pos_of s) line body now (omega (arith, few, more)))))
+each_within deep pos read level state few =
+    read_within state.given deep pos read _ (λ line. body_within deep pos (cut_block block.Repeat level.statements) level state (each_copies pos line) (λ body now same more.
+    as_before deep state.given now _ same (each_copies_within deep pos line body now (omega (arith, few, more)))))
 
-define_within : (deep : ℕ) (s : TokenStatement) (level : Level) (state : State) → length state.levels + 1 ≤ deep → Within state.given deep (define s level state)
+define_within : (deep : ℕ) (pos : Pos) (operands : List SpelledToken) (level : Level) (state : State) → length state.levels + 1 ≤ deep → Within state.given deep (define pos operands level state)
 unfolding define
-define_within deep s level state few =
-    read_within state.given deep (pos_of s) (macro_line (operands_in s)) _ (λ line. tested_within state.given deep (list_any (list.is_called line.name) state.macros) _ _ (fails_within state.given deep MacroAlreadyDefined (pos_of s)) (body_within deep (pos_of s) (cut_block block.Macro level.statements) level state _ (λ body now same more.
+define_within deep pos operands level state few =
+    read_within state.given deep pos (macro_line operands) _ (λ line. tested_within state.given deep (list_any (list.is_called line.name) state.macros) _ _ (fails_within state.given deep MacroAlreadyDefined pos) (body_within deep pos (cut_block block.Macro level.statements) level state _ (λ body now same more.
     goes_within state.given deep (list.add_macro line body now) same (omega (arith, few, more)))))
 
-call_within : (deep : ℕ) (one : MacroAs) (s : TokenStatement) (level : Level) (state : State) → length state.levels + 2 ≤ deep → Within state.given deep (call one s level state)
+call_within : (deep : ℕ) (one : MacroAs) (pos : Pos) (operands : List SpelledToken) (level : Level) (state : State) → length state.levels + 2 ≤ deep → Within state.given deep (call one pos operands level state)
 unfolding call
-call_within deep one s level state few =
-    read_within _ _ _ _ _ (λ arguments. entered_within deep (pos_of s) _ _ (list.under level (record state { begun = state.begun + 1 })) (omega (arith, few)))
+call_within deep one pos operands level state few =
+    read_within _ _ _ _ _ (λ arguments. entered_within deep pos _ _ (list.under level (record state { begun = state.begun + 1 })) (omega (arith, few)))
 
 forget_within : (deep : ℕ) (pos : Pos) (name : List ℕ) (state : State) → length state.levels ≤ deep → Within state.given deep (forget pos name state)
 forget_within deep pos name state few = tested_within _ _ _ _ _ (goes_within _ _ _ refl few) (fails_within _ _ _ _)
 
-purge_within : (deep : ℕ) (s : TokenStatement) (level : Level) (state : State) → length state.levels + 1 ≤ deep → Within state.given deep (purge s level state)
+purge_within : (deep : ℕ) (pos : Pos) (operands : List SpelledToken) (level : Level) (state : State) → length state.levels + 1 ≤ deep → Within state.given deep (purge pos operands level state)
 unfolding purge
-purge_within deep s level state few = made_within _ _ _ _ _ (λ name. forget_within deep (pos_of s) name (list.under level state) (omega (arith, few)))
+purge_within deep pos operands level state few = made_within _ _ _ _ _ (λ name. forget_within deep pos name (list.under level state) (omega (arith, few)))
 
 after_within : (levels below : List Level) → after_call levels ≡ Some below → length below ≤ length levels
 unfolding after_call
@@ -158,9 +158,9 @@ exited_within : (deep : ℕ) (pos : Pos) (found : Option (List Level)) (state : 
 exited_within deep pos None state few = fails_within _ _ _ _
 exited_within deep pos (Some levels) state few = goes_within _ _ _ refl (few levels refl)
 
-exit_within : (deep : ℕ) (s : TokenStatement) (level : Level) (state : State) → length state.levels + 1 ≤ deep → Within state.given deep (exit s level state)
+exit_within : (deep : ℕ) (pos : Pos) (level : Level) (state : State) → length state.levels + 1 ≤ deep → Within state.given deep (exit pos level state)
 unfolding exit
-exit_within deep s level state few =
+exit_within deep pos level state few =
     exited_within deep _ _ state (λ below is. let shorter = after_within (level ∷ state.levels) below is in omega (arith, few, shorter))
 
 file_within : (deep : ℕ) (name : List ℕ) (read : Result (List TokenStatement) FileFault) (state : State) → length state.levels + 1 ≤ deep → Within state.given deep (start_file name read state)
@@ -178,34 +178,34 @@ unfolding Within
 included_within deep name None state few = tt
 included_within deep name (Some contents) state few = told_within deep name _ state few
 
-include_within : (deep : ℕ) (contents : Option Contents) (s : TokenStatement) (level : Level) (state : State) → length state.levels + 2 ≤ deep → Within state.given deep (include contents s level state)
+include_within : (deep : ℕ) (contents : Option Contents) (pos : Pos) (operands : List SpelledToken) (level : Level) (state : State) → length state.levels + 2 ≤ deep → Within state.given deep (include contents pos operands level state)
 unfolding include
-include_within deep contents s level state few =
-    made_within state.given deep (pos_of s) (file_name (operands_in s)) _ (λ name. tested_within state.given deep (nat_le 32 (count_by (λ (one : Level). list.is_file one.ends) (level ∷ state.levels))) _ _ (fails_within state.given deep NestedTooDeeply (pos_of s)) (included_within deep name contents (list.under level state) (omega (arith, few))))
+include_within deep contents pos operands level state few =
+    made_within state.given deep pos (file_name operands) _ (λ name. tested_within state.given deep (nat_le 32 (count_by list.is_file_part (level ∷ state.levels))) _ _ (fails_within state.given deep NestedTooDeeply pos) (included_within deep name contents (list.under level state) (omega (arith, few))))
 
-word_within : (deep : ℕ) (known : Knowledge) (contents : Option Contents) (one : Word) (s : TokenStatement) (level : Level) (state : State) → length state.levels + 2 ≤ deep → Within state.given deep (rewritten known contents one s level state)
+word_within : (deep : ℕ) (known : Knowledge) (contents : Option Contents) (one : Word) (pos : Pos) (operands : List SpelledToken) (level : Level) (state : State) → length state.levels + 2 ≤ deep → Within state.given deep (rewritten known contents one pos operands level state)
 unfolding branch_end conditional_end
-word_within deep known contents (word.If condition) s level state few = conditional_within deep known condition s level state (omega (arith, few))
-word_within deep known contents word.ElseIf s level state few = branch_end_within deep level.open_at _ level state (omega (arith, few))
-word_within deep known contents word.Else s level state few = branch_end_within deep level.open_at _ level state (omega (arith, few))
-word_within deep known contents word.EndIf s level state few = conditional_end_within deep level.open_at _ level state (omega (arith, few))
-word_within deep known contents word.Repeat s level state few = repeat_within deep known s level state few
-word_within deep known contents word.EachValue s level state few = each_within deep irp_line s level state few
-word_within deep known contents word.EachCharacter s level state few = each_within deep irpc_line s level state few
-word_within deep known contents word.EndRepeat s level state few = fails_within _ _ _ _
-word_within deep known contents word.Macro s level state few = define_within deep s level state (omega (arith, few))
-word_within deep known contents word.EndMacro s level state few = fails_within _ _ _ _
-word_within deep known contents word.ExitMacro s level state few = exit_within deep s level state (omega (arith, few))
-word_within deep known contents word.Purge s level state few = purge_within deep s level state (omega (arith, few))
-word_within deep known contents word.Include s level state few = include_within deep contents s level state few
+word_within deep known contents (word.If condition) pos operands level state few = conditional_within deep known condition pos operands level state (omega (arith, few))
+word_within deep known contents word.ElseIf pos operands level state few = branch_end_within deep level.open_at _ level state (omega (arith, few))
+word_within deep known contents word.Else pos operands level state few = branch_end_within deep level.open_at _ level state (omega (arith, few))
+word_within deep known contents word.EndIf pos operands level state few = conditional_end_within deep level.open_at _ level state (omega (arith, few))
+word_within deep known contents word.Repeat pos operands level state few = repeat_within deep known pos operands level state few
+word_within deep known contents word.EachValue pos operands level state few = each_within deep pos (irp_line operands) level state few
+word_within deep known contents word.EachCharacter pos operands level state few = each_within deep pos (irpc_line operands) level state few
+word_within deep known contents word.EndRepeat pos operands level state few = fails_within _ _ _ _
+word_within deep known contents word.Macro pos operands level state few = define_within deep pos operands level state (omega (arith, few))
+word_within deep known contents word.EndMacro pos operands level state few = fails_within _ _ _ _
+word_within deep known contents word.ExitMacro pos operands level state few = exit_within deep pos level state (omega (arith, few))
+word_within deep known contents word.Purge pos operands level state few = purge_within deep pos operands level state (omega (arith, few))
+word_within deep known contents word.Include pos operands level state few = include_within deep contents pos operands level state few
 
 labels_within : (deep : ℕ) (labels : List SpelledToken) (s : TokenStatement) (level : Level) (state : State) (bare : Turn) → length state.levels + 1 ≤ deep → Within state.given deep bare → Within state.given deep (behind_own_labels labels s level state bare)
 labels_within deep [] s level state bare few is = is
 labels_within deep (label ∷ others) s level state bare few is = hands_within _ _ _ _ refl (omega (arith, few))
 
 head_by_within : (deep : ℕ) (known : Knowledge) (contents : Option Contents) (one : Option Word) (called : Option MacroAs) (s : TokenStatement) (level : Level) (state : State) → length state.levels + 2 ≤ deep → Within state.given deep (head_by known contents one called s level state)
-head_by_within deep known contents (Some one) called s level state few = labels_within deep _ s level state _ (omega (arith, few)) (word_within deep known contents one s level state few)
-head_by_within deep known contents None (Some one) s level state few = labels_within deep _ s level state _ (omega (arith, few)) (call_within deep one s level state few)
+head_by_within deep known contents (Some one) called s level state few = labels_within deep _ s level state _ (omega (arith, few)) (word_within deep known contents one (pos_of s) (operands_in s) level state few)
+head_by_within deep known contents None (Some one) s level state few = labels_within deep _ s level state _ (omega (arith, few)) (call_within deep one (pos_of s) (operands_in s) level state few)
 head_by_within deep known contents None None s level state few = hands_within _ _ _ _ refl (omega (arith, few))
 
 head_within : (deep : ℕ) (known : Knowledge) (contents : Option Contents) (s : TokenStatement) (level : Level) (state : State) → length state.levels + 2 ≤ deep → Within state.given deep (head known contents s level state)

@@ -77,10 +77,14 @@ abbrev pub is_inner : Ending → Bool
 is_inner ending.File = false
 is_inner _ = true
 
+-- the part is one of a call or a repeat
+abbrev pub is_inner_part : Level → Bool
+is_inner_part level = is_inner level.ends
+
 -- statements and an end mark in front of the list, if not too many calls and repeats are open
 abbrev pub enter : Pos → Ending → Result (List TokenStatement) MacroCause → State → Turn
 enter pos ends made state =
-    if nat_le 64 (count_by (λ (level : Level). is_inner level.ends) state.levels) then fails NestedTooDeeply pos
+    if nat_le 64 (count_by is_inner_part state.levels) then fails NestedTooDeeply pos
     else with_made pos made (λ statements. goes (under (level_with ends statements) state))
 
 -- Conditionals
@@ -103,9 +107,9 @@ conditional_by known pos false level state =
     search_branch known pos (cut_branch known level.statements) level state
 
 -- a conditional becomes the list from its chosen branch on
-unfoldable pub conditional : Knowledge → Condition → TokenStatement → Level → State → Turn
-conditional known condition s level state =
-    with_made (pos_of s) (holds known condition (operands_in s)) (λ held. conditional_by known (pos_of s) held level state)
+unfoldable pub conditional : Knowledge → Condition → Pos → List SpelledToken → Level → State → Turn
+conditional known condition pos operands level state =
+    with_made pos (holds known condition operands) (λ held. conditional_by known pos held level state)
 
 -- the list goes on behind the end of the innermost conditional that is open
 abbrev pub passed_over : Pos → Option Cut → Level → State → Turn
@@ -118,8 +122,8 @@ branch_end_by [] pos level state = fails EndWithoutBeginning pos
 branch_end_by (first ∷ others) pos level state = passed_over pos (cut_block block.Conditional level.statements) level state
 
 -- the end of a chosen branch, where one is open
-unfoldable pub branch_end : TokenStatement → Level → State → Turn
-branch_end s level state = branch_end_by level.open_at (pos_of s) level state
+unfoldable pub branch_end : Pos → Level → State → Turn
+branch_end pos level state = branch_end_by level.open_at pos level state
 
 -- the end of a conditional leaves the list, and the innermost one is open no more
 abbrev pub conditional_end_by : List Pos → Pos → Level → State → Turn
@@ -127,8 +131,8 @@ conditional_end_by [] pos level state = fails EndWithoutBeginning pos
 conditional_end_by (first ∷ others) pos level state = goes (under (with_open (but_last level.open_at) level) state)
 
 -- the end of a conditional, where one is open
-unfoldable pub conditional_end : TokenStatement → Level → State → Turn
-conditional_end s level state = conditional_end_by level.open_at (pos_of s) level state
+unfoldable pub conditional_end : Pos → Level → State → Turn
+conditional_end pos level state = conditional_end_by level.open_at pos level state
 
 -- Repeats
 
@@ -144,10 +148,10 @@ repeat_copies pos count (first ∷ others) state =
     enter pos ending.Repeat (copies_of count (made_statements pos (body_text (first ∷ others)))) state
 
 -- a repeat becomes its copies and an end mark; with an empty body it becomes nothing
-unfoldable pub repeat : Knowledge → TokenStatement → Level → State → Turn
-repeat known s level state =
-    with_made (pos_of s) (repeat_count known (operands_in s)) (λ count. with_body (pos_of s) (cut_block block.Repeat level.statements) level state
-    (λ body now. repeat_copies (pos_of s) count body now))
+unfoldable pub repeat : Knowledge → Pos → List SpelledToken → Level → State → Turn
+repeat known pos operands level state =
+    with_made pos (repeat_count known operands) (λ count. with_body pos (cut_block block.Repeat level.statements) level state
+    (λ body now. repeat_copies pos count body now))
 
 -- the copies of a body for the values of a line and an end mark, and nothing of an empty body
 abbrev pub each_copies : Pos → EachLineAs → List TokenStatement → State → Turn
@@ -156,16 +160,16 @@ each_copies pos line (first ∷ others) state =
     enter pos ending.Repeat (each_copy pos line.name state.begun (body_text (first ∷ others)) line.values) state
 
 -- the same with a name that stands for another text in each copy
-unfoldable pub each : (List SpelledToken → Result EachLineAs MacroLineCause) → TokenStatement → Level → State → Turn
-each read s level state =
-    with_read (pos_of s) (read (operands_in s)) (λ line. with_body (pos_of s) (cut_block block.Repeat level.statements) level state
-    (λ body now. each_copies (pos_of s) line body now))
+unfoldable pub each : Pos → Result EachLineAs MacroLineCause → Level → State → Turn
+each pos read level state =
+    with_read pos read (λ line. with_body pos (cut_block block.Repeat level.statements) level state
+    (λ body now. each_copies pos line body now))
 
 -- Macros
 
 -- the macro has this name
 abbrev pub is_called : List ℕ → MacroAs → Bool
-is_called name one = bytes_eq one.name name
+is_called name one = bytes_eq name one.name
 
 -- the macro has another name
 abbrev pub known_macro : List ℕ → MacroAs → Bool
@@ -177,17 +181,17 @@ add_macro line body state =
     record state { macros = state.macros ++ record { name = line.name; parameters = line.parameters; body = body_text body } ∷ [] }
 
 -- a definition leaves the list, and the macro is known
-unfoldable pub define : TokenStatement → Level → State → Turn
-define s level state =
-    with_read (pos_of s) (macro_line (operands_in s)) (λ line.
-    (if list_any (is_called line.name) state.macros then fails MacroAlreadyDefined (pos_of s)
-    else with_body (pos_of s) (cut_block block.Macro level.statements) level state (λ body now. goes (add_macro line body now))))
+unfoldable pub define : Pos → List SpelledToken → Level → State → Turn
+define pos operands level state =
+    with_read pos (macro_line operands) (λ line.
+    (if list_any (is_called line.name) state.macros then fails MacroAlreadyDefined pos
+    else with_body pos (cut_block block.Macro level.statements) level state (λ body now. goes (add_macro line body now))))
 
 -- a call becomes its body with arguments put in, and an end mark
-unfoldable pub call : MacroAs → TokenStatement → Level → State → Turn
-call one s level state =
-    with_read (pos_of s) (call_arguments one.parameters (operands_in s)) (λ arguments.
-    enter (pos_of s) ending.Call (made_statements (pos_of s) (put arguments state.begun one.body)) (under level (record state { begun = state.begun + 1 })))
+unfoldable pub call : MacroAs → Pos → List SpelledToken → Level → State → Turn
+call one pos operands level state =
+    with_read pos (call_arguments one.parameters operands) (λ arguments.
+    enter pos ending.Call (made_statements pos (put arguments state.begun one.body)) (under level (record state { begun = state.begun + 1 })))
 
 -- a macro that is known is forgotten
 abbrev pub forget : Pos → List ℕ → State → Turn
@@ -196,8 +200,8 @@ forget pos name state =
     else fails BadMacroLine pos
 
 -- `.purgem` leaves the list, and the macro is known no more
-unfoldable pub purge : TokenStatement → Level → State → Turn
-purge s level state = with_made (pos_of s) (one_name (operands_in s)) (λ name. forget (pos_of s) name (under level state))
+unfoldable pub purge : Pos → List SpelledToken → Level → State → Turn
+purge pos operands level state = with_made pos (one_name operands) (λ name. forget pos name (under level state))
 
 -- the end mark is that of a call
 abbrev pub is_call : Ending → Bool
@@ -215,8 +219,8 @@ exit_by pos None state = fails EndWithoutBeginning pos
 exit_by pos (Some levels) state = goes (record state { levels = levels })
 
 -- `.exitm` takes the list away up to the end mark of its innermost call, that mark included
-unfoldable pub exit : TokenStatement → Level → State → Turn
-exit s level state = exit_by (pos_of s) (after_call (level ∷ state.levels)) state
+unfoldable pub exit : Pos → Level → State → Turn
+exit pos level state = exit_by pos (after_call (level ∷ state.levels)) state
 
 -- Files
 
@@ -224,6 +228,10 @@ exit s level state = exit_by (pos_of s) (after_call (level ∷ state.levels)) st
 abbrev pub is_file : Ending → Bool
 is_file ending.File = true
 is_file _ = false
+
+-- the part is one of a file
+abbrev pub is_file_part : Level → Bool
+is_file_part level = is_file level.ends
 
 -- a file in front of the list, with its name behind those of the files before it
 abbrev pub start_file : List ℕ → Result (List TokenStatement) FileFault → State → Turn
@@ -242,29 +250,29 @@ include_told name None state = untold
 include_told name (Some contents) state = include_file name (contents name) state
 
 -- an include becomes the file's statements and an end mark
-unfoldable pub include : Option Contents → TokenStatement → Level → State → Turn
-include contents s level state =
-    with_made (pos_of s) (file_name (operands_in s)) (λ name.
-    (if nat_le 32 (count_by (λ (one : Level). is_file one.ends) (level ∷ state.levels)) then fails NestedTooDeeply (pos_of s)
+unfoldable pub include : Option Contents → Pos → List SpelledToken → Level → State → Turn
+include contents pos operands level state =
+    with_made pos (file_name operands) (λ name.
+    (if nat_le 32 (count_by is_file_part (level ∷ state.levels)) then fails NestedTooDeeply pos
     else include_told name contents (under level state)))
 
 -- The head of the list
 
 -- a head that is a word of expansion, by its word
-abbrev pub rewritten : Knowledge → Option Contents → Word → TokenStatement → Level → State → Turn
-rewritten known contents (word.If condition) s level state = conditional known condition s level state
-rewritten known contents word.ElseIf s level state = branch_end s level state
-rewritten known contents word.Else s level state = branch_end s level state
-rewritten known contents word.EndIf s level state = conditional_end s level state
-rewritten known contents word.Repeat s level state = repeat known s level state
-rewritten known contents word.EachValue s level state = each irp_line s level state
-rewritten known contents word.EachCharacter s level state = each irpc_line s level state
-rewritten known contents word.EndRepeat s level state = fails EndWithoutBeginning (pos_of s)
-rewritten known contents word.Macro s level state = define s level state
-rewritten known contents word.EndMacro s level state = fails EndWithoutBeginning (pos_of s)
-rewritten known contents word.ExitMacro s level state = exit s level state
-rewritten known contents word.Purge s level state = purge s level state
-rewritten known contents word.Include s level state = include contents s level state
+abbrev pub rewritten : Knowledge → Option Contents → Word → Pos → List SpelledToken → Level → State → Turn
+rewritten known contents (word.If condition) pos operands level state = conditional known condition pos operands level state
+rewritten known contents word.ElseIf pos operands level state = branch_end pos level state
+rewritten known contents word.Else pos operands level state = branch_end pos level state
+rewritten known contents word.EndIf pos operands level state = conditional_end pos level state
+rewritten known contents word.Repeat pos operands level state = repeat known pos operands level state
+rewritten known contents word.EachValue pos operands level state = each pos (irp_line operands) level state
+rewritten known contents word.EachCharacter pos operands level state = each pos (irpc_line operands) level state
+rewritten known contents word.EndRepeat pos operands level state = fails EndWithoutBeginning pos
+rewritten known contents word.Macro pos operands level state = define pos operands level state
+rewritten known contents word.EndMacro pos operands level state = fails EndWithoutBeginning pos
+rewritten known contents word.ExitMacro pos operands level state = exit pos level state
+rewritten known contents word.Purge pos operands level state = purge pos operands level state
+rewritten known contents word.Include pos operands level state = include contents pos operands level state
 
 -- the macro of a name, if it is known
 abbrev pub macro_named : List MacroAs → Option (List ℕ) → Option MacroAs
@@ -280,8 +288,8 @@ behind_own_labels (label ∷ others) s level state bare =
 -- the head by the word that it is, or by the macro that it calls
 abbrev pub head_by : Knowledge → Option Contents → Option Word → Option MacroAs → TokenStatement → Level → State → Turn
 head_by known contents (Some one) called s level state =
-    behind_own_labels (labels_of s.tokens) s level state (rewritten known contents one s level state)
-head_by known contents None (Some one) s level state = behind_own_labels (labels_of s.tokens) s level state (call one s level state)
+    behind_own_labels (labels_of s.tokens) s level state (rewritten known contents one (pos_of s) (operands_in s) level state)
+head_by known contents None (Some one) s level state = behind_own_labels (labels_of s.tokens) s level state (call one (pos_of s) (operands_in s) level state)
 head_by known contents None None s level state = hands s (under level state)
 
 -- the head is a word, a call of a macro that is known, or a statement that is handed out
