@@ -1,6 +1,6 @@
 -- Expansion: the list of statements and end marks is rewritten at its head, until a statement is handed out (GNU as manual, ".macro",
 -- ".rept", ".irp", ".irpc", ".if", ".include").
-use Rattle.std.specs.Prelude.{ℕ, ◌+◌, ◌-◌, ◌^◌, not, nat_le, Bool, true, false, if◌then◌else◌, List, [], ◌∷◌, ◌++◌, Option, Some, None, length, take, find, filter, count_by, Result, Ok, Err}
+use Rattle.std.specs.Prelude.{ℕ, ◌+◌, ◌-◌, ◌^◌, nat_le, Bool, true, false, if◌then◌else◌, List, [], ◌∷◌, ◌++◌, Option, Some, None, length, take, find, count_by, Result, Ok, Err}
 use Rattle.std.specs.List.{list_any}
 use Rattle.std.specs.Str.{bytes_eq}
 use Rattle.asm_base.specs.Tokens.{SpelledToken}
@@ -171,9 +171,10 @@ each pos read level state =
 abbrev pub is_called : List ℕ → MacroAs → Bool
 is_called name one = bytes_eq name one.name
 
--- the macro has another name
-abbrev pub known_macro : List ℕ → MacroAs → Bool
-known_macro name one = not (is_called name one)
+-- the macros but for the one of this name: no two have one name
+abbrev pub without : List ℕ → List MacroAs → List MacroAs
+without name [] = []
+without name (one ∷ others) = if is_called name one then others else one ∷ without name others
 
 -- the macro of this line and this body is known from here on
 abbrev pub add_macro : MacroLineAs → List TokenStatement → State → State
@@ -196,7 +197,7 @@ call one pos operands level state =
 -- a macro that is known is forgotten
 abbrev pub forget : Pos → List ℕ → State → Turn
 forget pos name state =
-    if list_any (is_called name) state.macros then goes (record state { macros = filter (known_macro name) state.macros })
+    if list_any (is_called name) state.macros then goes (record state { macros = without name state.macros })
     else fails BadMacroLine pos
 
 -- `.purgem` leaves the list, and the macro is known no more
@@ -208,10 +209,14 @@ abbrev pub is_call : Ending → Bool
 is_call ending.Call = true
 is_call _ = false
 
+-- the part is one of a call
+abbrev pub is_call_part : Level → Bool
+is_call_part level = is_call level.ends
+
 -- the parts behind that of the innermost call
 unfoldable pub after_call : List Level → Option (List Level)
 after_call [] = None
-after_call (level ∷ below) = if is_call level.ends then Some below else after_call below
+after_call (level ∷ below) = if is_call_part level then Some below else after_call below
 
 -- the list becomes these parts
 abbrev pub exit_by : Pos → Option (List Level) → State → Turn

@@ -2,9 +2,16 @@
 //! ".irp", ".irpc", ".if", ".include").
 #![tactic(auto)]
 
+mod conditionals;
+mod definitions;
+mod depths;
+mod expander;
 mod expanding;
 mod faults;
 mod laws;
+mod macros;
+mod repeats;
+mod turned;
 
 pub use expanding::expand_source;
 pub use faults::ExpandFault;
