@@ -192,6 +192,27 @@ def sums() -> Iterator[str]:
         yield f"\t.set sum_{n}, sum_{n + 1} + sum_{n + 2}\n"
 
 
+def calls() -> Iterator[str]:
+    """Calls of macros that call others, with arguments, conditions, and values that a name goes through."""
+    yield (".macro store value, to=x, wide=0\n\t.if \\wide\n\tmovq $\\value, \\to(%rip)\n\t.else\n\tmovl $\\value, \\to(%rip)\n\t.endif\n.endm\n"
+           ".macro pair first, second:req, to=x\n\tstore \\first, \\to\n\tstore \\second, \\to, 1\n"
+           "\t.irp reg, rax, rcx\n\tpush %\\reg\n\t.endr\n.endm\n")
+    for n in itertools.count():
+        yield f"\tpair {n % 100}, {n % 77}\n\tpair second={n % 50}, first=1, to=y\n"
+
+
+def copies() -> Iterator[str]:
+    """Half a million copies of two instructions, the rest of the lines in comments."""
+    yield "\t.rept 500000\n\taddl $1, %eax\n\tmovl %eax, 8(%rdi)\n\t.endr\n"
+    yield from itertools.repeat("# \n")
+
+
+def zeros() -> Iterator[str]:
+    """Four million copies of a byte."""
+    yield "\t.rept 4000000\n\t.byte 0\n\t.endr\n"
+    yield from itertools.repeat("# \n")
+
+
 def space() -> Iterator[str]:
     """Sections that are one fill of 1 GiB each."""
     for n in itertools.count():
@@ -206,7 +227,7 @@ SIZES_IN_LINES = [10_000, 100_000, 1_000_000]
 SOURCES_OF_LINES: list[tuple[Callable[[], Iterator[str]], list[int]]] = [
     (code, SIZES_IN_LINES), (functions, SIZES_IN_LINES), (programs, SIZES_IN_LINES), (data, SIZES_IN_LINES), (relocations, SIZES_IN_LINES),
     (distances, [100_000]), (fills, [100_000]), (alignments, [100_000]), (jumps, [400_000]), (cascade, [10_000]), (leb128, [64_000]), (sections, [60_000]),
-    (chain, [20_000]), (chain_back, [20_000]), (sums, [10_000]), (space, [16]),
+    (chain, [20_000]), (chain_back, [20_000]), (sums, [10_000]), (calls, [20_000]), (copies, [4]), (zeros, [3]), (space, [16]),
 ]
 SOURCES_OF_GCC = [code, functions, programs]
 
