@@ -8,9 +8,9 @@ use std::marker::Model;
 /// `count` units of `size` bytes: the low 4 bytes of a value, then zeros (GNU as manual, ".fill").
 #[derive(Drop)]
 pub struct Fill {
-    count: u64,
-    size: u64,
     value: u64,
+    count: u32,
+    size: u32,
 }
 
 impl Model for Fill {
@@ -33,7 +33,11 @@ impl Fill {
         requires small { size ≤ 8 }
         ensures { result ≡ record { count = count; size = size; value = value } }
     {
-        Fill { count, size, value }
+        Fill {
+            value,
+            count: count as u32,
+            size: size as u32,
+        }
     }
 
     /// The number of units.
@@ -41,7 +45,7 @@ impl Fill {
         ensures count { result ≡ self.now.count }
         ensures within { result ≤ 2 ^ 30 }
     {
-        self.count
+        u64::from(self.count)
     }
 
     /// The size of a unit in bytes.
@@ -49,7 +53,7 @@ impl Fill {
         ensures size { result ≡ self.now.size }
         ensures within { result ≤ 8 }
     {
-        self.size
+        u64::from(self.size)
     }
 
     /// The bytes of a unit; those past its size are of no account.
@@ -135,22 +139,31 @@ impl Align {
 /// Bytes up to a place that stands so far from an earlier one of its section (GNU as manual, ".org").
 #[derive(Drop)]
 pub struct Org {
-    ahead: u64,
-    behind: u64,
-    from: u32,
+    /// How many bytes it counts forwards, modulo 2^32, and how often 2^32 besides.
+    ahead: u32,
+    ahead_high: u8,
     fill: u8,
+    from: u32,
+    /// How many bytes it counts backwards, modulo 2^32, and how often 2^32 besides.
+    behind: u32,
+    behind_high: u32,
 }
 
 impl Model for Org {
-    ghost use Rattle.std.specs.Prelude.{◌≤◌, ◌^◌};
+    ghost use Rattle.std.specs.Prelude.{◌≤◌, ◌+◌, ◌*◌, ◌^◌};
     ghost use Rattle.item_contents.specs.ItemParts.{OrgOf};
 
     ghost Value = { OrgOf };
 
     ghost view = { λ org.
-        record { from = org.from; ahead = org.ahead; behind = org.behind; fill = org.fill } };
+        record {
+          from = org.from;
+          ahead = org.ahead_high * 2 ^ 32 + org.ahead;
+          behind = org.behind_high * 2 ^ 32 + org.behind;
+          fill = org.fill;
+        } };
 
-    ghost invariant = { λ org. org.ahead ≤ 2 ^ 34 };
+    ghost invariant = { λ org. org.ahead_high * 2 ^ 32 + org.ahead ≤ 2 ^ 34 };
 }
 
 impl Org {
@@ -161,10 +174,12 @@ impl Org {
         ensures { result ≡ record { from = from; ahead = ahead; behind = behind; fill = fill } }
     {
         Org {
-            ahead,
-            behind,
-            from,
+            ahead: (ahead % (1 << 32)) as u32,
+            ahead_high: (ahead / (1 << 32)) as u8,
             fill,
+            from,
+            behind: (behind % (1 << 32)) as u32,
+            behind_high: (behind / (1 << 32)) as u32,
         }
     }
 
@@ -180,14 +195,14 @@ impl Org {
         ensures ahead { result ≡ self.now.ahead }
         ensures within { result ≤ 2 ^ 34 }
     {
-        self.ahead
+        u64::from(self.ahead_high) * (1 << 32) + u64::from(self.ahead)
     }
 
     /// How many bytes it counts backwards.
     pub fn behind(&self) -> u64
         ensures { result ≡ self.now.behind }
     {
-        self.behind
+        u64::from(self.behind_high) * (1 << 32) + u64::from(self.behind)
     }
 
     /// The byte that it is filled with.
@@ -206,7 +221,7 @@ pub struct Growing {
     pub field: usize,
 }
 
-/// The contents of an item.
+/// The contents of an item. Large sources have many, so it is small.
 #[derive(Drop)]
 pub enum Content {
     /// Plain bytes, which the section holds, up to the next item.
