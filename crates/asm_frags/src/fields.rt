@@ -78,7 +78,7 @@ pub struct Field {
     /// The place of its statement.
     pub pos: Pos,
     /// How many items of the section stand before it.
-    pub item: usize,
+    pub item: u32,
     /// How many plain bytes of the section stand before it.
     pub offset: usize,
     /// The number of the section.

@@ -61,7 +61,8 @@ impl<P: Phase> Items<P> {
 
     /// How many items there are.
     pub fn len(&self) -> usize
-        ensures { result ≡ length self.now }
+        ensures length { result ≡ length self.now }
+        ensures within { result ≤ 2 ^ 28 }
     {
         self.items.len()
     }
@@ -109,12 +110,25 @@ impl<P: Phase> Items<P> {
         let asked = asked_alignment(&item.content);
         let is_run = item.content.is_run();
         let extent = self.extent.advanced(&item);
-        self.items.push(item)?;
+        put_last(&mut self.items, item)?;
         self.alignment = self.alignment.max(asked);
         self.extent = extent;
         self.in_run = is_run;
         Ok(())
     }
+}
+
+/// Puts an item last, at once where there is room for it.
+#[inline(always)]
+fn put_last<P: Phase>(items: &mut Vec<Frag<P>>, item: Frag<P>) -> Result<(), FragFault>
+    ensures ok { OnOk result (items.new.items ≡ items.old.items ++ item ∷ []) }
+    ensures err { IfErr result (λ fault. (fault ≡ NoMemory) × (items.new.items ≡ items.old.items)) }
+{
+    if items.len() < items.capacity() {
+        items.push_reserved(item);
+        return Ok(());
+    }
+    Ok(items.push(item)?)
 }
 
 /// The items at address 0.
@@ -124,7 +138,7 @@ fn laid_items(alloc: Global, items: Vec<Frag<Loose>>) -> Result<Vec<Frag<Laid>>,
 {
     let mut made = Vec::with_capacity(alloc, items.len())?;
     for item in items {
-        made.push(item.laid())?;
+        put_last(&mut made, item.laid())?;
     }
     Ok(made)
 }

@@ -224,7 +224,7 @@ impl Section<Loose> {
             self.items
                 .add(Frag::new(pos, Content::Run).behind(self.bytes.len()))?;
         }
-        let item = self.items.len();
+        let item = self.items.len() as u32;
         // `reserve` made room for them.
         self.bytes.extend_from_slice(size.blank()).unwrap();
         self.fields
@@ -263,7 +263,7 @@ impl Section<Loose> {
         let field = self.fields.len();
         let held = Content::Growing(Growing { kind, field });
         self.items.add(Frag::new(pos, held).behind(offset))?;
-        let item = self.items.len();
+        let item = self.items.len() as u32;
         // `reserve` made room for it.
         self.fields
             .push(Field {
