@@ -125,14 +125,20 @@ pub(crate) fn needed(shifts: &RangeTable, size: &RowSize) -> u8
     requires { NamesRows (length shifts.now) size.now }
     ensures { result ≡ spec.needed shifts.now size.now }
 {
+    if let RowSize::Jump { distance, .. } = size {
+        return jump_level(distance_value(shifts, distance));
+    }
     match size {
-        RowSize::Jump { distance, .. } => jump_level(distance_value(shifts, distance)),
         RowSize::Leb128 { signed, distance } => leb128_level(
             *signed,
             distance_value(shifts, distance),
         ),
         RowSize::Advance { distance } => advance_level(distance_value(shifts, distance)),
-        RowSize::Fixed(_) | RowSize::Align { .. } | RowSize::Org { .. } | RowSize::End => 0,
+        RowSize::Jump { .. }
+        | RowSize::Fixed(_)
+        | RowSize::Align { .. }
+        | RowSize::Org { .. }
+        | RowSize::End => 0,
     }
 }
 
@@ -142,6 +148,9 @@ pub(crate) fn needed(shifts: &RangeTable, size: &RowSize) -> u8
 pub(crate) fn top(size: &RowSize) -> u8
     ensures { result ≡ spec.top size.now }
 {
+    if let RowSize::Jump { .. } = size {
+        return 1;
+    }
     match size {
         RowSize::Jump { .. } => 1,
         RowSize::Leb128 { .. } => 9,

@@ -109,6 +109,7 @@ impl RowPlan {
         requires fresh { All (λ level. level ≡ 0) self.old.levels }
         ensures layout { IsLayout (need self.old.rows) (tops self.old.rows) self.new.levels result }
         ensures shifts { self.new.shifts ≡ shifts_of self.old.rows self.new.levels }
+        ensures small { All (λ shift. shift < 2 ^ 62) self.new.shifts }
         ensures holds { (index : ℕ) → index < length self.old.rows
             → slice_index (need self.old.rows self.new.levels) index
             ≤ slice_index self.new.levels index }
