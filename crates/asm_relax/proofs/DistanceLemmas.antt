@@ -17,14 +17,14 @@ use Rattle.asm_relax.specs.FieldValues.{is_linked, field_address, place_label, p
 use Rattle.asm_relax.proofs.PairLemmas.{beside_is}
 
 -- a symbol and a number, less another symbol
-abbrev both_of : ℕ → ℕ → ℕ → Form
+abbrev pub both_of : ℕ → ℕ → ℕ → Form
 both_of one other number = record { terms = term_of one 1 ∷ term_of other (2 ^ 64 - 1) ∷ []; constant = number }
 
 -- the number that is left of them
-abbrev left_of : ℕ → ℕ → ℕ → ℕ
+abbrev pub left_of : ℕ → ℕ → ℕ → ℕ
 left_of at origin number = wrapped (wrapped (number + wrapped (1 * at)) + wrapped ((2 ^ 64 - 1) * origin))
 
-both_cancel : (told : ℕ → Told) (stretch at origin one other number : ℕ) → told one ≡ label stretch at → told other ≡ label stretch origin
+pub both_cancel : (told : ℕ → Told) (stretch at origin one other number : ℕ) → told one ≡ label stretch at → told other ≡ label stretch origin
     → constant_left (settled told (both_of one other number)) ≡ Some (left_of at origin number)
 both_cancel told stretch at origin one other number is also =
     let same : (stretch == stretch) ≡ true = grind (arith, nat_tests) in

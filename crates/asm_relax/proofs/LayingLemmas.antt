@@ -204,7 +204,7 @@ module _ {P : Type 0} where
   unfolding rows_of
   rows_are_all map sections = all_long (rows_in map sections) 0 sections
 
-  items_kept : (shifts : List ℕ) (items : List (Frag P ℕ)) → length (laid_from shifts items) ≡ length items
+  pub items_kept : (shifts : List ℕ) (items : List (Frag P ℕ)) → length (laid_from shifts items) ≡ length items
   items_kept shifts [] = refl
   items_kept shifts (item ∷ items) = ap suc (items_kept (drop 1 shifts) items)
 

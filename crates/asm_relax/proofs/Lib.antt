@@ -11,6 +11,8 @@ pub mod LawLemmas
 pub mod StretchLemmas
 pub mod ShiftedForms
 pub mod PlaceLemmas
+pub mod LowPlaceLemmas
+pub mod NearFields
 pub mod ItemValueLemmas
 pub mod RoomLemmas
 pub mod LayoutNeeds

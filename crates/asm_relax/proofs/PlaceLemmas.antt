@@ -29,13 +29,13 @@ module _ {P : Type 0} where
   laid_get shifts (x ∷ xs) (suc n) item is = rw (← next_shift shifts n, ← next_shift shifts (suc n)) (laid_get (drop 1 shifts) xs n item is)
 
   -- the next row is moved as far or farther
-  rise_at : (shifts : List ℕ) (items : List (Frag P ℕ)) (n : ℕ) → Rise shifts items → n < length items → slice_index shifts n ≤ slice_index shifts (suc n)
+  pub rise_at : (shifts : List ℕ) (items : List (Frag P ℕ)) (n : ℕ) → Rise shifts items → n < length items → slice_index shifts n ≤ slice_index shifts (suc n)
   rise_at shifts [] n rise inside = absurd (omega arith)
   rise_at shifts (x ∷ xs) zero (first, rest) inside = first
   rise_at shifts (x ∷ xs) (suc n) (first, rest) inside = rw (← next_shift shifts n, ← next_shift shifts (suc n)) (rise_at (drop 1 shifts) xs n rest (omega arith))
 
   -- what stands behind so many items is moved as far as the row behind them
-  moved_as_row : (shifts : List ℕ) (items : List (Frag P ℕ)) (n : ℕ) → n ≤ length items → slice_index shifts 0 ≡ 0 → Rise shifts items → All (λ item. item.offset < 2 ^ 64) items
+  pub moved_as_row : (shifts : List ℕ) (items : List (Frag P ℕ)) (n : ℕ) → n ≤ length items → slice_index shifts 0 ≡ 0 → Rise shifts items → All (λ item. item.offset < 2 ^ 64) items
       → shift_in (laid_from shifts items) n ≡ wrapped (slice_index shifts n)
   unfolding shift_in
   moved_as_row shifts items zero within start rise small = rw start refl

@@ -72,10 +72,12 @@ place_told map sections field = if is_linked map field then absent else place_la
 unfoldable pub told_in_field : {P : Type 0} → SymbolMap → List (SectionOf (Frag P ℕ)) → Field → ℕ → Told
 told_in_field map sections field index = if index == own_place then place_told map sections field else final_told map sections index
 
--- of the two terms of a field's form the other alone is the place of the field, and that cancels as a label does
+-- of the two terms of a field's form the other alone is the place of the field; it counts minus once, where the one counts once, and cancels as a label does
 pub record IsNearPair (map : SymbolMap) (field : Field) (one other : Term) : Type 0 where
   pub symbol : (one.symbol == own_place) ≡ false
   pub own : other.symbol ≡ own_place
+  pub once : one.coefficient ≡ 1
+  pub minus : other.coefficient ≡ 2 ^ 64 - 1
   pub linked : is_linked map field ≡ false
 
 -- how many bytes stand from a field to what its value counts from: a distance counts from the end of the instruction

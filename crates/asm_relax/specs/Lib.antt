@@ -7,6 +7,7 @@ pub mod Layout
 pub mod Placing
 pub mod Faults
 pub mod RangeChecks
+pub mod LowPlaces
 pub mod RowBounds
 pub mod Settling
 pub mod ItemValues

@@ -78,7 +78,7 @@ pub fn field_address(sections: &Sections<Laid>, field: &Field) -> u64
     let place = address_of(
         sections,
         field.section,
-        field.item as u64,
+        u64::from(field.item),
         field.offset as u64,
     );
     if field.in_item {
@@ -230,7 +230,7 @@ fn look_in_pair<'a>(
 
 /// Whether the terms are a symbol less the place of the field, which cancel in one section.
 #[inline(always)]
-fn is_near_pair(symbols: &Symbols, field: &Field, one: &Term, other: &Term) -> bool
+pub(crate) fn is_near_pair(symbols: &Symbols, field: &Field, one: &Term, other: &Term) -> bool
     requires { field.now.form.terms ≡ one.now ∷ other.now ∷ [] }
     ensures { result ≡ true → IsNearPair symbols.now field.now one.now other.now }
 {
@@ -256,7 +256,7 @@ fn spot_of(meaning: &Meaning) -> Option<Spot>
 /// Where the symbol stands, if that is in this section.
 #[inline(always)]
 #[tactic(auto, unfolding(crate::specs::Final::final_told))]
-fn spot_within(symbols: &Symbols, section: u32, symbol: SymId) -> Option<Spot>
+pub(crate) fn spot_within(symbols: &Symbols, section: u32, symbol: SymId) -> Option<Spot>
     ensures { IfSome result (λ spot. (sections : LaidSections) → final_told symbols.now sections symbol
         ≡ label section (address_of sections section spot.item spot.offset)) }
 {
@@ -275,7 +275,7 @@ fn address_within(section: &Section<Laid>, field: &Field) -> u64
     ensures { (sections : LaidSections) → slice_get sections field.now.section ≡ Some section.now
         → result ≡ field_address sections field.now }
 {
-    let place = address_in(section, field.item as u64, field.offset as u64);
+    let place = address_in(section, u64::from(field.item), field.offset as u64);
     if field.in_item {
         place.wrapping_sub(field.size.bytes() as u64)
     } else {

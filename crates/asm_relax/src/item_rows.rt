@@ -43,7 +43,7 @@ fn own_of(field: &Field) -> OwnPlace
         symbol: own_place().index(),
         place: Place {
             section: field.section,
-            item: field.item as u64,
+            item: u64::from(field.item),
             offset: field.offset as u64,
         },
     }
@@ -196,7 +196,7 @@ fn field_apart(rows: RowsIn, field: &Field) -> Option<RowsApart>
         starts: rows.starts,
         own: own_of(field),
     };
-    rows_apart(view, rows.count, &field.form)
+    rows_apart(view, rows.count, &field.form, one, other)
 }
 
 /// What the size of an item depends on that grows with the distance between two rows, where this is found in the
@@ -260,6 +260,10 @@ fn push_row(made: &mut Vec<Row>, count: u32, row: Row) -> Result<(), NoMemory>
 {
     if made.len() >= MOST_ROWS {
         return Err(AllocError);
+    }
+    if made.len() < made.capacity() {
+        made.push_reserved(row);
+        return Ok(());
     }
     Ok(made.push(row)?)
 }

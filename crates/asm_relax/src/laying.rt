@@ -50,9 +50,11 @@ fn lay_section(sections: &mut Sections<Laid>, number: u32, rows: &RowPlan, first
     ensures kept { length sections.new ≡ length sections.old }
 {
     let count = sections.section(number).items().len();
+    let mut shift = rows.shift(first);
     for item in 0..count {
-        let row = first + item;
-        lay_item(sections, number, item, rows.shift(row), rows.shift(row + 1));
+        let next = rows.shift(first + item + 1);
+        lay_item(sections, number, item, shift, next);
+        shift = next;
     }
     first + count + 1
 }

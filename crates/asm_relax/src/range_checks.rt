@@ -1,16 +1,18 @@
 //! The range checks of a layout: sections that are too large, then `.org`s that move back, and then fields that do not
 //! hold their values.
 
-ghost use Rattle.std.specs.Prelude.{◌≡◌, ◌+◌, ◌<◌, ◌≤◌, false, nat_lt, option_map};
+ghost use Rattle.std.specs.Prelude.{◌≡◌, ◌+◌, ◌<◌, ◌≤◌, ◌∷◌, [], true, false, None, All, nat_lt, option_map};
 ghost use Rattle.std.specs.List.{position_or_len};
 ghost use Rattle.asm_relax.specs.Faults.{first_of};
+ghost use Rattle.asm_relax.specs.LowPlaces.{MovesOn, KeepsLow, StandLow, StandWithin, IsSmall};
 ghost use Rattle.asm_relax.specs.RangeChecks.{origin_shift, moves_back, section_back, is_large, begins_late, first_large, large_section, misfit, field_misfit, section_misfit, first_fault};
 
 use crate::faults::LayoutFault;
-use crate::field_values::held_value;
+use crate::field_values::{held_value, is_near_pair, spot_within};
 use crate::places::{section_size, shift_in};
-use asm_frags::{Field, Frag, Laid, Section, Sections};
-use asm_symbols::Symbols;
+use asm_expr::Term;
+use asm_frags::{Field, FieldSize, Frag, Laid, Section, Sections};
+use asm_symbols::{Spot, Symbols};
 use item_contents::{Align, Fill, FragVisit, Growing, Org, visit};
 
 /// The most bytes of a section.
@@ -73,8 +75,9 @@ fn first_large_section(sections: &[Section<Laid>]) -> Option<LayoutFault>
     None
 }
 
-/// The fault of a field that has a value and does not hold it.
-fn field_misfit(symbols: &Symbols, sections: &Sections<Laid>, field: &Field) -> Option<LayoutFault>
+/// The fault of any field that has a value and does not hold it.
+#[inline(never)]
+fn any_misfit(symbols: &Symbols, sections: &Sections<Laid>, field: &Field) -> Option<LayoutFault>
     ensures { result ≡ field_misfit symbols.now sections.now field.now }
 {
     let distance = held_value(symbols, sections, field)?;
@@ -87,17 +90,80 @@ fn field_misfit(symbols: &Symbols, sections: &Sections<Laid>, field: &Field) -> 
     })
 }
 
-/// The fault of the first field of a section that does not hold its value.
+/// Whether the field has four bytes, and the number of its form is near to 0.
+#[inline(always)]
+fn is_small(field: &Field) -> bool
+    ensures { result ≡ true → IsSmall field.now }
+{
+    matches!(field.size, FieldSize::Four)
+        && u64::from(field.role.behind) < 1 << 8
+        && field.form.constant().wrapping_add(1 << 29) <= 1 << 30
+}
+
+/// Whether the section has at most 2^30 plain bytes, and so many stand before neither of these places.
+#[inline(always)]
+fn are_within(section: &Section<Laid>, spot: Spot, field: &Field) -> bool
+    ensures within { result ≡ true → StandWithin section.now spot.offset field.now.offset }
+    ensures low { StandLow section.now }
+{
+    let bytes = section.bytes();
+    let _items = section.items();
+    let most = bytes.len();
+    most as u64 <= MOST_BYTES && spot.offset <= most as u64 && field.offset <= most
+}
+
+/// Whether the field of these two terms leads to a place of its section, and both stand low in it: it holds its value.
+#[inline(always)]
+fn is_near(
+    symbols: &Symbols,
+    sections: &Sections<Laid>,
+    field: &Field,
+    one: &Term,
+    other: &Term,
+) -> bool
+    requires terms { field.now.form.terms ≡ one.now ∷ other.now ∷ [] }
+    requires low { All KeepsLow sections.now }
+    ensures { result ≡ true → field_misfit symbols.now sections.now field.now ≡ None }
+{
+    if !is_near_pair(symbols, field, one, other) {
+        return false;
+    }
+    let Some(spot) = spot_within(symbols, field.section, one.symbol) else {
+        return false;
+    };
+    let Some(section) = sections.as_slice().get(field.section as usize) else {
+        return false;
+    };
+    are_within(section, spot, field) && is_small(field)
+}
+
+/// Whether it is plain that a field holds its value, without that value.
+#[inline(always)]
+fn is_plain(symbols: &Symbols, sections: &Sections<Laid>, field: &Field) -> bool
+    requires low { All KeepsLow sections.now }
+    ensures { result ≡ true → field_misfit symbols.now sections.now field.now ≡ None }
+{
+    match field.form.terms() {
+        [one, other] => is_near(symbols, sections, field, one, other),
+        _ => false,
+    }
+}
+
+/// The fault of the first field of a section that does not hold its value. The value of most jumps is not worked out.
 fn section_misfit(
     symbols: &Symbols,
     sections: &Sections<Laid>,
     section: &Section<Laid>,
 ) -> Option<LayoutFault>
+    requires low { All KeepsLow sections.now }
     ensures { result ≡ section_misfit symbols.now sections.now section.now }
 {
     let fields = section.fields();
     for field in fields {
-        let found = field_misfit(symbols, sections, field);
+        if is_plain(symbols, sections, field) {
+            continue;
+        }
+        let found = any_misfit(symbols, sections, field);
         if found.is_some() {
             return found;
         }
@@ -107,6 +173,7 @@ fn section_misfit(
 
 /// The fault of the first field that does not hold its value.
 fn first_misfit(symbols: &Symbols, sections: &Sections<Laid>) -> Option<LayoutFault>
+    requires low { All KeepsLow sections.now }
     ensures { result ≡ first_of (section_misfit symbols.now sections.now) sections.now }
 {
     let all = sections.as_slice();
@@ -209,6 +276,7 @@ fn first_section_back(sections: &[Section<Laid>]) -> Option<LayoutFault>
 /// all fields.
 #[tactic(auto, unfolding(crate::specs::RangeChecks::first_fault))]
 pub(crate) fn first_fault(symbols: &Symbols, sections: &Sections<Laid>) -> Option<LayoutFault>
+    requires moves { All MovesOn sections.now }
     ensures { result ≡ first_fault symbols.now sections.now }
 {
     let found = first_large_section(sections.as_slice());

@@ -1,6 +1,6 @@
 //! From linear forms to the distances of rows.
 
-ghost use Rattle.std.specs.Prelude.{◌≡◌, ◌<◌, ◌^◌, ◌++◌, [], ℕ, List, None, Some, IfOk, IfSome, OnOk};
+ghost use Rattle.std.specs.Prelude.{◌≡◌, ◌<◌, ◌^◌, ◌++◌, ◌∷◌, [], ℕ, List, None, Some, IfOk, IfSome, OnOk};
 ghost use Rattle.asm_expr.specs.Forms.{Form};
 ghost use Rattle.asm_levels.specs.declared.distances.Distance.TheVariants as distance;
 ghost use Rattle.asm_symbols.specs.SymbolMap.{SymbolMap};
@@ -163,13 +163,11 @@ pub struct RowsApart {
     pub behind: u32,
 }
 
-/// The two symbols of the terms, if these are all and the first one counts once.
-fn first_less_second(terms: &[Term]) -> Option<Pair>
-    ensures { IfSome result (λ pair. pairs.pair_of terms.now ≡ Some pair) }
+/// The two symbols of these terms, if the first one counts once.
+#[inline(always)]
+fn first_less_second(one: &Term, other: &Term) -> Option<Pair>
+    ensures { IfSome result (λ pair. pairs.pair_of (one.now ∷ other.now ∷ []) ≡ Some pair) }
 {
-    let [one, other] = terms else {
-        return None;
-    };
     if one.coefficient != 1 || other.coefficient != u64::MAX {
         return None;
     }
@@ -179,15 +177,22 @@ fn first_less_second(terms: &[Term]) -> Option<Pair>
     })
 }
 
-/// The two rows that an expanded form comes to the distance of, if it is a symbol less another one and a number: the
-/// short way for jumps. It takes no memory.
+/// The two rows that an expanded form of these two terms comes to the distance of, if it is a symbol less another one
+/// and a number: the short way for jumps. It takes no memory.
 #[inline(always)]
-pub fn rows_apart(view: RowView, count: u32, form: &Linear) -> Option<RowsApart>
+pub fn rows_apart(
+    view: RowView,
+    count: u32,
+    form: &Linear,
+    one: &Term,
+    other: &Term,
+) -> Option<RowsApart>
+    requires { form.now.terms ≡ one.now ∷ other.now ∷ [] }
     ensures { IfSome result (λ apart. spec.distance_of view.entry.symbols.now view.entry.own
         view.entry.starts.now count form.now
         ≡ Some (distance.Between apart.number apart.ahead apart.behind)) }
 {
-    let pair = first_less_second(form.terms())?;
+    let pair = first_less_second(one, other)?;
     let ahead = place_of(view, pair.ahead)?;
     let behind = place_of(view, pair.behind)?;
     if behind.section != ahead.section {

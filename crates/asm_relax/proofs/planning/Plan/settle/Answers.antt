@@ -4,6 +4,7 @@ use Rattle.asm_levels.specs.declared.rows.Row.{Row}
 use Rattle.asm_relax.specs.ItemRows.{rows_of}
 use Rattle.asm_relax.specs.RangeChecks.{first_fault}
 use Rattle.asm_relax.specs.Settling.{LaidSections, settled_sections}
+use Rattle.asm_relax.proofs.LowPlaceLemmas.{settled_moves}
 use Rattle.asm_relax.proofs.LayingLemmas.{rows_kept, rows_are_all}
 use Rattle.asm_relax.proofs.SettlingLemmas.{sections_settled, sections_laid_out}
 use Rattle.asm_relax.proofs.planning.Plan.settle.Goals as goal
@@ -30,6 +31,13 @@ pub lay_all-requires-clause-rows : goal.lay_all-requires-clause-rows
 lay_all-requires-clause-rows g c =
     let symbols = c.self.inside.symbols.now in
     ap (λ (all : List Row). length all) (c.settle-rounds.ensures.kept ∙ c.self.invariant.rows) ∙ rows_are_all symbols c.self.inside.sections
+
+pub first_fault-requires : goal.first_fault-requires
+first_fault-requires g c = record {
+  moves =
+      settled_moves c.self.inside.symbols.now c.self.inside.sections c.lay_all.new.sections c.self.inside.rows.rows c.settle-rounds.new.self.levels c.settle-rounds.new.self.shifts c.settle-rounds.result
+      c.self.invariant.rows c.settle-rounds.ensures.layout c.settle-rounds.ensures.shifts c.settle-rounds.ensures.small c.lay_all.ensures;
+}
 
 pub returns-in-Some-clause-sections : goal.returns-in-Some-clause-sections
 returns-in-Some-clause-sections g c =
