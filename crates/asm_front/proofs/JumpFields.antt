@@ -34,7 +34,7 @@ all_there P (y ∷ xs) zero x there all = subst P (same_Some y x there) (All-hea
 all_there P (y ∷ xs) (suc index) x there all = all_there P xs index x there (All-tail P y xs all)
 
 -- where there is an item of this index, there are more than that
-inside : {X : Type 0} (xs : List X) (index : ℕ) (x : X) → slice_get xs index ≡ Some x → index < length xs
+pub inside : {X : Type 0} (xs : List X) (index : ℕ) (x : X) → slice_get xs index ≡ Some x → index < length xs
 inside [] index x there = absurd (none-some x there)
 inside (y ∷ xs) zero x there = omega arith
 inside (y ∷ xs) (suc index) x there = let later = inside xs index x there in omega (arith, later)
@@ -82,7 +82,7 @@ planned_stands symbols sections place has =
     }
 
 module _ (symbols : SymbolMap) (sections : List LooseSection) (stand : SymbolsStand sections symbols.symbols) where
-  by_meaning : (meant : Meaning) (place : Place) → MeaningStands sections meant → meant_place meant ≡ Some place → StandsIn (planned symbols sections) place
+  by_meaning : (meant : Meaning) (place : Place) → MeaningStands sections (length symbols.symbols) meant → meant_place meant ≡ Some place → StandsIn (planned symbols sections) place
   by_meaning meaning.Undefined place stands is = absurd (none-some place is)
   by_meaning (meaning.Label spot) place stands is =
       let own : Place = record { section = spot.section; item = spot.item; offset = spot.offset } in
@@ -97,7 +97,7 @@ module _ (symbols : SymbolMap) (sections : List LooseSection) (stand : SymbolsSt
       → option_map_or (λ (symbol : Symbol). meant_place symbol.meaning) found None ≡ Some place → StandsIn (planned symbols sections) place
   by_symbol index None place there is = absurd (none-some place is)
   by_symbol index (Some symbol) place there is =
-      by_meaning symbol.meaning place (all_there (λ (one : Symbol). MeaningStands sections one.meaning) symbols.symbols index symbol there stand) is
+      by_meaning symbol.meaning place (all_there (λ (one : Symbol). MeaningStands sections (length symbols.symbols) one.meaning) symbols.symbols index symbol there stand) is
 
   module _ (n item offset : ℕ) (pos : Pos) (condition : Option Condition) (field : Field) (stands : JumpStandsAt sections n item offset pos condition field)
       (of_section : field.section ≡ n) (behind_item : field.item ≡ item + 1) where

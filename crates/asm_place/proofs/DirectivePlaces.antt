@@ -1,5 +1,5 @@
 -- Directives keep it so that each symbol that has a place stands in its section.
-use Rattle.std.proofs.Common.{ℕ, Bool, true, false, List, [], ◌∷◌, Option, None, Some, Result, Ok}
+use Rattle.std.proofs.Common.{◌≡◌, ℕ, Bool, true, false, List, [], ◌∷◌, length, Option, None, Some, Result, Ok, Err, refl, subst}
 use Rattle.std.specs.Prelude.{◌^◌, codes, unwrap_or}
 use Rattle.std.specs.List.{list_any, count_by}
 use Rattle.asm_operands.specs.declared.place_faults.PlaceCause.{PlaceCause}
@@ -8,6 +8,10 @@ use Rattle.asm_base.specs.Tokens.{SpelledToken}
 use Rattle.asm_expr.specs.declared.naming.Name.TheVariants as naming
 use Rattle.asm_expr.specs.declared.forms.Term.{Term}
 use Rattle.asm_expr.specs.Forms.{Form}
+use Rattle.asm_expr.specs.Trees.{Tree}
+use Rattle.asm_frags.specs.Writing.{LooseSection}
+use Rattle.asm_symbols.specs.declared.entries.Spot.{Spot}
+use Rattle.asm_symbols.specs.SymbolMap.{SymbolMap}
 use Rattle.item_contents.specs.declared.contents.Content.{Content}
 use Rattle.item_contents.specs.declared.contents.Content.TheVariants as content
 use Rattle.asm_frags.specs.declared.fields.FieldSize.{FieldSize}
@@ -28,7 +32,7 @@ use Rattle.asm_base.specs.Refusals.{◌>>=◌}
 use Rattle.asm_operands.specs.Operands.{name_of, operands_of, is_dot, begins_with_place, symbol_name, each, joined_strings, needed}
 use Rattle.asm_operands.specs.Expressions.{expression_of, form_in, constant_in, up_to_three_listed, up_to_three_trees, up_to_three_forms, up_to_three_constants}
 use Rattle.asm_values.specs.KnownOperands.{KnownOperands, known_operands}
-use Rattle.asm_uses.specs.Places.{uses_place, spot_at, end_naming}
+use Rattle.asm_uses.specs.Places.{uses_place, spot_at, known_at, end_naming}
 use Rattle.asm_values.specs.State.{Placed, with_table, with_names, here, known_here, unless_dot}
 use Rattle.asm_values.specs.DataItems.{put_by, put_forms, is_cut, cut_notes}
 use Rattle.asm_operands.specs.Results.{all_steps, if_some}
@@ -53,10 +57,11 @@ use Rattle.std.proofs.Common.{◌<◌, arith}
 use Rattle.asm_uses.specs.Tables.{with_name, with_tree}
 use Rattle.asm_words.specs.declared.directives.InitialSection.{InitialSection}
 use Rattle.asm_words.specs.declared.directives.InitialSection.TheVariants as initially
-use Rattle.asm_place.specs.SymbolPlaces.{PlacesStand}
+use Rattle.asm_place.specs.SymbolPlaces.{AreUpTo, SymbolsStand, PlacesStand}
+use Rattle.asm_place.proofs.NamedSymbols.{form_up}
 use Rattle.asm_place.proofs.PlacingLaws.{entered_adds}
-use Rattle.asm_place.proofs.SymbolTables.{Tables, both, onto, with_name_stand, tree_stand, change_stand, named_change_stand, assigned_stand, kind_stand, say_all_stand, sized_stand, allowed_stand, define_space_stand, end_stand, file_stand}
-use Rattle.asm_place.proofs.PlaceSteps.{Stays, Walks, grown_twice, stays_on, walked, unmoved, items_grow, sections_stay, table_stays, current_stays, notes_stay, names_stay, spot_stands, table_walk, bytes_walk, field_walk, push_walk, growing_walk, section_walk, pushed_walk, popped_walk}
+use Rattle.asm_place.proofs.SymbolTables.{Allows, named_both, allows_on, with_name_stand, tree_stand, change_stand, named_change_stand, assigned_stand, kind_stand, say_all_stand, sized_stand, allowed_stand, define_space_stand, end_stand, file_stand}
+use Rattle.asm_place.proofs.PlaceSteps.{count, Gains, Stays, Closes, Walks, grown_twice, stays_on, closes_on, closed, walked, unmoved, items_grow, sections_stay, table_stays, table_gains, table_closes, current_stays, notes_close, names_gain, spot_stands, table_walk, table_close, bytes_walk, field_walk, push_walk, growing_walk, section_walk, pushed_walk, popped_walk}
 
 -- DATA AND SPACE
 
@@ -71,77 +76,89 @@ forms_walk pos size (form ∷ forms) placed stands = walked placed (form_walk po
 
 -- the place of the statement may become a symbol, behind what it put
 pub here_stand : (pos : Pos) (naming : Naming) (keeps : Bool) (placed put : Placed) → PlacesStand placed → Stays placed put
-    → Fine (Tables put.sections put.table) (end_naming pos naming (here placed) keeps put.table)
+    → Fine (Allows put.sections naming.before put.table) (end_naming pos naming (here placed) keeps put.table)
 here_stand pos naming keeps placed put stands stays =
     end_stand put.sections pos naming (here placed) keeps put.table
-    (items_grow placed.sections put.sections (here placed).section (here placed).item stays.grows (spot_stands placed.sections placed.current stands.current))
+    (λ last. items_grow placed.sections put.sections (here placed).section (here placed).item stays.grows (spot_stands placed.sections placed.current stands.current))
 
-values_walk : (pos : Pos) (size : FieldSize) (naming : Naming) (forms : List Form) (placed : Placed) → PlacesStand placed → Walks placed (put_data pos size naming forms placed)
+values_walk : (pos : Pos) (size : FieldSize) (naming : Naming) (forms : List Form) (placed : Placed) → PlacesStand placed
+    → Fine (Closes naming.before placed) (put_data pos size naming forms placed)
 unfolding put_data
 values_walk pos size naming forms placed stands =
     step (forms_walk pos size forms placed stands)
-    (λ put stays. stays_on placed put _ stays (step (here_stand pos naming (list_any (uses_place (known_here placed).place) forms) placed put stands stays)
-    (λ table kept. made _ (notes_stay (cut_notes pos (count_by (is_cut size) forms)) put (with_table put table) (table_stays put table kept stays.stands)))))
+    (λ put stays. closes_on naming.before placed put _ stays (step (here_stand pos naming (list_any (uses_place (known_here placed).place) forms) placed put stands stays)
+    (λ table kept. made _ (notes_close (cut_notes pos (count_by (is_cut size) forms)) naming.before put (with_table put table)
+    (table_closes naming.before put table kept stays.stands)))))
 
 data_walk : (pos : Pos) (size : FieldSize) (tokens : List SpelledToken) (placed : Placed) → PlacesStand placed → Walks placed (place_data pos size tokens placed)
 unfolding place_data
 data_walk pos size tokens placed stands =
     after (each expression_of (operands_of tokens))
     (λ trees. after (each (form_in (known_here (with_names pos trees placed))) trees)
-    (λ forms. let names = names_stay pos trees placed stands in
-    stays_on placed (with_names pos trees placed) _ names (values_walk pos size (naming_of trees placed.table) forms (with_names pos trees placed) names.stands)))
+    (λ forms. let names = names_gain pos trees placed stands in
+    closed placed (with_names pos trees placed) _ names (values_walk pos size (naming_of trees placed.table) forms (with_names pos trees placed) names.stands)))
 
 strings_walk : (pos : Pos) (ended : Bool) (tokens : List SpelledToken) (placed : Placed) → PlacesStand placed → Walks placed (place_strings pos ended tokens placed)
 unfolding place_strings
 strings_walk pos ended tokens placed stands = after (joined_strings ended (operands_of tokens)) (λ bytes. bytes_walk pos placed.current bytes placed stands)
 
-item_walk : (pos : Pos) (naming : Naming) (item : Content) (placed : Placed) → PlacesStand placed → Walks placed (with_named pos naming item placed)
+item_walk : (pos : Pos) (naming : Naming) (item : Content) (placed : Placed) → PlacesStand placed → Fine (Closes naming.before placed) (with_named pos naming item placed)
 item_walk pos naming item placed stands =
-    walked placed (push_walk pos placed.current item placed stands) (λ pushed now. table_walk pushed (allowed naming pushed.table) now (allowed_stand pushed.sections naming pushed.table))
+    step (push_walk pos placed.current item placed stands)
+    (λ pushed stays. closes_on naming.before placed pushed _ stays
+    (table_close naming.before pushed (allowed naming pushed.table) stays.stands (allowed_stand pushed.sections naming pushed.table)))
 
-known_walk : (pos : Pos) (placed : Placed) (most : ℕ) (operands : List (List SpelledToken)) → PlacesStand placed
-    → Fine (λ (given : KnownOperands). Stays placed given.placed) (known_operands pos placed most operands)
+-- the names of operands are asked for, counted from what was placed before
+record AreAsked (placed : Placed) (given : KnownOperands) : Type 0 where
+  pub gains : Gains placed given.placed
+  pub base : given.naming.before ≡ count placed
+
+-- a statement of known operands that closes
+given_walk : (placed : Placed) (given : KnownOperands) (r : Result Placed PlaceCause) → AreAsked placed given → Fine (Closes given.naming.before given.placed) r → Walks placed r
+given_walk placed given r asked closes = closed placed given.placed r asked.gains (subst (λ base. Fine (Closes base given.placed) r) asked.base closes)
+
+known_walk : (pos : Pos) (placed : Placed) (most : ℕ) (operands : List (List SpelledToken)) → PlacesStand placed → Fine (AreAsked placed) (known_operands pos placed most operands)
 unfolding known_operands
 known_walk pos placed most operands stands =
     after (up_to_three_trees most operands)
     (λ trees. after (up_to_three_forms (known_here (with_names pos (up_to_three_listed trees) placed)) trees)
-    (λ forms. after (up_to_three_constants forms) (λ values. made _ (names_stay pos (up_to_three_listed trees) placed stands))))
+    (λ forms. after (up_to_three_constants forms) (λ values. made _ (record { gains = names_gain pos (up_to_three_listed trees) placed stands; base = refl }))))
 
 zero_walk : (pos : Pos) (tokens : List SpelledToken) (placed : Placed) → PlacesStand placed → Walks placed (place_zero pos tokens placed)
 unfolding place_zero
 zero_walk pos tokens placed stands =
     step (known_walk pos placed 1 (operands_of tokens) stands)
-    (λ given stays. stays_on placed given.placed _ stays (after (space_of given.values.first 0) (λ item. item_walk pos given.naming item given.placed stays.stands)))
+    (λ given asked. given_walk placed given _ asked (after (space_of given.values.first 0) (λ item. item_walk pos given.naming item given.placed asked.gains.stands)))
 
 skip_walk : (pos : Pos) (tokens : List SpelledToken) (placed : Placed) → PlacesStand placed → Walks placed (place_skip pos tokens placed)
 unfolding place_skip
 skip_walk pos tokens placed stands =
     step (known_walk pos placed 2 (operands_of tokens) stands)
-    (λ given stays. stays_on placed given.placed _ stays
-    (after (space_of given.values.first (unwrap_or given.values.second 0)) (λ item. item_walk pos given.naming item given.placed stays.stands)))
+    (λ given asked. given_walk placed given _ asked
+    (after (space_of given.values.first (unwrap_or given.values.second 0)) (λ item. item_walk pos given.naming item given.placed asked.gains.stands)))
 
 fill_walk : (pos : Pos) (tokens : List SpelledToken) (placed : Placed) → PlacesStand placed → Walks placed (place_fill pos tokens placed)
 unfolding place_fill
 fill_walk pos tokens placed stands =
     step (known_walk pos placed 3 (operands_of tokens) stands)
-    (λ given stays. stays_on placed given.placed _ stays
+    (λ given asked. given_walk placed given _ asked
     (after (unit_size given.values.second) (λ size. after (units_of given.values.first size (unwrap_or given.values.third 0))
-    (λ item. item_walk pos given.naming item given.placed stays.stands))))
+    (λ item. item_walk pos given.naming item given.placed asked.gains.stands))))
 
 align_walk : (pos : Pos) (by : AlignedBy) (tokens : List SpelledToken) (placed : Placed) → PlacesStand placed → Walks placed (place_align pos by tokens placed)
 unfolding place_align
 align_walk pos by tokens placed stands =
     step (known_walk pos placed 3 (operands_of tokens) stands)
-    (λ given stays. stays_on placed given.placed _ stays
-    (after (align_of by (is_code given.placed.sections given.placed.current) given.values) (λ item. item_walk pos given.naming item given.placed stays.stands)))
+    (λ given asked. given_walk placed given _ asked
+    (after (align_of by (is_code given.placed.sections given.placed.current) given.values) (λ item. item_walk pos given.naming item given.placed asked.gains.stands)))
 
 org_walk : (pos : Pos) (tokens : List SpelledToken) (placed : Placed) → PlacesStand placed → Walks placed (place_org pos tokens placed)
 unfolding place_org
 org_walk pos tokens placed stands =
     after (up_to_three_trees 2 (operands_of tokens))
     (λ trees. let named = with_names pos (up_to_three_listed trees) placed in
-    let names = names_stay pos (up_to_three_listed trees) placed stands in
-    stays_on placed named _ names
+    let names = names_gain pos (up_to_three_listed trees) placed stands in
+    closed placed named _ names
     (after (up_to_three_forms (known_here named) trees)
     (λ forms. after (known_origin (origin_by named forms.first.terms))
     (λ origin. after (if_some constant_in forms.second)
@@ -157,11 +174,13 @@ unfolding put_numbers all_steps
 numbers_walk pos signed [] placed stands = made placed (unmoved placed stands)
 numbers_walk pos signed (form ∷ forms) placed stands = walked placed (number_walk pos signed form.terms form placed stands) (λ put now. numbers_walk pos signed forms put now)
 
-put_leb128_walk : (pos : Pos) (signed : Bool) (naming : Naming) (forms : List Form) (placed : Placed) → PlacesStand placed → Walks placed (put_leb128 pos signed naming forms placed)
+put_leb128_walk : (pos : Pos) (signed : Bool) (naming : Naming) (forms : List Form) (placed : Placed) → PlacesStand placed
+    → Fine (Closes naming.before placed) (put_leb128 pos signed naming forms placed)
 unfolding put_leb128
 put_leb128_walk pos signed naming forms placed stands =
     step (numbers_walk pos signed forms placed stands)
-    (λ put stays. stays_on placed put _ stays (table_walk put (end_naming pos naming (here placed) (list_any (uses_place (known_here placed).place) forms) put.table) stays.stands
+    (λ put stays. closes_on naming.before placed put _ stays
+    (table_close naming.before put (end_naming pos naming (here placed) (list_any (uses_place (known_here placed).place) forms) put.table) stays.stands
     (here_stand pos naming (list_any (uses_place (known_here placed).place) forms) placed put stands stays)))
 
 leb128_walk : (pos : Pos) (signed : Bool) (tokens : List SpelledToken) (placed : Placed) → PlacesStand placed → Walks placed (place_leb128 pos signed tokens placed)
@@ -169,8 +188,8 @@ unfolding place_leb128
 leb128_walk pos signed tokens placed stands =
     after (some_expressions (operands_of tokens))
     (λ trees. after (each (form_in (known_here (with_names pos trees placed))) trees)
-    (λ forms. let names = names_stay pos trees placed stands in
-    stays_on placed (with_names pos trees placed) _ names (put_leb128_walk pos signed (naming_of trees placed.table) forms (with_names pos trees placed) names.stands)))
+    (λ forms. let names = names_gain pos trees placed stands in
+    closed placed (with_names pos trees placed) _ names (put_leb128_walk pos signed (naming_of trees placed.table) forms (with_names pos trees placed) names.stands)))
 
 -- SYMBOLS
 
@@ -193,25 +212,25 @@ type_walk pos tokens placed stands =
     (λ words. step (named_change_stand placed.sections pos (kind_said words.kind) words.name placed.table (kind_stand placed.sections words.kind))
     (λ table kept. dot_walk (begins_with_place tokens) placed (with_table placed table) (table_stays placed table kept stands)))
 
-words_stay : (pos : Pos) (words : NamedTree) (placed : Placed) → PlacesStand placed → Stays placed (with_words pos words placed)
-words_stay pos words placed stands =
+words_gain : (pos : Pos) (words : NamedTree) (placed : Placed) → PlacesStand placed → Gains placed (with_words pos words placed)
+words_gain pos words placed stands =
     let one = with_name pos words.name placed.table in
-    table_stays placed (with_tree pos words.tree one)
-    (both placed.sections placed.table.symbols one.symbols (with_tree pos words.tree one).symbols (with_name_stand placed.sections pos words.name placed.table)
+    table_gains placed (with_tree pos words.tree one)
+    (named_both placed.sections placed.table.symbols one.symbols (with_tree pos words.tree one).symbols (with_name_stand placed.sections pos words.name placed.table)
     (tree_stand placed.sections pos words.tree one)) stands
 
 size_words_walk : (pos : Pos) (words : NamedTree) (placed : Placed) → PlacesStand placed → Walks placed (size_words pos words placed)
 unfolding size_words
 size_words_walk pos words placed stands =
     let named = with_words pos words placed in
-    let names = words_stay pos words placed stands in
-    stays_on placed named _ names
+    let names = words_gain pos words placed stands in
+    closed placed named _ names
     (after (form_in (known_here named) words.tree)
     (λ form. let new = sized pos form (named.table, words_symbol words placed) in
-    table_walk named (end_words pos (words_naming words placed) form named new) names.stands
-    (onto named.sections named.table new (λ t. t) (sized_stand named.sections pos form (named.table, words_symbol words placed))
+    table_close (count placed) named (end_words pos (words_naming words placed) form named new) names.stands
+    (allows_on named.sections (count placed) named.table new (sized_stand named.sections pos form (named.table, words_symbol words placed))
     (end_stand named.sections pos (words_naming words placed) (here named) (uses_place (known_here named).place form) new
-    (spot_stands named.sections named.current names.stands.current)))))
+    (λ last. spot_stands named.sections named.current names.stands.current)))))
 
 size_walk : (pos : Pos) (tokens : List SpelledToken) (placed : Placed) → PlacesStand placed → Walks placed (place_size pos tokens placed)
 unfolding place_size
@@ -219,20 +238,29 @@ size_walk pos tokens placed stands =
     after (named_tree (operands_of tokens)) (λ words. walked placed (size_words_walk pos words placed stands)
     (λ sized now. dot_walk (begins_with_place tokens) sized sized (unmoved sized now)))
 
+-- the form of an expression names symbols that are there, or the next one
+form_stands : (sections : List LooseSection) (map : SymbolMap) (spot : Spot) (tree : Tree) → SymbolsStand sections map.symbols
+    → Fine (λ (form : Form). AreUpTo (length map.symbols) form.terms) (form_in (known_at map spot) tree)
+form_stands sections map spot tree stand = by (form_in (known_at map spot) tree) refl
+  where
+    by : (answer : Result Form PlaceCause) → form_in (known_at map spot) tree ≡ answer → Fine (λ (form : Form). AreUpTo (length map.symbols) form.terms) answer
+    by (Ok form) is = made form (form_up sections map spot tree form stand is)
+    by (Err fault) is = refused fault
+
 assign_walk : (pos : Pos) (once : Bool) (words : NamedTree) (placed : Placed) → PlacesStand placed → Walks placed (assign_words pos once words placed)
 unfolding assign_words
 assign_walk pos once words placed stands =
     let named = with_words pos words placed in
-    let names = words_stay pos words placed stands in
-    stays_on placed named _ names
-    (after (form_in (known_here named) words.tree)
-    (λ form. table_walk named (changed_by (λ map index. assigned map index form once) (named.table, words_symbol words placed) >>= end_words pos (words_naming words placed) form named)
+    let names = words_gain pos words placed stands in
+    closed placed named _ names
+    (step (form_stands named.sections named.table.symbols (here named) words.tree names.stands.symbols)
+    (λ form few. table_close (count placed) named (changed_by (λ map index. assigned map index form once) (named.table, words_symbol words placed) >>= end_words pos (words_naming words placed) form named)
     names.stands
     (step (change_stand named.sections (λ map index. assigned map index form once) (named.table, words_symbol words placed)
-    (assigned_stand named.sections form once named.table.symbols (words_symbol words placed)))
-    (λ next kept. onto named.sections named.table next (λ t. t) kept
+    (assigned_stand named.sections form once named.table.symbols (words_symbol words placed) few))
+    (λ next kept. allows_on named.sections (count placed) named.table next kept
     (end_stand named.sections pos (words_naming words placed) (here named) (uses_place (known_here named).place form) next
-    (spot_stands named.sections named.current names.stands.current))))))
+    (λ last. spot_stands named.sections named.current names.stands.current))))))
 
 set_walk : (pos : Pos) (once : Bool) (tokens : List SpelledToken) (placed : Placed) → PlacesStand placed → Walks placed (place_set pos once tokens placed)
 unfolding place_set
@@ -244,58 +272,71 @@ assignment_walk pos token tokens placed stands =
     after (symbol_name token) (λ name. after (expression_of tokens) (λ tree. assign_walk pos false (record { name = naming.Plain name; tree = tree }) placed stands))
 
 -- space for symbols
-with_space_walk : (pos : Pos) (naming : Naming) (symbol size log : ℕ) (placed : Placed) → PlacesStand placed → Walks placed (with_space pos naming symbol size log placed)
+with_space_walk : (pos : Pos) (naming : Naming) (symbol size log : ℕ) (placed : Placed) → PlacesStand placed
+    → Fine (Closes naming.before placed) (with_space pos naming symbol size log placed)
 unfolding with_space
 with_space_walk pos naming symbol size log placed stands =
     after (space_of size 0)
-    (λ space. walked placed (push_walk pos bss (content.Align (zeros_up_to log)) placed stands)
-    (λ aligned there. step (push_walk pos bss space aligned there)
-    (λ pushed stays. stays_on aligned pushed _ stays
-    (table_walk pushed (define_space naming symbol size (Space (spot_at aligned.sections bss)) pushed.table) stays.stands
+    (λ space. step (push_walk pos bss (content.Align (zeros_up_to log)) placed stands)
+    (λ aligned first. let there = first.stands in closes_on naming.before placed aligned _ first (step (push_walk pos bss space aligned there)
+    (λ pushed stays. closes_on naming.before aligned pushed _ stays
+    (table_close naming.before pushed (define_space naming symbol size (Space (spot_at aligned.sections bss)) pushed.table) stays.stands
     (define_space_stand pushed.sections naming symbol size (Space (spot_at aligned.sections bss)) pushed.table
-    (items_grow aligned.sections pushed.sections (spot_at aligned.sections bss).section (spot_at aligned.sections bss).item stays.grows
-    (spot_stands aligned.sections bss (there.first bss (omega arith)))))))))
+    (λ last. items_grow aligned.sections pushed.sections (spot_at aligned.sections bss).section (spot_at aligned.sections bss).item stays.grows
+    (spot_stands aligned.sections bss (there.first bss (omega arith))))))))))
 
-with_common_walk : (naming : Naming) (symbol size log : ℕ) (placed : Placed) → PlacesStand placed → Walks placed (with_common naming symbol size log placed)
+with_common_walk : (naming : Naming) (symbol size log : ℕ) (placed : Placed) → PlacesStand placed → Fine (Closes naming.before placed) (with_common naming symbol size log placed)
 unfolding with_common
 with_common_walk naming symbol size log placed stands =
-    table_walk placed (define_space naming symbol size (Common size (2 ^ log)) placed.table) stands
-    (define_space_stand placed.sections naming symbol size (Common size (2 ^ log)) placed.table tt)
+    table_close naming.before placed (define_space naming symbol size (Common size (2 ^ log)) placed.table) stands
+    (define_space_stand placed.sections naming symbol size (Common size (2 ^ log)) placed.table (λ last. tt))
 
-space_walk : (is_local : Bool) (pos : Pos) (naming : Naming) (symbol size log : ℕ) (placed : Placed) → PlacesStand placed → Walks placed (place_space is_local pos naming symbol size log placed)
+space_walk : (is_local : Bool) (pos : Pos) (naming : Naming) (symbol size log : ℕ) (placed : Placed) → PlacesStand placed
+    → Fine (Closes naming.before placed) (place_space is_local pos naming symbol size log placed)
 space_walk true pos naming symbol size log placed stands = with_space_walk pos naming symbol size log placed stands
 space_walk false pos naming symbol size log placed stands = with_common_walk naming symbol size log placed stands
 
 space_words_walk : (pos : Pos) (placed : Placed) (most : ℕ) (tokens : List SpelledToken) → PlacesStand placed
-    → Fine (λ (words : SpaceWords). Stays placed words.given.placed) (space_words pos placed most tokens)
+    → Fine (λ (words : SpaceWords). AreAsked placed words.given) (space_words pos placed most tokens)
 unfolding space_words
 space_words_walk pos placed most tokens stands =
     after (needed name_of (operands_of tokens))
     (λ name. let owned = with_own pos (naming.Plain name.0) placed in
-    let own = table_stays placed owned.table (with_name_stand placed.sections pos (naming.Plain name.0) placed.table) stands in
+    let own = table_gains placed owned.table (with_name_stand placed.sections pos (naming.Plain name.0) placed.table) stands in
     step (known_walk pos owned most name.1 own.stands)
-    (λ given stays. made _ (record { grows = grown_twice placed.sections owned.sections given.placed.sections own.grows stays.grows; stands = stays.stands })))
+    (λ given asked.
+    let first = own.more in
+    let last = asked.gains.more in
+    made _ (record {
+      gains = record {
+        grows = grown_twice placed.sections owned.sections given.placed.sections own.grows asked.gains.grows;
+        more = omega (arith, first, last);
+        stands = asked.gains.stands;
+      };
+      base = refl;
+    })))
+
+dotted_walk : (dot : Bool) (placed : Placed) (r : Result Placed PlaceCause) → Walks placed r → Walks placed (r >>= unless_dot dot)
+dotted_walk dot placed r walk = walked placed walk (λ done now. dot_walk dot done done (unmoved done now))
 
 comm_walk : (pos : Pos) (tokens : List SpelledToken) (placed : Placed) → PlacesStand placed → Walks placed (place_comm pos tokens placed)
 unfolding place_comm
 comm_walk pos tokens placed stands =
     step (space_words_walk pos placed 2 tokens stands)
-    (λ words stays. stays_on placed words.given.placed _ stays
-    (after (space_size words.given.values.first)
+    (λ words asked. after (space_size words.given.values.first)
     (λ size. after (log_of words.given.values.second size)
-    (λ log. walked words.given.placed
-    (space_walk (is_said_local words.given.placed.table.symbols words.symbol) pos words.given.naming words.symbol size log words.given.placed stays.stands)
-    (λ made now. dot_walk (begins_with_place tokens) made made (unmoved made now))))))
+    (λ log. dotted_walk (begins_with_place tokens) placed _
+    (given_walk placed words.given _ asked
+    (space_walk (is_said_local words.given.placed.table.symbols words.symbol) pos words.given.naming words.symbol size log words.given.placed asked.gains.stands)))))
 
 lcomm_walk : (pos : Pos) (tokens : List SpelledToken) (placed : Placed) → PlacesStand placed → Walks placed (place_lcomm pos tokens placed)
 unfolding place_lcomm
 lcomm_walk pos tokens placed stands =
     step (space_words_walk pos placed 1 tokens stands)
-    (λ words stays. stays_on placed words.given.placed _ stays
-    (after (space_size words.given.values.first)
+    (λ words asked. after (space_size words.given.values.first)
     (λ size. after (log_of None size)
-    (λ log. walked words.given.placed (space_walk true pos words.given.naming words.symbol size log words.given.placed stays.stands)
-    (λ made now. dot_walk (begins_with_place tokens) made made (unmoved made now))))))
+    (λ log. dotted_walk (begins_with_place tokens) placed _
+    (given_walk placed words.given _ asked (space_walk true pos words.given.naming words.symbol size log words.given.placed asked.gains.stands)))))
 
 -- texts
 ident_walk : (pos : Pos) (tokens : List SpelledToken) (placed : Placed) → PlacesStand placed → Walks placed (place_ident pos tokens placed)

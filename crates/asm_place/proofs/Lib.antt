@@ -14,7 +14,9 @@ pub mod CodeParts
 pub mod CodingFields
 pub mod CodeLaws
 pub mod JumpLaws
+pub mod NamedSymbols
 pub mod SymbolTables
 pub mod PlaceSteps
 pub mod DirectivePlaces
 pub mod PlaceWalk
+pub mod JumpTargets

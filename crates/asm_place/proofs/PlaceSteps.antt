@@ -33,7 +33,7 @@ use Rattle.asm_place.specs.Instructions.{Grows}
 use Rattle.asm_place.proofs.GrowthLemmas.{IsAdded, adds_nothing, item_added, bytes_added, field_added, growing_added}
 use Rattle.asm_place.proofs.Walks.{Fine, made, refused, step, after, either}
 use Rattle.asm_uses.specs.Tables.{naming_of, allowed}
-use Rattle.std.proofs.Common.{◌-◌, arith, length-append}
+use Rattle.std.proofs.Common.{◌-◌, ◌≤◌, arith, length-append}
 use Rattle.std.proofs.lemmas.List.Elements.{All-push, All-take, All-weaker}
 use Rattle.asm_symbols.specs.declared.entries.Meaning.{Meaning}
 use Rattle.asm_symbols.specs.declared.entries.Meaning.TheVariants as meaning
@@ -43,14 +43,33 @@ use Rattle.asm_place.specs.Instructions.{with_more}
 use Rattle.asm_place.specs.SymbolPlaces.{HasItems, MeaningStands, PlacesStand}
 use Rattle.asm_place.proofs.GrowthLemmas.{All-there, continued_on}
 use Rattle.asm_place.proofs.PlacingLaws.{there_adds, entered_adds}
-use Rattle.asm_place.proofs.SymbolTables.{Tables, trees_stand, allowed_stand}
+use Rattle.asm_place.proofs.SymbolTables.{Names, Tables, Allows, trees_stand, allowed_stand}
 
 -- WHAT IS KEPT
 
--- sections only grow, and all places stand
+-- how many symbols there are
+abbrev pub count : Placed → ℕ
+count placed = length placed.table.symbols.symbols
+
+-- sections and the list of symbols only grow, and all places stand
+pub record Gains (before after : Placed) : Type 0 where
+  pub grows : Grows before.sections after.sections
+  pub more : count before ≤ count after
+  pub stands : PlacesStand after
+
+-- and there are at most 2^24 symbols where there were
 pub record Stays (before after : Placed) : Type 0 where
   pub grows : Grows before.sections after.sections
+  pub more : count before ≤ count after
   pub stands : PlacesStand after
+  pub fits : count before ≤ 2 ^ 24 → count after ≤ 2 ^ 24
+
+-- where names were asked for since there were so many symbols, there are at most 2^24 in the end if there were then
+pub record Closes (base : ℕ) (before after : Placed) : Type 0 where
+  pub grows : Grows before.sections after.sections
+  pub more : count before ≤ count after
+  pub stands : PlacesStand after
+  pub few : base ≤ 2 ^ 24 → count after ≤ 2 ^ 24
 
 abbrev pub Walks : {E : Type 0} → Placed → Result Placed E → Type 0
 Walks before = Fine (Stays before)
@@ -64,8 +83,47 @@ grown_twice one two three first last =
 
 pub stays_on : {E : Type 0} (before between : Placed) (r : Result Placed E) → Stays before between → Walks between r → Walks before r
 stays_on before between (Ok x) stays later =
-    record { holds = record { grows = grown_twice before.sections between.sections x.sections stays.grows later.holds.grows; stands = later.holds.stands } }
+    let first = stays.more in
+    let last = later.holds.more in
+    record {
+      holds = record {
+        grows = grown_twice before.sections between.sections x.sections stays.grows later.holds.grows;
+        more = omega (arith, first, last);
+        stands = later.holds.stands;
+        fits = λ few. later.holds.fits (stays.fits few);
+      };
+    }
 stays_on before between (Err fault) stays later = refused fault
+
+-- steps before those that close a statement
+pub closes_on : {E : Type 0} (base : ℕ) (before between : Placed) (r : Result Placed E) → Stays before between → Fine (Closes base between) r → Fine (Closes base before) r
+closes_on base before between (Ok x) stays later =
+    let first = stays.more in
+    let last = later.holds.more in
+    record {
+      holds = record {
+        grows = grown_twice before.sections between.sections x.sections stays.grows later.holds.grows;
+        more = omega (arith, first, last);
+        stands = later.holds.stands;
+        few = later.holds.few;
+      };
+    }
+closes_on base before between (Err fault) stays later = refused fault
+
+-- a statement that asks for names, and closes
+pub closed : {E : Type 0} (before named : Placed) (r : Result Placed E) → Gains before named → Fine (Closes (count before) named) r → Walks before r
+closed before named (Ok x) gains later =
+    let first = gains.more in
+    let last = later.holds.more in
+    record {
+      holds = record {
+        grows = grown_twice before.sections named.sections x.sections gains.grows later.holds.grows;
+        more = omega (arith, first, last);
+        stands = later.holds.stands;
+        fits = later.holds.few;
+      };
+    }
+closed before named (Err fault) gains later = refused fault
 
 pub walked : {E : Type 0} (before : Placed) {r : Result Placed E} {f : Placed → Result Placed E} → Walks before r → ((x : Placed) → PlacesStand x → Walks x (f x)) → Walks before (r >>= f)
 walked before {f = f} first later = step first (λ x stays. stays_on before x (f x) stays (later x stays.stands))
@@ -75,7 +133,7 @@ both_fine (Ok x) one other = made x (one.holds, other.holds)
 both_fine (Err fault) one other = refused fault
 
 pub unmoved : (placed : Placed) → PlacesStand placed → Stays placed placed
-unmoved placed stands = record { grows = not_grown placed.sections; stands = stands }
+unmoved placed stands = record { grows = not_grown placed.sections; more = omega arith; stands = stands; fits = λ few. few }
 
 -- what stands in sections stands there when they have grown
 pub items_grow : (before after : List LooseSection) (number items : ℕ) → Grows before after → HasItems before number items → HasItems after number items
@@ -84,12 +142,12 @@ items_grow before after number items grows has =
     let enough = has.enough in
     record { section = with_more has.section later.bytes later.fields later.items; there = later.there; enough = omega (arith, enough, length-append has.section.items later.items) }
 
-meaning_grows : (before after : List LooseSection) → Grows before after → (meant : Meaning) → MeaningStands before meant → MeaningStands after meant
-meaning_grows before after grows meaning.Undefined stands = tt
-meaning_grows before after grows (meaning.Label spot) stands = items_grow before after spot.section spot.item grows stands
-meaning_grows before after grows (meaning.Common size align) stands = tt
-meaning_grows before after grows (meaning.Space spot) stands = items_grow before after spot.section spot.item grows stands
-meaning_grows before after grows (meaning.Assigned form) stands = tt
+meaning_grows : (before after : List LooseSection) (last : ℕ) → Grows before after → (meant : Meaning) → MeaningStands before last meant → MeaningStands after last meant
+meaning_grows before after last grows meaning.Undefined stands = tt
+meaning_grows before after last grows (meaning.Label spot) stands = items_grow before after spot.section spot.item grows stands
+meaning_grows before after last grows (meaning.Common size align) stands = tt
+meaning_grows before after last grows (meaning.Space spot) stands = items_grow before after spot.section spot.item grows stands
+meaning_grows before after last grows (meaning.Assigned form) stands = stands
 
 -- sections that are entered and come back to
 abbrev pub EntryStands : List LooseSection → Entered → Type 0
@@ -98,6 +156,7 @@ EntryStands sections entered = HasItems sections entered.current 0 × HasItems s
 pub sections_stay : (placed : Placed) (sections : List LooseSection) → Grows placed.sections sections → PlacesStand placed → Stays placed (record placed { sections = sections })
 sections_stay placed sections grows stands = record {
   grows = grows;
+  more = omega arith;
   stands = record {
     current = items_grow placed.sections sections placed.current 0 grows stands.current;
     previous = items_grow placed.sections sections placed.previous 0 grows stands.previous;
@@ -105,31 +164,54 @@ sections_stay placed sections grows stands = record {
         (λ entered was. (items_grow placed.sections sections entered.current 0 grows was.0, items_grow placed.sections sections entered.previous 0 grows was.1))
         placed.stack stands.stack;
     first = λ number few. items_grow placed.sections sections number 0 grows (stands.first number few);
-    symbols = All-weaker (λ (symbol : Symbol). MeaningStands placed.sections symbol.meaning) (λ (symbol : Symbol). MeaningStands sections symbol.meaning)
-        (λ symbol was. meaning_grows placed.sections sections grows symbol.meaning was) placed.table.symbols.symbols stands.symbols;
+    symbols = All-weaker (λ (symbol : Symbol). MeaningStands placed.sections (count placed) symbol.meaning)
+        (λ (symbol : Symbol). MeaningStands sections (count placed) symbol.meaning)
+        (λ symbol was. meaning_grows placed.sections sections (count placed) grows symbol.meaning was) placed.table.symbols.symbols stands.symbols;
   };
+  fits = λ few. few;
 }
 
 pub table_stays : (placed : Placed) (table : Table) → Tables placed.sections placed.table table → PlacesStand placed → Stays placed (with_table placed table)
 table_stays placed table kept stands = record {
   grows = not_grown placed.sections;
+  more = kept.more;
   stands = record { current = stands.current; previous = stands.previous; stack = stands.stack; first = stands.first; symbols = kept.kept stands.symbols };
+  fits = kept.fits;
+}
+
+pub table_gains : (placed : Placed) (table : Table) → Names placed.sections placed.table.symbols table.symbols → PlacesStand placed → Gains placed (with_table placed table)
+table_gains placed table kept stands = record {
+  grows = not_grown placed.sections;
+  more = kept.more;
+  stands = record { current = stands.current; previous = stands.previous; stack = stands.stack; first = stands.first; symbols = kept.kept stands.symbols };
+}
+
+pub table_closes : (base : ℕ) (placed : Placed) (table : Table) → Allows placed.sections base placed.table table → PlacesStand placed → Closes base placed (with_table placed table)
+table_closes base placed table kept stands = record {
+  grows = not_grown placed.sections;
+  more = kept.more;
+  stands = record { current = stands.current; previous = stands.previous; stack = stands.stack; first = stands.first; symbols = kept.kept stands.symbols };
+  few = kept.few;
 }
 
 pub current_stays : (number : ℕ) (placed : Placed) → HasItems placed.sections number 0 → PlacesStand placed → Stays placed (with_current number placed)
 current_stays number placed there stands = record {
   grows = not_grown placed.sections;
+  more = omega arith;
   stands = record { current = there; previous = stands.current; stack = stands.stack; first = stands.first; symbols = stands.symbols };
+  fits = λ few. few;
 }
 
-pub notes_stay : (notes : List Noted) (before placed : Placed) → Stays before placed → Stays before (with_notes notes placed)
-notes_stay notes before placed stays = record {
-  grows = stays.grows;
-  stands = record { current = stays.stands.current; previous = stays.stands.previous; stack = stays.stands.stack; first = stays.stands.first; symbols = stays.stands.symbols };
+pub notes_close : (notes : List Noted) (base : ℕ) (before placed : Placed) → Closes base before placed → Closes base before (with_notes notes placed)
+notes_close notes base before placed closes = record {
+  grows = closes.grows;
+  more = closes.more;
+  stands = record { current = closes.stands.current; previous = closes.stands.previous; stack = closes.stands.stack; first = closes.stands.first; symbols = closes.stands.symbols };
+  few = closes.few;
 }
 
-pub names_stay : (pos : Pos) (trees : List Tree) (placed : Placed) → PlacesStand placed → Stays placed (with_names pos trees placed)
-names_stay pos trees placed stands = table_stays placed (with_trees pos trees placed.table) (trees_stand placed.sections pos trees placed.table) stands
+pub names_gain : (pos : Pos) (trees : List Tree) (placed : Placed) → PlacesStand placed → Gains placed (with_names pos trees placed)
+names_gain pos trees placed stands = table_gains placed (with_trees pos trees placed.table) (trees_stand placed.sections pos trees placed.table) stands
 
 -- the place of a statement stands
 pub spot_stands : (sections : List LooseSection) (number : ℕ) → HasItems sections number 0 → HasItems sections (spot_at sections number).section (spot_at sections number).item
@@ -140,6 +222,11 @@ spot_stands sections number has =
 -- the table that a step makes on what is placed
 pub table_walk : (placed : Placed) (r : Result Table PlaceCause) → PlacesStand placed → Fine (Tables placed.sections placed.table) r → Walks placed (r >>= λ table. Ok (with_table placed table))
 table_walk placed r stands fine = step fine (λ table kept. made (with_table placed table) (table_stays placed table kept stands))
+
+-- the table that closes a statement
+pub table_close : (base : ℕ) (placed : Placed) (r : Result Table PlaceCause) → PlacesStand placed → Fine (Allows placed.sections base placed.table) r
+    → Fine (Closes base placed) (r >>= λ table. Ok (with_table placed table))
+table_close base placed r stands fine = step fine (λ table kept. made (with_table placed table) (table_closes base placed table kept stands))
 
 -- WHAT IS PUT
 
@@ -220,16 +307,16 @@ unfolding enter_words
 enter_walk pos words placed stands =
     let trees = option_trees words.entry_size in
     let named = with_names pos trees placed in
-    let names = names_stay pos trees placed stands in
-    stays_on placed named _ names
+    let names = names_gain pos trees placed stands in
+    closed placed named _ names
     (after (entry_size_in (known_here named) words.entry_size)
     (λ size. after (header_by placed.sections words size)
     (λ header. step (both_fine (entered_as placed.sections words.name header) (entered_adds placed.sections words.name header) (entered_is_there placed.sections words.name header))
     (λ pair has. let more = sections_stay named pair.0 has.0.grows names.stands in
     let there = current_stays pair.1 (record named { sections = pair.0 }) has.1 more.stands in
-    stays_on named (record named { sections = pair.0 }) _ more
-    (stays_on (record named { sections = pair.0 }) (with_current pair.1 (record named { sections = pair.0 })) _ there
-    (table_walk (with_current pair.1 (record named { sections = pair.0 })) (allowed (naming_of trees placed.table) named.table) there.stands
+    closes_on (count placed) named (record named { sections = pair.0 }) _ more
+    (closes_on (count placed) (record named { sections = pair.0 }) (with_current pair.1 (record named { sections = pair.0 })) _ there
+    (table_close (count placed) (with_current pair.1 (record named { sections = pair.0 })) (allowed (naming_of trees placed.table) named.table) there.stands
     (allowed_stand pair.0 (naming_of trees placed.table) named.table)))))))
 
 pub section_walk : (pos : Pos) (tokens : List SpelledToken) (placed : Placed) → PlacesStand placed → Walks placed (place_section pos tokens placed)
@@ -242,6 +329,7 @@ pushed_walk pos tokens placed stands =
     step (section_walk pos tokens placed stands)
     (λ entered stays. made _ (record {
       grows = stays.grows;
+      more = stays.more;
       stands = record {
         current = stays.stands.current;
         previous = stays.stands.previous;
@@ -250,6 +338,7 @@ pushed_walk pos tokens placed stands =
         first = stays.stands.first;
         symbols = stays.stands.symbols;
       };
+      fits = stays.fits;
     }))
 
 back_walk : (entered : Option Entered) (placed : Placed) → slice_get placed.stack (length placed.stack - 1) ≡ entered → PlacesStand placed → Walks placed (back_to entered placed)
@@ -258,6 +347,7 @@ back_walk (Some entered) placed is stands =
     let entry = All-there (EntryStands placed.sections) placed.stack (length placed.stack - 1) entered is stands.stack in
     made _ (record {
       grows = not_grown placed.sections;
+      more = omega arith;
       stands = record {
         current = entry.0;
         previous = entry.1;
@@ -265,6 +355,7 @@ back_walk (Some entered) placed is stands =
         first = stands.first;
         symbols = stands.symbols;
       };
+      fits = λ few. few;
     })
 
 pub popped_walk : (placed : Placed) → PlacesStand placed → Walks placed (popped placed)

@@ -1,6 +1,6 @@
 -- Placing keeps it so that each symbol that has a place stands in its section.
 use Rattle.std.proofs.Common.{◌≡◌, ℕ, Bool, List, [], ◌∷◌, Option, None, Some, Result, Ok, Err, refl}
-use Rattle.std.specs.Prelude.{◌&&◌, ◌+◌, not, drop, slice_range, codes}
+use Rattle.std.specs.Prelude.{◌&&◌, ◌+◌, ◌^◌, ◌≤◌, not, drop, slice_range, codes}
 use Rattle.std.proofs.lemmas.Result.{IfOk-at_ok}
 use Rattle.asm_operands.specs.declared.place_faults.PlaceCause.{PlaceCause}
 use Rattle.asm_operands.specs.declared.place_faults.PlaceCause.TheVariants.{NumberTooWide, UnknownMnemonic}
@@ -26,9 +26,11 @@ use Rattle.att_insns.specs.InsnTexts.{InsnText}
 use Rattle.att_insns.specs.Reading.{insn_of}
 use Rattle.asm_place.specs.declared.codes.InsnForms.{InsnForms}
 use Rattle.asm_place.specs.declared.codes.CodeField.{CodeField}
-use Rattle.asm_place.specs.Coding.{InsnShape, shape_in, forms_of, values_in, of_operands, of_code, fields_of, put_rest, put_code, keeps_place, put_coded, put_by_jump, put_insn, said_suffix, from_own_place, place_insn, place_read, lone_code, place_coded, place_instruction}
+use Rattle.asm_place.specs.Coding.{InsnShape, shape_in, forms_of, values_in, of_operands, of_code, fields_of, put_rest, put_code, keeps_place, put_coded, put_by_jump, put_insn, insn_of_trees, said_suffix, from_own_place, place_insn, place_read, lone_code, place_coded, place_instruction}
+use Rattle.asm_place.specs.CodePlaces.{labelled}
 use Rattle.asm_place.specs.Sources.{pos_at, located, place, place_all}
-use Rattle.asm_place.proofs.Walks.{made, refused, step, after, either}
+use Rattle.asm_place.proofs.Walks.{Fine, made, refused, step, after, either}
+use Rattle.asm_uses.specs.declared.tables.Naming.{Naming}
 use Rattle.asm_uses.specs.Tables.{naming_of}
 use Rattle.std.proofs.Common.{zero, suc, ◌<◌, arith}
 use Rattle.std.proofs.lemmas.List.Elements.{All-nil}
@@ -37,7 +39,7 @@ use Rattle.asm_frags.specs.Sections.{first_sections}
 use Rattle.asm_values.specs.State.{nothing_placed}
 use Rattle.asm_place.specs.SymbolPlaces.{HasItems, MeaningStands, PlacesStand}
 use Rattle.asm_place.proofs.SymbolTables.{onto, label_stand, change_stand, defined_stand}
-use Rattle.asm_place.proofs.PlaceSteps.{Stays, Walks, stays_on, walked, unmoved, EntryStands, table_stays, names_stay, spot_stands, table_walk, bytes_walk, field_walk, growing_walk}
+use Rattle.asm_place.proofs.PlaceSteps.{count, Stays, Closes, Walks, closes_on, closed, walked, unmoved, EntryStands, table_stays, names_gain, spot_stands, table_close, bytes_walk, field_walk, growing_walk}
 use Rattle.asm_place.proofs.DirectivePlaces.{here_stand, dot_walk, assignment_walk, directive_walk}
 
 -- INSTRUCTIONS
@@ -69,17 +71,22 @@ put_insn_walk : (pos : Pos) (shape : InsnShape) (forms : InsnForms) (placed : Pl
 unfolding put_insn
 put_insn_walk pos shape forms placed stands = by_jump_walk shape.jump pos shape forms placed stands
 
+-- once its names have symbols
+pub trees_walk : (pos : Pos) (shape : InsnShape) (naming : Naming) (own moved : Tree) (named : Placed) → PlacesStand named
+    → Fine (Closes naming.before named) (insn_of_trees pos shape naming own moved named)
+trees_walk pos shape naming own moved named stands =
+    after (forms_of (known_here named) own moved)
+    (λ forms. step (put_insn_walk pos shape forms named stands)
+    (λ put stays. closes_on naming.before named put _ stays
+    (table_close naming.before put (end_naming pos naming (here named) (keeps_place (known_here named).place forms) put.table) stays.stands (here_stand pos naming (keeps_place (known_here named).place forms) named put stands stays))))
+
 insn_walk : (pos : Pos) (shape : InsnShape) (own moved : Tree) (placed : Placed) → PlacesStand placed → Walks placed (place_insn pos shape own moved placed)
 unfolding place_insn
 insn_walk pos shape own moved placed stands =
     let trees = own ∷ moved ∷ [] in
     let named = with_names pos trees placed in
-    let names = names_stay pos trees placed stands in
-    stays_on placed named _ names
-    (after (forms_of (known_here named) own moved)
-    (λ forms. step (put_insn_walk pos shape forms named names.stands)
-    (λ put stays. stays_on named put _ stays (table_walk put (end_naming pos (naming_of trees placed.table) (here named) (keeps_place (known_here named).place forms) put.table)
-    stays.stands (here_stand pos (naming_of trees placed.table) (keeps_place (known_here named).place forms) named put names.stands stays)))))
+    let names = names_gain pos trees placed stands in
+    closed placed named _ names (trees_walk pos shape (naming_of trees placed.table) own moved named names.stands)
 
 read_walk : (pos : Pos) (read : Result InsnText OperandCause) (placed : Placed) → PlacesStand placed → Walks placed (place_read pos read placed)
 read_walk pos read placed stands =
@@ -108,8 +115,15 @@ label_walk pos token placed stands =
     step (step (label_stand placed.sections pos token placed.table)
     (λ pair kept. onto placed.sections placed.table pair.0 (λ t. t) kept
     (change_stand placed.sections (λ map index. defined map index (Label (here placed))) pair
-    (defined_stand placed.sections (Label (here placed)) (spot_stands placed.sections placed.current stands.current) pair.0.symbols pair.1))))
+    (defined_stand placed.sections (Label (here placed)) (λ last. spot_stands placed.sections placed.current stands.current) pair.0.symbols pair.1))))
     (λ table kept. dot_walk (is_dot token) placed (with_table placed table) (table_stays placed table kept stands))
+
+pub labels_walk : (pos : Pos) (tokens : List SpelledToken) (placed : Placed) → PlacesStand placed → Walks placed (labelled pos tokens placed)
+unfolding labelled
+labels_walk pos [] placed stands = made _ (unmoved placed stands)
+labels_walk pos (token ∷ []) placed stands = made _ (unmoved placed stands)
+labels_walk pos (first ∷ second ∷ rest) placed stands =
+    either (is_label first second) (walked placed (label_walk pos first placed stands) (λ labels now. labels_walk pos rest labels now)) (made _ (unmoved placed stands))
 
 labelled_walk : (pos : Pos) (tokens : List SpelledToken) (placed : Placed) → PlacesStand placed → Walks placed (place_labelled pos tokens placed)
 unfolding place_labelled
@@ -131,14 +145,18 @@ place_walk : (s : TokenStatement) (placed : Placed) → PlacesStand placed → W
 unfolding place
 place_walk s placed stands = located_walk (pos_at s.file s.line) placed.notes placed _ (tokens_walk (pos_at s.file s.line) s.tokens placed stands)
 
-statements_walk : (statements : List TokenStatement) (placed : Placed) → PlacesStand placed → Walks placed (place_all statements placed)
+pub statements_walk : (statements : List TokenStatement) (placed : Placed) → PlacesStand placed → Walks placed (place_all statements placed)
 unfolding place_all
 statements_walk [] placed stands = made _ (unmoved placed stands)
 statements_walk (s ∷ later) placed stands = walked placed (place_walk s placed stands) (statements_walk later)
 
+-- what a step that is done keeps
+pub kept_by : {E : Type 0} (before after : Placed) (answer : Result Placed E) → answer ≡ Ok after → Walks before answer → Stays before after
+kept_by before after answer is walk = IfOk-at_ok (Stays before) is walk.holds
+
 -- placing keeps it so
 pub places_kept : (statements : List TokenStatement) (before placed : Placed) → place_all statements before ≡ Ok placed → PlacesStand before → PlacesStand placed
-places_kept statements before placed is stands = (IfOk-at_ok (Stays before) is (statements_walk statements before stands).holds).stands
+places_kept statements before placed is stands = (kept_by before placed (place_all statements before) is (statements_walk statements before stands)).stands
 
 first_there : (no_warn : Bool) (number : ℕ) → number < 3 → HasItems (nothing_placed no_warn).sections number 0
 unfolding first_sections
@@ -154,5 +172,11 @@ places_begin no_warn = record {
   previous = first_there no_warn 0 (omega arith);
   stack = All-nil (EntryStands (nothing_placed no_warn).sections);
   first = first_there no_warn;
-  symbols = All-nil (λ (symbol : Symbol). MeaningStands (nothing_placed no_warn).sections symbol.meaning);
+  symbols = All-nil (λ (symbol : Symbol). MeaningStands (nothing_placed no_warn).sections 0 symbol.meaning);
 }
+
+-- there are never more than 2^24 symbols
+pub symbols_few : (statements : List TokenStatement) (no_warn : Bool) (placed : Placed) → place_all statements (nothing_placed no_warn) ≡ Ok placed → count placed ≤ 2 ^ 24
+symbols_few statements no_warn placed is =
+    (kept_by (nothing_placed no_warn) placed (place_all statements (nothing_placed no_warn)) is (statements_walk statements (nothing_placed no_warn) (places_begin no_warn))).fits
+    (omega arith)

@@ -1,7 +1,8 @@
--- What the changes of the symbol table keep: each symbol that has a place stands in its section.
-use Rattle.std.proofs.Common.{◌≡◌, ℕ, zero, suc, Bool, true, false, cond, ◌+◌, length, List, [], ◌∷◌, Option, None, Some, Result, Ok, Err, refl}
-use Rattle.std.specs.Prelude.{slice_get, is_some}
-use Rattle.std.proofs.lemmas.List.Elements.{All-nil, All-cons, All-head, All-tail, All-push}
+-- What the changes of the symbol table keep: each symbol that has a place stands in its section, and forms name symbols that are there, or the next one.
+use Rattle.std.proofs.Common.{◌≡◌, ℕ, zero, suc, inl, inr, Bool, true, false, cond, ◌+◌, ◌≤◌, ◌++◌, length, List, [], ◌∷◌, Option, None, Some, Result, Ok, Err, All, refl, sym, ap, ◌∙◌, subst, arith, length-append}
+use Rattle.std.specs.Prelude.{◌^◌, ◌&&◌, ◌||◌, nat_le, nat_lt, slice_get, is_some}
+use Rattle.std.proofs.lemmas.Bool.{and_parts, or_cases, ltb-true, leb-true}
+use Rattle.std.proofs.lemmas.List.Elements.{All-nil, All-cons, All-head, All-tail, All-push, All-weaker}
 use Rattle.asm_expr.specs.declared.naming.Name.TheVariants as naming
 use Rattle.asm_base.specs.Tokens.{SpelledToken}
 use Rattle.asm_base.specs.declared.positions.Pos.{Pos}
@@ -14,6 +15,7 @@ use Rattle.asm_expr.specs.Trees as expr
 use Rattle.asm_frags.specs.Writing.{LooseSection}
 use Rattle.asm_operands.specs.LayerFaults.{of_symbols}
 use Rattle.asm_operands.specs.declared.place_faults.PlaceCause.{PlaceCause}
+use Rattle.asm_operands.specs.declared.place_faults.PlaceCause.TheVariants.{BadSymbolUse as BadSymbol}
 use Rattle.asm_operands.specs.Results.{all_steps}
 use Rattle.asm_symbols.specs.declared.entries.Binding.{Binding}
 use Rattle.asm_symbols.specs.declared.entries.Definition.{Definition}
@@ -28,8 +30,8 @@ use Rattle.asm_symbols.specs.declared.faults.SymCause.TheVariants.{BadSymbolUse}
 use Rattle.asm_symbols.specs.Assigning.{form_fault_at, with_form}
 use Rattle.asm_symbols.specs.Attributes.{with_binding, with_kind, with_visibility, with_size, with_next_size, bound_as, bound_by, bound}
 use Rattle.asm_symbols.specs.Counting.{meant_name, next_named}
-use Rattle.asm_symbols.specs.Defining.{meant, redefined, defined_by, defined}
-use Rattle.asm_symbols.specs.Interning.{undefined, with_name, named, interned, has_room, with_file}
+use Rattle.asm_symbols.specs.Defining.{meant, redefined, with_defined, defined_by, defined}
+use Rattle.asm_symbols.specs.Interning.{name_size, names_size, is_within_limits, undefined, with_name, named, interned, has_room, with_file}
 use Rattle.asm_symbols.specs.LeadsBack.{leads_back, assigned_by, assigned}
 use Rattle.asm_symbols.specs.SymbolMap.{SymbolMap, names, index_of, changed, with_meaning}
 use Rattle.asm_uses.specs.Attributes.{said, say_all, kind_said, sized, as_space, space_kind, define_space}
@@ -42,7 +44,8 @@ use Rattle.asm_uses.specs.Tables.{Table, with_map, found_in, symbol_of, next_sym
 use Rattle.asm_uses.specs.declared.tables.Naming.{Naming}
 use Rattle.asm_words.specs.declared.directives.SymbolAttribute.{SymbolAttribute}
 use Rattle.asm_words.specs.declared.directives.SymbolAttribute.TheVariants.{Bind, See}
-use Rattle.asm_place.specs.SymbolPlaces.{MeaningStands, SymbolsStand}
+use Rattle.asm_place.specs.SymbolPlaces.{AreUpTo, MeaningStands, SymbolsStand}
+use Rattle.asm_place.proofs.NamedSymbols.{up_to_more}
 use Rattle.asm_place.proofs.Walks.{Fine, made, refused, step, after, either}
 
 -- what a layer answers is as fine as a statement's
@@ -51,47 +54,113 @@ of_fine (Ok x) fine = made x fine.holds
 of_fine (Err fault) fine = refused _
 
 module _ (sections : List LooseSection) where
-  -- a symbol that has a place stands in its section
-  abbrev pub Stands : Symbol → Type 0
-  Stands symbol = MeaningStands sections symbol.meaning
+  -- a symbol that has a place stands in its section, and a form names no symbol above this one
+  abbrev pub Stands : ℕ → Symbol → Type 0
+  Stands last symbol = MeaningStands sections last symbol.meaning
 
-  -- so do all where they did
-  pub record Maps (before after : SymbolMap) : Type 0 where
+  -- no symbol goes, and all stand so where they did
+  pub record Names (before after : SymbolMap) : Type 0 where
+    pub more : length before.symbols ≤ length after.symbols
     pub kept : SymbolsStand sections before.symbols → SymbolsStand sections after.symbols
+
+  -- and there are at most 2^24 symbols where there were
+  pub record Maps (before after : SymbolMap) : Type 0 where
+    pub more : length before.symbols ≤ length after.symbols
+    pub kept : SymbolsStand sections before.symbols → SymbolsStand sections after.symbols
+    pub fits : length before.symbols ≤ 2 ^ 24 → length after.symbols ≤ 2 ^ 24
 
   abbrev pub Tables : Table → Table → Type 0
   Tables before after = Maps before.symbols after.symbols
 
+  -- where names were asked for since there were so many symbols, there are at most 2^24 in the end if there were then
+  pub record Allows (base : ℕ) (before after : Table) : Type 0 where
+    pub more : length before.symbols.symbols ≤ length after.symbols.symbols
+    pub kept : SymbolsStand sections before.symbols.symbols → SymbolsStand sections after.symbols.symbols
+    pub few : base ≤ 2 ^ 24 → length after.symbols.symbols ≤ 2 ^ 24
+
   pub same : (map : SymbolMap) → Maps map map
-  same map = record { kept = λ all. all }
+  same map = record { more = omega arith; kept = λ all. all; fits = λ few. few }
 
   pub both : (one two three : SymbolMap) → Maps one two → Maps two three → Maps one three
-  both one two three first last = record { kept = λ all. last.kept (first.kept all) }
+  both one two three first last =
+      let more = first.more in
+      let still = last.more in
+      record { more = omega arith; kept = λ all. last.kept (first.kept all); fits = λ few. last.fits (first.fits few) }
 
-  changed_stand : (change : Symbol → Symbol) → ((symbol : Symbol) → Stands symbol → Stands (change symbol)) → (symbols : List Symbol) (index : ℕ)
-      → SymbolsStand sections symbols → SymbolsStand sections (changed change symbols index)
+  pub named_so : (map : SymbolMap) → Names map map
+  named_so map = record { more = omega arith; kept = λ all. all }
+
+  pub named_both : (one two three : SymbolMap) → Names one two → Names two three → Names one three
+  named_both one two three first last =
+      let more = first.more in
+      let still = last.more in
+      record { more = omega arith; kept = λ all. last.kept (first.kept all) }
+
+  -- where more symbols may be named, all stand as before
+  stands_more : (last more : ℕ) → last ≤ more → (meant : Meaning) → MeaningStands sections last meant → MeaningStands sections more meant
+  stands_more last more le meaning.Undefined stands = tt
+  stands_more last more le (meaning.Label spot) stands = stands
+  stands_more last more le (meaning.Common size align) stands = tt
+  stands_more last more le (meaning.Space spot) stands = stands
+  stands_more last more le (meaning.Assigned form) stands = up_to_more last more form.terms le stands
+
+  changed_long : (change : Symbol → Symbol) (symbols : List Symbol) (index : ℕ) → length (changed change symbols index) ≡ length symbols
   unfolding changed
-  changed_stand change stands [] index all = All-nil Stands
-  changed_stand change stands (symbol ∷ rest) zero all = All-cons Stands (change symbol) rest (stands symbol (All-head Stands symbol rest all)) (All-tail Stands symbol rest all)
-  changed_stand change stands (symbol ∷ rest) (suc index) all =
-      All-cons Stands symbol (changed change rest index) (All-head Stands symbol rest all) (changed_stand change stands rest index (All-tail Stands symbol rest all))
+  changed_long change [] index = refl
+  changed_long change (symbol ∷ rest) zero = refl
+  changed_long change (symbol ∷ rest) (suc index) = ap suc (changed_long change rest index)
 
-  more_stand : (map : SymbolMap) (name : Name) → Maps map (with_name map name)
-  more_stand map name = record { kept = λ all. All-push Stands map.symbols (undefined name) all tt }
+  changed_all : (last : ℕ) (change : Symbol → Symbol) → ((symbol : Symbol) → Stands last symbol → Stands last (change symbol)) → (symbols : List Symbol) (index : ℕ)
+      → All (Stands last) symbols → All (Stands last) (changed change symbols index)
+  unfolding changed
+  changed_all last change stands [] index all = All-nil (Stands last)
+  changed_all last change stands (symbol ∷ rest) zero all =
+      All-cons (Stands last) (change symbol) rest (stands symbol (All-head (Stands last) symbol rest all)) (All-tail (Stands last) symbol rest all)
+  changed_all last change stands (symbol ∷ rest) (suc index) all =
+      All-cons (Stands last) symbol (changed change rest index) (All-head (Stands last) symbol rest all) (changed_all last change stands rest index (All-tail (Stands last) symbol rest all))
+
+  -- a change of one symbol, by which it stands as before
+  changed_stand : (change : Symbol → Symbol) (map : SymbolMap) (index : ℕ) (after : SymbolMap) → after.symbols ≡ changed change map.symbols index
+      → ((symbol : Symbol) → Stands (length map.symbols) symbol → Stands (length map.symbols) (change symbol)) → Maps map after
+  changed_stand change map index after is stands =
+      let long : length after.symbols ≡ length map.symbols = ap (λ (all : List Symbol). length all) is ∙ changed_long change map.symbols index in
+      record {
+        more = omega (arith, long);
+        kept = λ all.
+            subst (λ (last : ℕ). All (Stands last) after.symbols) (sym long)
+            (subst (All (Stands (length map.symbols))) (sym is) (changed_all (length map.symbols) change stands map.symbols index all));
+        fits = λ few. omega (arith, long, few);
+      }
+
+  more_stand : (map : SymbolMap) (name : Name) → Names map (with_name map name)
+  more_stand map name =
+      let long : length (map.symbols ++ undefined name ∷ []) ≡ length map.symbols + 1 = length-append map.symbols (undefined name ∷ []) in
+      record {
+        more = omega (arith, long);
+        kept = λ all. subst (λ (last : ℕ). All (Stands last) (map.symbols ++ undefined name ∷ [])) (sym long)
+            (All-push (Stands (length map.symbols + 1)) map.symbols (undefined name)
+            (All-weaker (Stands (length map.symbols)) (Stands (length map.symbols + 1))
+            (λ symbol stood. stands_more (length map.symbols) (length map.symbols + 1) (omega arith) symbol.meaning stood) map.symbols all) tt);
+      }
 
   -- names
-  interned_stand : (map : SymbolMap) (name : Name) → Maps map (interned map name)
+  interned_stand : (map : SymbolMap) (name : Name) → Names map (interned map name)
   unfolding interned
   interned_stand map name = by (is_some (index_of name (names map.symbols)))
     where
-      by : (test : Bool) → Maps map (cond test map (with_name map name))
-      by true = same map
+      by : (test : Bool) → Names map (cond test map (with_name map name))
+      by true = named_so map
       by false = more_stand map name
 
-  added_stand : (test : Bool) (map : SymbolMap) (name : Name) (index : ℕ)
+  added_stand : (test : Bool) (map : SymbolMap) (name : Name) (index : ℕ) → has_room map name ≡ test
       → Fine (λ (pair : SymbolMap × ℕ). Maps map pair.0) (cond test (Ok (with_name map name, index)) (Err BadSymbolUse))
-  added_stand true map name index = made _ (more_stand map name)
-  added_stand false map name index = refused _
+  added_stand true map name index room =
+      let new = more_stand map name in
+      let test = (and_parts (nat_lt (length map.symbols + length map.files) (2 ^ 24)) (nat_le (names_size map + name_size name) (2 ^ 31)) room).0 in
+      let few = ltb-true (length map.symbols + length map.files) (2 ^ 24) test in
+      let long : length (map.symbols ++ undefined name ∷ []) ≡ length map.symbols + 1 = length-append map.symbols (undefined name ∷ []) in
+      made _ (record { more = new.more; kept = new.kept; fits = λ before. omega (arith, few, long) })
+  added_stand false map name index room = refused _
 
   named_stand : (map : SymbolMap) (name : Name) → Fine (λ (pair : SymbolMap × ℕ). Maps map pair.0) (named map name)
   unfolding named
@@ -99,7 +168,7 @@ module _ (sections : List LooseSection) where
     where
       by : (found : Option ℕ) → index_of name (names map.symbols) ≡ found → Fine (λ (pair : SymbolMap × ℕ). Maps map pair.0) (named map name)
       by (Some index) is = rw is (made (map, index) (same map))
-      by None is = rw is (added_stand (has_room map name) map name (length map.symbols))
+      by None is = rw is (added_stand (has_room map name) map name (length map.symbols) refl)
 
   found_stand : (pos : Pos) (table : Table) (found : Result (SymbolMap × ℕ) SymCause) → Fine (λ (pair : SymbolMap × ℕ). Maps table.symbols pair.0) found
       → Fine (λ (pair : Table × ℕ). Tables table pair.0) (found_in pos table found)
@@ -128,25 +197,26 @@ module _ (sections : List LooseSection) where
       by token.Operator = named_by
       by token.Other = named_by
 
-  pub with_name_stand : (pos : Pos) (name : Name) (table : Table) → Tables table (table_with_name pos name table)
+  -- names of a statement
+  pub with_name_stand : (pos : Pos) (name : Name) (table : Table) → Names table.symbols (table_with_name pos name table).symbols
   unfolding table_with_name
   with_name_stand pos name table = interned_stand table.symbols name
 
-  pub tree_stand : (pos : Pos) (tree : Tree) (table : Table) → Tables table (with_tree pos tree table)
+  pub tree_stand : (pos : Pos) (tree : Tree) (table : Table) → Names table.symbols (with_tree pos tree table).symbols
   unfolding with_tree
-  tree_stand pos (expr.number value) table = same table.symbols
+  tree_stand pos (expr.number value) table = named_so table.symbols
   tree_stand pos (expr.name written) table = with_name_stand pos (meant_name table.symbols.counts written) table
-  tree_stand pos expr.here table = same table.symbols
+  tree_stand pos expr.here table = named_so table.symbols
   tree_stand pos (expr.unary op operand) table = tree_stand pos operand table
   tree_stand pos (expr.binary op left right) table =
-      both table.symbols (with_tree pos left table).symbols (with_tree pos right (with_tree pos left table)).symbols (tree_stand pos left table)
+      named_both table.symbols (with_tree pos left table).symbols (with_tree pos right (with_tree pos left table)).symbols (tree_stand pos left table)
       (tree_stand pos right (with_tree pos left table))
 
-  pub trees_stand : (pos : Pos) (trees : List Tree) (table : Table) → Tables table (with_trees pos trees table)
+  pub trees_stand : (pos : Pos) (trees : List Tree) (table : Table) → Names table.symbols (with_trees pos trees table).symbols
   unfolding with_trees
-  trees_stand pos [] table = same table.symbols
+  trees_stand pos [] table = named_so table.symbols
   trees_stand pos (tree ∷ trees) table =
-      both table.symbols (with_tree pos tree table).symbols (with_trees pos trees (with_tree pos tree table)).symbols (tree_stand pos tree table)
+      named_both table.symbols (with_tree pos tree table).symbols (with_trees pos trees (with_tree pos tree table)).symbols (tree_stand pos tree table)
       (trees_stand pos trees (with_tree pos tree table))
 
   -- changes
@@ -163,7 +233,11 @@ module _ (sections : List LooseSection) where
   named_change_stand pos change name table fine =
       step (symbol_stand pos name table) (λ pair kept. onto table pair.0 (λ t. t) kept (change_stand change pair (fine pair.0.symbols pair.1)))
 
-  redefined_stand : (now : Meaning) (what : Definition) → MeaningStands sections (meant what) → Fine (MeaningStands sections) (redefined now what)
+  -- the place of a definition stands in its section
+  abbrev pub DefinitionStands : Definition → Type 0
+  DefinitionStands what = (last : ℕ) → MeaningStands sections last (meant what)
+
+  redefined_stand : (now : Meaning) (what : Definition) → DefinitionStands what → Fine (λ made. (last : ℕ) → MeaningStands sections last made) (redefined now what)
   redefined_stand meaning.Undefined what stands = made (meant what) stands
   redefined_stand (meaning.Label spot) what stands = refused _
   redefined_stand (meaning.Space spot) what stands = refused _
@@ -172,7 +246,7 @@ module _ (sections : List LooseSection) where
   redefined_stand (meaning.Assigned form) (definition.Common size align) stands = refused _
   redefined_stand (meaning.Assigned form) (definition.Space spot) stands = refused _
 
-  pub defined_stand : (what : Definition) → MeaningStands sections (meant what) → (map : SymbolMap) (index : ℕ) → Fine (Maps map) (defined map index what)
+  pub defined_stand : (what : Definition) → DefinitionStands what → (map : SymbolMap) (index : ℕ) → Fine (Maps map) (defined map index what)
   unfolding defined
   defined_stand what stands map index = by (slice_get map.symbols index)
     where
@@ -180,19 +254,20 @@ module _ (sections : List LooseSection) where
       by None = refused _
       by (Some symbol) =
           step (redefined_stand symbol.meaning what stands)
-          (λ now there. made _ (record { kept = λ all. changed_stand (with_meaning now) (λ one stood. there) map.symbols index all }))
+          (λ now there. made _ (changed_stand (with_meaning now) map index (with_defined map index symbol.name what now) refl (λ one stood. there (length map.symbols))))
 
-  pub assigned_stand : (form : Form) (once : Bool) (map : SymbolMap) (index : ℕ) → Fine (Maps map) (assigned map index form once)
+  pub assigned_stand : (form : Form) (once : Bool) (map : SymbolMap) (index : ℕ) → AreUpTo (length map.symbols) form.terms
+      → Fine (Maps map) (assigned map index form once)
   unfolding assigned
-  assigned_stand form once map index = by (form_fault_at map index once) (leads_back map.symbols form index)
+  assigned_stand form once map index named = by (form_fault_at map index once) (leads_back map.symbols form index)
     where
       by : (fault : Option SymCause) (back : Bool) → Fine (Maps map) (assigned_by fault back (with_form map index form))
       by (Some fault) back = refused _
       by None true = refused _
-      by None false = made _ (record { kept = λ all. changed_stand (with_meaning (meaning.Assigned form)) (λ one stood. tt) map.symbols index all })
+      by None false = made _ (changed_stand (with_meaning (meaning.Assigned form)) map index (with_form map index form) refl (λ one stood. named))
 
   pub kind_stand : (kind : Kind) (map : SymbolMap) (index : ℕ) → Fine (Maps map) (kind_said kind map index)
-  kind_stand kind map index = made _ (record { kept = λ all. changed_stand (with_kind kind) (λ one stood. stood) map.symbols index all })
+  kind_stand kind map index = made _ (changed_stand (with_kind kind) map index _ refl (λ one stood. stood))
 
   bound_stand : (binding : Binding) (map : SymbolMap) (index : ℕ) → Fine (Maps map) (bound map index binding)
   unfolding bound
@@ -202,12 +277,12 @@ module _ (sections : List LooseSection) where
       by None = refused _
       by (Some symbol) =
           after (bound_as symbol.meaning symbol.binding binding)
-          (λ now. made _ (record { kept = λ all. changed_stand (with_binding now) (λ one stood. stood) map.symbols index all }))
+          (λ now. made _ (changed_stand (with_binding now) map index _ refl (λ one stood. stood)))
 
   said_stand : (attribute : SymbolAttribute) (map : SymbolMap) (index : ℕ) → Fine (Maps map) (said attribute map index)
   said_stand (Bind binding) map index = bound_stand binding map index
   said_stand (See visibility) map index =
-      made _ (record { kept = λ all. changed_stand (with_visibility visibility) (λ one stood. stood) map.symbols index all })
+      made _ (changed_stand (with_visibility visibility) map index _ refl (λ one stood. stood))
 
   pub say_all_stand : (pos : Pos) (attribute : SymbolAttribute) (names : List Name) (table : Table) → Fine (Tables table) (say_all pos attribute names table)
   unfolding say_all all_steps
@@ -217,33 +292,67 @@ module _ (sections : List LooseSection) where
       (λ next kept. onto table next (λ t. t) kept (say_all_stand pos attribute names next))
 
   next_size_stand : (size : Form) (map : SymbolMap) (index : ℕ) → Maps map (with_next_size size map index)
-  next_size_stand size map index = record { kept = λ all. changed_stand (with_size size (map.sizes + 1)) (λ one stood. stood) map.symbols index all }
+  next_size_stand size map index = changed_stand (with_size size (map.sizes + 1)) map index (with_next_size size map index) refl (λ one stood. stood)
 
   pub sized_stand : (pos : Pos) (form : Form) (found : Table × ℕ) → Tables found.0 (sized pos form found)
   sized_stand pos form found = next_size_stand form found.0.symbols found.1
 
-  pub allowed_stand : (naming : Naming) (table : Table) → Fine (Tables table) (allowed naming table)
-  unfolding allowed
-  allowed_stand naming table = either _ (made table (same table.symbols)) (refused _)
+  -- a change before what is allowed, and one behind it
+  pub allows_on : {r : Result Table PlaceCause} (base : ℕ) (before between : Table) → Tables before between → Fine (Allows base between) r → Fine (Allows base before) r
+  allows_on {r = Ok after} base before between first later =
+      let more = first.more in
+      let still = later.holds.more in
+      made after (record { more = omega (arith, more, still); kept = λ all. later.holds.kept (first.kept all); few = later.holds.few })
+  allows_on {r = Err fault} base before between first later = refused fault
 
-  pub define_space_stand : (naming : Naming) (symbol size : ℕ) (what : Definition) (table : Table) → MeaningStands sections (meant what)
-      → Fine (Tables table) (define_space naming symbol size what table)
+  allows_behind : {r : Result Table PlaceCause} (base : ℕ) (before between : Table) → Allows base before between → Fine (Tables between) r → Fine (Allows base before) r
+  allows_behind {r = Ok after} base before between first later =
+      let more = first.more in
+      let still = later.holds.more in
+      made after (record { more = omega (arith, more, still); kept = λ all. later.holds.kept (first.kept all); few = λ base_few. later.holds.fits (first.few base_few) })
+  allows_behind {r = Err fault} base before between first later = refused fault
+
+  pub allowed_stand : (naming : Naming) (table : Table) → Fine (Allows naming.before table) (allowed naming table)
+  unfolding allowed
+  allowed_stand naming table = by (naming.meant && (nat_le (length table.symbols.symbols) naming.before || is_within_limits table.symbols)) refl
+    where
+      within : (few : naming.before ≤ 2 ^ 24) → (nat_le (length table.symbols.symbols) naming.before || is_within_limits table.symbols) ≡ true → length table.symbols.symbols ≤ 2 ^ 24
+      within few test = elim (or_cases (nat_le (length table.symbols.symbols) naming.before) (is_within_limits table.symbols) test) [
+        | inl old ↦ (let le = leb-true (length table.symbols.symbols) naming.before old in omega (arith, le, few))
+        | inr new ↦
+            (let part = (and_parts (nat_le (length table.symbols.symbols + length table.symbols.files) (2 ^ 24)) (nat_le (names_size table.symbols) (2 ^ 31)) new).0 in
+            let le = leb-true (length table.symbols.symbols + length table.symbols.files) (2 ^ 24) part in
+            omega (arith, le))
+      ]
+
+      by : (test : Bool) → (naming.meant && (nat_le (length table.symbols.symbols) naming.before || is_within_limits table.symbols)) ≡ test
+          → Fine (Allows naming.before table) (cond test (Ok table) (Err BadSymbol))
+      by true is =
+          made table (record {
+            more = omega arith;
+            kept = λ all. all;
+            few = λ few. within few (and_parts naming.meant (nat_le (length table.symbols.symbols) naming.before || is_within_limits table.symbols) is).1;
+          })
+      by false is = refused _
+
+  pub define_space_stand : (naming : Naming) (symbol size : ℕ) (what : Definition) (table : Table) → DefinitionStands what
+      → Fine (Allows naming.before table) (define_space naming symbol size what table)
   unfolding define_space
   define_space_stand naming symbol size what table stands =
       step (step (change_stand (λ map index. defined map index what) (table, symbol) (defined_stand what stands table.symbols symbol))
       (λ next kept. made (with_map next (as_space size next.symbols symbol))
       (both table.symbols next.symbols (as_space size next.symbols symbol) kept (space_stand next.symbols))))
-      (λ next kept. onto table next (λ t. t) kept (allowed_stand naming next))
+      (λ next kept. allows_on naming.before table next kept (allowed_stand naming next))
     where
       space_stand : (map : SymbolMap) → Maps map (as_space size map symbol)
       space_stand map =
           both map (with_next_size (constant_form size) map symbol) (as_space size map symbol) (next_size_stand (constant_form size) map symbol)
-          (record { kept = λ all. changed_stand (with_kind (space_kind map symbol)) (λ one stood. stood) (with_next_size (constant_form size) map symbol).symbols symbol all })
+          (changed_stand (with_kind (space_kind map symbol)) (with_next_size (constant_form size) map symbol) symbol (as_space size map symbol) refl (λ one stood. stood))
 
-  pub end_stand : (pos : Pos) (naming : Naming) (spot : Spot) (keeps : Bool) (table : Table) → MeaningStands sections (meaning.Label spot)
-      → Fine (Tables table) (end_naming pos naming spot keeps table)
+  pub end_stand : (pos : Pos) (naming : Naming) (spot : Spot) (keeps : Bool) (table : Table) → DefinitionStands (definition.Label spot)
+      → Fine (Allows naming.before table) (end_naming pos naming spot keeps table)
   unfolding name_here
-  end_stand pos naming spot keeps table stands = step (allowed_stand naming table) (λ next kept. onto table next (λ t. t) kept (here keeps next))
+  end_stand pos naming spot keeps table stands = step (allowed_stand naming table) (λ next allows. allows_behind naming.before table next allows (here keeps next))
     where
       here_found : (found : Option ℕ) (next : Table) → Fine (Tables next) (here_by pos spot found next)
       here_found (Some index) next = made next (same next.symbols)
@@ -257,5 +366,5 @@ module _ (sections : List LooseSection) where
   pub file_stand : (name : Name) (table : Table) → Fine (Tables table) (file_named name table)
   unfolding with_file
   file_stand name table =
-      step (of_fine (with_file table.symbols name) (either (has_room table.symbols name) (made _ (record { kept = λ all. all })) (refused _)))
+      step (of_fine (with_file table.symbols name) (either (has_room table.symbols name) (made _ (record { more = omega arith; kept = λ all. all; fits = λ few. few })) (refused _)))
       (λ map kept. made _ kept)

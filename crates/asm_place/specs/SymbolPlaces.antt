@@ -1,5 +1,6 @@
--- Symbols that have a place, and the sections in which they stand.
-use Rattle.std.specs.Prelude.{◌≡◌, ℕ, ◌≤◌, ◌<◌, List, All, Some, length, slice_get}
+-- Symbols that have a place, the sections in which they stand, and the symbols that forms name.
+use Rattle.std.specs.Prelude.{◌≡◌, ℕ, ◌≤◌, ◌<◌, List, [], ◌∷◌, All, Some, length, slice_get}
+use Rattle.asm_expr.specs.declared.forms.Term.{Term}
 use Rattle.asm_frags.specs.Writing.{LooseSection}
 use Rattle.asm_symbols.specs.declared.entries.Meaning.{Meaning}
 use Rattle.asm_symbols.specs.declared.entries.Meaning.TheVariants.{Undefined, Label, Common, Space, Assigned}
@@ -12,19 +13,26 @@ pub record HasItems (sections : List LooseSection) (number items : ℕ) : Type 0
   pub there : slice_get sections number ≡ Some section
   pub enough : items ≤ length section.items
 
--- a label, or space of the object, stands in a section that is there, behind some of its items
-abbrev pub MeaningStands : List LooseSection → Meaning → Type 0
-MeaningStands sections Undefined = Unit {0}
-MeaningStands sections (Label spot) = HasItems sections spot.section spot.item
-MeaningStands sections (Common size align) = Unit {0}
-MeaningStands sections (Space spot) = HasItems sections spot.section spot.item
-MeaningStands sections (Assigned form) = Unit {0}
+-- no term is of a symbol with a number above this one
+abbrev pub AreUpTo : ℕ → List Term → Type 0
+AreUpTo last [] = Unit {0}
+AreUpTo last (term ∷ terms) = (term.symbol ≤ last) × AreUpTo last terms
 
--- each symbol that has a place stands so
+-- a label, or space of the object, stands in a section that is there, behind some of its items; the form of an assigned symbol names no symbol above
+-- this number
+abbrev pub MeaningStands : List LooseSection → ℕ → Meaning → Type 0
+MeaningStands sections last Undefined = Unit {0}
+MeaningStands sections last (Label spot) = HasItems sections spot.section spot.item
+MeaningStands sections last (Common size align) = Unit {0}
+MeaningStands sections last (Space spot) = HasItems sections spot.section spot.item
+MeaningStands sections last (Assigned form) = AreUpTo last form.terms
+
+-- each symbol that has a place stands so, and forms name symbols that are there, or the next one
 abbrev pub SymbolsStand : List LooseSection → List Symbol → Type 0
-SymbolsStand sections symbols = All (λ symbol. MeaningStands sections symbol.meaning) symbols
+SymbolsStand sections symbols = All (λ symbol. MeaningStands sections (length symbols) symbol.meaning) symbols
 
--- the sections are there that statements put into or come back to, and so are the first three; each symbol that has a place stands in its section
+-- the sections are there that statements put into or come back to, and so are the first three; each symbol that has a place stands in its section, and
+-- forms name symbols that are there, or the next one
 pub record PlacesStand (placed : Placed) : Type 0 where
   pub current : HasItems placed.sections placed.current 0
   pub previous : HasItems placed.sections placed.previous 0

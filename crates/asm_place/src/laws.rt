@@ -1,6 +1,6 @@
 //! What holds of all that is placed.
 
-ghost use Rattle.std.specs.Prelude.{◌≡◌, ◌∷◌, ◌++◌, ℕ, Bool, List, length, Option, None, Some, Ok, Err, true, false};
+ghost use Rattle.std.specs.Prelude.{◌≡◌, ◌≤◌, ◌^◌, ◌∷◌, ◌++◌, ℕ, Bool, List, length, Option, None, Some, Ok, Err, true, false};
 ghost use Rattle.asm_base.specs.declared.positions.Pos.{Pos};
 ghost use Rattle.asm_base.specs.Tokens.{SpelledToken};
 ghost use Rattle.asm_lines.specs.NextStatements.{TokenStatement};
@@ -13,8 +13,8 @@ ghost use Rattle.asm_place.specs.declared.place_faults.FaultAt.{FaultAt};
 ghost use Rattle.asm_place.specs.Faults.{is_file_too_large};
 ghost use Rattle.att_insns.specs.InsnTexts.{InsnText};
 ghost use Rattle.asm_place.specs.CodePlaces.{insn_written, insn_in, is_instruction, BeginsAsInstruction, IsInsnPut, InsnStands, jump_in};
-ghost use Rattle.asm_place.specs.SymbolPlaces.{PlacesStand};
-ghost use Rattle.asm_place.specs.JumpPlaces.{IsJumpPut, JumpStands, jump_written};
+ghost use Rattle.asm_place.specs.SymbolPlaces.{AreUpTo, PlacesStand};
+ghost use Rattle.asm_place.specs.JumpPlaces.{IsJump, IsJumpPut, JumpStands, jump_written};
 ghost use Rattle.item_bytes.specs.Jumps.{jump_bytes, jump_distance};
 ghost use Rattle.x86_table.specs.Reads.{Reads};
 ghost use Rattle.item_bytes.specs.declared.jumps.Condition.{Condition as TheCondition};
@@ -142,9 +142,19 @@ pub fn jumps_read()
     conditions_are_numbered();
 }
 
-/// Each symbol that has a place stands in a section that is there: so it is at the beginning, and placing keeps it so.
+/// Each symbol that has a place stands in a section that is there, and the forms of assigned symbols
+/// name symbols that are there, or the next one: so it is at the beginning, and placing keeps it so. There are at most
+/// 2^24 symbols. The target of a direct jump names symbols that are there in the end, or the next one.
 pub fn places_stand()
     ensures begins { (no_warn : Bool) → PlacesStand (nothing_placed no_warn) }
     ensures kept { (statements : List TokenStatement) (before placed : Placed)
         → place_all statements before ≡ Ok placed → PlacesStand before → PlacesStand placed }
+    ensures few { (statements : List TokenStatement) (no_warn : Bool) (placed : Placed)
+        → place_all statements (nothing_placed no_warn) ≡ Ok placed
+        → length placed.table.symbols.symbols ≤ 2 ^ 24 }
+    ensures named { (s : TokenStatement) (later : List TokenStatement) (placed whole : Placed)
+        (text : InsnText) → PlacesStand placed
+        → (jump : IsJump (pos_at s.file s.line) s.tokens text placed)
+        → place_all (s ∷ later) placed ≡ Ok whole → insn_in s ≡ Some text
+        → AreUpTo (length whole.table.symbols.symbols) jump.forms.displacement.terms }
 {}

@@ -1,5 +1,6 @@
 -- The first sections are there, and each statement keeps the places of symbols.
-use Rattle.asm_place.proofs.PlaceWalk.{places_begin, places_kept}
+use Rattle.asm_place.proofs.PlaceWalk.{places_begin, places_kept, symbols_few}
+use Rattle.asm_place.proofs.JumpTargets.{target_named}
 use Rattle.asm_place.proofs.laws.places_stand.Goals as goal
 
 pub returns-clause-begins : goal.returns-clause-begins
@@ -7,3 +8,9 @@ returns-clause-begins c = places_begin
 
 pub returns-clause-kept : goal.returns-clause-kept
 returns-clause-kept c = places_kept
+
+pub returns-clause-few : goal.returns-clause-few
+returns-clause-few c = symbols_few
+
+pub returns-clause-named : goal.returns-clause-named
+returns-clause-named c = target_named
