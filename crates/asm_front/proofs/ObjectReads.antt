@@ -1,5 +1,5 @@
 -- Written bytes read back: the bytes of an instruction stand in the object.
-use Rattle.std.proofs.Common.{◌≡◌, ℕ, ◌+◌, ◌≤◌, ◌&&◌, not, nat_lt, Bool, true, false, cond, List, [], ◌∷◌, ◌++◌, Option, Some, None, Result, Ok, Err, length, map, drop, sym, ap, ◌∙◌, arith}
+use Rattle.std.proofs.Common.{◌≡◌, ℕ, ◌+◌, ◌≤◌, ◌&&◌, not, nat_lt, Bool, true, false, cond, List, [], ◌∷◌, ◌++◌, Option, Some, None, Result, Ok, Err, length, map, drop, refl, sym, ap, ◌∙◌, arith}
 use Rattle.std.proofs.lemmas.List.{map-append}
 use Rattle.std.specs.Prelude.{slice_get}
 use Rattle.asm_base.specs.Tokens.{SpelledToken}
@@ -25,11 +25,12 @@ use Rattle.asm_place.proofs.GrowthLemmas.{nothing_within}
 use Rattle.asm_place.proofs.InstructionLaws.{instruction_there}
 use Rattle.elf_object.specs.declared.faults.ObjectCause.{ObjectCause}
 use Rattle.elf_object.specs.Faults.{object_fault}
+use Rattle.elf_object.specs.Objects.{object_of}
 use Rattle.elf_object.specs.Image.{image_of}
 use Rattle.elf_file.specs.Places.{PieceAt}
 use Rattle.elf_object.specs.Places.{IsFiled, IsBetween}
 use Rattle.elf_file.proofs.FilePlaces.{drop_stands}
-use Rattle.asm_front.specs.Ending.{Flags, first_warning, warned_end, made_end, laid_end, noted, finished}
+use Rattle.asm_front.specs.Ending.{Flags, first_warning, warned_end, made_end, first_over, unless_over, laid_end, noted, finished}
 use Rattle.asm_front.specs.declared.ending.Ended.{Ended}
 use Rattle.asm_front.specs.declared.ending.NotedObject.{NotedObject}
 use Rattle.asm_front.specs.Assembly.{placed_end, source_placement, assembly_of_lines, assembly_of}
@@ -94,20 +95,28 @@ made_is : (fatal : Bool) (table : Table) (notes : List Noted) (fault : Option Ob
 made_is fatal table notes None image made e = warned_is (first_warning fatal notes) image made e
 made_is fatal table notes (Some fault) image made e = absurd cc
 
+-- no section of an object is too large
+unless_over_is : (over : Option Pos) (answer : Result (List ℕ) Ended) (made : List ℕ) → unless_over over answer ≡ Ok made → (over ≡ None) × (answer ≡ Ok made)
+unless_over_is None answer made e = (refl, e)
+unless_over_is (Some pos) answer made e = absurd cc
+
 laid_is : (fatal : Bool) (table : Table) (notes : List Noted) (answer : Result LaidSections LayoutFault) (laid : LaidSections) (made : List ℕ)
-    → answer ≡ Ok laid → laid_end fatal table notes answer ≡ Ok made → made ≡ image_of table.symbols laid
+    → answer ≡ Ok laid → laid_end fatal table notes answer ≡ Ok made → (made ≡ image_of table.symbols laid) × (first_over laid ≡ None)
 laid_is fatal table notes (Ok sections) laid made is e =
     let same : sections ≡ laid = cc in
-    made_is fatal table notes (object_fault table.symbols sections) (image_of table.symbols sections) made e ∙ ap (image_of table.symbols) same
+    let parts = unless_over_is (first_over sections) (made_end fatal table notes (object_of table.symbols sections)) made e in (
+      made_is fatal table notes (object_fault table.symbols sections) (image_of table.symbols sections) made parts.1 ∙ ap (image_of table.symbols) same,
+      sym (ap first_over same) ∙ parts.0,
+    )
 laid_is fatal table notes (Err fault) laid made is e = absurd cc
 
 noted_is : (notes : List Noted) (answer : Result (List ℕ) Ended) (made : NotedObject) → noted notes answer ≡ Ok made → answer ≡ Ok made.object
 noted_is notes (Ok object) made e = cc
 noted_is notes (Err ended) made e = absurd cc
 
--- the object that is made at the end is that of the layout
+-- the object that is made at the end is that of the layout, of which no section is too large
 finished_is : (fatal : Bool) (whole : Placed) (laid : LaidSections) (made : NotedObject) → layout_of whole.table.symbols whole.sections ≡ Ok laid
-    → finished fatal whole.sections whole.table whole.notes ≡ Ok made → made.object ≡ image_of whole.table.symbols laid
+    → finished fatal whole.sections whole.table whole.notes ≡ Ok made → (made.object ≡ image_of whole.table.symbols laid) × (first_over laid ≡ None)
 unfolding finished
 finished_is fatal whole laid made is e =
     let answer = layout_of whole.table.symbols whole.sections in
@@ -126,14 +135,25 @@ not_too_large : {B E : Type 0} (large : Bool) (fault : E) (r : Result B E) (y : 
 not_too_large true fault r y e = absurd cc
 not_too_large false fault r y e = e
 
--- an object is that of the layout of what the statements of its source placed
+-- an object is that of the layout of what the statements of its source placed, of which no section is too large
+assembled_is : (flags : Flags) (source : List ℕ) (made : NotedObject) (statements : List StatementAt) (whole : Placed) (laid : LaidSections)
+    → statements_of main_file source ≡ Ok statements → place_all (map in_tokens statements) (nothing_placed flags.no_warn) ≡ Ok whole
+    → layout_of whole.table.symbols whole.sections ≡ Ok laid → assembly_of flags main_file source ≡ Ok made
+    → (made.object ≡ image_of whole.table.symbols laid) × (first_over laid ≡ None)
+unfolding assembly_of
+assembled_is flags source made statements whole laid are all is e =
+    finished_is flags.fatal_warnings whole laid made is
+    (lines_is flags source made statements whole are all (not_too_large (nat_lt most_bytes (length source)) _ (assembly_of_lines flags main_file source) made e))
+
 pub assembly_is : (flags : Flags) (source : List ℕ) (made : NotedObject) (statements : List StatementAt) (whole : Placed) (laid : LaidSections)
     → statements_of main_file source ≡ Ok statements → place_all (map in_tokens statements) (nothing_placed flags.no_warn) ≡ Ok whole
     → layout_of whole.table.symbols whole.sections ≡ Ok laid → assembly_of flags main_file source ≡ Ok made → made.object ≡ image_of whole.table.symbols laid
-unfolding assembly_of
-assembly_is flags source made statements whole laid are all is e =
-    finished_is flags.fatal_warnings whole laid made is
-    (lines_is flags source made statements whole are all (not_too_large (nat_lt most_bytes (length source)) _ (assembly_of_lines flags main_file source) made e))
+assembly_is flags source made statements whole laid are all is e = (assembled_is flags source made statements whole laid are all is e).0
+
+pub none_over : (flags : Flags) (source : List ℕ) (made : NotedObject) (statements : List StatementAt) (whole : Placed) (laid : LaidSections)
+    → statements_of main_file source ≡ Ok statements → place_all (map in_tokens statements) (nothing_placed flags.no_warn) ≡ Ok whole
+    → layout_of whole.table.symbols whole.sections ≡ Ok laid → assembly_of flags main_file source ≡ Ok made → first_over laid ≡ None
+none_over flags source made statements whole laid are all is e = (assembled_is flags source made statements whole laid are all is e).1
 
 -- each instruction without operands that was written reads back
 pub bare_read_back : AreSettled → ReadsOneWay → BareCodesRead → BareCodesStand → (flags : Flags) (source : List ℕ) (made : NotedObject) → assembly_of flags main_file source ≡ Ok made → BareReadBack flags source made.object

@@ -5,7 +5,9 @@ ghost use Rattle.asm_front.specs.Ending as spec;
 ghost use Rattle.asm_base.specs.Refusals.{Raises, Returns};
 ghost use Rattle.asm_relax.specs.declared.plan_states.PlanState.TheVariants.{Fresh, LaidOut};
 ghost use Rattle.asm_relax.specs.Settling.{layout_of, settled_plan, Settles};
+ghost use Rattle.elf_object.specs.Objects.{object_of};
 
+use crate::large_sections::first_over;
 use asm_base::{EndFault, Fault, Noted, Notes, Pos, Refusal, Steps};
 use asm_frags::{Laid, Sections};
 use asm_place::FaultAt;
@@ -25,7 +27,7 @@ pub(crate) struct Ended {
 }
 
 /// The first line of the source file.
-const SOURCE_START: Pos = Pos { file: 0, line: 1 };
+pub(crate) const SOURCE_START: Pos = Pos { file: 0, line: 1 };
 
 /// The fault of the layout.
 fn layout_end(fault: LayoutFault) -> Ended
@@ -110,15 +112,16 @@ pub struct NotedObject {
     pub notes: Notes,
 }
 
-/// The object of a layout, or its first fault; warnings come last.
-fn laid_end(
+/// The object of a layout of which no section is too large, or its first fault; warnings come last.
+fn made_end(
     alloc: Global,
     fatal: bool,
     sections: Sections<Laid>,
     table: &SymbolUses,
     notes: &[Noted],
 ) -> Result<Object, Refusal<Ended>>
-    ensures { Returns result (spec.laid_end fatal table.now notes.now (Ok sections)) }
+    ensures { Returns result (spec.made_end fatal table.now notes.now
+        (object_of table.now.symbols sections)) }
 {
     match Object::new(alloc, sections, table.symbols()) {
         Ok(object) => match first_warning(fatal, notes) {
@@ -129,6 +132,25 @@ fn laid_end(
             None => Ok(object),
         },
         Err(refusal) => Err(object_refusal(table, refusal)),
+    }
+}
+
+/// The object of a layout, or its first fault: that of a section that is too large comes first.
+fn laid_end(
+    alloc: Global,
+    fatal: bool,
+    sections: Sections<Laid>,
+    table: &SymbolUses,
+    notes: &[Noted],
+) -> Result<Object, Refusal<Ended>>
+    ensures { Returns result (spec.laid_end fatal table.now notes.now (Ok sections)) }
+{
+    match first_over(&sections) {
+        Some(pos) => {
+            let fault = EndFault::SectionTooLarge;
+            Err(Refusal::Fault(Ended { fault, pos }))
+        }
+        None => made_end(alloc, fatal, sections, table, notes),
     }
 }
 

@@ -4,6 +4,7 @@
 mod answers;
 mod assembling;
 mod ending;
+mod large_sections;
 mod laws;
 
 pub use answers::{AsmFault, Assembled, Options};
