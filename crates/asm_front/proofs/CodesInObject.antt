@@ -28,7 +28,7 @@ use Rattle.asm_front.specs.ReadsBack.{file_place, final_value, CodesReadBack, Re
 use Rattle.asm_front.proofs.SmallForms.{final_small}
 use Rattle.asm_front.proofs.CodePieces.{all_hold, code_there}
 use Rattle.asm_front.proofs.CodeReads.{code_reads}
-use Rattle.asm_front.proofs.JumpsInObject.{JumpFacts, jumps_read}
+use Rattle.asm_front.proofs.JumpsInObject.{JumpFacts, jumps_read_back}
 use Rattle.asm_front.proofs.LaidItems.{AreSettled, section_kept}
 use Rattle.asm_front.proofs.ObjectReads.{bare_read_back, assembly_is}
 
@@ -80,5 +80,5 @@ pub reads_back : AreSettled → ReadsOneWay → BareCodesRead → BareCodesStand
 reads_back settled one_way read stand fills notes facts flags source made e = record {
   bare = bare_read_back settled one_way read stand flags source made e;
   coded = codes_read_back settled one_way fills notes flags source made e;
-  jumps = jumps_read settled one_way facts flags source made e;
+  jumps = jumps_read_back settled one_way facts flags source made e;
 }

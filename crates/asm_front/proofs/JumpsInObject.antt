@@ -6,6 +6,7 @@ use Rattle.std.proofs.lemmas.Bool.{or_cases, ltb-true, leb-true}
 use Rattle.std.proofs.lemmas.List.{map-append}
 use Rattle.std.proofs.lemmas.Option.{none-some, same_Some, slice_get-map}
 use Rattle.asm_base.specs.declared.positions.Pos.{Pos}
+use Rattle.asm_base.specs.Refusals.{◌>>=◌}
 use Rattle.asm_lines.specs.NextStatements.{TokenStatement, in_tokens}
 use Rattle.asm_symbols.specs.SymbolMap.{SymbolMap}
 use Rattle.asm_frags.specs.declared.fields.Field.{Field}
@@ -20,9 +21,11 @@ use Rattle.item_bytes.specs.Jumps.{is_conditional, jump_bytes, jump_distance}
 use Rattle.item_contents.specs.declared.contents.Content.{Content}
 use Rattle.item_contents.specs.declared.contents.Content.TheVariants.{Growing}
 use Rattle.item_contents.specs.declared.kinds.Growth.TheVariants.{Jump}
-use Rattle.item_contents.specs.Contents.{MayHave, MayGrowTo, level_size}
-use Rattle.asm_levels.specs.Needs.{IsSignedWithin}
+use Rattle.item_contents.specs.Contents.{level_size}
+use Rattle.asm_levels.specs.declared.rows.Row.{Row}
+use Rattle.asm_levels.specs.Needs.{need, tops, IsSignedWithin}
 use Rattle.asm_levels.specs.Sizes.{jump_size}
+use Rattle.level_ranks.specs.Ranks.{IsLayout}
 use Rattle.assigned_forms.specs.Expanding.{expanded}
 use Rattle.asm_relax.specs.FieldValues.{held_value}
 use Rattle.asm_relax.specs.ItemRows.{rows_of, levels_of}
@@ -42,19 +45,23 @@ use Rattle.att_insns.specs.InsnTexts.{InsnText}
 use Rattle.asm_values.specs.State.{Placed, nothing_placed}
 use Rattle.asm_place.specs.Instructions.{next_offset, AreWithin}
 use Rattle.asm_place.specs.CodePlaces.{insn_in, jump_in}
-use Rattle.asm_place.specs.SymbolPlaces.{PlacesStand}
-use Rattle.asm_place.specs.JumpPlaces.{jump_form, items_so_far, jump_field, JumpStandsAt, JumpStands, jump_written}
+use Rattle.asm_place.specs.SymbolPlaces.{AreUpTo, PlacesStand}
+use Rattle.asm_place.proofs.StatementSplits.{all_split}
+use Rattle.asm_place.specs.JumpPlaces.{IsJump, jump_form, items_so_far, jump_field, JumpStandsAt, JumpStands, jump_written}
 use Rattle.asm_place.specs.Sources.{pos_at, place_all}
 use Rattle.x86_encode.specs.declared.encoded.FieldKind.TheVariants as kind
-use Rattle.asm_front.specs.Ending.{Flags}
+use Rattle.asm_front.specs.Ending.{Flags, first_over}
 use Rattle.asm_front.specs.declared.ending.NotedObject.{NotedObject}
 use Rattle.asm_front.specs.Assembly.{assembly_of}
 use Rattle.asm_front.specs.Outcome.{main_file}
-use Rattle.asm_front.specs.ReadsBack.{file_place, final_value, held_distance, JumpReadsAt, JumpsRead}
+use Rattle.asm_place.proofs.PlacingLaws.{all_within}
+use Rattle.asm_front.specs.ReadsBack.{file_place, final_value, has_no_bits, JumpReadsAt, JumpReadsBack, JumpsReadBack}
 use Rattle.asm_front.proofs.HeldFields.{field_held}
-use Rattle.asm_front.proofs.JumpFields.{all_there, stands_in_item, jump_constant}
+use Rattle.asm_front.proofs.JumpFields.{stands_in_item, jump_constant}
+use Rattle.asm_front.proofs.LowLayouts.{layout_low}
+use Rattle.asm_front.proofs.OwnPlaces.{names_own_place}
 use Rattle.asm_front.proofs.LaidItems.{AreSettled, layout_is, kept_section, section_kept, laid_stays, laid_sized, first_kept}
-use Rattle.asm_front.proofs.ObjectReads.{reads_code, assembly_is}
+use Rattle.asm_front.proofs.ObjectReads.{reads_code, assembly_is, none_over}
 use Rattle.asm_front.proofs.SmallForms.{held_small, final_small}
 
 -- what is known of all jumps: where their items stand in the sections and in the object, and what their bytes read as
@@ -73,8 +80,14 @@ pub record JumpFacts : Type 0 where
   pub short : (condition : Option Condition) (distance : ℕ) → distance < 2 ^ 64 → IsSignedWithin (2 ^ 7) distance
       → jump_distance false (jump_bytes condition false distance) ≡ distance
   pub room : SettledHaveRoom
+  pub ranked : (rows : List Row) → (rounds : ℕ) × IsLayout (need rows) (tops rows) (levels_of rows) rounds
   pub starts : (no_warn : Bool) → PlacesStand (nothing_placed no_warn)
   pub places : (statements : List TokenStatement) (before placed : Placed) → place_all statements before ≡ Ok placed → PlacesStand before → PlacesStand placed
+  pub few : (statements : List TokenStatement) (no_warn : Bool) (placed : Placed) → place_all statements (nothing_placed no_warn) ≡ Ok placed
+      → length placed.table.symbols.symbols ≤ 2 ^ 24
+  pub named : (s : TokenStatement) (later : List TokenStatement) (placed whole : Placed) (text : InsnText) → PlacesStand placed
+      → (jump : IsJump (pos_at s.file s.line) s.tokens text placed) → place_all (s ∷ later) placed ≡ Ok whole → insn_in s ≡ Some text
+      → AreUpTo (length whole.table.symbols.symbols) jump.forms.displacement.terms
 
 -- THE ITEM
 
@@ -138,10 +151,6 @@ module _ (settled : AreSettled) (facts : JumpFacts) (symbols : SymbolMap) (secti
       ∙ ap (option_map (λ (i : LaidItem). item_laid_at (i.offset + shift_of item 0 kept.items) i.size i)) got.2 in
       ap (λ (i : LaidItem). i.address) (same_Some _ _ (sym stays ∙ moves))
 
-  -- its size is that of one of two levels
-  may_have : MayGrowTo (Jump condition) item_size
-  may_have = all_there (λ (i : LaidItem). MayHave i.content i.size) kept.items item settled_item got.2 (laid_sized settled symbols sections laid n kept is found)
-
   -- its field, with assigned symbols expanded
   field_got : slice_get kept.fields stands.index ≡ Some (substituted_field (expanded symbols) field)
   field_got = slice_get-map (substituted_field (expanded symbols)) section.fields stands.index ∙ ap (option_map (substituted_field (expanded symbols))) stands.field_there
@@ -186,31 +195,10 @@ within_four value is = elim (or_cases (nat_lt value (2 ^ 31)) (nat_le (2 ^ 64 - 
   | inr high ↦ inr (let past = leb-true (2 ^ 64 - 2 ^ 31) value high in omega (arith, past))
 ]
 
--- a short jump holds the low byte with its sign, and a near one all
-short_held : (condition : Option Condition) (value : ℕ) → jump_distance false (jump_bytes condition false value) ≡ held_distance (length (jump_bytes condition false value)) value
-unfolding jump_distance jump_bytes
-short_held condition value = refl
-
-near_held : (condition : Option Condition) (value : ℕ) → held_distance (length (jump_bytes condition true value)) value ≡ value
-unfolding jump_bytes
-near_held None value = refl
-near_held (Some condition) value = refl
-
 -- the size of a near jump is not that of a short one
 not_short : (condition : Option Condition) (size level : ℕ) → size ≡ jump_size (is_conditional condition) (suc level) → not (size == 2) ≡ true
 not_short None size level is = ap (λ n. not (n == 2)) is
 not_short (Some condition) size level is = ap (λ n. not (n == 2)) is
-
--- what the bytes of a jump of this size hold
-held_by : JumpFacts → (condition : Option Condition) (size value : ℕ) → value < 2 ^ 64 → fits_signed Four value ≡ true → MayGrowTo (Jump condition) size
-    → jump_distance (not (size == 2)) (jump_bytes condition (not (size == 2)) value)
-    ≡ held_distance (length (jump_bytes condition (not (size == 2)) value)) value
-held_by facts condition size value low fits (zero, small, is) =
-    let near : not (size == 2) ≡ false = ap (λ n. not (n == 2)) is in
-    rw near (short_held condition value)
-held_by facts condition size value low fits (suc level, small, is) =
-    let near = not_short condition size level is in
-    rw near (facts.near condition value low (within_four value fits) ∙ sym (near_held condition value))
 
 -- a value for which there is room is held whole
 room_held : JumpFacts → (condition : Option Condition) (size level : ℕ) (held : Option ℕ) → unwrap_or held 0 < 2 ^ 64 → fits_signed Four (unwrap_or held 0) ≡ true
@@ -226,31 +214,30 @@ room_held facts condition size (suc level) held low fits is room =
     let near = not_short condition size level is in
     rw near (facts.near condition (unwrap_or held 0) low (within_four (unwrap_or held 0) fits))
 
--- bytes that begin with those of a jump read as the jump that is written, and as no other instruction
-abbrev jump_at : ReadsOneWay → JumpFacts → (text : InsnText) (condition : Option Condition) (near : Bool) (bytes rest : List ℕ) (at value : ℕ)
-    → jump_in text ≡ Some condition → drop at bytes ≡ jump_bytes condition near value ++ rest
-    → jump_distance near (jump_bytes condition near value) ≡ held_distance (length (jump_bytes condition near value)) value
-    → JumpReadsAt bytes at text value
-jump_at one_way facts text condition near bytes rest at value jump stands held =
-    let code = jump_bytes condition near value in
+-- bytes that begin with those of a jump that holds its distance read as the jump that is written, and as no other instruction
+abbrev jump_at : ReadsOneWay → JumpFacts → (text : InsnText) (condition : Option Condition) (near : Bool) (bytes rest : List ℕ) (at distance : ℕ)
+    → jump_in text ≡ Some condition → drop at bytes ≡ jump_bytes condition near distance ++ rest
+    → jump_distance near (jump_bytes condition near distance) ≡ distance → JumpReadsAt bytes at text distance
+jump_at one_way facts text condition near bytes rest at distance jump stands held =
+    let code = jump_bytes condition near distance in
     record {
       size = length code;
-      reads = reads_code one_way bytes code rest at (jump_written text (length code) (held_distance (length code) value)) stands
-          (subst (λ d. Reads code (jump_written text (length code) d)) held (facts.read text condition near value jump));
+      reads = reads_code one_way bytes code rest at (jump_written text (length code) distance) stands
+          (subst (λ d. Reads code (jump_written text (length code) d)) held (facts.read text condition near distance jump));
       ends = refl;
     }
 
--- each direct jump that was written reads as it
-pub jumps_read : AreSettled → ReadsOneWay → JumpFacts → (flags : Flags) (source : List ℕ) (made : NotedObject) → assembly_of flags main_file source ≡ Ok made
-    → JumpsRead flags source made.object
-jumps_read settled one_way facts flags source made e before after s text condition placed whole laid are front all is written jump filed =
-    let empty = nothing_placed flags.no_warn in
-    let split = map-append in_tokens before (s ∷ after) in
-    let whole_is = sym (ap (λ statements. place_all statements empty) split) ∙ all in
-    let there = facts.placed (map in_tokens before) (in_tokens s) (map in_tokens after) empty placed whole text condition (facts.begins flags.no_warn) front whole_is
-    written jump in
+-- a direct jump among statements that are placed reads back as it in the object of their layout, where no section of that is too large
+pub jump_reads_back : AreSettled → ReadsOneWay → JumpFacts → (no_warn : Bool) (front : List TokenStatement) (s : TokenStatement) (later : List TokenStatement)
+    (text : InsnText) (condition : Option Condition) (placed whole : Placed) (laid : LaidSections) (object : List ℕ)
+    → place_all front (nothing_placed no_warn) ≡ Ok placed → place_all (front ++ s ∷ later) (nothing_placed no_warn) ≡ Ok whole
+    → layout_of whole.table.symbols whole.sections ≡ Ok laid → object ≡ image_of whole.table.symbols laid → first_over laid ≡ None
+    → insn_in s ≡ Some text → jump_in text ≡ Some condition → has_no_bits laid placed.current ≡ false → JumpReadsBack object whole.table.symbols laid s text placed
+jump_reads_back settled one_way facts no_warn front s later text condition placed whole laid object front_is all is same none written jump filed =
+    let empty = nothing_placed no_warn in
+    let there = facts.placed front s later empty placed whole text condition (facts.begins no_warn) front_is all written jump in
     let symbols = whole.table.symbols in
-    let pos = pos_at (in_tokens s).file (in_tokens s).line in
+    let pos = pos_at s.file s.line in
     let n = placed.current in
     let item = items_so_far placed in
     let offset = next_offset placed in
@@ -260,20 +247,32 @@ jumps_read settled one_way facts flags source made e before after s text conditi
     sym (ap (λ found. option_map_or (λ (kept : SectionOf LaidItem). kept.kind == no_bits) found false)
     (section_kept symbols whole.sections laid n stands.section is stands.found).1) ∙ filed in
     let piece = item_there settled facts symbols whole.sections laid n item offset pos condition field is stands takes in
-    let same : made.object ≡ image_of symbols laid = assembly_is flags source made (before ++ s ∷ after) whole laid are all is e in
     let at = file_place symbols laid n item offset in
-    let value = final_value symbols laid field in
-    let low = final_small symbols laid field (held_small kind.Branch there.jump.forms.displacement (λ far. absurd cc)) in
+    let distance = final_value symbols laid field in
+    let small = final_small symbols laid field (held_small kind.Branch there.jump.forms.displacement (λ far. absurd cc)) in
     let fits = value_fits settled facts symbols whole.sections laid n item offset pos condition field is stands takes in
     let bytes = item_size settled facts symbols whole.sections laid n item offset pos condition field is stands takes in
-    let near = not (bytes == 2) in
-    let held = held_by facts condition bytes value low fits (may_have settled facts symbols whole.sections laid n item offset pos condition field is stands takes) in
+    let within = all_within (front ++ s ∷ later) empty whole all (facts.begins no_warn) in
+    let low = layout_low facts.ranked symbols whole.sections within (sym (ap first_over (layout_is symbols whole.sections laid is)) ∙ none) in
+    let places = facts.places (front ++ s ∷ later) empty whole all (facts.starts no_warn) in
+    let rest = sym (ap (λ r. r >>= place_all (s ∷ later)) front_is) ∙ (sym (all_split front (s ∷ later) empty) ∙ all) in
+    let named = facts.named s later placed whole text (facts.places front empty placed front_is (facts.starts no_warn)) there.jump rest written in
+    let own = names_own_place whole.sections symbols there.jump.forms.displacement places.symbols (facts.few (front ++ s ∷ later) no_warn whole all) named in
+    let room = has_room settled facts symbols whole.sections laid n item offset pos condition field is stands takes low
+    (stands_in_item symbols whole.sections places.symbols n item offset pos condition field stands refl refl refl refl own
+    (jump_constant there.jump.forms.displacement)) in
+    let held = room_held facts condition bytes room.level (held_value symbols laid (substituted_field (expanded symbols) field)) small fits room.sized room.room in
     record {
       jump = there.jump;
-      reads = jump_at one_way facts text condition near made.object piece.rest at value jump (ap (drop at) same ∙ drop_stands (image_of symbols laid) at _ piece) held;
-      leads = λ told.
-          let room = has_room settled facts symbols whole.sections laid n item offset pos condition field is stands takes told.low
-          (stands_in_item symbols whole.sections (facts.places (map in_tokens (before ++ s ∷ after)) empty whole all (facts.starts flags.no_warn)).symbols n item offset pos condition field stands
-          refl refl refl refl told.own (jump_constant there.jump.forms.displacement)) in
-          sym held ∙ room_held facts condition bytes room.level (held_value symbols laid (substituted_field (expanded symbols) field)) low fits room.sized room.room;
+      reads = jump_at one_way facts text condition (not (bytes == 2)) object piece.rest at distance jump (ap (drop at) same ∙ drop_stands (image_of symbols laid) at _ piece) held;
     }
+
+-- each direct jump that was written reads back as it
+pub jumps_read_back : AreSettled → ReadsOneWay → JumpFacts → (flags : Flags) (source : List ℕ) (made : NotedObject) → assembly_of flags main_file source ≡ Ok made
+    → JumpsReadBack flags source made.object
+jumps_read_back settled one_way facts flags source made e before after s text condition placed whole laid are front all is written jump filed =
+    let empty = nothing_placed flags.no_warn in
+    let split = map-append in_tokens before (s ∷ after) in
+    let whole_is = sym (ap (λ statements. place_all statements empty) split) ∙ all in
+    jump_reads_back settled one_way facts flags.no_warn (map in_tokens before) (in_tokens s) (map in_tokens after) text condition placed whole laid made.object front whole_is is
+    (assembly_is flags source made (before ++ s ∷ after) whole laid are all is e) (none_over flags source made (before ++ s ∷ after) whole laid are all is e) written jump filed

@@ -13,5 +13,7 @@ pub mod HeldFields
 pub mod CodePieces
 pub mod CodeReads
 pub mod JumpFields
+pub mod LowLayouts
+pub mod OwnPlaces
 pub mod JumpsInObject
 pub mod CodesInObject

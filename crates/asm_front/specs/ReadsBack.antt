@@ -1,5 +1,5 @@
 -- The bytes of an object at the place of each instruction, read as instructions.
-use Rattle.std.specs.Prelude.{ℕ, ◌+◌, ◌%◌, ◌^◌, ◌≡◌, ◌==◌, Bool, true, false, List, ◌∷◌, ◌++◌, map, drop, length, Option, None, Some, unwrap_or, Result, Ok, Err, slice_get, if◌then◌else◌}
+use Rattle.std.specs.Prelude.{ℕ, ◌+◌, ◌≡◌, ◌==◌, Bool, false, List, ◌∷◌, ◌++◌, map, drop, length, Option, None, Some, unwrap_or, Result, Ok, Err, slice_get}
 use Rattle.std.specs.Option.{option_map_or}
 use Rattle.asm_base.specs.Inputs.{Contents}
 use Rattle.asm_base.specs.declared.positions.Pos.{Pos}
@@ -10,12 +10,9 @@ use Rattle.asm_frags.specs.declared.fields.Field.{Field}
 use Rattle.asm_frags.specs.Substituting.{substituted_field}
 use Rattle.assigned_forms.specs.Expanding.{expanded}
 use Rattle.asm_relax.specs.FieldValues.{held_value}
-use Rattle.asm_relax.specs.ItemRows.{rows_of, levels_of}
-use Rattle.asm_relax.specs.ItemValues.{NamesOwnPlace, AreLow}
-use Rattle.asm_relax.specs.Settling.{LooseSections, LaidSections, planned, layout_of}
+use Rattle.asm_relax.specs.Settling.{LaidSections, layout_of}
 use Rattle.elf_file.specs.Sections.{no_bits}
 use Rattle.item_bytes.specs.declared.jumps.Condition.{Condition}
-use Rattle.item_bytes.specs.Jumps.{sign_extended}
 use Rattle.x86_insn.specs.Views.{View}
 use Rattle.x86_table.specs.Reads.{meaning, Reads}
 use Rattle.x86_encode.specs.declared.encoded.Field.{Field as CodedField}
@@ -139,48 +136,32 @@ jump_place symbols laid placed = file_place symbols laid placed.current (items_s
 abbrev pub jump_value : SymbolMap → LaidSections → Pos → InsnText → ValueForms → Placed → ℕ
 jump_value symbols laid pos text forms placed = final_value symbols laid (jump_field pos text (jump_form forms) placed)
 
--- what a jump of so many bytes holds of a value: a near one all of it, and a short one, of two bytes, the low byte with its sign
-abbrev pub held_distance : ℕ → ℕ → ℕ
-held_distance size value = if size == 2 then sign_extended (2 ^ 7) (value % 2 ^ 8) else value
-
--- the bytes from this place on begin with so many that read as the jump that is written over what they hold of this value; no other front of them
--- reads as any instruction
-pub record JumpReadsAt (bytes : List ℕ) (at : ℕ) (text : InsnText) (value : ℕ) : Type 0 where
+-- the bytes from this place on begin with so many that read as the jump that is written over this distance; no other front of them reads as any
+-- instruction
+pub record JumpReadsAt (bytes : List ℕ) (at : ℕ) (text : InsnText) (distance : ℕ) : Type 0 where
   pub size : ℕ
-  pub reads : ReadsAt bytes at (jump_written text size (held_distance size value))
+  pub reads : ReadsAt bytes at (jump_written text size distance)
   pub ends : length reads.code ≡ size
 
--- the row of a field tells its value: rows are moved by less than 2^64, and the form, where assigned symbols are expanded, names the field's own
--- place minus once
-pub record IsToldByRow (symbols : SymbolMap) (sections : LooseSections) (field : Field) : Type 0 where
-  pub low : AreLow symbols (levels_of (rows_of symbols (planned symbols sections))) (planned symbols sections)
-  pub own : NamesOwnPlace true (expanded symbols field.form)
-
--- the statement, put where these end, reads in the object as the jump that is meant, and where the row of its field tells its value, as the jump over
--- all of it: to its target
-pub record JumpReads (object : List ℕ) (whole : Placed) (laid : LaidSections) (s : TokenStatement) (text : InsnText) (placed : Placed) : Type 0 where
+-- the statement, put where these end, reads back in the object as the jump that is meant, short or near: over all of its distance, to its target
+pub record JumpReadsBack (object : List ℕ) (symbols : SymbolMap) (laid : LaidSections) (s : TokenStatement) (text : InsnText) (placed : Placed) : Type 0 where
   pub jump : IsJump (pos_at s.file s.line) s.tokens text placed
-  pub reads : JumpReadsAt object (jump_place whole.table.symbols laid placed) text
-      (jump_value whole.table.symbols laid (pos_at s.file s.line) text jump.forms placed)
-  pub leads : IsToldByRow whole.table.symbols whole.sections (jump_field (pos_at s.file s.line) text (jump_form jump.forms) placed)
-      → held_distance reads.size (jump_value whole.table.symbols laid (pos_at s.file s.line) text jump.forms placed)
-      ≡ jump_value whole.table.symbols laid (pos_at s.file s.line) text jump.forms placed
+  pub reads : JumpReadsAt object (jump_place symbols laid placed) text (jump_value symbols laid (pos_at s.file s.line) text jump.forms placed)
 
--- each direct jump of the source reads as the jump at its place, where its section has bytes in the file
-abbrev pub JumpsRead : Flags → List ℕ → List ℕ → Type 0
-JumpsRead flags source object =
+-- each direct jump of the source reads back at its place, where its section has bytes in the file
+abbrev pub JumpsReadBack : Flags → List ℕ → List ℕ → Type 0
+JumpsReadBack flags source object =
     (before after : List StatementAt) (s : StatementAt) (text : InsnText) (condition : Option Condition) (placed whole : Placed) (laid : LaidSections)
     → statements_of main_file source ≡ Ok (before ++ s ∷ after) → place_all (map in_tokens before) (nothing_placed flags.no_warn) ≡ Ok placed
     → place_all (map in_tokens (before ++ s ∷ after)) (nothing_placed flags.no_warn) ≡ Ok whole → layout_of whole.table.symbols whole.sections ≡ Ok laid
     → insn_in (in_tokens s) ≡ Some text → jump_in text ≡ Some condition → has_no_bits laid placed.current ≡ false
-    → JumpReads object whole laid (in_tokens s) text placed
+    → JumpReadsBack object whole.table.symbols laid (in_tokens s) text placed
 
--- each instruction of the source reads back in the object, where its section has bytes in the file; a direct jump reads as the jump over what its bytes
--- hold of its distance
+-- each instruction of the source reads back in the object, where its section has bytes in the file
 pub record ReadsBack (flags : Flags) (source object : List ℕ) : Type 0 where
   pub bare : BareReadBack flags source object
   pub coded : CodesReadBack flags source object
-  pub jumps : JumpsRead flags source object
+  pub jumps : JumpsReadBack flags source object
 
 -- ANSWERS
 

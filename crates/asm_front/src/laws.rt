@@ -13,7 +13,7 @@ ghost use Rattle.asm_front.specs.Outcome.{main_file};
 ghost use Rattle.asm_front.specs.ReadsBack.{ReadsBack};
 
 use asm_place::{jump_items, jumps_read, places_stand, placing_within};
-use asm_relax::{settled_is_placed, settled_items_have_room, sizes_add_up};
+use asm_relax::{settled_by_the_ranking, settled_is_placed, settled_items_have_room, sizes_add_up};
 use elf_object::{bytes_stand, items_stand, values_stand};
 use item_bytes::jump_reads_back;
 use x86_encode::encodings_are_codes;
@@ -30,8 +30,7 @@ pub fn never_too_large()
 {}
 
 /// Each instruction of a source stands in the object, where the statements before it end, as bytes that read as it, with the
-/// values that its fields have there, and as no other instruction. A direct jump reads as the jump over what its form holds
-/// of its distance.
+/// values that its fields have there, and as no other instruction. A direct jump, short or near, reads as the jump to its target.
 pub fn written_reads_back()
     ensures { (flags : Flags) (source : List ℕ) (made : NotedObject)
         → assembly_of flags main_file source ≡ Ok made → ReadsBack flags source made.object }
@@ -45,6 +44,7 @@ pub fn written_reads_back()
     items_stand();
     sizes_add_up();
     settled_items_have_room();
+    settled_by_the_ranking();
     placing_within();
     places_stand();
     jump_items();

@@ -20,8 +20,11 @@ returns c =
       near = c.jump_reads_back.ensures.near;
       short = c.jump_reads_back.ensures.short;
       room = c.settled_items_have_room.ensures;
+      ranked = c.settled_by_the_ranking.ensures;
       starts = c.places_stand.ensures.begins;
       places = c.places_stand.ensures.kept;
+      few = c.places_stand.ensures.few;
+      named = c.places_stand.ensures.named;
     } in
     reads_back settled c.read_one_way.ensures c.bare_codes_read.ensures.read c.bare_codes_read.ensures.stand c.encodings_are_codes.ensures.fields
     c.encodings_are_codes.ensures.notes facts

@@ -1,0 +1,162 @@
+-- Where no section of a layout is too large, rows are moved by less than 2^64, and items stand behind fewer plain bytes.
+use Rattle.std.proofs.Common.{◌≡◌, ℕ, zero, suc, ◌+◌, ◌-◌, ◌^◌, ◌<◌, ◌≤◌, inl, inr, Bool, true, false, cond, List, [], ◌∷◌, All, Option, Some, None, map, length, drop, refl, sym, ap, ◌∙◌, arith}
+use Rattle.std.specs.Prelude.{slice_get, slice_index, option_map}
+use Rattle.std.specs.List.{find}
+use Rattle.std.specs.Option.{option_map_or}
+use Rattle.std.proofs.lemmas.Bool.{cases_lt, ltb-false}
+use Rattle.std.proofs.lemmas.List.Elements.{All-nil, All-cons, All-head, All-tail}
+use Rattle.std.proofs.lemmas.Grind.{get_or_default_zero}
+use Rattle.asm_expr.specs.Forms.{Form}
+use Rattle.asm_symbols.specs.SymbolMap.{SymbolMap}
+use Rattle.asm_frags.specs.Substituting.{laid_item, laid_section, laid_sections}
+use Rattle.asm_frags.specs.Writing.{LooseItem, LooseSection}
+use Rattle.assigned_forms.specs.Expanding.{expanded}
+use Rattle.asm_frags.specs.SectionOf.{SectionOf}
+use Rattle.asm_levels.specs.declared.rows.Row.{Row}
+use Rattle.asm_levels.specs.Needs.{need, tops}
+use Rattle.asm_levels.specs.Shifts.{shifts_of}
+use Rattle.level_ranks.specs.Ranks.{IsLayout}
+use Rattle.asm_relax.specs.ItemRows.{row_count, all_rows, rows_of, levels_of}
+use Rattle.asm_relax.specs.ItemValues.{AreLow}
+use Rattle.asm_relax.specs.Layout.{laid_from, laid_out_section, laid_out, laid_by}
+use Rattle.asm_relax.specs.Settling.{LaidItem, LaidSections, planned, settled_sections}
+use Rattle.asm_relax.proofs.LayingLemmas.{next_shift, laid_there, shift_behind, rows_are_all}
+use Rattle.asm_relax.proofs.ShiftTail.{Rise, AllRise, ranked_within, rows_rise, shifts_long}
+use Rattle.asm_place.specs.Instructions.{IsWithin, AreWithin}
+use Rattle.asm_front.specs.Ending.{whole_size, is_over, last_place, first_over}
+
+-- the section is not too large
+pub record IsSmall (section : SectionOf LaidItem) : Type 0 where
+  pub size : whole_size section ≤ 2 ^ 30
+
+-- none is where no such section is found
+none_found : (sections : LaidSections) → find is_over sections ≡ None → All IsSmall sections
+none_found [] none = All-nil IsSmall
+none_found (section ∷ sections) none = by (is_over section) refl (none_found sections) none
+  where
+    by : (over : Bool) → is_over section ≡ over → (find is_over sections ≡ None → All IsSmall sections)
+        → cond over (Some section) (find is_over sections) ≡ None → All IsSmall (section ∷ sections)
+    by true is later told = absurd cc
+    by false is later told = All-cons IsSmall section sections (record { size = ltb-false (2 ^ 30) (whole_size section) is }) (later told)
+
+all_small : (sections : LaidSections) → first_over sections ≡ None → All IsSmall sections
+all_small sections none = by (find is_over sections) refl none
+  where
+    by : (found : Option (SectionOf LaidItem)) → find is_over sections ≡ found → option_map last_place found ≡ None → All IsSmall sections
+    by None is told = none_found sections is
+    by (Some section) is told = absurd cc
+
+-- what the last item moves the end by
+abbrev end_of : List LaidItem → ℕ
+end_of items = option_map_or (λ item. item.address + item.size - item.offset) (slice_get items (length items - 1)) 0
+
+-- behind another item the last one is the same
+last_behind : (first next : LaidItem) (items : List LaidItem) → end_of (first ∷ next ∷ items) ≡ end_of (next ∷ items)
+last_behind first next items =
+    let one : length (first ∷ next ∷ items) - 1 ≡ suc (length items) = omega arith in
+    let other : length (next ∷ items) - 1 ≡ length items = omega arith in
+    let moved : Option LaidItem → ℕ = λ found. option_map_or (λ item. item.address + item.size - item.offset) found 0 in
+    ap (λ n. moved (slice_get (first ∷ next ∷ items) n)) one ∙ sym (ap (λ n. moved (slice_get (next ∷ items) n)) other)
+
+-- the row behind the last item is moved as far
+last_moves : (first : LaidItem) (items : List LaidItem) (shifts : List ℕ) → Rise shifts (first ∷ items)
+    → end_of (laid_from shifts (first ∷ items)) ≡ slice_index shifts (suc (length items))
+last_moves first [] shifts rise =
+    let up = rise.0 in
+    let end : first.offset + slice_index shifts 0 + (slice_index shifts 1 - slice_index shifts 0) - first.offset ≡ slice_index shifts 1 = omega (arith, up) in
+    end
+last_moves first (next ∷ items) shifts rise =
+    last_behind (laid_there shifts 0 first) (laid_there (drop 1 shifts) 0 next) (laid_from (drop 1 (drop 1 shifts)) items) ∙ (last_moves next items (drop 1 shifts) rise.1 ∙ next_shift shifts (suc (length items)))
+
+-- and so is the one behind all items
+end_moves : (items : List LaidItem) (shifts : List ℕ) → slice_index shifts 0 ≡ 0 → Rise shifts items → end_of (laid_from shifts items) ≡ slice_index shifts (length items)
+end_moves [] shifts start rise = sym start
+end_moves (item ∷ items) shifts start rise = last_moves item items shifts rise
+
+-- no row of a section is moved more than that
+rises : (items : List LaidItem) (shifts : List ℕ) → Rise shifts items → (index : ℕ) → index ≤ length items → slice_index shifts index ≤ slice_index shifts (length items)
+rises [] shifts rise zero le = omega arith
+rises [] shifts rise (suc index) le = absurd (omega (arith, le))
+rises (item ∷ items) shifts rise zero le =
+    let up = rise.0 in
+    let deep = rises items (drop 1 shifts) rise.1 zero (omega arith) in
+    let first = next_shift shifts 0 in
+    let last = next_shift shifts (length items) in
+    omega (arith, up, deep, first, last)
+rises (item ∷ items) shifts rise (suc index) le =
+    let deep = rises items (drop 1 shifts) rise.1 index (omega (arith, le)) in
+    let first = next_shift shifts index in
+    let last = next_shift shifts (length items) in
+    omega (arith, deep, first, last)
+
+-- all rows are moved by less than 2^64
+rows_low : (sections : LaidSections) (shifts : List ℕ) → AllRise shifts sections → All IsSmall (laid_out shifts sections) → (index : ℕ) → index < all_rows sections
+    → slice_index shifts index < 2 ^ 64
+rows_low [] shifts rise low index few = absurd (omega (arith, few))
+rows_low (section ∷ sections) shifts rise low index few = elim (cases_lt index (row_count section)) [
+  | inl own ↦
+      (let small : length section.bytes + end_of (laid_from shifts section.items) ≤ 2 ^ 30 =
+      (All-head IsSmall (laid_out_section shifts section) (laid_out (drop (row_count section) shifts) sections) low).size in
+      let end = end_moves section.items shifts rise.0 rise.1 in
+      let up = rises section.items shifts rise.1 index (omega (arith, own)) in
+      omega (arith, small, end, up))
+  | inr past ↦
+      (let rest = All-tail IsSmall (laid_out_section shifts section) (laid_out (drop (row_count section) shifts) sections) low in
+      let deep = rows_low sections (drop (row_count section) shifts) rise.2 rest (index - row_count section) (omega (arith, past, few)) in
+      let place : row_count section + (index - row_count section) ≡ index = omega (arith, past) in
+      let same : slice_index shifts index ≡ slice_index (drop (row_count section) shifts) (index - row_count section) =
+      sym (ap (slice_index shifts) place) ∙ shift_behind shifts (row_count section) (index - row_count section) in
+      omega (arith, deep, same))
+]
+
+-- THE OFFSETS
+
+-- an item stands behind few plain bytes
+abbrev StandsLow : LaidItem → Type 0
+StandsLow item = item.offset < 2 ^ 64
+
+items_stand_low : (bytes : ℕ) (items : List LooseItem) → bytes ≤ 2 ^ 30 → All (λ (item : LooseItem). item.offset ≤ bytes) items → All StandsLow (map laid_item items)
+items_stand_low bytes [] few within = All-nil StandsLow
+items_stand_low bytes (item ∷ items) few within =
+    let one : item.offset ≤ bytes = All-head (λ (i : LooseItem). i.offset ≤ bytes) item items within in
+    All-cons StandsLow (laid_item item) (map laid_item items) (omega (arith, one, few))
+    (items_stand_low bytes items few (All-tail (λ (i : LooseItem). i.offset ≤ bytes) item items within))
+
+-- each item of a section does
+abbrev ItemsStandLow : SectionOf LaidItem → Type 0
+ItemsStandLow section = All (λ item. item.offset < 2 ^ 64) section.items
+
+offsets_low : (substitute : Form → Form) (sections : List LooseSection) (shifts : List ℕ) → All IsWithin sections → All IsSmall (laid_out shifts (laid_sections substitute sections))
+    → All ItemsStandLow (laid_sections substitute sections)
+offsets_low substitute [] shifts within low = All-nil ItemsStandLow
+offsets_low substitute (section ∷ sections) shifts within low =
+    let laid = laid_section substitute section in
+    let own = laid_out_section shifts laid in
+    let behind = drop (row_count laid) shifts in
+    let others = laid_out behind (laid_sections substitute sections) in
+    let small : length section.bytes + end_of (laid_from shifts laid.items) ≤ 2 ^ 30 = (All-head IsSmall own others low).size in
+    All-cons ItemsStandLow laid (laid_sections substitute sections)
+    (items_stand_low (length section.bytes) section.items (omega (arith, small)) (All-head IsWithin section sections within).items)
+    (offsets_low substitute sections behind (All-tail IsWithin section sections within) (All-tail IsSmall own others low))
+
+-- where no section of a layout is too large, all rows are low
+pub layout_low : ((rows : List Row) → (rounds : ℕ) × IsLayout (need rows) (tops rows) (levels_of rows) rounds) → (symbols : SymbolMap) (sections : List LooseSection)
+    → AreWithin sections → first_over (settled_sections symbols (planned symbols sections)) ≡ None
+    → AreLow symbols (levels_of (rows_of symbols (planned symbols sections))) (planned symbols sections)
+unfolding planned settled_sections laid_by
+layout_low ranked symbols sections within none =
+    let all = laid_sections (expanded symbols) sections in
+    let rows = rows_of symbols all in
+    let levels = levels_of rows in
+    let shifts = shifts_of rows levels in
+    let layout = ranked rows in
+    let rise = rows_rise symbols levels all (ranked_within rows levels layout.0 layout.1) in
+    let small = all_small (laid_out shifts all) none in
+    record {
+      offsets = offsets_low (expanded symbols) sections shifts within small;
+      shifts = λ index default few.
+          let count = shifts_long rows levels ∙ rows_are_all symbols all in
+          let there = rows_low all shifts rise small index (omega (arith, count, few)) in
+          let same = get_or_default_zero shifts index default few in
+          omega (arith, there, same);
+    }

@@ -1,0 +1,163 @@
+-- The field of a jump names its own place minus once, however assigned symbols are expanded in its form.
+use Rattle.std.proofs.Common.{◌≡◌, ℕ, zero, suc, ◌+◌, ◌-◌, ◌*◌, ◌^◌, ◌<◌, ◌≤◌, Bool, true, false, cond, List, [], ◌∷◌, length, map, Option, None, Some, refl, sym, ap, ◌∙◌, subst, arith}
+use Rattle.std.specs.Prelude.{◌==◌, slice_get, option_map}
+use Rattle.std.proofs.lemmas.Bool.Decides.{nat_tests}
+use Rattle.std.proofs.lemmas.Option.{none-some}
+use Rattle.std.proofs.lemmas.Nat.{mul-mod_second}
+use Rattle.asm_expr.specs.declared.forms.Term.{Term}
+use Rattle.asm_expr.specs.Forms.{Form, wrapped, constant_form, symbol_form, with_terms, scaled_term, plus_times}
+use Rattle.asm_expr.specs.Coefficients.{counted_as, times, coefficient}
+use Rattle.asm_expr.proofs.Weights.{IsWeight, weighed, with_terms_weighs}
+use Rattle.asm_frags.specs.Fields.{own_place}
+use Rattle.asm_frags.specs.Writing.{LooseSection}
+use Rattle.asm_symbols.specs.declared.entries.Meaning.{Meaning}
+use Rattle.asm_symbols.specs.declared.entries.Meaning.TheVariants as meaning
+use Rattle.asm_symbols.specs.declared.entries.Symbol.{Symbol}
+use Rattle.asm_symbols.specs.Assigning.{form_of, form_at}
+use Rattle.asm_symbols.specs.SymbolMap.{SymbolMap}
+use Rattle.assigned_forms.specs.Expanding.{form_or_symbol, replacement, plus_terms, with_replaced, names_assigned, expanded_within, expanded}
+use Rattle.asm_relax.specs.ItemValues.{NamesOwnPlace}
+use Rattle.asm_place.specs.Coding.{from_own_place}
+use Rattle.asm_place.specs.SymbolPlaces.{AreUpTo, MeaningStands, SymbolsStand}
+use Rattle.asm_front.proofs.JumpFields.{all_there, inside}
+
+-- A SUM WITH A FACTOR
+
+count_adds : (b : Bool) (m n : ℕ) → wrapped (cond b (wrapped (m + n)) 0) ≡ wrapped (cond b m 0 + cond b n 0)
+count_adds true m n = omega arith
+count_adds false m n = omega arith
+
+count_none : (b : Bool) → wrapped (cond b 0 0) ≡ 0
+count_none true = refl
+count_none false = refl
+
+module _ (own : ℕ) where
+  -- how often a symbol counts adds up
+  counts : IsWeight (counted_as own)
+  counts = record {
+    none = λ symbol. count_none (symbol == own);
+    adds = λ symbol m n. count_adds (symbol == own) m n;
+  }
+
+  times_weighs : (terms : List Term) → times own terms ≡ weighed (counted_as own) terms
+  times_weighs [] = refl
+  times_weighs (term ∷ terms) = ap (λ (n : ℕ). counted_as own term.symbol term.coefficient + n) (times_weighs terms)
+
+  counted_times : (b : Bool) (factor count : ℕ) → wrapped (cond b (wrapped (factor * count)) 0) ≡ wrapped (factor * cond b count 0)
+  counted_times true factor count = omega arith
+  counted_times false factor count = omega arith
+
+  -- so many times the terms count so often
+  scaled_times : (factor : ℕ) (terms : List Term) → wrapped (times own (map (scaled_term factor) terms)) ≡ wrapped (factor * times own terms)
+  scaled_times factor [] = omega arith
+  scaled_times factor (term ∷ terms) =
+      let one = counted_times (term.symbol == own) factor term.coefficient in
+      let later = scaled_times factor terms in
+      let this = counted_as own term.symbol term.coefficient in
+      omega arith
+
+  -- a coefficient in a form plus so many times another
+  plus_counts : (made : Form) (factor : ℕ) (other : Form) → coefficient (plus_times made factor other) own ≡ wrapped (coefficient made own + factor * coefficient other own)
+  unfolding plus_times
+  plus_counts made factor other =
+      let both = with_terms_weighs (counted_as own) counts made.terms (map (scaled_term factor) other.terms) in
+      let one = times_weighs made.terms in
+      let more = times_weighs (map (scaled_term factor) other.terms) in
+      let all = times_weighs (with_terms made.terms (map (scaled_term factor) other.terms)) in
+      let scaled = scaled_times factor other.terms in
+      let inner = mul-mod_second factor (times own other.terms) (2 ^ 64) in
+      omega arith
+
+  -- THE EXPANSION
+
+  -- terms up to a lower number do not count it
+  uncounted : (last : ℕ) (terms : List Term) → last < own → AreUpTo last terms → times own terms ≡ 0
+  uncounted last [] low all = refl
+  uncounted last (term ∷ terms) low all =
+      let one = all.0 in
+      let apart : (term.symbol == own) ≡ false = grind (arith, nat_tests) in
+      let later = uncounted last terms low all.1 in
+      let none : cond (term.symbol == own) term.coefficient 0 ≡ 0 = ap (λ b. cond b term.coefficient 0) apart in
+      omega (arith, none, later)
+
+  module _ (sections : List LooseSection) (symbols : SymbolMap) (stand : SymbolsStand sections symbols.symbols) (few : length symbols.symbols < own) where
+    meant_uncounted : (meant : Meaning) (form : Form) → MeaningStands sections (length symbols.symbols) meant → form_of meant ≡ Some form → times own form.terms ≡ 0
+    meant_uncounted meaning.Undefined form stands is = absurd (none-some form is)
+    meant_uncounted (meaning.Label spot) form stands is = absurd (none-some form is)
+    meant_uncounted (meaning.Common size align) form stands is = absurd (none-some form is)
+    meant_uncounted (meaning.Space spot) form stands is = absurd (none-some form is)
+    meant_uncounted (meaning.Assigned other) form stands is =
+        let same : other ≡ form = cc in
+        subst (λ (f : Form). times own f.terms ≡ 0) same (uncounted (length symbols.symbols) other.terms few stands)
+
+    -- the form of an assigned symbol does not count it, and it is not that symbol
+    form_uncounted : (index : ℕ) (form : Form) → form_at symbols.symbols index ≡ Some form → (times own form.terms ≡ 0) × ((index == own) ≡ false)
+    form_uncounted index form is = by (slice_get symbols.symbols index) refl is
+      where
+        by : (found : Option Symbol) → slice_get symbols.symbols index ≡ found → form_at symbols.symbols index ≡ Some form
+            → (times own form.terms ≡ 0) × ((index == own) ≡ false)
+        by None there at = absurd (none-some form (sym (ap (λ (f : Option Symbol). elim f [ None ↦ None | Some symbol ↦ form_of symbol.meaning ]) there) ∙ at))
+        by (Some symbol) there at =
+            let low = inside symbols.symbols index symbol there in
+            let apart : (index == own) ≡ false = grind (arith, nat_tests) in (
+              meant_uncounted symbol.meaning form
+                  (all_there (λ (one : Symbol). MeaningStands sections (length symbols.symbols) one.meaning) symbols.symbols index symbol there stand)
+                  (sym (ap (λ (f : Option Symbol). elim f [ None ↦ None | Some symbol ↦ form_of symbol.meaning ]) there) ∙ at),
+              apart,
+            )
+
+    module _ (becomes : Form → Form) (keeps : (form : Form) → coefficient (becomes form) own ≡ coefficient form own) where
+      replaced_by : (symbol : ℕ) (found : Option Form) → form_at symbols.symbols symbol ≡ found
+          → coefficient (form_or_symbol symbol (option_map becomes found)) own ≡ cond (symbol == own) 1 0
+      replaced_by symbol None is = by (symbol == own)
+        where
+          by : (b : Bool) → wrapped (cond b 1 0 + 0) ≡ cond b 1 0
+          by true = refl
+          by false = refl
+      replaced_by symbol (Some form) is =
+          let none = form_uncounted symbol form is in
+          keeps form ∙ ap wrapped none.0 ∙ sym (ap (λ b. cond b 1 0) none.1)
+
+      -- what replaces a symbol counts as often as the symbol does
+      replaced : (symbol : ℕ) → coefficient (replacement becomes symbols symbol) own ≡ cond (symbol == own) 1 0
+      replaced symbol = replaced_by symbol (form_at symbols.symbols symbol) refl
+
+      counts_once : (b : Bool) (n : ℕ) → n * cond b 1 0 ≡ cond b n 0
+      counts_once true n = omega arith
+      counts_once false n = omega arith
+
+      terms_count : (made : Form) (terms : List Term) → coefficient (plus_terms (replacement becomes symbols) made terms) own ≡ wrapped (coefficient made own + times own terms)
+      unfolding plus_terms
+      terms_count made [] = omega arith
+      terms_count made (term ∷ terms) =
+          let next = plus_times made term.coefficient (replacement becomes symbols term.symbol) in
+          let later = terms_count next terms in
+          let plus = plus_counts made term.coefficient (replacement becomes symbols term.symbol) in
+          let once = ap (λ n. term.coefficient * n) (replaced term.symbol) ∙ counts_once (term.symbol == own) term.coefficient in
+          omega arith
+
+      form_counts : (test : Bool) (form : Form) → coefficient (cond test (with_replaced (replacement becomes symbols) form) form) own ≡ coefficient form own
+      form_counts true form = let all = terms_count (constant_form form.constant) form.terms in omega arith
+      form_counts false form = refl
+
+    within_counts : (more : ℕ) (form : Form) → coefficient (expanded_within more symbols form) own ≡ coefficient form own
+    unfolding expanded_within
+    within_counts zero form = refl
+    within_counts (suc more) form = form_counts (λ next. expanded_within more symbols next) (within_counts more) (names_assigned symbols form) form
+
+    -- expanding a form keeps how often it counts
+    expanded_counts : (form : Form) → coefficient (expanded symbols form) own ≡ coefficient form own
+    unfolding expanded
+    expanded_counts form = within_counts (suc (length symbols.symbols)) form
+
+-- the field of a jump to a target that names symbols that are there names its own place minus once
+pub names_own_place : (sections : List LooseSection) (symbols : SymbolMap) (target : Form) → SymbolsStand sections symbols.symbols → length symbols.symbols ≤ 2 ^ 24
+    → AreUpTo (length symbols.symbols) target.terms → NamesOwnPlace true (expanded symbols (from_own_place target))
+names_own_place sections symbols target stand few named =
+    let low : length symbols.symbols < own_place = omega (arith, few) in
+    let kept = expanded_counts own_place sections symbols stand low (from_own_place target) in
+    let plus = plus_counts own_place target (2 ^ 64 - 1) (symbol_form own_place) in
+    let none = uncounted own_place (length symbols.symbols) target.terms low named in
+    let once : coefficient (symbol_form own_place) own_place ≡ 1 = refl in
+    let minus : coefficient (from_own_place target) own_place ≡ 2 ^ 64 - 1 = omega arith in
+    kept ∙ minus
