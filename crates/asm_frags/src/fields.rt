@@ -79,10 +79,10 @@ pub struct Field {
     pub pos: Pos,
     /// How many items of the section stand before it.
     pub item: u32,
-    /// How many plain bytes of the section stand before it.
-    pub offset: usize,
     /// The number of the section.
     pub section: u32,
+    /// How many plain bytes of the section stand before it.
+    pub offset: usize,
     pub size: FieldSize,
     /// How it holds its value.
     pub role: FieldRole,
