@@ -22,9 +22,9 @@ use Rattle.asm_relax.specs.Faults.{or_later, first_of}
 use Rattle.asm_relax.specs.Final.{shift_in, section_size}
 use Rattle.asm_relax.specs.ItemRows.{row_count, rows_of}
 use Rattle.asm_relax.specs.Layout.{laid_from, laid_out_section, laid_out, AreWithin}
-use Rattle.asm_relax.specs.LowPlaces.{StandLow, MovesOn, KeepsLow}
+use Rattle.asm_relax.specs.LowPlaces.{MovesOn, KeepsLow}
 use Rattle.asm_relax.specs.RangeChecks.{is_large, begins_late, first_large, large_section}
-use Rattle.asm_relax.specs.Settling.{LaidItem, LaidSections}
+use Rattle.asm_relax.specs.Settling.{LaidSections}
 use Rattle.asm_relax.proofs.LayingLemmas.{there_is, shift_behind}
 use Rattle.asm_relax.proofs.PlaceLemmas.{rise_at, moved_as_row}
 use Rattle.asm_relax.proofs.ShiftTail.{Rise, AllRise, ranked_within, rows_rise}

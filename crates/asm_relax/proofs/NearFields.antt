@@ -1,5 +1,5 @@
 -- A field of four bytes that leads to a place near to it holds its value.
-use Rattle.std.proofs.Common.{◌≡◌, ℕ, ◌+◌, ◌-◌, ◌*◌, ◌^◌, ◌<◌, ◌≤◌, ◌||◌, ◌⊎◌, inl, inr, Bool, true, false, cond, List, [], ◌∷◌, Option, Some, None, length, option_map, refl, sym, ap, ◌∙◌, arith}
+use Rattle.std.proofs.Common.{◌≡◌, ℕ, ◌+◌, ◌-◌, ◌^◌, ◌<◌, ◌≤◌, ◌||◌, ◌⊎◌, inl, inr, Bool, true, false, cond, List, [], ◌∷◌, Option, Some, None, length, option_map, refl, sym, ap, ◌∙◌, arith}
 use Rattle.std.specs.Prelude.{slice_get, nat_lt, nat_le}
 use Rattle.std.proofs.lemmas.Bool.{cases_lt, lt-ltb, le-leb}
 use Rattle.asm_expr.specs.declared.forms.Term.{Term}
@@ -15,9 +15,8 @@ use Rattle.asm_frags.specs.declared.roles.FieldKind.{FieldKind}
 use Rattle.asm_frags.specs.declared.roles.FieldKind.TheVariants.{Plain, Signed, Address, Branch, Number}
 use Rattle.asm_frags.specs.Fields.{width, fits, fits_signed, holds, is_distance, own_place}
 use Rattle.asm_frags.specs.SectionOf.{SectionOf}
-use Rattle.asm_relax.specs.declared.faults.LayoutFault.{LayoutFault}
 use Rattle.asm_relax.specs.declared.faults.LayoutFault.TheVariants.{DistanceOutOfRange}
-use Rattle.asm_relax.specs.Final.{shift_in, address_in, address_of, final_told}
+use Rattle.asm_relax.specs.Final.{address_in, address_of, final_told}
 use Rattle.asm_relax.specs.FieldValues.{less, counted, field_address, told_in_field, held_value, IsNearPair}
 use Rattle.asm_relax.specs.LowPlaces.{StandLow, KeepsLow, StandWithin, IsSmall}
 use Rattle.asm_relax.specs.RangeChecks.{misfit, field_misfit}

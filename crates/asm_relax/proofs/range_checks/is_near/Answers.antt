@@ -1,5 +1,5 @@
 -- Both places stand low in their section.
-use Rattle.std.proofs.Common.{◌≡◌, true, Some, arith, rules}
+use Rattle.std.proofs.Common.{◌≡◌, Some, arith, rules}
 use Rattle.std.specs.Prelude.{slice_get}
 use Rattle.std.proofs.lemmas.Grind.{common_steps}
 use Rattle.std.proofs.lemmas.Option.{gets}
