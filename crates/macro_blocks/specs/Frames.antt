@@ -1,6 +1,5 @@
 -- What an open file, call or repeat stands for: a part of the list; and what becomes of that.
-use Rattle.std.specs.Prelude.{◌≡◌, ℕ, ◌-◌, ◌<◌, ◌≤◌, Bool, true, false, List, [], ◌∷◌, ◌++◌, length, take, drop, map, Option, None, Some, Result, Ok, Err}
-use Rattle.asm_base.specs.Tokens.{spelled}
+use Rattle.std.specs.Prelude.{◌≡◌, ℕ, ◌-◌, ◌<◌, ◌≤◌, Bool, true, false, List, [], ◌∷◌, ◌++◌, length, take, drop, Option, None, Some, Result, Ok, Err}
 use Rattle.asm_base.specs.declared.tokens.Token.{Token}
 use Rattle.asm_base.specs.declared.positions.Pos.{Pos}
 use Rattle.asm_lines.specs.NextStatements.{TokenStatement}
@@ -17,7 +16,7 @@ use Rattle.macro_blocks.specs.declared.frames.Taken.TheVariants.{Statement, Next
 use Rattle.macro_blocks.specs.declared.frames.Branch.{Branch}
 use Rattle.macro_blocks.specs.Blocks.{Cut, cut_block, cut_branch, repeated}
 use Rattle.macro_blocks.specs.Levels.{Level, with_statements}
-use Rattle.macro_blocks.specs.Places.{left_in, each_left}
+use Rattle.macro_blocks.specs.Places.{read_at, left_in, each_left}
 
 -- the text in which the next statement stands
 abbrev pub text_in : Frame → List ℕ
@@ -49,10 +48,6 @@ pub record StandsBeforeCopy (frame : Frame) : Type 0 where
   pub more : 0 < copies_left frame
   pub statements : left_in frame.place frame.text.value frame.at ≡ []
   pub alike : frame.alike ≡ 0
-
--- the statement of this place that was read to these tokens
-abbrev pub read_at : Pos → List Token → TokenStatement
-read_at pos read = record { file = pos.file; line = pos.line; tokens = map spelled read }
 
 -- the statement that stands next is taken off, if the text has one
 abbrev pub Takes : Taken → List Token → Level → Level → Type 0

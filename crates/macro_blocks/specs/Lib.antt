@@ -3,4 +3,5 @@ pub mod Blocks
 pub mod Laws
 pub mod Levels
 pub mod Places
+pub mod Searches
 pub mod Frames

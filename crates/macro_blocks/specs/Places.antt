@@ -1,5 +1,7 @@
 -- The statements that are left of a text, each where it stands, and those of copies that are still to come.
 use Rattle.std.specs.Prelude.{◌≡◌, ℕ, Bool, true, false, ◌&&◌, List, [], ◌∷◌, ◌++◌, map, Option, None, Some}
+use Rattle.asm_base.specs.Tokens.{spelled}
+use Rattle.asm_base.specs.declared.tokens.Token.{Token}
 use Rattle.asm_base.specs.declared.positions.Pos.{Pos}
 use Rattle.asm_lines.specs.NextStatements.{TokenStatement, in_tokens, statements_left, found_left}
 use Rattle.macro_words.specs.Statements.{standing_at}
@@ -21,6 +23,10 @@ standing (At pos) statement = standing_at pos statement
 abbrev pub pos_in : Place → ℕ → Pos
 pos_in (File file) line = record { file = file; line = line }
 pos_in (At pos) line = pos
+
+-- the statement that stands here and was read to these tokens
+abbrev pub read_at : Pos → List Token → TokenStatement
+read_at pos read = record { file = pos.file; line = pos.line; tokens = map spelled read }
 
 -- the statements of a text from an offset on
 unfoldable pub left_in : Place → List ℕ → ℕ → List TokenStatement

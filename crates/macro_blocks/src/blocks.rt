@@ -25,7 +25,7 @@ pub enum Ending {
 }
 
 impl Block {
-    ghost use Rattle.std.specs.Prelude.{◌≡◌, ◌<◌, ◌^◌};
+    ghost use Rattle.std.specs.Prelude.{◌≡◌, ◌+◌, ◌-◌, ◌<◌, ◌≤◌, ◌^◌};
     ghost use Rattle.macro_blocks.specs.Blocks as spec;
 
     /// Whether the word begins a block of this kind.
@@ -71,9 +71,10 @@ impl Block {
     }
 
     /// How many blocks are open behind a statement of this word, before which so many are.
-    pub fn depth_behind(self, deep: usize, word: Option<Word>) -> usize
-        requires { deep < 2 ^ 63 }
-        ensures { result ≡ spec.depth_by self deep word }
+    pub fn depth_behind(self, deep: u128, word: Option<Word>) -> u128
+        requires { deep < 2 ^ 128 - 1 }
+        ensures value { result ≡ spec.depth_by self deep word }
+        ensures few { result ≤ deep + 1 }
     {
         if self.begins_at(word) {
             deep + 1

@@ -8,6 +8,7 @@ mod copies;
 mod frames;
 mod laws;
 mod places;
+mod searching;
 
 pub use blocks::{Block, Ending};
 pub use bodies::push_statement;
