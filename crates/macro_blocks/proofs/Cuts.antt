@@ -26,15 +26,15 @@ either true = inl refl
 either false = inr refl
 
 module _ (b : Block) (stop : TokenStatement → Bool) where
-  cut_stops : (deep : ℕ) (s : TokenStatement) (rest : List TokenStatement) → stops stop deep s ≡ true → cut b stop deep (s ∷ rest) ≡ Some (record { inside = []; stop = s; rest = rest })
+  pub cut_stops : (deep : ℕ) (s : TokenStatement) (rest : List TokenStatement) → stops stop deep s ≡ true → cut b stop deep (s ∷ rest) ≡ Some (record { inside = []; stop = s; rest = rest })
   unfolding cut
   cut_stops deep s rest is = rw is refl
 
-  cut_goes : (deep : ℕ) (s : TokenStatement) (rest : List TokenStatement) → stops stop deep s ≡ false → cut b stop deep (s ∷ rest) ≡ with_first s (cut b stop (depth_behind b deep s) rest)
+  pub cut_goes : (deep : ℕ) (s : TokenStatement) (rest : List TokenStatement) → stops stop deep s ≡ false → cut b stop deep (s ∷ rest) ≡ with_first s (cut b stop (depth_behind b deep s) rest)
   unfolding cut
   cut_goes deep s rest is = rw is refl
 
-  cut_nothing : (deep : ℕ) → cut b stop deep [] ≡ None
+  pub cut_nothing : (deep : ℕ) → cut b stop deep [] ≡ None
   unfolding cut
   cut_nothing deep = refl
 
@@ -55,7 +55,7 @@ module _ (b : Block) (stop : TokenStatement → Bool) where
       ]
 
   -- the front of what does not close does not close
-  front_open : (xs ys : List TokenStatement) (deep : ℕ) → cut b stop deep (xs ++ ys) ≡ None → cut b stop deep xs ≡ None
+  pub front_open : (xs ys : List TokenStatement) (deep : ℕ) → cut b stop deep (xs ++ ys) ≡ None → cut b stop deep xs ≡ None
   front_open [] ys deep none = cut_nothing deep
   front_open (s ∷ rest) ys deep none =
       elim (either (stops stop deep s)) [

@@ -1,13 +1,15 @@
 -- What is left of a text where nothing else is to come.
-use Rattle.std.proofs.Common.{◌≡◌, ℕ, true, List, [], ◌∷◌, ◌++◌, map, drop, refl, sym, ap, ◌∙◌}
+use Rattle.std.proofs.Common.{◌≡◌, ℕ, true, List, [], ◌∷◌, ◌++◌, map, refl, sym, ap, ◌∙◌}
 use Rattle.std.proofs.lemmas.List.{append-nil}
 use Rattle.asm_base.specs.declared.tokens.Token.{Token}
-use Rattle.asm_lines.specs.NextStatements.{TokenStatement, in_tokens, next_in_tokens, statements_left, IsNext, IsEnd}
+use Rattle.asm_base.specs.Dividing.{pieces_from}
+use Rattle.asm_lines.specs.Intervals.{trimmed}
+use Rattle.asm_lines.specs.NextStatements.{TokenStatement, in_tokens, next_in_tokens, statements_left, found_left, IsNext, IsEnd}
 use Rattle.macro_blocks.specs.declared.places.Place.{Place}
 use Rattle.macro_blocks.specs.declared.places.Place.TheVariants.{File, At}
 use Rattle.macro_blocks.specs.declared.copies.EachCopy.{EachCopy}
 use Rattle.macro_blocks.specs.Places.{file_of, standing, pos_in, read_at, left_in, none_found, is_whole}
-use Rattle.macro_blocks.specs.Frames.{later_of}
+use Rattle.macro_blocks.specs.Copies.{later_of}
 
 -- a statement of a file stands where it is
 own_places : (file : ℕ) (statements : List TokenStatement) → map (standing (File file)) statements ≡ statements
@@ -40,3 +42,12 @@ end_left place text at is = ap (λ these. map (standing place) (map in_tokens th
 -- no fault stands behind the next statement
 pub whole_next : (text : List ℕ) (at : ℕ) (read : List Token) (line next there : ℕ) → IsNext text at read line next there → is_whole text at ≡ true → is_whole text next ≡ true
 whole_next text at read line next there is whole = ap none_found (sym is.faults) ∙ whole
+
+-- a text without a byte
+pub empty_whole : is_whole [] 0 ≡ true
+unfolding found_left pieces_from trimmed
+empty_whole = refl
+
+pub empty_left : (place : Place) → left_in place [] 0 ≡ []
+unfolding left_in statements_left pieces_from trimmed
+empty_left place = refl

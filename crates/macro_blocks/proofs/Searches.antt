@@ -1,5 +1,5 @@
 -- A search goes on from statement to statement.
-use Rattle.std.proofs.Common.{◌≡◌, ℕ, ◌==◌, ◌&&◌, Bool, true, false, List, [], ◌∷◌, ◌++◌, drop, Option, Some, None, Result, refl, sym, ap, ◌∙◌}
+use Rattle.std.proofs.Common.{◌≡◌, ℕ, ◌==◌, ◌&&◌, Bool, true, false, List, [], ◌∷◌, drop, Option, Some, None, Result, refl, sym, ap, ◌∙◌}
 use Rattle.asm_base.specs.Tokens.{SpelledToken}
 use Rattle.asm_lines.specs.NextStatements.{TokenStatement}
 use Rattle.macro_words.specs.declared.causes.MacroCause.{MacroCause}
@@ -8,15 +8,15 @@ use Rattle.macro_words.specs.Statements.{behind_labels, named_by, word_named, wo
 use Rattle.macro_blocks.specs.declared.blocks.Block.{Block}
 use Rattle.macro_blocks.specs.declared.searching.Search.{Search}
 use Rattle.macro_blocks.specs.Blocks.{depth_by, depth_behind, stops}
-use Rattle.macro_blocks.specs.Searches.{Verdict, verdict_by, stops_by, stops_at, StopsBy, EndsBy, IsPassed, kept_with, FoundAs, found_from, found_by, EndsAt, PassesOne}
+use Rattle.macro_blocks.specs.Searches.{Verdict, verdict_by, stops_by, stops_at, EndsBy, IsPassed, kept_with, found_from, PassesOne}
 
 module _ (b : Block) (stop : TokenStatement → Bool) (keeps : Bool) where
-  found_here : (deep : ℕ) (text : List ℕ) (s : TokenStatement) (rest : List TokenStatement) → stops stop deep s ≡ true
+  pub found_here : (deep : ℕ) (text : List ℕ) (s : TokenStatement) (rest : List TokenStatement) → stops stop deep s ≡ true
       → found_from b stop keeps deep text (s ∷ rest) ≡ Some (record { text = text; stop = s; rest = rest })
   unfolding found_from
   found_here deep text s rest is = rw is refl
 
-  found_later : (deep : ℕ) (text : List ℕ) (s : TokenStatement) (rest : List TokenStatement) → stops stop deep s ≡ false
+  pub found_later : (deep : ℕ) (text : List ℕ) (s : TokenStatement) (rest : List TokenStatement) → stops stop deep s ≡ false
       → found_from b stop keeps deep text (s ∷ rest) ≡ found_from b stop keeps (depth_behind b deep s) (kept_with keeps text s.tokens) rest
   unfolding found_from
   found_later deep text s rest is = rw is refl

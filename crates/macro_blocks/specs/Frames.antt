@@ -1,22 +1,20 @@
 -- What an open file, call or repeat stands for: a part of the list; and what becomes of that.
-use Rattle.std.specs.Prelude.{◌≡◌, ℕ, ◌-◌, ◌<◌, ◌≤◌, Bool, true, false, List, [], ◌∷◌, ◌++◌, length, take, drop, Option, None, Some, Result, Ok, Err}
+use Rattle.std.specs.Prelude.{◌≡◌, ℕ, ◌<◌, ◌≤◌, Bool, true, false, List, [], ◌∷◌, ◌++◌, length, take, Option, None, Some}
 use Rattle.asm_base.specs.declared.tokens.Token.{Token}
 use Rattle.asm_base.specs.declared.positions.Pos.{Pos}
-use Rattle.asm_lines.specs.NextStatements.{TokenStatement}
-use Rattle.macro_texts.specs.RepeatsSeen.{texts}
 use Rattle.macro_words.specs.Statements.{pos_of, body_text}
 use Rattle.macro_words.specs.Conditions.{Knowledge}
 use Rattle.macro_words.specs.Branches.{verdict}
 use Rattle.macro_blocks.specs.declared.blocks.Block.{Block}
-use Rattle.macro_blocks.specs.declared.copies.EachCopy.{EachCopy}
-use Rattle.macro_blocks.specs.declared.places.Place.{Place}
 use Rattle.macro_blocks.specs.declared.frames.Frame.{Frame}
+use Rattle.macro_blocks.specs.declared.frames.Read.{Read}
 use Rattle.macro_blocks.specs.declared.frames.Taken.{Taken}
 use Rattle.macro_blocks.specs.declared.frames.Taken.TheVariants.{Statement, NextCopy, End}
 use Rattle.macro_blocks.specs.declared.frames.Branch.{Branch}
-use Rattle.macro_blocks.specs.Blocks.{Cut, cut_block, cut_branch, repeated}
+use Rattle.macro_blocks.specs.Blocks.{Cut, cut_block, cut_branch}
 use Rattle.macro_blocks.specs.Levels.{Level, with_statements}
-use Rattle.macro_blocks.specs.Places.{read_at, left_in, each_left}
+use Rattle.macro_blocks.specs.Places.{read_at, left_in}
+use Rattle.macro_blocks.specs.Copies.{count_left, later_of}
 
 -- the text in which the next statement stands
 abbrev pub text_in : Frame → List ℕ
@@ -24,15 +22,7 @@ text_in frame = frame.text.value
 
 -- how many copies are to come that have a text of their own
 abbrev pub copies_left : Frame → ℕ
-copies_left frame = length frame.each.line.values.items - frame.each.next
-
--- the statements of the copies that have texts of their own
-abbrev pub each_of : Place → EachCopy → List TokenStatement
-each_of place each = each_left place each.line.name.items each.begun each.body.items (drop each.next (texts each.line.values.items))
-
--- the statements of the copies that are to come
-abbrev pub later_of : Place → List ℕ → ℕ → EachCopy → List TokenStatement
-later_of place text alike each = repeated alike (left_in place text 0) ++ each_of place each
+copies_left frame = count_left frame.each
 
 -- the part of the list that is left
 unfoldable pub level_of : Frame → Level
@@ -42,6 +32,25 @@ level_of frame =
       ends = frame.ends;
       open_at = frame.«open».items;
     }
+
+-- all but the place in the text and the copies to come is the same
+pub record IsSamePart (before now : Frame) : Type 0 where
+  pub place : now.place ≡ before.place
+  pub ends : now.ends ≡ before.ends
+  pub opened : now.«open».items ≡ before.«open».items
+
+-- so are the text and the copies
+pub record IsSameText (before now : Frame) : Type 0 where
+  pub same : IsSamePart before now
+  pub text : now.text.value ≡ before.text.value
+  pub alike : now.alike ≡ before.alike
+  pub each : now.each ≡ before.each
+
+-- the statement that stands next in the text is read, if one does
+abbrev pub Reads : Option Read → List Token → Frame → Frame → Type 0
+Reads (Some one) read before now =
+    (one.count ≤ length read) × (left_in before.place before.text.value before.at ≡ read_at one.pos (take one.count read) ∷ left_in before.place before.text.value now.at)
+Reads None read before now = (left_in before.place before.text.value before.at ≡ []) × (now.at ≡ before.at)
 
 -- nothing stands before a copy that has a text of its own
 pub record StandsBeforeCopy (frame : Frame) : Type 0 where

@@ -1,5 +1,5 @@
 -- The statements that are left of a text, each where it stands, and those of copies that are still to come.
-use Rattle.std.specs.Prelude.{◌≡◌, ℕ, Bool, true, false, ◌&&◌, List, [], ◌∷◌, ◌++◌, map, Option, None, Some}
+use Rattle.std.specs.Prelude.{ℕ, Bool, true, false, ◌&&◌, List, [], ◌∷◌, ◌++◌, map, Option, None, Some}
 use Rattle.asm_base.specs.Tokens.{spelled}
 use Rattle.asm_base.specs.declared.tokens.Token.{Token}
 use Rattle.asm_base.specs.declared.positions.Pos.{Pos}

@@ -1,11 +1,12 @@
 //! The copies of a body, each with another text of a name put in, that are still to come.
 
-ghost use Rattle.std.specs.Prelude.{◌≡◌, ◌≤◌, true, drop, vec_len};
+ghost use Rattle.std.specs.Prelude.{◌≡◌, ◌≤◌, true, drop, length, IfOk};
 ghost use Rattle.macro_texts.specs.RepeatsSeen.{texts};
+ghost use Rattle.macro_blocks.specs.Levels.{put_value};
 ghost use Rattle.macro_blocks.specs.Places.{all_whole};
 
-use macro_texts::EachLine;
-use std::alloc::Global;
+use macro_texts::{Argument, EachLine, Value, put_in};
+use std::alloc::{AllocError, Global};
 
 /// The copies of a body for the values of a line from the next one on.
 #[derive(Drop)]
@@ -15,13 +16,32 @@ pub struct EachCopy {
     /// How many calls began before the first copy.
     pub(crate) begun: u64,
     pub(crate) next: usize,
-    ghost within: { next ≤ vec_len line.values },
+    ghost within: { next ≤ length line.values.items },
     ghost whole: { all_whole line.name.items begun body.items (drop next (texts line.values.items)) ≡ true },
 }
 
+/// A body with this text in place of a name, before which so many calls began.
+pub(crate) fn copy_text(
+    alloc: Global,
+    body: &[u8],
+    name: &[u8],
+    value: &[u8],
+    begun: u64,
+) -> Result<Vec<u8>, AllocError>
+    ensures { IfOk result (λ text. text.items ≡ put_value name.now begun body.now value.now) }
+{
+    let arguments = [Argument {
+        name,
+        value: Value::Bytes(value),
+    }];
+    put_in(alloc, &arguments, begun, body)
+}
+
 impl EachCopy {
-    ghost use Rattle.std.specs.Prelude.{[], ◌≡◌};
+    ghost use Rattle.std.specs.Prelude.{[], ◌∷◌, ◌≡◌, ◌+◌, ◌-◌, ◌<◌, ◌≤◌, nat_lt, true, drop, length, IfOk, OnOk};
     ghost use Rattle.macro_texts.specs.RepeatsSeen.{texts};
+    ghost use Rattle.macro_blocks.specs.Levels.{put_value};
+    ghost use Rattle.macro_blocks.specs.Copies.{count_left, IsNextText};
 
     /// No copy.
     pub(crate) fn none(alloc: Global) -> EachCopy
@@ -37,5 +57,33 @@ impl EachCopy {
             begun: 0,
             next: 0,
         }
+    }
+
+    /// Whether one is to come.
+    pub(crate) fn is_left(&self) -> bool
+        ensures { result ≡ nat_lt self.now.next (length self.now.line.values.items) }
+    {
+        self.next < self.line.values.len()
+    }
+
+    /// The text of the next one.
+    pub(crate) fn next_text(&self, alloc: Global) -> Result<Vec<u8>, AllocError>
+        requires { 0 < count_left self.now }
+        ensures { IfOk result (λ text. IsNextText self.now text.items) }
+    {
+        let value = &self.line.values[self.next];
+        let text = copy_text(alloc, &self.body, &self.line.name, value, self.begun)?;
+        Ok(text)
+    }
+
+    /// The next one is to come no more.
+    pub(crate) fn pass(&mut self)
+        requires { 0 < count_left self.old }
+        ensures next { self.new.next ≡ self.old.next + 1 }
+        ensures body { self.new.body.items ≡ self.old.body.items }
+        ensures line { self.new.line ≡ self.old.line }
+        ensures begun { self.new.begun ≡ self.old.begun }
+    {
+        self.next += 1;
     }
 }

@@ -1,15 +1,15 @@
 //! What is left of an open file, call or repeat: a place in a text, and copies that are to come.
 
-ghost use Rattle.std.specs.Prelude.{◌≡◌, ◌<◌, ◌≤◌, true, vec_len, length};
+ghost use Rattle.std.specs.Prelude.{◌≡◌, ◌<◌, ◌≤◌, true, length};
 ghost use Rattle.asm_lines.specs.LineNumbers.{line_of};
 ghost use Rattle.macro_blocks.specs.Places.{is_whole};
 
-use crate::blocks::{Block, Ending};
+use crate::blocks::Ending;
 use crate::copies::EachCopy;
 use crate::places::Place;
-use asm_base::{Pos, Refusal, Text, Token};
-use macro_texts::EachLine;
-use macro_words::{KnowingPlacer, MacroCause};
+use asm_base::{Pos, Text, Token};
+use asm_lines::{NextStatement, next_statement};
+use macro_words::MacroCause;
 use std::alloc::{AllocError, Global};
 use std::rc::Rc;
 
@@ -22,6 +22,13 @@ pub enum Taken {
     NextCopy,
     /// Its end mark.
     End,
+}
+
+/// A statement that was read: where it stands, and how many tokens it has.
+#[derive(Clone, Copy, Debug)]
+pub(crate) struct Read {
+    pub pos: Pos,
+    pub count: usize,
 }
 
 /// A statement that ends a branch: where it stands, and whether a branch that is chosen begins there, or its fault.
@@ -49,19 +56,18 @@ pub struct Frame {
     ghost line_there: { line ≡ line_of text.value at },
     ghost whole: { is_whole text.value at ≡ true },
     ghost again: { 0 < alike → is_whole text.value 0 ≡ true },
-    ghost alone: { 0 < alike → each.next ≡ vec_len each.line.values },
+    ghost alone: { 0 < alike → each.next ≡ length each.line.values.items },
 }
 
 impl Frame {
-    ghost use Rattle.std.specs.Prelude.{[], ◌∷◌, ◌++◌, None, Ok, map, option_map, IfOk, OnOk};
-    ghost use Rattle.asm_base.specs.Refusals.{GivesBy};
+    ghost use Rattle.std.specs.Prelude.{[], ◌∷◌, ◌++◌, ◌+◌, ◌-◌, None, Ok, map, IfOk, OnOk};
     ghost use Rattle.asm_lines.specs.NextStatements.{in_tokens, statements_left, found_left};
-    ghost use Rattle.macro_texts.specs.RepeatsSeen.{texts};
-    ghost use Rattle.macro_words.specs.Statements.{made_statements};
     ghost use Rattle.macro_blocks.specs.declared.blocks.Ending.TheVariants as ending;
     ghost use Rattle.macro_blocks.specs.declared.frames.Taken.TheVariants as taken;
-    ghost use Rattle.macro_blocks.specs.Levels.{with_open, first_open, but_last, level_with, entered, copies_of, each_copy};
-    ghost use Rattle.macro_blocks.specs.Frames.{text_in, copies_left, level_of, StandsBeforeCopy, Takes, PassesBlock, TakesBody, PassesBranch, IsOutermost};
+    ghost use Rattle.macro_blocks.specs.Levels.{with_open, first_open, but_last, level_with};
+    ghost use Rattle.macro_blocks.specs.Places.{left_in};
+    ghost use Rattle.macro_blocks.specs.Copies.{each_of, later_of};
+    ghost use Rattle.macro_blocks.specs.Frames.{text_in, copies_left, level_of, IsSamePart, IsSameText, StandsBeforeCopy, Reads, Takes, IsOutermost};
 
     /// The statements of a file from an offset on, whose lines have no fault from there on.
     pub fn file(alloc: Global, text: Rc<Text>, file: u32, at: usize, line: u32) -> Frame
@@ -84,42 +90,6 @@ impl Frame {
         }
     }
 
-    /// The body of a macro with arguments put in, called here, or the fault of its lines.
-    pub fn call(alloc: Global, text: Rc<Text>, pos: Pos) -> Result<Frame, Refusal<MacroCause>>
-        ensures { GivesBy level_of result
-            (entered ending.Call (made_statements pos text.value)) }
-    {
-        Err(Refusal::NoMemory)
-    }
-
-    /// So many copies of a body, repeated here, or the fault of its lines.
-    pub fn repeat(
-        alloc: Global,
-        body: Vec<u8>,
-        pos: Pos,
-        count: u64,
-    ) -> Result<Frame, Refusal<MacroCause>>
-        ensures { GivesBy level_of result
-            (entered ending.Repeat (copies_of count (made_statements pos body.items))) }
-    {
-        Err(Refusal::NoMemory)
-    }
-
-    /// A copy of a body, before which so many calls began, for each of the values of a line, repeated here; or the fault of the lines of
-    /// the first that has one.
-    pub fn each(
-        alloc: Global,
-        body: Vec<u8>,
-        line: EachLine,
-        begun: u64,
-        pos: Pos,
-    ) -> Result<Frame, Refusal<MacroCause>>
-        ensures { GivesBy level_of result (entered ending.Repeat
-            (each_copy pos line.name.items begun body.items (texts line.values.items))) }
-    {
-        Err(Refusal::NoMemory)
-    }
-
     /// The text in which the next statement stands.
     pub fn text(&self) -> Result<Rc<Text>, AllocError>
         ensures { IfOk result (λ text. text.value ≡ text_in self.now) }
@@ -135,7 +105,99 @@ impl Frame {
         self.ends
     }
 
+    /// Goes back to the beginning of the text for the next copy of it.
+    pub(crate) fn restart(&mut self)
+        requires { 0 < self.old.alike }
+        ensures statements { (level_of self.new).statements
+            ≡ later_of self.old.place self.old.text.value self.old.alike self.old.each }
+        ensures alike { self.new.alike + 1 ≡ self.old.alike }
+        ensures at { self.new.at ≡ 0 }
+        ensures text { self.new.text.value ≡ self.old.text.value }
+        ensures each { self.new.each ≡ self.old.each }
+        ensures same { IsSamePart self.old self.new }
+    {
+        self.alike -= 1;
+        self.at = 0;
+        self.line = 1;
+    }
+
+    /// Makes the text of the next copy that has one of its own, and begins with it.
+    pub(crate) fn next_text(&mut self, alloc: Global) -> Result<(), AllocError>
+        requires alike { self.old.alike ≡ 0 }
+        requires more { 0 < copies_left self.old }
+        ensures statements { OnOk result ((level_of self.new).statements
+            ≡ each_of self.old.place self.old.each) }
+        ensures copies { OnOk result (copies_left self.new + 1 ≡ copies_left self.old) }
+        ensures alike { self.new.alike ≡ 0 }
+        ensures at { OnOk result (self.new.at ≡ 0) }
+        ensures same { IsSamePart self.old self.new }
+    {
+        let bytes = self.each.next_text(alloc)?;
+        let made = Text::new(bytes);
+        let text = Rc::new(alloc, made)?;
+        self.each.pass();
+        self.text = text;
+        self.at = 0;
+        self.line = 1;
+        Ok(())
+    }
+
+    /// Reads the statement that stands next in the text, if one does.
+    #[inline(always)]
+    fn read_next<'a>(
+        &mut self,
+        source: &'a [u8],
+        tokens: &mut Vec<Token<'a>>,
+    ) -> Result<Option<Read>, AllocError>
+        requires { source.now ≡ self.old.text.value }
+        ensures reads { IfOk result (λ read. Reads read tokens.new.items
+            self.old self.new) }
+        ensures same { IsSameText self.old self.new }
+    {
+        match next_statement(source, self.at, self.line, tokens)? {
+            NextStatement::Statement(line, next, there, count) => {
+                self.at = next;
+                self.line = there;
+                Ok(Some(Read {
+                    pos: self.place.pos_in(line),
+                    count,
+                }))
+            }
+            NextStatement::End => Ok(None),
+            NextStatement::Faulty => unreachable!(),
+        }
+    }
+
+    /// Takes off the first statement of the next copy, where no statement is left in this one.
+    #[inline(never)]
+    fn take_later<'a>(
+        &mut self,
+        source: &'a [u8],
+        tokens: &mut Vec<Token<'a>>,
+    ) -> Result<Taken, AllocError>
+        requires source { source.now ≡ text_in self.old }
+        requires none { left_in self.old.place self.old.text.value self.old.at ≡ [] }
+        ensures next { IfOk result (λ taken. Takes taken tokens.new.items
+            (level_of self.old) (level_of self.new)) }
+        ensures more { result ≡ Ok taken.NextCopy → StandsBeforeCopy self.new }
+        ensures copies { copies_left self.new ≡ copies_left self.old }
+        ensures text { text_in self.new ≡ text_in self.old }
+    {
+        if self.alike > 0 {
+            self.restart();
+            match self.read_next(source, tokens)? {
+                Some(read) => Ok(Taken::Statement(read.pos, read.count)),
+                None => Ok(Taken::End),
+            }
+        } else if self.each.is_left() {
+            Ok(Taken::NextCopy)
+        } else {
+            Ok(Taken::End)
+        }
+    }
+
     /// Takes off the statement that stands next in its text, which is the source, into the first of the tokens.
+    #[inline(always)]
     pub fn take<'a>(
         &mut self,
         source: &'a [u8],
@@ -148,7 +210,10 @@ impl Frame {
         ensures copies { copies_left self.new ≡ copies_left self.old }
         ensures text { text_in self.new ≡ text_in self.old }
     {
-        Err(AllocError)
+        match self.read_next(source, tokens)? {
+            Some(read) => Ok(Taken::Statement(read.pos, read.count)),
+            None => self.take_later(source, tokens),
+        }
     }
 
     /// Begins the next copy that has a text of its own, where no statement is left before it.
@@ -157,35 +222,8 @@ impl Frame {
         ensures level { OnOk result (level_of self.new ≡ level_of self.old) }
         ensures copies { OnOk result (copies_left self.new < copies_left self.old) }
     {
-        Err(AllocError)
-    }
-
-    /// Goes on behind the end of the block that began before what stands next. It says whether there is one.
-    pub fn pass_block(&mut self, alloc: Global, block: Block) -> Result<bool, AllocError>
-        ensures { IfOk result (λ closed.
-            PassesBlock block closed (level_of self.old) (level_of self.new)) }
-    {
-        Err(AllocError)
-    }
-
-    /// Goes on behind the end of that block, and hands out the text of what was inside; nothing where there is no end.
-    pub fn take_body(&mut self, alloc: Global, block: Block) -> Result<Option<Vec<u8>>, AllocError>
-        ensures { IfOk result (λ body. TakesBody block (option_map (λ text. text.items) body)
-            (level_of self.old) (level_of self.new)) }
-    {
-        Err(AllocError)
-    }
-
-    /// Goes on behind the statement that ends a branch which is not chosen and begins here; nothing where there is none.
-    pub fn pass_branch<E: KnowingPlacer>(
-        &mut self,
-        alloc: Global,
-        known: &E,
-    ) -> Result<Option<Branch>, AllocError>
-        ensures { IfOk result (λ branch. PassesBranch (E.told known.now) branch
-            (level_of self.old) (level_of self.new)) }
-    {
-        Err(AllocError)
+        self.next_text(alloc)?;
+        Ok(())
     }
 
     /// A conditional that begins here is open from here on.

@@ -7,6 +7,8 @@ mod bodies;
 mod copies;
 mod frames;
 mod laws;
+mod making;
+mod passing;
 mod places;
 mod searching;
 

@@ -1,6 +1,6 @@
 //! The search for the statement that ends a block or a branch, statement by statement.
 
-ghost use Rattle.std.specs.Prelude.{◌≡◌, ◌+◌, ◌-◌, ◌<◌, ◌≤◌, ◌^◌, List, Bool, Option, Result, Ok, false, true, map, drop, length, IfOk, OnOk};
+ghost use Rattle.std.specs.Prelude.{◌≡◌, ◌+◌, ◌-◌, ◌<◌, ◌≤◌, ◌^◌, List, [], Bool, Option, Result, Ok, false, true, map, drop, length, IfOk, OnOk};
 ghost use Rattle.asm_base.specs.Refusals.{Returns};
 ghost use Rattle.asm_base.specs.Tokens.{SpelledToken, spelled};
 ghost use Rattle.asm_lines.specs.LineNumbers.{line_of};
@@ -112,6 +112,21 @@ fn stop_at<V: Verdicts>(
 }
 
 impl Search {
+    /// A search that begins; where it keeps the text, none is passed.
+    pub(crate) fn new(alloc: Global, block: Block, keeps: bool) -> Search
+        ensures block { result.block ≡ block }
+        ensures keeps { result.keeps ≡ keeps }
+        ensures deep { result.deep ≡ 0 }
+        ensures text { result.text.items ≡ [] }
+    {
+        Search {
+            block,
+            keeps,
+            deep: 0,
+            text: Vec::new(alloc),
+        }
+    }
+
     /// Whether the search ends at a statement of this word with these operands, and the verdict there.
     fn ends_at<V: Verdicts>(
         &self,

@@ -1,5 +1,5 @@
 -- What is behind so many tokens spells what is behind so many that are spelled.
-use Rattle.std.proofs.Common.{sym, ◌∙◌, map, drop, ap, length, length-drop, arith}
+use Rattle.std.proofs.Common.{sym, ◌∙◌, map, drop, ap, length-drop, arith}
 use Rattle.std.proofs.lemmas.List.{drop-map, take_all}
 use Rattle.asm_base.specs.Tokens.{spelled}
 use Rattle.macro_blocks.proofs.searching.behind_labels.Goals as goal

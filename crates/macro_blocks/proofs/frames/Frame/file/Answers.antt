@@ -1,8 +1,6 @@
 -- No copy is to come.
 use Rattle.std.proofs.Common.{refl}
-use Rattle.macro_blocks.specs.declared.blocks.Ending.TheVariants as ending
 use Rattle.macro_blocks.specs.declared.places.Place.TheVariants.{File}
-use Rattle.macro_blocks.specs.Levels.{level_with}
 use Rattle.macro_blocks.specs.Places.{left_in}
 use Rattle.macro_blocks.specs.Frames.{level_of}
 use Rattle.macro_blocks.proofs.Lefts.{file_left, none_later}

@@ -1,5 +1,5 @@
 -- The statement by its word and its operands.
-use Rattle.std.proofs.Common.{map, subst, drop, Option, Result, Bool}
+use Rattle.std.proofs.Common.{map, subst, Option, Result, Bool}
 use Rattle.asm_base.specs.Tokens.{spelled}
 use Rattle.macro_words.specs.declared.causes.MacroCause.{MacroCause}
 use Rattle.macro_blocks.specs.Searches.{EndsBy}

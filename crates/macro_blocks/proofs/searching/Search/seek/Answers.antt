@@ -1,10 +1,9 @@
 -- The next statement is passed, or the search ends there, or nothing is left.
-use Rattle.std.proofs.Common.{◌≡◌, ◌∷◌, List, map, take, subst, ap, sym, ◌∙◌, refl, Option, Some, None, Result, Bool, arith, rules}
-use Rattle.asm_base.specs.Tokens.{SpelledToken, spelled}
-use Rattle.asm_base.specs.declared.positions.Pos.{Pos}
+use Rattle.std.proofs.Common.{◌≡◌, map, take, subst, ap, sym, ◌∙◌, Option, Result, Bool, arith}
+use Rattle.asm_base.specs.Tokens.{spelled}
 use Rattle.asm_lines.specs.NextStatements.{StandsNext}
 use Rattle.macro_words.specs.declared.causes.MacroCause.{MacroCause}
-use Rattle.macro_blocks.specs.Places.{pos_in, read_at, left_in}
+use Rattle.macro_blocks.specs.Places.{pos_in, read_at}
 use Rattle.macro_blocks.specs.Searches.{PassesOne}
 use Rattle.macro_blocks.proofs.Lefts.{next_left, end_left, whole_next}
 use Rattle.macro_blocks.proofs.Texts.{passed_on, passed_all, stopped_in}
