@@ -1,6 +1,6 @@
 //! What a source is refused for, and what is only noted: one variant for each cause, and the text of its message.
 
-use crate::texts::Text;
+use crate::texts::{SaidText, Text};
 
 /// A fault that is found while statements are read, in the order in which a statement is looked at.
 #[derive(Drop)]
@@ -41,8 +41,8 @@ pub enum StatementFault {
     ExpansionTooLong,
     /// A macro of this name is already defined.
     MacroAlreadyDefined,
-    /// `.err`, or `.error` with its text. In a box, so that each result that holds a fault stays small.
-    ErrorDirective(Box<Option<Text>>),
+    /// `.err`, or `.error` with its text.
+    ErrorDirective(SaidText),
     /// No instruction has this name.
     UnknownMnemonic,
     /// No directive has this name.

@@ -36,5 +36,5 @@ pub use statuses::Status;
 pub use steps::Steps;
 pub use streams::{FileInputs, FileOutput, StreamConsole};
 pub use strings::string_value;
-pub use texts::{Bytes, Text};
+pub use texts::{Bytes, SaidText, Text};
 pub use tokens::{Token, TokenKind, Tokens};

@@ -6,7 +6,7 @@ ghost use Rattle.asm_base.specs.Messages.{heading, position_text, error_line, wa
 
 use crate::faults::{EndFault, Fault, Note, SavedRegister, ScfiFault, StatementFault};
 use crate::positions::{Files, Pos};
-use crate::texts::{Bytes, Text};
+use crate::texts::{Bytes, SaidText};
 use std::alloc::{AllocError, Global};
 
 /// Memory was refused.
@@ -26,13 +26,10 @@ fn register_name(register: SavedRegister) -> &'static str
 }
 
 /// What `.error` says with its text, and `.err` without one.
-fn error_text(text: &Option<Text>) -> &[u8]
+fn error_text(text: &SaidText) -> &[u8]
     ensures { result.now ≡ error_text text.now }
 {
-    match text {
-        None => b".err encountered",
-        Some(text) => text.as_bytes(),
-    }
+    text.or(b".err encountered")
 }
 
 fn statement_text(fault: &StatementFault) -> &[u8]

@@ -1,7 +1,9 @@
 //! Byte strings of the crate's own, which contracts see as lists: the text of a source, and bytes that are made.
 
-ghost use Rattle.std.specs.Prelude.{◌≡◌, ℕ, List};
+ghost use Rattle.std.specs.Prelude.{◌≡◌, ℕ, List, IfOk};
+ghost use Rattle.std.specs.Option.{unwrap_or};
 
+use std::alloc::{AllocError, Global};
 use std::marker::Model;
 
 /// The bytes of a source, or of a part of it.
@@ -29,6 +31,41 @@ impl Text {
         ensures { result.now ≡ self.now }
     {
         self.bytes.as_slice()
+    }
+}
+
+/// A text that a statement says, or none. In a box, so that each result that holds it stays small.
+#[derive(Drop)]
+pub struct SaidText {
+    text: Box<Option<Text>>,
+}
+
+impl Model for SaidText {
+    ghost use Rattle.std.specs.Prelude.{ℕ, List, Option};
+
+    ghost Value = { Option (List ℕ) };
+
+    ghost view = { λ said. said.text.value };
+}
+
+impl SaidText {
+    /// This text, or none.
+    pub fn new(alloc: Global, text: Option<Text>) -> Result<SaidText, AllocError>
+        ensures { IfOk result (λ said. said ≡ text) }
+    {
+        Ok(SaidText {
+            text: Box::new(alloc, text)?,
+        })
+    }
+
+    /// The text, or this one where there is none.
+    pub fn or<'a>(&'a self, other: &'a [u8]) -> &'a [u8]
+        ensures { result.now ≡ unwrap_or self.now other.now }
+    {
+        match &*self.text {
+            Some(text) => text.as_bytes(),
+            None => other,
+        }
     }
 }
 
