@@ -1,4 +1,5 @@
 -- The proofs of this crate.
+pub mod DataEnds
 pub mod TokenLists
 pub mod OperandEnds
 pub mod SetLemmas

@@ -1,5 +1,5 @@
 -- What data and space place.
-use Rattle.std.specs.Prelude.{Bool, List, unwrap_or, Result, Ok}
+use Rattle.std.specs.Prelude.{ℕ, Bool, List, unwrap_or, Result, Ok}
 use Rattle.std.specs.List.{list_any, count_by}
 use Rattle.asm_operands.specs.declared.place_faults.PlaceCause.{PlaceCause}
 use Rattle.asm_base.specs.declared.positions.Pos.{Pos}
@@ -8,6 +8,7 @@ use Rattle.asm_expr.specs.Forms.{Form}
 use Rattle.asm_expr.specs.Trees.{Tree}
 use Rattle.item_contents.specs.declared.contents.Content.{Content}
 use Rattle.asm_frags.specs.declared.fields.FieldSize.{FieldSize}
+use Rattle.asm_symbols.specs.declared.entries.Spot.{Spot}
 use Rattle.asm_uses.specs.declared.tables.Naming.{Naming}
 use Rattle.asm_base.specs.Refusals.{◌>>=◌}
 use Rattle.asm_uses.specs.Tables.{naming_of, allowed}
@@ -18,6 +19,11 @@ use Rattle.asm_operands.specs.Expressions.{expression_of, form_in}
 use Rattle.asm_values.specs.KnownOperands.{KnownOperands, known_operands}
 use Rattle.asm_values.specs.DataItems.{put_forms, is_cut, cut_notes}
 use Rattle.asm_words.specs.Spaces.{space_of, units_of, unit_size}
+
+-- the names of values that were put are allowed or refused, and so many values were cut
+abbrev pub end_data : Pos → Naming → Spot → Bool → ℕ → Placed → Result Placed PlaceCause
+end_data pos naming spot keeps cut put =
+    end_naming pos naming spot keeps put.table >>= λ table. Ok (with_notes (cut_notes pos cut) (with_table put table))
 
 -- all values one after the other, of which those that are not known are fields, and a note for each that does not fit
 unfoldable pub put_data : Pos → FieldSize → Naming → List Form → Placed → Result Placed PlaceCause

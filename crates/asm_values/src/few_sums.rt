@@ -41,9 +41,27 @@ impl Assembler {
     ghost use Rattle.asm_uses.specs.SumForms.{sum_form};
     ghost use Rattle.asm_operands.specs.Sums.{sum_tree};
     ghost use Rattle.asm_values.specs.Answers.{KeepsNotes};
-    ghost use Rattle.asm_values.specs.Data.{put_data, data_read};
+    ghost use Rattle.asm_values.specs.Data.{end_data, put_data, data_read};
     ghost use Rattle.asm_values.specs.State.{here, known_here};
     ghost use Rattle.asm_values.specs.PlacedBy.{placed_by, PlacesBy};
+
+    /// Allows or refuses the names of values that were put, and notes how many were cut.
+    #[inline(always)]
+    fn end_data(
+        &mut self,
+        pos: Pos,
+        naming: Naming,
+        spot: Spot,
+        keeps: bool,
+        cut: usize,
+    ) -> Result<(), PlaceFault>
+        ensures placed { PlacesBy (end_data pos naming spot keeps cut) self.old self.new result }
+        ensures kept { KeepsNotes result self.old.notes self.new.notes }
+    {
+        self.table.end_naming(pos, naming, spot, keeps)?;
+        self.warn(pos, cut)?;
+        Ok(())
+    }
 
     /// Puts one value.
     #[tactic(auto, unfolding(crate::specs::Data::put_data, crate::specs::DataItems::put_forms, asm_operands::specs::Results::all_steps))]
@@ -64,9 +82,7 @@ impl Assembler {
         let keeps = uses_place(place, &form);
         let cut = is_cut(size, &form) as usize;
         self.put_form(pos, size, form)?;
-        self.table.end_naming(pos, naming, spot, keeps)?;
-        self.warn(pos, cut)?;
-        Ok(())
+        self.end_data(pos, naming, spot, keeps, cut)
     }
 
     /// Puts two values.
@@ -91,9 +107,7 @@ impl Assembler {
         let cut = is_cut(size, &form) as usize + is_cut(size, &other) as usize;
         self.put_form(pos, size, form)?;
         self.put_form(pos, size, other)?;
-        self.table.end_naming(pos, naming, spot, keeps)?;
-        self.warn(pos, cut)?;
-        Ok(())
+        self.end_data(pos, naming, spot, keeps, cut)
     }
 
     /// Puts one value whose form does not keep the place.
