@@ -22,6 +22,8 @@ pub enum PlaceCause {
     ValueNotKnown,
     /// An operator other than `+` and `-` has an operand that is no constant.
     NotASumOfSymbols,
+    /// A directive says that the source has a fault.
+    ErrorDirective,
     /// No instruction has this name.
     UnknownMnemonic,
     /// No directive has this name.

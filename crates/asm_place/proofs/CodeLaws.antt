@@ -290,7 +290,7 @@ statement_put : EncodingsNote → (s : TokenStatement) (before next : Placed) (t
 unfolding place
 statement_put notes s before next text written no_jump is =
     tokens_put notes (pos_at s.file s.line) s.tokens before next text written no_jump
-    (located_ok (pos_at s.file s.line) before.notes (place_tokens (pos_at s.file s.line) s.tokens before) next is)
+    (located_ok s before.notes (place_tokens (pos_at s.file s.line) s.tokens before) next is)
 
 -- WHERE IT STANDS
 

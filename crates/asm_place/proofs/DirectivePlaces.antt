@@ -45,6 +45,8 @@ use Rattle.asm_words.specs.SymbolKinds.{named_kind}
 use Rattle.asm_values.specs.Assignments.{assign_words, place_set, place_assignment}
 use Rattle.asm_place.specs.Commons.{bss, with_space, with_common, is_said_local, place_space, place_comm, place_lcomm, SpaceWords, with_own, space_words}
 use Rattle.asm_words.specs.Spaces.{space_size, space_of, units_of, unit_size, log_of}
+use Rattle.asm_base.specs.declared.faults.Note.TheVariants.{Written}
+use Rattle.asm_place.specs.Remarks.{place_err, place_error, place_warning}
 use Rattle.asm_place.specs.Idents.{items_in, comment_bytes, comment_header, place_ident, place_file, one_string, file_name}
 use Rattle.asm_values.specs.Data.{put_data, place_data, place_strings, with_named, place_zero, place_skip, place_fill}
 use Rattle.asm_items.specs.Alignments.{is_code, place_align}
@@ -353,6 +355,21 @@ file_walk tokens placed stands =
     after (one_string tokens) (λ text. after (file_name text)
     (λ name. table_walk placed (file_named (naming.Plain name) placed.table) stands (file_stand placed.sections (naming.Plain name) placed.table)))
 
+-- faults and warnings
+err_walk : (tokens : List SpelledToken) (placed : Placed) → Walks placed (place_err tokens)
+err_walk [] placed = refused _
+err_walk (token ∷ rest) placed = refused _
+
+error_walk : (said : Bool) (tokens : List SpelledToken) (placed : Placed) → Walks placed (place_error said tokens)
+unfolding place_error
+error_walk false tokens placed = err_walk tokens placed
+error_walk true tokens placed = after (one_string tokens) (λ text. refused _)
+
+warning_walk : (pos : Pos) (tokens : List SpelledToken) (placed : Placed) → PlacesStand placed → Walks placed (place_warning pos tokens placed)
+unfolding place_warning
+warning_walk pos tokens placed stands =
+    after (one_string tokens) (λ text. made _ (notes_stay (record { note = Written text; pos = pos } ∷ []) placed placed (unmoved placed stands)))
+
 -- directives
 bare_walk : (tokens : List SpelledToken) (placed : Placed) (answer : Result Placed PlaceCause) → Walks placed answer → Walks placed (bare tokens answer)
 bare_walk [] placed answer steps = steps
@@ -389,6 +406,8 @@ by_walk directive.Comm pos tokens placed stands = comm_walk pos tokens placed st
 by_walk directive.Lcomm pos tokens placed stands = lcomm_walk pos tokens placed stands
 by_walk directive.Ident pos tokens placed stands = ident_walk pos tokens placed stands
 by_walk directive.File pos tokens placed stands = file_walk tokens placed stands
+by_walk (directive.Error said) pos tokens placed stands = error_walk said tokens placed
+by_walk directive.Warning pos tokens placed stands = warning_walk pos tokens placed stands
 
 found_walk : (found : Option Directive) (pos : Pos) (tokens : List SpelledToken) (placed : Placed) → PlacesStand placed → Walks placed (place_found found pos tokens placed)
 found_walk None pos tokens placed stands = refused _

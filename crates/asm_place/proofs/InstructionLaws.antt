@@ -139,15 +139,15 @@ instruction_put stand pos tokens before placed coded written is =
     labelled_put stand pos tokens before placed coded written (wide_ok (has_wide_label tokens) (place_labelled pos tokens before) placed is)
 
 -- what a statement adds, where the others before and behind it are placed too
-pub located_ok : (pos : Pos) (notes : List Noted) (answer : Result Placed PlaceCause) (next : Placed) → located pos notes answer ≡ Ok next → answer ≡ Ok next
-located_ok pos notes (Ok more) next is = ap Ok (same_Ok more next is)
-located_ok pos notes (Err fault) next is = err-ok _ next is
+pub located_ok : (s : TokenStatement) (notes : List Noted) (answer : Result Placed PlaceCause) (next : Placed) → located s notes answer ≡ Ok next → answer ≡ Ok next
+located_ok s notes (Ok more) next is = ap Ok (same_Ok more next is)
+located_ok s notes (Err fault) next is = err-ok _ next is
 
 statement_put : BareCodesStand → (s : TokenStatement) (before next : Placed) (coded : Coded) → instruction_of s ≡ Some coded → place s before ≡ Ok next → Puts (pos_at s.file s.line) coded before next
 unfolding place
 statement_put stand s before next coded written is =
     instruction_put stand (pos_at s.file s.line) s.tokens before next coded written
-    (located_ok (pos_at s.file s.line) before.notes (place_tokens (pos_at s.file s.line) s.tokens before) next is)
+    (located_ok s before.notes (place_tokens (pos_at s.file s.line) s.tokens before) next is)
 
 pub first_placed : {C : Type 0} (s : TokenStatement) (later : List TokenStatement) (placed whole : Placed) → place_all (s ∷ later) placed ≡ Ok whole
     → ((next : Placed) → place s placed ≡ Ok next → place_all later next ≡ Ok whole → C) → C

@@ -126,7 +126,7 @@ statement_jumps : (s : TokenStatement) (before next : Placed) (text : InsnText) 
 unfolding place
 statement_jumps s before next text condition written jump is =
     jump_put (pos_at s.file s.line) s.tokens before next text condition written jump
-    (located_ok (pos_at s.file s.line) before.notes (place_tokens (pos_at s.file s.line) s.tokens before) next is)
+    (located_ok s before.notes (place_tokens (pos_at s.file s.line) s.tokens before) next is)
 
 -- what was put last stands there in front of more
 last_there : {X : Type 0} (xs : List X) (x : X) (more : List X) → slice_get ((xs ++ x ∷ []) ++ more) (length xs) ≡ Some x

@@ -1,4 +1,5 @@
 -- The proofs of this crate.
+pub mod RemarkLemmas
 pub mod TokenLists
 pub mod NamedForms
 pub mod AmountTrees

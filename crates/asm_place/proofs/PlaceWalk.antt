@@ -137,13 +137,13 @@ tokens_walk : (pos : Pos) (tokens : List SpelledToken) (placed : Placed) → Pla
 unfolding place_tokens
 tokens_walk pos tokens placed stands = either (has_wide_label tokens) (refused NumberTooWide) (labelled_walk pos tokens placed stands)
 
-located_walk : (pos : Pos) (notes : List Noted) (before : Placed) (answer : Result Placed PlaceCause) → Walks before answer → Walks before (located pos notes answer)
-located_walk pos notes before (Ok more) steps = made more steps.holds
-located_walk pos notes before (Err fault) steps = refused _
+located_walk : (s : TokenStatement) (notes : List Noted) (before : Placed) (answer : Result Placed PlaceCause) → Walks before answer → Walks before (located s notes answer)
+located_walk s notes before (Ok more) steps = made more steps.holds
+located_walk s notes before (Err fault) steps = refused _
 
 place_walk : (s : TokenStatement) (placed : Placed) → PlacesStand placed → Walks placed (place s placed)
 unfolding place
-place_walk s placed stands = located_walk (pos_at s.file s.line) placed.notes placed _ (tokens_walk (pos_at s.file s.line) s.tokens placed stands)
+place_walk s placed stands = located_walk s placed.notes placed _ (tokens_walk (pos_at s.file s.line) s.tokens placed stands)
 
 pub statements_walk : (statements : List TokenStatement) (placed : Placed) → PlacesStand placed → Walks placed (place_all statements placed)
 unfolding place_all

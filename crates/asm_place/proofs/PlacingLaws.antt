@@ -4,7 +4,8 @@ use Rattle.std.specs.Prelude.{◌&&◌, ◌+◌, ◌^◌, nat_lt, not, drop, sli
 use Rattle.std.specs.List.{list_any, list_all, count_by}
 use Rattle.std.proofs.lemmas.Result.{IfOk-at_ok, IfErr-at_err}
 use Rattle.asm_operands.specs.declared.place_faults.PlaceCause.{PlaceCause}
-use Rattle.asm_operands.specs.declared.place_faults.PlaceCause.TheVariants.{BadExpression, NumberTooWide, ExpressionTooDeep, DivisionByZero, ValueNotKnown, NotASumOfSymbols, UnknownMnemonic, UnknownDirective, BadOperand, NoSuchForm, UnknownOperandSize, OutOfRange, BadSection, SymbolAlreadyDefined, BadSymbolUse}
+use Rattle.asm_operands.specs.declared.place_faults.PlaceCause.TheVariants.{BadExpression, NumberTooWide, ExpressionTooDeep, DivisionByZero, ValueNotKnown, NotASumOfSymbols, ErrorDirective, UnknownMnemonic, UnknownDirective, BadOperand, NoSuchForm, UnknownOperandSize, OutOfRange, BadSection, SymbolAlreadyDefined, BadSymbolUse}
+use Rattle.asm_base.specs.declared.faults.Note.TheVariants.{Written}
 use Rattle.asm_base.specs.declared.notes.Noted.{Noted}
 use Rattle.asm_base.specs.declared.positions.Pos.{Pos}
 use Rattle.asm_base.specs.Tokens.{SpelledToken}
@@ -62,6 +63,7 @@ use Rattle.asm_values.specs.Assignments.{assign_words, place_set, place_assignme
 use Rattle.asm_place.specs.Commons.{bss, with_space, with_common, is_said_local, place_space, place_comm, place_lcomm, SpaceWords, with_own, space_words}
 use Rattle.asm_words.specs.Spaces.{space_size, space_of, units_of, unit_size, log_of}
 use Rattle.asm_place.specs.Idents.{items_in, comment_bytes, comment_header, place_ident, place_file, one_string, file_name}
+use Rattle.asm_place.specs.Remarks.{place_err, place_error, place_warning}
 use Rattle.asm_values.specs.Data.{put_data, place_data, place_strings, with_named, place_zero, place_skip, place_fill}
 use Rattle.asm_items.specs.Alignments.{is_code, place_align}
 use Rattle.asm_items.specs.Orgs.{known_origin, origin_by, place_org}
@@ -395,6 +397,21 @@ file_steps tokens placed =
     after (one_string tokens) (λ text. after (file_name text)
     (λ name. after (file_named (naming.Plain name) placed.table) (λ table. made (with_table placed table) (still placed))))
 
+-- faults and warnings
+err_steps : (tokens : List SpelledToken) (placed : Placed) → Steps placed (place_err tokens)
+err_steps [] placed = refused _
+err_steps (token ∷ rest) placed = refused _
+
+error_steps : (said : Bool) (tokens : List SpelledToken) (placed : Placed) → Steps placed (place_error said tokens)
+unfolding place_error
+error_steps false tokens placed = err_steps tokens placed
+error_steps true tokens placed = after (one_string tokens) (λ text. refused _)
+
+warning_steps : (pos : Pos) (tokens : List SpelledToken) (placed : Placed) → Steps placed (place_warning pos tokens placed)
+unfolding place_warning
+warning_steps pos tokens placed =
+    after (one_string tokens) (λ text. made (with_notes (record { note = Written text; pos = pos } ∷ []) placed) (still placed))
+
 -- directives
 bare_steps : (tokens : List SpelledToken) (placed : Placed) (answer : Result Placed PlaceCause) → Steps placed answer → Steps placed (bare tokens answer)
 bare_steps [] placed answer steps = steps
@@ -423,6 +440,8 @@ by_steps directive.Comm pos tokens placed = comm_steps pos tokens placed
 by_steps directive.Lcomm pos tokens placed = lcomm_steps pos tokens placed
 by_steps directive.Ident pos tokens placed = ident_steps pos tokens placed
 by_steps directive.File pos tokens placed = file_steps tokens placed
+by_steps (directive.Error said) pos tokens placed = error_steps said tokens placed
+by_steps directive.Warning pos tokens placed = warning_steps pos tokens placed
 
 found_steps : (found : Option Directive) (pos : Pos) (tokens : List SpelledToken) (placed : Placed) → Steps placed (place_found found pos tokens placed)
 found_steps None pos tokens placed = refused _
@@ -508,13 +527,13 @@ unfolding place_tokens
 tokens_steps pos tokens placed = either (has_wide_label tokens) (refused NumberTooWide) (labelled_steps pos tokens placed)
 
 -- the same of statements in their places
-located_steps : (pos : Pos) (notes : List Noted) (before : Placed) (answer : Result Placed PlaceCause) → Steps before answer → Steps before (located pos notes answer)
-located_steps pos notes before (Ok more) steps = made more steps.holds
-located_steps pos notes before (Err fault) steps = refused _
+located_steps : (s : TokenStatement) (notes : List Noted) (before : Placed) (answer : Result Placed PlaceCause) → Steps before answer → Steps before (located s notes answer)
+located_steps s notes before (Ok more) steps = made more steps.holds
+located_steps s notes before (Err fault) steps = refused _
 
 place_steps : (s : TokenStatement) (placed : Placed) → Steps placed (place s placed)
 unfolding place
-place_steps s placed = located_steps (pos_at s.file s.line) placed.notes placed _ (tokens_steps (pos_at s.file s.line) s.tokens placed)
+place_steps s placed = located_steps s placed.notes placed _ (tokens_steps (pos_at s.file s.line) s.tokens placed)
 
 statements_steps : (statements : List TokenStatement) (placed : Placed) → Steps placed (place_all statements placed)
 unfolding place_all
@@ -532,26 +551,27 @@ pub all_within : (statements : List TokenStatement) (before placed : Placed) →
 all_within statements before placed is = (all_add statements before placed is).within
 
 -- no fault of placing is that a file is too large
-not_of_reading : (fault : PlaceCause) → is_too_large (statement_fault fault) ≡ false
-not_of_reading BadExpression = refl
-not_of_reading NumberTooWide = refl
-not_of_reading ExpressionTooDeep = refl
-not_of_reading DivisionByZero = refl
-not_of_reading ValueNotKnown = refl
-not_of_reading NotASumOfSymbols = refl
-not_of_reading UnknownMnemonic = refl
-not_of_reading UnknownDirective = refl
-not_of_reading BadOperand = refl
-not_of_reading NoSuchForm = refl
-not_of_reading UnknownOperandSize = refl
-not_of_reading OutOfRange = refl
-not_of_reading BadSection = refl
-not_of_reading SymbolAlreadyDefined = refl
-not_of_reading BadSymbolUse = refl
+not_of_reading : (tokens : List SpelledToken) (fault : PlaceCause) → is_too_large (statement_fault tokens fault) ≡ false
+not_of_reading tokens BadExpression = refl
+not_of_reading tokens NumberTooWide = refl
+not_of_reading tokens ExpressionTooDeep = refl
+not_of_reading tokens DivisionByZero = refl
+not_of_reading tokens ValueNotKnown = refl
+not_of_reading tokens NotASumOfSymbols = refl
+not_of_reading tokens ErrorDirective = refl
+not_of_reading tokens UnknownMnemonic = refl
+not_of_reading tokens UnknownDirective = refl
+not_of_reading tokens BadOperand = refl
+not_of_reading tokens NoSuchForm = refl
+not_of_reading tokens UnknownOperandSize = refl
+not_of_reading tokens OutOfRange = refl
+not_of_reading tokens BadSection = refl
+not_of_reading tokens SymbolAlreadyDefined = refl
+not_of_reading tokens BadSymbolUse = refl
 
-located_fault : (pos : Pos) (notes : List Noted) (answer : Result Placed PlaceCause) (stop : FaultAt) → located pos notes answer ≡ Err stop → is_file_too_large stop.fault ≡ false
-located_fault pos notes (Ok more) stop is = cc
-located_fault pos notes (Err fault) stop is = IfErr-at_err (λ (at : FaultAt). is_file_too_large at.fault ≡ false) is (not_of_reading fault)
+located_fault : (s : TokenStatement) (notes : List Noted) (answer : Result Placed PlaceCause) (stop : FaultAt) → located s notes answer ≡ Err stop → is_file_too_large stop.fault ≡ false
+located_fault s notes (Ok more) stop is = cc
+located_fault s notes (Err fault) stop is = IfErr-at_err (λ (at : FaultAt). is_file_too_large at.fault ≡ false) is (not_of_reading s.tokens fault)
 
 first_fault : (r : Result Placed FaultAt) (f : Placed → Result Placed FaultAt) (stop : FaultAt)
     → (r ≡ Err stop → is_file_too_large stop.fault ≡ false) → ((x : Placed) → f x ≡ Err stop → is_file_too_large stop.fault ≡ false)
@@ -565,5 +585,5 @@ unfolding place_all place
 no_fault_of_reading [] before stop is = cc
 no_fault_of_reading (s ∷ later) before stop is =
     first_fault (place s before) (place_all later) stop
-    (located_fault (pos_at s.file s.line) before.notes (place_tokens (pos_at s.file s.line) s.tokens before) stop)
+    (located_fault s before.notes (place_tokens (pos_at s.file s.line) s.tokens before) stop)
     (λ placed. no_fault_of_reading later placed stop) is

@@ -6,6 +6,7 @@ pub mod BareNames
 pub mod Commons
 pub mod SpaceWordsIn
 pub mod Idents
+pub mod Remarks
 pub mod Coding
 pub mod Amounts
 pub mod Placing

@@ -22,6 +22,7 @@ use Rattle.asm_values.specs.Sizes.{place_size}
 use Rattle.asm_values.specs.Assignments.{place_set, place_assignment}
 use Rattle.asm_place.specs.Commons.{place_comm, place_lcomm}
 use Rattle.asm_place.specs.Idents.{place_ident, place_file}
+use Rattle.asm_place.specs.Remarks.{place_error, place_warning}
 use Rattle.asm_place.specs.Coding.{place_instruction}
 use Rattle.asm_words.specs.Directives.{directive_of}
 use Rattle.asm_uses.specs.Labels.{label_symbol}
@@ -64,6 +65,8 @@ place_by directive.Comm pos tokens placed = place_comm pos tokens placed
 place_by directive.Lcomm pos tokens placed = place_lcomm pos tokens placed
 place_by directive.Ident pos tokens placed = place_ident pos tokens placed
 place_by directive.File pos tokens placed = place_file tokens placed
+place_by (directive.Error said) pos tokens placed = place_error said tokens
+place_by directive.Warning pos tokens placed = place_warning pos tokens placed
 
 -- the directive that was found, or the fault that there is none of the name
 abbrev pub place_found : Option Directive → Pos → List SpelledToken → Placed → Result Placed PlaceCause

@@ -1,5 +1,5 @@
 -- The statements that are handed out, placed in order, up to the first that has a fault.
-use Rattle.std.specs.Prelude.{ℕ, List, [], ◌∷◌, Result, Ok, Err}
+use Rattle.std.specs.Prelude.{◌≡◌, ℕ, List, [], ◌∷◌, Result, Ok, Err}
 use Rattle.asm_base.specs.Refusals.{◌>>=◌}
 use Rattle.asm_base.specs.declared.faults.Fault.{Fault}
 use Rattle.asm_base.specs.declared.faults.Fault.TheVariants.{Statement}
@@ -22,23 +22,24 @@ pos_at file line = record { file = file; line = line }
 abbrev pub fault_at : Fault → Pos → List Noted → FaultAt
 fault_at fault pos notes = record { fault = fault; pos = pos; notes = notes }
 
--- a fault of the statement at this place, behind these notes
-abbrev pub statement_fault_at : Pos → List Noted → PlaceCause → FaultAt
-statement_fault_at pos notes cause = fault_at (Statement (statement_fault cause)) pos notes
+-- a fault of a statement, behind these notes
+abbrev pub statement_fault_at : TokenStatement → List Noted → PlaceCause → FaultAt
+statement_fault_at s notes cause = fault_at (Statement (statement_fault s.tokens cause)) (pos_at s.file s.line) notes
 
--- the refusal of the statement at this place, behind these notes
-abbrev pub refusal_at : Pos → List Noted → Refusal PlaceCause → Refusal FaultAt
-refusal_at pos notes (refusal.Fault cause) = refusal.Fault (statement_fault_at pos notes cause)
-refusal_at pos notes refusal.NoMemory = refusal.NoMemory
+-- the refusal of a statement, behind these notes; want of memory may take its place
+abbrev pub IsRefusalAt : TokenStatement → List Noted → Refusal PlaceCause → Refusal FaultAt → Type 0
+IsRefusalAt s notes cause refusal.NoMemory = Unit {0}
+IsRefusalAt s notes (refusal.Fault cause) (refusal.Fault fault) = fault ≡ statement_fault_at s notes cause
+IsRefusalAt s notes refusal.NoMemory (refusal.Fault fault) = ⊥
 
--- a fault of a statement at this place, with the notes of those before it
-abbrev pub located : Pos → List Noted → Result Placed PlaceCause → Result Placed FaultAt
-located pos notes (Ok more) = Ok more
-located pos notes (Err cause) = Err (statement_fault_at pos notes cause)
+-- a fault of a statement, with the notes of those before it
+abbrev pub located : TokenStatement → List Noted → Result Placed PlaceCause → Result Placed FaultAt
+located s notes (Ok more) = Ok more
+located s notes (Err cause) = Err (statement_fault_at s notes cause)
 
 -- a statement that is handed out, placed; one that has a fault makes no note
 unfoldable pub place : TokenStatement → Placed → Result Placed FaultAt
-place s placed = located (pos_at s.file s.line) placed.notes (place_tokens (pos_at s.file s.line) s.tokens placed)
+place s placed = located s placed.notes (place_tokens (pos_at s.file s.line) s.tokens placed)
 
 -- all statements in order, up to the first that has a fault
 unfoldable pub place_all : List TokenStatement → Placed → Result Placed FaultAt

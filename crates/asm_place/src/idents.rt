@@ -20,7 +20,7 @@ const MERGED_STRINGS: u64 = 0x30;
 
 /// One string.
 #[tactic(auto, unfolding(crate::specs::Idents::one_string))]
-fn one_string(alloc: Global, tokens: &[Token]) -> Result<Vec<u8>, PlaceFault>
+pub(crate) fn one_string(alloc: Global, tokens: &[Token]) -> Result<Vec<u8>, PlaceFault>
     ensures { GivesBy (λ string. string.items) result (spec.one_string (map spelled tokens.now)) }
 {
     let mut operands = Operands::new(tokens);

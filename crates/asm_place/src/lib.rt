@@ -10,6 +10,7 @@ mod instructions;
 mod laws;
 mod place_faults;
 mod placing;
+mod remarks;
 mod section_changes;
 mod sources;
 mod symbol_words;

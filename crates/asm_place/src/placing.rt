@@ -11,6 +11,7 @@ ghost use Rattle.asm_values.specs.PlacedBy.{placed_by, PlacesBy};
 use crate::commons::{place_comm, place_lcomm};
 use crate::idents::{place_file, place_ident};
 use crate::instructions::place_instruction;
+use crate::remarks::{place_error, place_warning};
 use crate::section_changes::{place_popped, place_pushed, place_section, set_current};
 use crate::symbol_words::{place_said, place_type};
 use asm_base::{Pos, Token};
@@ -105,6 +106,8 @@ fn place_by(
         Directive::Lcomm => place_lcomm(assembler, pos, tokens),
         Directive::Ident => place_ident(assembler, pos, tokens),
         Directive::File => place_file(assembler, tokens),
+        Directive::Error { said } => place_error(assembler, said, tokens),
+        Directive::Warning => place_warning(assembler, pos, tokens),
     }
 }
 

@@ -1,31 +1,41 @@
 //! Placing the statements that are handed out, one after the other.
 
-ghost use Rattle.std.specs.Prelude.{◌≡◌};
+ghost use Rattle.std.specs.Prelude.{◌≡◌, map, IfOk};
+ghost use Rattle.asm_base.specs.Tokens.{spelled};
 ghost use Rattle.asm_place.specs.Faults.{statement_fault};
-ghost use Rattle.asm_place.specs.Sources.{refusal_at};
+ghost use Rattle.asm_place.specs.Sources.{IsRefusalAt};
 
 use crate::place_faults::FaultAt;
 use crate::placing::place_tokens;
-use asm_base::{Fault, Notes, Pos, Refusal, StatementFault, Token};
+use crate::remarks::last_string;
+use asm_base::{Fault, Notes, Pos, Refusal, SaidText, StatementFault, Token};
 use asm_frags::FragFault;
 use asm_lines::Placer;
 use asm_operands::{PlaceCause, PlaceFault};
 use asm_values::{Assembler, Placed};
-use std::alloc::Global;
+use std::alloc::{AllocError, Global};
 use std::marker::Model;
 use std::mem;
 
-/// The fault of the statement that placing answers.
-fn statement_fault(fault: PlaceCause) -> StatementFault
-    ensures { result ≡ statement_fault fault }
+/// The fault that placing answers, as one of the statement with these tokens.
+fn statement_fault(
+    alloc: Global,
+    tokens: &[Token],
+    fault: PlaceCause,
+) -> Result<StatementFault, AllocError>
+    ensures { IfOk result (λ stated. stated ≡ statement_fault (map spelled tokens.now) fault) }
 {
-    match fault {
+    Ok(match fault {
         PlaceCause::BadExpression => StatementFault::BadExpression,
         PlaceCause::NumberTooWide => StatementFault::NumberTooWide,
         PlaceCause::ExpressionTooDeep => StatementFault::ExpressionTooDeep,
         PlaceCause::DivisionByZero => StatementFault::DivisionByZero,
         PlaceCause::ValueNotKnown => StatementFault::ValueNotKnown,
         PlaceCause::NotASumOfSymbols => StatementFault::NotASumOfSymbols,
+        PlaceCause::ErrorDirective => {
+            let text = SaidText::new(alloc, last_string(alloc, tokens)?)?;
+            StatementFault::ErrorDirective(text)
+        }
         PlaceCause::UnknownMnemonic => StatementFault::UnknownMnemonic,
         PlaceCause::UnknownDirective => StatementFault::UnknownDirective,
         PlaceCause::BadOperand => StatementFault::BadOperand,
@@ -35,7 +45,7 @@ fn statement_fault(fault: PlaceCause) -> StatementFault
         PlaceCause::BadSection => StatementFault::BadSection,
         PlaceCause::SymbolAlreadyDefined => StatementFault::SymbolAlreadyDefined,
         PlaceCause::BadSymbolUse => StatementFault::BadSymbolUse,
-    }
+    })
 }
 
 /// What the statements so far have placed, for more statements from anywhere.
@@ -55,16 +65,25 @@ impl Model for StatementPlacer {
 
 /// The refusal of the statement at this place, which takes the notes along.
 #[inline(never)]
-fn refused(assembler: &mut Assembler, pos: Pos, refusal: PlaceFault) -> Refusal<FaultAt>
-    ensures { result ≡ refusal_at pos assembler.old.notes refusal }
+fn refused(
+    assembler: &mut Assembler,
+    pos: Pos,
+    tokens: &[Token],
+    refusal: PlaceFault,
+) -> Refusal<FaultAt>
+    ensures { IsRefusalAt (record { file = pos.file; line = pos.line; tokens = map spelled tokens.now })
+        assembler.old.notes refusal result }
 {
     match refusal {
         PlaceFault::NoMemory => Refusal::NoMemory,
-        PlaceFault::Fault(cause) => {
-            let notes = mem::replace(&mut assembler.notes, Notes::new(assembler.alloc));
-            let fault = Fault::Statement(statement_fault(cause));
-            Refusal::Fault(FaultAt { fault, pos, notes })
-        }
+        PlaceFault::Fault(cause) => match statement_fault(assembler.alloc, tokens, cause) {
+            Err(AllocError) => Refusal::NoMemory,
+            Ok(fault) => {
+                let notes = mem::replace(&mut assembler.notes, Notes::new(assembler.alloc));
+                let fault = Fault::Statement(fault);
+                Refusal::Fault(FaultAt { fault, pos, notes })
+            }
+        },
     }
 }
 
@@ -104,7 +123,7 @@ impl Placer for StatementPlacer {
     fn place(&mut self, pos: Pos, tokens: &[Token]) -> Result<(), Refusal<FaultAt>> {
         match place_tokens(&mut self.assembler, pos, tokens) {
             Ok(()) => Ok(()),
-            Err(refusal) => Err(refused(&mut self.assembler, pos, refusal)),
+            Err(refusal) => Err(refused(&mut self.assembler, pos, tokens, refusal)),
         }
     }
 }

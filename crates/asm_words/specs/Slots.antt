@@ -4,7 +4,7 @@ use Rattle.std.specs.Str.{str_to_ascii_lowercase}
 
 -- the slot of a name of this length with these bytes
 abbrev pub slot_of : ℕ → ℕ → ℕ → ℕ → ℕ
-slot_of size first second last = (size % 128 + 12 * first + 2 * second + 12 * last) % 128
+slot_of size first second last = (size % 128 + 12 * first + 111 * second + 123 * last) % 128
 
 -- the slot of a name in small letters: of its length, its first two bytes and its last one
 unfoldable pub small_slot : List ℕ → ℕ

@@ -64,6 +64,10 @@ pub enum Directive {
     Lcomm,
     Ident,
     File,
+    /// A fault, which says its text or has none.
+    Error { said: bool },
+    /// A warning with its text.
+    Warning,
 }
 
 /// A name of a directive.
@@ -89,7 +93,7 @@ macro_rules! directives {
 
 /// The names of the GNU as manual, chapter 7, "Assembler Directives".
 #[rattlefmt::skip]
-pub static DIRECTIVES: [DirectiveRow; 46] = directives! {
+pub static DIRECTIVES: [DirectiveRow; 49] = directives! {
     b".byte       " 5  Directive::Data(FieldSize::One);
     b".long       " 5  Directive::Data(FieldSize::Four);
     b".quad       " 5  Directive::Data(FieldSize::Eight);
@@ -136,19 +140,22 @@ pub static DIRECTIVES: [DirectiveRow; 46] = directives! {
     b".lcomm      " 6  Directive::Lcomm;
     b".ident      " 6  Directive::Ident;
     b".file       " 5  Directive::File;
+    b".err        " 4  Directive::Error { said: false };
+    b".error      " 6  Directive::Error { said: true };
+    b".warning    " 8  Directive::Warning;
 };
 
 /// The number of the row of each slot, or 255 where no name has the slot.
 #[rattlefmt::skip]
 pub static DIRECTIVE_SLOTS: [u8; 128] = [
-     41,  24,  39, 255,   3,  23, 255, 255, 255,  18, 255, 255,  30,  31, 255,  42,
-    255, 255, 255,  36, 255, 255,  33, 255,  20, 255, 255,  21, 255, 255, 255,  32,
-    255, 255,  43, 255, 255, 255, 255,  34,  11, 255, 255, 255, 255,   0, 255, 255,
-    255, 255, 255, 255, 255,  45,  14, 255,  19, 255,  13,  28,  27, 255,  26,   2,
-    255, 255,  35, 255, 255, 255, 255, 255, 255, 255, 255,   5, 255, 255,   7,  38,
-     17,  37,   8,  16,  25,  15,   4, 255, 255,   1,   9, 255,  10, 255,  22, 255,
-    255, 255, 255, 255, 255, 255, 255, 255, 255,  12, 255, 255, 255, 255,   6, 255,
-     44, 255,  40, 255, 255,  29, 255, 255, 255, 255, 255, 255, 255, 255, 255, 255,
+     37, 255,  29, 255, 255, 255, 255,  21, 255,  12, 255, 255, 255, 255, 255, 255,
+    255,  38,  17, 255, 255, 255, 255,  20, 255, 255,  19, 255,  36,  28,  27, 255,
+    255,  34, 255, 255,  24, 255, 255, 255, 255, 255, 255,  41, 255, 255,  40,  32,
+     10, 255,   0, 255, 255,  23, 255, 255,   2, 255, 255,  30,  31,  46, 255,  47,
+    255,   8, 255, 255, 255,  39,  48,   3, 255, 255,  22,  18, 255, 255,  35, 255,
+    255, 255,   5,  13, 255, 255, 255, 255, 255, 255,  16,  11, 255, 255, 255,   4,
+    255,  43, 255,   7, 255, 255,  33,  26,  15, 255, 255,  25, 255, 255,  45,   6,
+    255,  44, 255, 255, 255,  14, 255, 255, 255,  42, 255, 255, 255,   9,   1, 255,
 ];
 
 /// The table.

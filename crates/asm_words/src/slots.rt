@@ -11,7 +11,7 @@ fn slot_of(length: usize, first: u8, second: u8, last: u8) -> usize
     ensures value { result ≡ slot_of length first second last }
     ensures within { result < 128 }
 {
-    (length % SLOTS + 12 * first as usize + 2 * second as usize + 12 * last as usize) % SLOTS
+    (length % SLOTS + 12 * first as usize + 111 * second as usize + 123 * last as usize) % SLOTS
 }
 
 /// The slot of a name, in either case. Multipliers and size are chosen so that no two names share one.
