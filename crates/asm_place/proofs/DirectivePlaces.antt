@@ -63,7 +63,7 @@ use Rattle.asm_place.specs.SymbolPlaces.{AreUpTo, SymbolsStand, PlacesStand}
 use Rattle.asm_place.proofs.NamedSymbols.{form_up}
 use Rattle.asm_place.proofs.PlacingLaws.{entered_adds}
 use Rattle.asm_place.proofs.SymbolTables.{Allows, named_both, allows_on, with_name_stand, tree_stand, change_stand, named_change_stand, assigned_stand, kind_stand, say_all_stand, sized_stand, allowed_stand, define_space_stand, end_stand, file_stand}
-use Rattle.asm_place.proofs.PlaceSteps.{count, Gains, Stays, Closes, Walks, grown_twice, stays_on, closes_on, closed, walked, unmoved, items_grow, sections_stay, table_stays, table_gains, table_closes, current_stays, notes_close, names_gain, spot_stands, table_walk, table_close, bytes_walk, field_walk, push_walk, growing_walk, section_walk, pushed_walk, popped_walk}
+use Rattle.asm_place.proofs.PlaceSteps.{count, Gains, Stays, Closes, Walks, grown_twice, stays_on, closes_on, closed, walked, unmoved, items_grow, sections_stay, table_stays, table_gains, table_closes, current_stays, notes_close, notes_stay, names_gain, spot_stands, table_walk, table_close, bytes_walk, field_walk, push_walk, growing_walk, section_walk, pushed_walk, popped_walk}
 
 -- DATA AND SPACE
 
@@ -368,7 +368,7 @@ error_walk true tokens placed = after (one_string tokens) (λ text. refused _)
 warning_walk : (pos : Pos) (tokens : List SpelledToken) (placed : Placed) → PlacesStand placed → Walks placed (place_warning pos tokens placed)
 unfolding place_warning
 warning_walk pos tokens placed stands =
-    after (one_string tokens) (λ text. made _ (notes_stay (record { note = Written text; pos = pos } ∷ []) placed placed (unmoved placed stands)))
+    after (one_string tokens) (λ text. made _ (notes_stay (record { note = Written text; pos = pos } ∷ []) placed stands))
 
 -- directives
 bare_walk : (tokens : List SpelledToken) (placed : Placed) (answer : Result Placed PlaceCause) → Walks placed answer → Walks placed (bare tokens answer)

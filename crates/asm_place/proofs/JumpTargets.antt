@@ -63,7 +63,7 @@ module _ (s : TokenStatement) (later : List TokenStatement) (placed whole : Plac
   unfolding place place_insn
   fewer next is later_is written =
       let pos = pos_at s.file s.line in
-      let tokens = located_ok pos placed.notes (place_tokens pos s.tokens placed) next is in
+      let tokens = located_ok s placed.notes (place_tokens pos s.tokens placed) next is in
       let rest = rest_is pos s.tokens text placed jump.labels next written jump.labels_are tokens in
       let naming = naming_of trees jump.labels.table in
       let first = IfOk-at_ok (Closes naming.before named) rest (trees_walk pos (shape_in text) naming text.immediate.tree text.displacement.tree named named_stands).holds in

@@ -210,6 +210,14 @@ notes_close notes base before placed closes = record {
   few = closes.few;
 }
 
+pub notes_stay : (notes : List Noted) (placed : Placed) → PlacesStand placed → Stays placed (with_notes notes placed)
+notes_stay notes placed stands = record {
+  grows = not_grown placed.sections;
+  more = omega arith;
+  stands = record { current = stands.current; previous = stands.previous; stack = stands.stack; first = stands.first; symbols = stands.symbols };
+  fits = λ few. few;
+}
+
 pub names_gain : (pos : Pos) (trees : List Tree) (placed : Placed) → PlacesStand placed → Gains placed (with_names pos trees placed)
 names_gain pos trees placed stands = table_gains placed (with_trees pos trees placed.table) (trees_stand placed.sections pos trees placed.table) stands
 
