@@ -1,14 +1,10 @@
 -- Held bytes with repetitions between them.
-use Rattle.std.proofs.Common.{◌≡◌, ℕ, ◌+◌, ◌-◌, ◌<◌, ◌≤◌, List, [], ◌∷◌, ◌++◌, length, take, drop, refl, ap, sym, ◌∙◌, arith, append_assoc, append-nil, length-drop, take_all, take-add, get_or}
-use Rattle.std.specs.Prelude.{slice_range}
-use Rattle.std.proofs.lemmas.List.{length-take-le, take-append-le, drop-append-le, drop_all}
+use Rattle.std.proofs.Common.{◌≡◌, ℕ, ◌+◌, ◌≤◌, cond, List, [], ◌∷◌, ◌++◌, Result, Ok, Err, length, take, drop, refl, ap, sym, ◌∙◌, arith, append_assoc, append-nil, length-drop, take_all}
+use Rattle.std.specs.Prelude.{OnOk, is_ok}
+use Rattle.std.proofs.lemmas.List.{take-append-le, drop-append-le, drop_all}
 use Rattle.std.proofs.lemmas.List.Sums.{sum_by-cons, sum_by-append}
-use Rattle.item_contents.specs.declared.contents.Content.{Content}
-use Rattle.asm_relax.specs.Settling.{LaidItem}
 use Rattle.elf_file.specs.declared.file_pieces.Between.{Between}
 use Rattle.elf_file.specs.Pieces.{mixed, held_before}
-use Rattle.elf_object.specs.Contents.{reached, interleaved}
-use Rattle.elf_object.proofs.ItemLemmas.{items_step, items_end}
 
 held_first : (one : Between) (between : List Between) → held_before (one ∷ between) ≡ one.held + held_before between
 held_first one between = sum_by-cons (λ (b : Between). b.held) one between
@@ -48,33 +44,8 @@ pub held_push : (between : List Between) (one : Between) → held_before (betwee
 held_push between one =
     sum_by-append (λ (b : Between). b.held) between (one ∷ []) ∙ (let e : held_before between + held_before (one ∷ []) ≡ held_before between + one.held = ap (λ n. held_before between + n) (held_first one [] ∙ (let z : one.held + 0 ≡ one.held = omega arith in z)) in e)
 
--- a front, and what stands behind it up to a later place
-pub take_further : (bytes : List ℕ) (from at : ℕ) → from ≤ at → take at bytes ≡ take from bytes ++ slice_range bytes from at
-take_further bytes from at later =
-    let sum : from + (at - from) ≡ at = omega arith in
-    ap (λ n. take n bytes) (sym sum) ∙ take-add from (at - from) bytes
-
-module _ (held : Content → ℕ → List ℕ) where
-  -- an item more is put
-  pub mixed_item : (bytes : List ℕ) (items : List LaidItem) (i from upto : ℕ) (item : LaidItem) (old new : List Between) (whole : List ℕ) → i < length items → item ≡ get_or items i item
-      → upto ≡ reached from item → upto ≤ length bytes → held_before old ≤ from
-      → ((xs : List ℕ) → length xs ≡ upto → mixed xs new ≡ mixed xs old ++ held item.content item.size)
-      → mixed (take from bytes) old ++ interleaved held bytes from (drop i items) ≡ whole → mixed (take upto bytes) new ++ interleaved held bytes upto (drop (i + 1) items) ≡ whole
-  mixed_item bytes items i from upto item old new whole inside is there within few put before =
-      let later : from ≤ upto = omega (arith, there) in
-      let long : length (take from bytes) ≡ from = length-take-le from bytes (omega arith) in
-      let fewer : held_before old ≤ length (take from bytes) = omega arith in
-      items_step held bytes items i from upto item (mixed (take from bytes) old) (mixed (take upto bytes) old) (mixed (take upto bytes) new) whole inside is there
-      (ap (λ (xs : List ℕ). mixed xs old) (take_further bytes from upto later) ∙ mixed_more (take from bytes) (slice_range bytes from upto) old fewer)
-      (put (take upto bytes) (length-take-le upto bytes within)) before
-
-  -- all items are put
-  pub mixed_end : (bytes : List ℕ) (items : List LaidItem) (i from : ℕ) (between : List Between) (whole : List ℕ) → length items ≤ i → from ≤ length bytes
-      → held_before between ≤ from → mixed (take from bytes) between ++ interleaved held bytes from (drop i items) ≡ whole → mixed bytes between ≡ whole
-  mixed_end bytes items i from between whole all within few before =
-      let long : length (take from bytes) ≡ from = length-take-le from bytes within in
-      let fewer : held_before between ≤ length (take from bytes) = omega arith in
-      let rest = slice_range bytes from (length bytes) in
-      let split : bytes ≡ take from bytes ++ rest = sym (take_all (length bytes) bytes (omega arith)) ∙ take_further bytes from (length bytes) within in
-      items_end held bytes items i from (mixed (take from bytes) between) (mixed bytes between) whole all before
-      (ap (λ (xs : List ℕ). mixed xs between) split ∙ mixed_more (take from bytes) rest between fewer)
+-- bytes that are held behind all repetitions, unless memory is refused
+pub held_more : {T E : Type 0} (result : Result T E) (held more new : List ℕ) (between : List Between) → held_before between ≤ length held → new ≡ cond (is_ok result) (held ++ more) held
+    → OnOk result (mixed new between ≡ mixed held between ++ more)
+held_more (Ok done) held more new between few is = ap (λ (bytes : List ℕ). mixed bytes between) is ∙ mixed_more held more between few
+held_more (Err fault) held more new between few is = tt

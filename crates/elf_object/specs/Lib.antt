@@ -1,7 +1,6 @@
 -- The definitions that contracts cite, in reading order.
 pub mod Relocations
 pub mod Contents
-pub mod Mixing
 pub mod Faults
 pub mod Naming
 pub mod Sections

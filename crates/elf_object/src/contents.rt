@@ -151,16 +151,17 @@ fn interleaved(
         section.now.items) }
 {
     let items = section.items();
-    let mut mixing = Mixing::new(alloc, items.len())?;
+    let mut mixing = Mixing::new(alloc, bytes.len().saturating_add(8 * items.len()))?;
+    let mut upto = 0;
     for item in items {
-        mixing.reach(item.offset);
+        let next = upto.max(item.offset);
+        mixing.hold(&bytes[upto..next])?;
+        upto = next;
         let value = item_value(at, section, &item.content);
         put_bytes(&item.content, item.size, value, &mut mixing)?;
     }
-    Ok(Mixed {
-        bytes,
-        between: mixing.into_between(),
-    })
+    mixing.hold(&bytes[upto..])?;
+    Ok(mixing.into_mixed())
 }
 
 /// Whether no item but one run is there, so that the plain bytes are all.

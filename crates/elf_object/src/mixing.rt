@@ -1,100 +1,115 @@
 //! The bytes of items between the plain bytes of their section.
 
-ghost use Rattle.std.specs.Prelude.{◌≡◌, ℕ, List, [], ◌≤◌, ◌++◌, ◌*◌, max, length, IfOk, OnOk};
+ghost use Rattle.std.specs.Prelude.{◌≡◌, ◌<◌, ◌≤◌, ◌++◌, length, OnOk};
 ghost use Rattle.item_contents.specs.Contents.{repeated};
-ghost use Rattle.elf_object.specs.Mixing.{Mixes};
 
-use elf_file::{Between, Repetition};
+use elf_file::{Between, Mixed, Repetition};
 use item_contents::TakesBytes;
 use std::alloc::{AllocError, Global};
 use std::marker::Model;
 
-/// Takes the bytes of items, each behind the plain bytes before it.
+/// Plain bytes and the bytes of items, one behind the other. What stands once is held, and what is repeated stands
+/// between held bytes.
 #[derive(Drop)]
 pub(crate) struct Mixing {
+    held: Vec<u8>,
     between: Vec<Between>,
-    /// How many plain bytes stand before the last bytes that were taken.
+    /// How many held bytes stand before the last repetition.
     last: usize,
-    /// How many stand before those to come.
-    upto: usize,
 }
 
 impl Model for Mixing {
-    ghost use Rattle.std.specs.Prelude.{◌≡◌, ◌≤◌};
-    ghost use Rattle.elf_file.specs.Pieces.{held_before};
-    ghost use Rattle.elf_object.specs.Mixing.{MixingOf};
+    ghost use Rattle.std.specs.Prelude.{◌≡◌, ◌≤◌, ℕ, List, length};
+    ghost use Rattle.elf_file.specs.Pieces.{mixed, held_before};
 
-    ghost Value = { MixingOf };
+    ghost Value = { List ℕ };
 
-    ghost view = { λ mixing. record { between = mixing.between.items; upto = mixing.upto } };
+    ghost view = { λ mixing. mixed mixing.held.items mixing.between.items };
 
     ghost invariant = { λ mixing. (held_before mixing.between.items ≡ mixing.last)
-        × (mixing.last ≤ mixing.upto) };
+        × (mixing.last ≤ length mixing.held.items) };
 }
 
 impl Mixing {
-    ghost use Rattle.elf_file.specs.Pieces.{held_before};
-    ghost use Rattle.elf_object.specs.Mixing.{Mixes};
+    ghost use Rattle.std.specs.Prelude.{[], IfOk};
+    ghost use Rattle.elf_file.specs.Pieces.{mixed_bytes};
 
-    /// Nothing taken, with room for the bytes of so many items.
-    pub(crate) fn new(alloc: Global, items: usize) -> Result<Mixing, AllocError>
-        ensures { IfOk result (λ mixing. mixing ≡ record { between = []; upto = 0 }) }
+    /// No bytes, with room for so many that are held.
+    pub(crate) fn new(alloc: Global, room: usize) -> Result<Mixing, AllocError>
+        ensures { IfOk result (λ mixing. mixing ≡ []) }
     {
         Ok(Mixing {
-            between: Vec::with_capacity(alloc, items)?,
+            held: Vec::with_capacity(alloc, room)?,
+            between: Vec::new(alloc),
             last: 0,
-            upto: 0,
         })
     }
 
-    /// What comes stands behind so many plain bytes, or behind as many as before if these are more.
-    pub(crate) fn reach(&mut self, offset: usize)
-        ensures upto { self.new ≡ record {
-          between = self.old.between;
-          upto = max self.old.upto offset;
-        } }
-        ensures within { held_before self.old.between ≤ self.old.upto }
+    /// Puts bytes last that are held.
+    pub(crate) fn hold(&mut self, bytes: &[u8]) -> Result<(), AllocError>
+        ensures { OnOk result (self.new ≡ self.old ++ bytes.now) }
     {
-        self.upto = self.upto.max(offset);
+        self.held.extend_from_slice(bytes)
     }
 
-    /// Takes the unit `count` times.
+    /// Puts a unit last, `count` times, as a repetition.
+    fn repeat(&mut self, unit: &[u8], count: u64) -> Result<(), AllocError>
+        requires some { 0 < length unit.now }
+        requires short { length unit.now ≤ 10 }
+        requires once { 0 < count }
+        ensures { OnOk result (self.new ≡ self.old ++ repeated count unit.now) }
+    {
+        let held = self.held.len();
+        self.between.push(Between {
+            held: held - self.last,
+            repetition: Repetition::new(unit, count),
+        })?;
+        self.last = held;
+        Ok(())
+    }
+
+    /// Puts a unit last, `count` times.
     fn put(&mut self, unit: &[u8], count: u64) -> Result<(), AllocError>
         requires { length unit.now ≤ 10 }
-        ensures { OnOk result (Mixes self.old (repeated count unit.now) self.new) }
+        ensures { OnOk result (self.new ≡ self.old ++ repeated count unit.now) }
     {
+        if count == 1 {
+            return self.hold(unit);
+        }
         if unit.is_empty() {
             return Ok(());
         }
         if count == 0 {
             return Ok(());
         }
-        self.between.push(Between {
-            held: self.upto - self.last,
-            repetition: Repetition::new(unit, count),
-        })?;
-        self.last = self.upto;
-        Ok(())
+        self.repeat(unit, count)
     }
 
-    /// What was taken, with how many plain bytes stand before each.
-    pub(crate) fn into_between(self) -> Vec<Between>
-        ensures between { result.items ≡ self.between }
-        ensures within { held_before self.between ≤ self.upto }
+    /// All bytes.
+    pub(crate) fn into_mixed(self) -> Mixed
+        ensures { mixed_bytes result ≡ self }
     {
-        self.between
+        let Mixing {
+            held,
+            between,
+            last: _,
+        } = self;
+        Mixed {
+            bytes: held,
+            between,
+        }
     }
 }
 
-/// The bytes are taken behind those before. After an `Err` what was taken is only dropped.
+/// The bytes are put last. After an `Err` what was put is only dropped.
 impl TakesBytes for Mixing {
     type Out = Result<(), AllocError>;
 
-    ghost takes = { λ before bytes answer after. OnOk answer (Mixes before bytes after) };
+    ghost takes = { λ before bytes answer after. OnOk answer (after ≡ before ++ bytes) };
 
     fn pieces(&mut self, unit: &[u8], count: u64, rest: &[u8]) -> Result<(), AllocError> {
         self.put(unit, count)?;
-        self.put(rest, 1)?;
+        self.hold(rest)?;
         Ok(())
     }
 }

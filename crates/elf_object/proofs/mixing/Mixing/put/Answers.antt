@@ -1,11 +1,15 @@
--- Nothing is taken, or a repetition behind all plain bytes so far.
-use Rattle.std.proofs.Common.{◌≡◌, ◌-◌, length, subst, refl, rules}
-use Rattle.std.specs.Prelude.{List, ℕ}
+-- A unit stands once, or nothing is there to put.
+use Rattle.std.proofs.Common.{◌≡◌, ◌++◌, ℕ, List, length, sym, ap, ◌∙◌, subst, rules}
+use Rattle.std.specs.Prelude.{OnOk}
 use Rattle.item_contents.specs.Contents.{repeated}
-use Rattle.elf_file.specs.declared.file_pieces.Between.{Between}
-use Rattle.elf_object.specs.Mixing.{MixingOf, Mixes}
-use Rattle.elf_object.proofs.TakenBytes.{nothing_more, empty_unit, no_unit, repetition_more}
+use Rattle.elf_object.proofs.TakenBytes.{nothing_more, empty_unit, no_unit, unit_once}
 use Rattle.elf_object.proofs.mixing.Mixing.put.Goals as goal
+
+pub returns-then-count-eq1 : goal.returns-then-count-eq1
+returns-then-count-eq1 c =
+    let unit = c.args.unit.now in
+    let once : unit ≡ repeated c.args.count unit = sym (ap (λ n. repeated n unit) c.if-count-eq1.true ∙ unit_once unit) in
+    subst (λ (bytes : List ℕ). OnOk c.hold.result (c.hold.new.self ≡ c.args.self.now ++ bytes)) once c.hold.ensures
 
 pub returns-then-is_empty : goal.returns-then-is_empty
 returns-then-is_empty c =
@@ -14,11 +18,3 @@ returns-then-is_empty c =
 
 pub returns-then-count-eq0 : goal.returns-then-count-eq0
 returns-then-count-eq0 c = nothing_more c.args.self.now (repeated c.args.count c.args.unit.now) (no_unit c.args.count c.args.unit.now c.if-count-eq0.true)
-
-pub returns : goal.returns
-returns c =
-    let inside = c.self.inside in
-    let one : Between = record { held = inside.upto - inside.last; repetition = c.new.result } in
-    let after = repetition_more inside.between.items inside.last inside.upto one c.push.new.self.items c.self.invariant.0 c.self.invariant.1 refl c.in_ok-push.ensures.items in
-    let taken = subst (λ (bytes : List ℕ). Mixes (record { between = inside.between.items; upto = inside.upto }) bytes (record { between = c.push.new.self.items; upto = inside.upto })) c.new.ensures after in
-    subst (λ (before : MixingOf). Mixes before (repeated c.args.count c.args.unit.now) (record { between = c.push.new.self.items; upto = inside.upto })) c.self.view_is taken

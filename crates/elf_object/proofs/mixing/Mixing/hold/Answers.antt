@@ -1,0 +1,13 @@
+-- What is held stands behind all repetitions.
+use Rattle.std.proofs.Common.{◌≡◌, ◌≤◌, ◌++◌, ℕ, List, length, subst, arith}
+use Rattle.std.specs.Prelude.{OnOk}
+use Rattle.elf_file.specs.Pieces.{mixed, held_before}
+use Rattle.elf_object.proofs.MixedLemmas.{held_more}
+use Rattle.elf_object.proofs.mixing.Mixing.hold.Goals as goal
+
+pub returns : goal.returns
+returns c =
+    let inside = c.self.inside in
+    let few : held_before inside.between.items ≤ length inside.held.items = (let last = c.self.invariant.0 in let low = c.self.invariant.1 in omega arith) in
+    subst (λ (before : List ℕ). OnOk c.extend_from_slice.result (mixed c.extend_from_slice.new.self.items inside.between.items ≡ before ++ c.args.bytes.now)) c.self.view_is
+    (held_more c.extend_from_slice.result inside.held.items c.args.bytes.now c.extend_from_slice.new.self.items inside.between.items few c.extend_from_slice.ensures.items)
