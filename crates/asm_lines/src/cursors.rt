@@ -36,6 +36,7 @@ pub enum NextStatement {
 }
 
 /// Passes spaces and ends of statements, up to the first token; nothing where one does not close.
+#[inline(always)]
 fn skip(source: &[u8], from: usize, line: u32) -> Option<Point>
     requires within { from ≤ length source.now }
     requires line { line ≡ line_of source.now from }
@@ -95,6 +96,7 @@ fn more_slots<'a>(tokens: &mut Vec<Token<'a>>) -> Result<(), AllocError>
 /// Reads the statement that stands next, from this offset in bytes and its line on, into the first
 /// of the tokens, in place of those that are there. A statement that has more tokens than there are
 /// is read again.
+#[inline(always)]
 pub fn next_statement<'a>(
     source: &'a [u8],
     from: usize,
