@@ -46,9 +46,13 @@ impl Mixing {
     }
 
     /// Puts bytes last that are held.
+    #[inline(always)]
     pub(crate) fn hold(&mut self, bytes: &[u8]) -> Result<(), AllocError>
         ensures { OnOk result (self.new ≡ self.old ++ bytes.now) }
     {
+        if bytes.is_empty() {
+            return Ok(());
+        }
         self.held.extend_from_slice(bytes)
     }
 
