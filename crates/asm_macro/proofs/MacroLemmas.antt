@@ -1,5 +1,5 @@
 -- Macros by their names.
-use Rattle.std.proofs.Common.{◌≡◌, ℕ, Bool, true, false, cond, ◌||◌, is_some, List, [], ◌∷◌, ◌++◌, Option, Some, None, map, true≢false, refl, sym, ap, ◌∙◌}
+use Rattle.std.proofs.Common.{◌≡◌, ℕ, Bool, true, false, cond, ◌||◌, is_some, List, [], ◌∷◌, ◌++◌, Some, None, map, true≢false, refl, ap, ◌∙◌}
 use Rattle.std.specs.Global.{Vec}
 use Rattle.std.specs.declared.rc.Rc.{Rc}
 use Rattle.std.specs.declared.alloc.Global.{Global}
@@ -10,7 +10,7 @@ use Rattle.std.specs.Str.{bytes_eq}
 use Rattle.std.proofs.lemmas.List.{map-append}
 use Rattle.std.proofs.lemmas.Slice.Eq.{bytes_eq-Decides}
 use Rattle.asm_macro.specs.declared.macros.Macro.{Macro}
-use Rattle.asm_macro.specs.Expansion.{MacroAs, is_called, without}
+use Rattle.asm_macro.specs.Expansion.{is_called, without}
 use Rattle.asm_macro.specs.Macros.{seen_as, entry_seen}
 
 -- the macro that is found has the name that was asked for

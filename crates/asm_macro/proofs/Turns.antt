@@ -8,7 +8,6 @@ use Rattle.asm_lines.specs.Placing.{placed_next}
 use Rattle.macro_blocks.specs.declared.blocks.Ending.TheVariants as ending
 use Rattle.macro_words.specs.Statements.{named_by, behind_labels}
 use Rattle.macro_words.specs.Conditions.{Knowledge}
-use Rattle.macro_blocks.specs.Levels.{Level}
 use Rattle.asm_macro.specs.Expansion as list
 use Rattle.asm_macro.specs.Expansion.{State, MacroAs, head, macro_named, most_given, started, turn}
 use Rattle.asm_macro.specs.Placing.{Step, goes, ended, fails, refused, misses, untold, with_placed, and_then, step, steps}
@@ -45,7 +44,7 @@ none_named None = refl
 none_named (Some name) = refl
 
 -- a statement without a word of expansion is handed out
-plain_turn : (known : Knowledge) (contents : Option Contents) (files : List (List ℕ)) (given : ℕ) (s : TokenStatement) (rest : List TokenStatement) → IsPlain s → given < most_given
+pub plain_turn : (known : Knowledge) (contents : Option Contents) (files : List (List ℕ)) (given : ℕ) (s : TokenStatement) (rest : List TokenStatement) → IsPlain s → given < most_given
     → turn known contents (plain files given (s ∷ rest)) ≡ list.hands s (plain files (given + 1) rest)
 unfolding turn head
 plain_turn known contents files given s rest is few =

@@ -1,10 +1,9 @@
 -- Expansion: the list of statements and end marks is rewritten at its head, until a statement is handed out (GNU as manual, ".macro",
 -- ".rept", ".irp", ".irpc", ".if", ".include").
-use Rattle.std.specs.Prelude.{ℕ, ◌+◌, ◌-◌, ◌^◌, nat_le, Bool, true, false, if◌then◌else◌, List, [], ◌∷◌, ◌++◌, Option, Some, None, length, take, find, count_by, Result, Ok, Err}
+use Rattle.std.specs.Prelude.{ℕ, ◌+◌, ◌^◌, nat_le, Bool, true, false, if◌then◌else◌, List, [], ◌∷◌, ◌++◌, Option, Some, None, length, find, count_by, Result, Ok, Err}
 use Rattle.std.specs.List.{list_any}
 use Rattle.std.specs.Str.{bytes_eq}
 use Rattle.asm_base.specs.Tokens.{SpelledToken}
-use Rattle.asm_base.specs.Refusals.{◌>>=◌}
 use Rattle.asm_base.specs.declared.positions.Pos.{Pos}
 use Rattle.asm_lines.specs.NextStatements.{TokenStatement}
 use Rattle.macro_texts.specs.declared.causes.MacroLineCause.{MacroLineCause}

@@ -3,5 +3,10 @@ pub mod Expansion
 pub mod Placing
 pub mod Macros
 pub mod Turning
+pub mod Heads
 pub mod Expanding
+pub mod Readings
+pub mod Running
+pub mod Fronts
+pub mod Sources
 pub mod Laws

@@ -7,7 +7,8 @@ ghost use Rattle.asm_macro.specs.Expansion as spec;
 ghost use Rattle.asm_macro.specs.Turning.{IsTurn, state_of};
 
 use crate::expander::Expander;
-use crate::turned::{MacroFault, Turned, fault_at, standing};
+use crate::refusing::{fault_at, standing};
+use crate::turned::{MacroFault, Turned};
 use asm_base::{Pos, Refusal, Token};
 use macro_blocks::{Block, Frame};
 use macro_words::{Condition, KnowingPlacer, MacroCause, holds};

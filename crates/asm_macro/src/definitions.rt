@@ -12,7 +12,8 @@ ghost use Rattle.asm_macro.specs.Turning.{IsTurn, KeepsCounts, LeavesCall, level
 use crate::depths::is_call;
 use crate::expander::Expander;
 use crate::macros::Macro;
-use crate::turned::{MacroFault, Turned, fault_at, standing, standing_line};
+use crate::refusing::{fault_at, standing, standing_line};
+use crate::turned::{MacroFault, Turned};
 use asm_base::{Pos, Refusal, Text, Token};
 use macro_blocks::{Block, Frame};
 use macro_texts::{Argument, call_arguments, has_backslash, macro_line, put_in};
@@ -139,7 +140,6 @@ impl Expander {
         ensures turn { IsTurn result (spec.exit pos (level_of frame.now) (state_of self.old))
             (level_of frame.now) (state_of self.new) }
         ensures counts { KeepsCounts self.old self.new }
-        ensures fewer { vec_len self.new.frames ≤ vec_len self.old.frames }
     {
         if is_call(frame) {
             return Ok(Turned::Leaves);

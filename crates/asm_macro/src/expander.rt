@@ -1,6 +1,7 @@
 //! What is open, innermost last, and what is known of macros.
 
 ghost use Rattle.std.specs.Prelude.{◌≤◌, ◌+◌, length};
+ghost use Rattle.asm_macro.specs.Expansion.{most_given};
 
 use crate::macros::Macros;
 use asm_base::Files;
@@ -20,6 +21,19 @@ pub(crate) struct Expander {
     pub given: u32,
     /// The names of the files that were started.
     pub files: Files,
+    ghost few_given: { given ≤ most_given },
     ghost few_begun: { begun ≤ given },
     ghost few_files: { length files ≤ given + 1 },
+}
+
+impl Expander {
+    ghost use Rattle.std.specs.Prelude.{◌≡◌};
+
+    /// The names of the files that were started.
+    pub(crate) fn into_files(self) -> Files
+        ensures { result ≡ self.files }
+    {
+        let Expander { files, .. } = self;
+        files
+    }
 }

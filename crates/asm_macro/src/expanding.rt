@@ -7,6 +7,7 @@ ghost use Rattle.asm_macro.specs.Placing.{expansion};
 ghost use Rattle.asm_macro.specs.Expanding.{IsExpansion, HasExpansionCause, CountsMisses, KeepsMissing, ReadsIncludes, TakesIncludes, TakesTooLarge};
 
 use crate::faults::ExpandFault;
+use crate::sources::expand_text;
 use asm_base::{Files, Inputs, Text};
 use macro_words::KnowingPlacer;
 use std::alloc::Global;
@@ -36,5 +37,5 @@ pub fn expand_source<P: KnowingPlacer, I: Inputs>(
     ensures whole { IsAtEnd (I.rest ins.old) → OnOk result (IsAtEnd (I.rest ins.new)) }
     ensures started { 0 < length files.new }
 {
-    Err(ExpandFault::NoMemory)
+    expand_text(alloc, text, files, placer, ins)
 }

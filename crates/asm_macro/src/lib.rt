@@ -8,10 +8,18 @@ mod depths;
 mod expander;
 mod expanding;
 mod faults;
+mod fronts;
+mod heads;
+mod includes;
 mod laws;
 mod macros;
+mod refusing;
 mod repeats;
+mod rewriting;
+mod running;
+mod sources;
 mod turned;
+mod turning;
 
 pub use expanding::expand_source;
 pub use faults::ExpandFault;

@@ -67,12 +67,7 @@ impl Macros {
     }
 
     /// Another macro is known from here on.
-    pub(crate) fn add(
-        &mut self,
-        alloc: Global,
-        name: Vec<u8>,
-        one: Macro,
-    ) -> Result<(), AllocError>
+    pub(crate) fn add(&mut self, alloc: Global, name: Vec<u8>, one: Macro) -> Result<(), AllocError>
         requires { list_any (is_called name.items) self.old ≡ false }
         ensures { OnOk result (self.new ≡ self.old ++ seen_as name.items one ∷ []) }
     {

@@ -1,5 +1,5 @@
 -- A part that is popped is the innermost.
-use Rattle.std.proofs.Common.{rules, ◌≡◌, ◌++◌, [], ◌∷◌, None, Some, ap, sym, ◌∙◌}
+use Rattle.std.proofs.Common.{rules, Some, ap, sym, ◌∙◌}
 use Rattle.macro_blocks.specs.Frames.{level_of}
 use Rattle.asm_macro.specs.Expansion.{after_call}
 use Rattle.asm_macro.specs.Turning.{levels_of}

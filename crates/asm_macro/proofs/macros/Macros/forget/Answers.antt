@@ -1,5 +1,5 @@
 -- By the entries.
-use Rattle.std.proofs.Common.{◌≡◌, map, ap, ◌∙◌}
+use Rattle.std.proofs.Common.{map, ap, ◌∙◌}
 use Rattle.asm_macro.specs.Expansion.{without}
 use Rattle.asm_macro.specs.Macros.{entry_seen}
 use Rattle.asm_macro.proofs.MacroLemmas.{removed_macro}

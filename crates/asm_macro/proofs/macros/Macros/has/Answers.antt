@@ -1,5 +1,5 @@
 -- By the entries.
-use Rattle.std.proofs.Common.{◌≡◌, ap, ◌∙◌}
+use Rattle.std.proofs.Common.{ap, ◌∙◌}
 use Rattle.std.specs.List.{list_any}
 use Rattle.asm_macro.specs.Expansion.{is_called}
 use Rattle.asm_macro.proofs.MacroLemmas.{any_macro}
