@@ -1,73 +1,115 @@
--- From what was read and what was made of it to the answer of a call of `assemble`.
-use Rattle.std.proofs.Common.{◌≡◌, ℕ, ◌<◌, ◌≤◌, true, false, cond, nat_lt, List, length, Option, None, Some, Result, Ok, Err, sym, ap, ◌∙◌, subst, arith}
+-- From what was read and what came of it to the answer of a call of `assemble`.
+use Rattle.std.proofs.Common.{◌≡◌, ℕ, ◌+◌, ◌*◌, ◌<◌, ◌≤◌, ◌⊎◌, inl, inr, Bool, true, false, cond, nat_lt, List, [], ◌∷◌, ◌++◌, drop, length, Option, None, Some, Result, Ok, Err, refl, sym, ap, ◌∙◌, subst, arith}
 use Rattle.std.proofs.lemmas.Bool.Decides.{nat_tests}
+use Rattle.asm_base.specs.Counts.{HasRisen}
 use Rattle.asm_base.specs.Inputs.{Contents}
 use Rattle.asm_base.specs.WholeFile.{most_bytes, ReadsFile, ReadsName}
 use Rattle.asm_base.specs.declared.reading.TextFault.TheVariants.{TooLarge}
-use Rattle.asm_base.specs.Refusals.{Returns}
-use Rattle.asm_place.specs.Sources.{fault_at}
+use Rattle.asm_lines.specs.Statements.{StatementAt, statements_of}
+use Rattle.asm_lines.specs.declared.faults.LineCause.{LineCause}
+use Rattle.macro_words.specs.Statements.{line_cause}
+use Rattle.macro_words.specs.Files.{line_of_cause}
+use Rattle.asm_macro.specs.Placing.{Step, ended, fails, refused, misses, untold, expansion}
+use Rattle.asm_macro.specs.Expanding.{Comes, IsExpansion, HasExpansionCause, CountsMisses, KeepsMissing}
+use Rattle.asm_macro.specs.declared.faults.ExpandFault.{ExpandFault}
+use Rattle.asm_macro.specs.declared.faults.ExpandFault.TheVariants as expand
+use Rattle.asm_place.specs.Sources.{pos_at, fault_at}
 use Rattle.asm_place.specs.declared.place_faults.FaultAt.{FaultAt}
-use Rattle.asm_front.specs.Ending.{Flags}
+use Rattle.asm_values.specs.State.{Placed, nothing_placed}
+use Rattle.asm_front.specs.Ending.{Flags, finished}
+use Rattle.asm_front.specs.Knowing.{told_by}
 use Rattle.asm_front.specs.declared.ending.NotedObject.{NotedObject}
-use Rattle.asm_front.specs.Assembly.{too_large, assembly_of_lines, assembly_of}
-use Rattle.asm_front.specs.Answering.{IsAnswered}
-use Rattle.asm_front.specs.Outcome.{main_file, AssemblesAs, AssemblesFile, Assembles}
-use Rattle.asm_base.specs.declared.refusals.Refusal.{Refusal}
-use Rattle.asm_base.specs.declared.refusals.Refusal.TheVariants as refusal
+use Rattle.asm_front.specs.Assembly.{Assembly, assembled, faulty, missing, shown_files, main_file, too_large, placed_after, ended_by, assembly_by, expansion_of, assembly_of}
+use Rattle.asm_front.specs.Answering.{IsAnswered, IsAnswer, came_of, AssemblesText, CountsText}
+use Rattle.asm_front.specs.Outcome as outcome
+use Rattle.asm_front.specs.Outcome.{AssemblesAs, AssemblesFile, Assembles, CountsMissed, CountsMissingFiles, HasAssemblyCause, KeepsCount}
 use Rattle.asm_front.specs.declared.answers.Assembled.{Assembled}
 use Rattle.asm_front.specs.declared.answers.AsmFault.{AsmFault}
 use Rattle.asm_front.specs.declared.answers.AsmFault.TheVariants.{Source, Read, NoMemory}
 
--- what was made by the definition is answered by the definition
-pub answered : (name : List ℕ) (assembly : Result NotedObject FaultAt) (made : Result NotedObject (Refusal FaultAt)) (result : Result Assembled AsmFault)
-    → Returns made assembly → IsAnswered name made result → AssemblesAs name assembly result
-answered name assembly (Ok noted) (Ok told) is so =
-    (is ∙ ap (λ o. Ok (record { object = o; notes = noted.notes })) (sym so.0) ∙ ap (λ ns. Ok (record { object = told.object; notes = ns })) (sym so.1), so.2)
-answered name assembly (Ok noted) (Err (Source fault pos notes files)) is so = absurd so
-answered name assembly (Ok noted) (Err Read) is so = tt
-answered name assembly (Ok noted) (Err NoMemory) is so = tt
-answered name assembly (Err (refusal.Fault at)) (Ok told) is so = absurd so
-answered name assembly (Err (refusal.Fault at)) (Err (Source fault pos notes files)) is so =
-    (is ∙ ap (λ f. Err (fault_at f at.pos at.notes)) (sym so.0) ∙ ap (λ p. Err (fault_at fault p at.notes)) (sym so.1) ∙ ap (λ ns. Err (fault_at fault pos ns)) (sym so.2), so.3)
-answered name assembly (Err (refusal.Fault at)) (Err Read) is so = tt
-answered name assembly (Err (refusal.Fault at)) (Err NoMemory) is so = tt
-answered name assembly (Err refusal.NoMemory) (Ok told) is so = absurd so
-answered name assembly (Err refusal.NoMemory) (Err (Source fault pos notes files)) is so = absurd so
-answered name assembly (Err refusal.NoMemory) (Err Read) is so = tt
-answered name assembly (Err refusal.NoMemory) (Err NoMemory) is so = tt
+-- what was answered by an assembly is the answer for it
+pub answered : (assembly : Assembly) (result : Result Assembled AsmFault) → IsAnswered assembly result → AssemblesAs assembly result
+answered assembly (Ok made) so = so
+answered assembly (Err (Source fault pos notes files)) so = so
+answered assembly (Err Read) so = tt
+answered assembly (Err NoMemory) so = tt
 
--- a source that is not too large is assembled by its lines
-small_source : (flags : Flags) (source : List ℕ) → length source ≤ most_bytes → assembly_of_lines flags main_file source ≡ assembly_of flags main_file source
-unfolding assembly_of
-small_source flags source few =
-    let test : nat_lt most_bytes (length source) ≡ false = grind (arith, nat_tests) in
-    ap (λ b. cond b (Err (too_large main_file)) (assembly_of_lines flags main_file source)) (sym test)
+-- what came is what was wanted, where that is told
+told : (wanted got : Step Placed FaultAt) → (wanted ≡ untold → ⊥) → Comes wanted got → wanted ≡ got
+told wanted got never (inl is) = is
+told wanted got never (inr is) = absurd (never is)
 
-large_source : (flags : Flags) (source : List ℕ) → most_bytes < length source → assembly_of flags main_file source ≡ Err (too_large main_file)
-unfolding assembly_of
-large_source flags source much =
-    let test : nat_lt most_bytes (length source) ≡ true = grind (arith, nat_tests) in
-    ap (λ b. cond b (Err (too_large main_file)) (assembly_of_lines flags main_file source)) test
+-- an answer for what came is one for what was wanted
+for_wanted : (fatal : Bool) (name : List ℕ) (wanted got : Step Placed FaultAt) (result : Result Assembled AsmFault) → wanted ≡ got → IsAnswered (assembly_by fatal name got) result
+    → AssemblesAs (assembly_by fatal name wanted) result
+for_wanted fatal name wanted got result is so = answered (assembly_by fatal name wanted) result (subst (λ step. IsAnswered (assembly_by fatal name step) result) (sym is) so)
 
-file_read : (flags : Flags) (name : List ℕ) (file : Option (List ℕ)) (text : List ℕ) (rest : Option (List ℕ)) (result : Result Assembled AsmFault)
-    → ReadsFile file (Ok text) rest → AssemblesAs name (assembly_of_lines flags main_file text) result → AssemblesFile flags name file result
-file_read flags name None text rest result read so = absurd read
-file_read flags name (Some bytes) text rest result read so =
-    subst (λ assembly. AssemblesAs name assembly result) (small_source flags text (subst (λ xs. length xs ≤ most_bytes) (sym read.0) read.1) ∙ ap (assembly_of flags main_file) read.0) so
+-- nothing but a want of memory is answered where nothing came
+for_none : (assembly : Assembly) (result : Result Assembled AsmFault) → IsAnswered missing result → AssemblesAs assembly result
+for_none assembly (Ok made) so = absurd cc
+for_none assembly (Err (Source fault pos notes files)) so = absurd cc
+for_none assembly (Err Read) so = tt
+for_none assembly (Err NoMemory) so = tt
 
--- a text that was read whole is assembled
-pub text_read : (flags : Flags) (contents : Option Contents) (name text : List ℕ) (rest : Option (List ℕ)) (made : Result NotedObject (Refusal FaultAt)) (result : Result Assembled AsmFault)
-    → ReadsName contents name (Ok text) rest → Returns made (assembly_of_lines flags main_file text) → IsAnswered name made result → Assembles flags contents name result
-text_read flags None name text rest made result read is so = tt
-text_read flags (Some contents) name text rest made result read is so = file_read flags name (contents name) text rest result read (answered name (assembly_of_lines flags main_file text) made result is so)
+module _ (flags : Flags) (name : List ℕ) where
+  -- what comes of these lines
+  abbrev of_lines : Contents → Result (List StatementAt) LineCause → Step Placed FaultAt
+  of_lines contents lines = expansion placed_after told_by (Some contents) (name ∷ []) (nothing_placed flags.no_warn) lines
 
-file_too_large : (flags : Flags) (name : List ℕ) (file : Option (List ℕ)) (rest : Option (List ℕ)) (result : Result Assembled AsmFault)
-    → ReadsFile file (Err TooLarge) rest → IsAnswered name (Err (refusal.Fault (too_large main_file))) result → AssemblesFile flags name file result
-file_too_large flags name None rest result read so = absurd read
-file_too_large flags name (Some bytes) rest result read so = answered name (assembly_of flags main_file bytes) (Err (refusal.Fault (too_large main_file))) result (large_source flags bytes read) so
+  -- the fault of the lines comes before all statements
+  lines_fault : (contents : Contents) (lines : Result (List StatementAt) LineCause) (cause : LineCause) → lines ≡ Err cause
+      → of_lines contents lines ≡ fails (name ∷ []) (line_cause cause) (pos_at main_file (line_of_cause cause)) (nothing_placed flags.no_warn)
+  unfolding expansion
+  lines_fault contents (Ok statements) cause is = absurd cc
+  lines_fault contents (Err other) cause is = ap (λ c. fails (name ∷ []) (line_cause c) (pos_at main_file (line_of_cause c)) (nothing_placed flags.no_warn)) cc
 
--- a file that is too large is told so
-pub text_too_large : (flags : Flags) (contents : Option Contents) (name : List ℕ) (rest : Option (List ℕ)) (fault : FaultAt) (result : Result Assembled AsmFault)
-    → ReadsName contents name (Err TooLarge) rest → fault ≡ too_large main_file → IsAnswered name (Err (refusal.Fault fault)) result → Assembles flags contents name result
-text_too_large flags None name rest fault result read is so = tt
-text_too_large flags (Some contents) name rest fault result read is so = file_too_large flags name (contents name) rest result read (subst (λ f. IsAnswered name (Err (refusal.Fault f)) result) is so)
+  -- the answer for what expansion answered is that for the text
+  by_expanded : (contents : Contents) (lines : Result (List StatementAt) LineCause) (files : List (List ℕ)) (placed : Placed) (expanded : Result (Unit {0}) (ExpandFault FaultAt))
+      (result : Result Assembled AsmFault) → (of_lines contents lines ≡ untold → ⊥) → IsExpansion (of_lines contents lines) lines expanded files placed
+      → IsAnswer flags name files placed expanded result → AssemblesAs (assembly_by flags.fatal_warnings name (of_lines contents lines)) result
+  by_expanded contents lines files placed (Ok u) result never came so =
+      for_wanted flags.fatal_warnings name (of_lines contents lines) (ended files placed) result (told (of_lines contents lines) (ended files placed) never came) so
+  by_expanded contents lines files placed (Err (expand.Lines cause)) result never came so =
+      for_wanted flags.fatal_warnings name (of_lines contents lines) _ result (lines_fault contents lines cause came) so
+  by_expanded contents lines files placed (Err (expand.Expansion cause pos)) result never came so =
+      for_wanted flags.fatal_warnings name (of_lines contents lines) (fails files cause pos placed) result (told (of_lines contents lines) (fails files cause pos placed) never came) so
+  by_expanded contents lines files placed (Err (expand.Placing fault)) result never came so =
+      for_wanted flags.fatal_warnings name (of_lines contents lines) (refused files fault) result (told (of_lines contents lines) (refused files fault) never came) so
+  by_expanded contents lines files placed (Err expand.Read) result never came so =
+      subst (λ r. AssemblesAs (assembly_by flags.fatal_warnings name (of_lines contents lines)) r) (sym so) tt
+  by_expanded contents lines files placed (Err expand.NoMemory) result never came so =
+      for_none (assembly_by flags.fatal_warnings name (of_lines contents lines)) result so
+
+  -- the same, told or not, of a call that began with nothing placed and the source alone
+  pub text_answered : ((no_warn : Bool) (contents : Contents) (name source : List ℕ) → expansion_of no_warn (Some contents) name source ≡ untold → ⊥)
+      → (contents : Option Contents) (text : List ℕ) (begun files : List (List ℕ)) (start placed : Placed) (expanded : Result (Unit {0}) (ExpandFault FaultAt)) (result : Result Assembled AsmFault)
+      → begun ≡ name ∷ [] → start ≡ nothing_placed flags.no_warn → IsExpansion (expansion placed_after told_by contents begun start (statements_of main_file text)) (statements_of main_file text) expanded files placed
+      → IsAnswer flags name files placed expanded result → AssemblesText flags contents name text result
+  unfolding expansion_of
+  text_answered never None text begun files start placed expanded result named empty came so = tt
+  text_answered never (Some contents) text begun files start placed expanded result named empty came so =
+      by_expanded contents (statements_of main_file text) files placed expanded result (never flags.no_warn contents name text)
+      (subst (λ (first : Placed). IsExpansion (expansion placed_after told_by (Some contents) (name ∷ []) first (statements_of main_file text)) (statements_of main_file text) expanded files placed) empty
+      (subst (λ (names : List (List ℕ)). IsExpansion (expansion placed_after told_by (Some contents) names start (statements_of main_file text)) (statements_of main_file text) expanded files placed) named came)) so
+
+  missed : (contents : Contents) (lines : Result (List StatementAt) LineCause) (before now : ℕ) → (of_lines contents lines ≡ untold → ⊥) → CountsMisses (of_lines contents lines) before now
+      → CountsMissed (assembly_by flags.fatal_warnings name (of_lines contents lines)) before now
+  missed contents lines before now never (inl same) = inl same
+  missed contents lines before now never (inr (inl risen)) = inr (ap (assembly_by flags.fatal_warnings name) risen.0, risen.1, risen.2)
+  missed contents lines before now never (inr (inr none)) = absurd (never none.0)
+
+  never_falls : (wanted : Step Placed FaultAt) (before now : ℕ) → CountsMisses wanted before now → before ≤ now
+  never_falls wanted before now (inl same) = omega arith
+  never_falls wanted before now (inr (inl risen)) = risen.1
+  never_falls wanted before now (inr (inr none)) = none.1
+
+  -- the count of starts of what has no contents
+  pub text_missed : ((no_warn : Bool) (contents : Contents) (name source : List ℕ) → expansion_of no_warn (Some contents) name source ≡ untold → ⊥)
+      → (contents : Option Contents) (text : List ℕ) (begun : List (List ℕ)) (start : Placed) (before now : ℕ) → begun ≡ name ∷ [] → start ≡ nothing_placed flags.no_warn
+      → CountsMisses (expansion placed_after told_by contents begun start (statements_of main_file text)) before now → CountsText flags contents name text before now
+  unfolding expansion_of
+  text_missed never None text begun start before now named empty counts = never_falls _ before now counts
+  text_missed never (Some contents) text begun start before now named empty counts =
+      missed contents (statements_of main_file text) before now (never flags.no_warn contents name text)
+      (subst (λ (first : Placed). CountsMisses (expansion placed_after told_by (Some contents) (name ∷ []) first (statements_of main_file text)) before now) empty
+      (subst (λ (names : List (List ℕ)). CountsMisses (expansion placed_after told_by (Some contents) names start (statements_of main_file text)) before now) named counts))

@@ -1,9 +1,8 @@
 -- Written instructions read back: those with operands stand in the object with their values.
-use Rattle.std.proofs.Common.{◌≡◌, ℕ, false, List, ◌∷◌, ◌++◌, Ok, map, drop, sym, ap, ◌∙◌}
+use Rattle.std.proofs.Common.{◌≡◌, ℕ, false, List, ◌∷◌, ◌++◌, Ok, drop, sym, ap, ◌∙◌}
 use Rattle.std.specs.Prelude.{◌==◌}
 use Rattle.std.specs.Option.{option_map_or}
-use Rattle.std.proofs.lemmas.List.{map-append}
-use Rattle.asm_lines.specs.NextStatements.{in_tokens}
+use Rattle.asm_lines.specs.NextStatements.{TokenStatement}
 use Rattle.asm_frags.specs.SectionOf.{SectionOf}
 use Rattle.asm_relax.specs.Settling.{LaidItem}
 use Rattle.elf_file.proofs.FilePlaces.{drop_stands}
@@ -14,7 +13,7 @@ use Rattle.x86_table.specs.Reads.{ReadsOneWay}
 use Rattle.x86_lookup.specs.BareInstructions.{BareCodesRead, BareCodesStand}
 use Rattle.x86_encode.specs.EncodingLaws.{EncodingsFill, EncodingsNote}
 use Rattle.asm_values.specs.State.{nothing_placed}
-use Rattle.asm_place.specs.Sources.{pos_at, place_all}
+use Rattle.asm_place.specs.Sources.{pos_at}
 use Rattle.asm_place.specs.Instructions.{next_item, next_offset, IsWithin}
 use Rattle.asm_place.specs.CodePlaces.{field_in, code_fields}
 use Rattle.asm_place.proofs.GrowthLemmas.{All-there, nothing_within}
@@ -22,32 +21,28 @@ use Rattle.asm_place.proofs.PlacingLaws.{all_within}
 use Rattle.asm_place.proofs.CodeLaws.{insn_there}
 use Rattle.asm_front.specs.Ending.{Flags}
 use Rattle.asm_front.specs.declared.ending.NotedObject.{NotedObject}
-use Rattle.asm_front.specs.Assembly.{assembly_of}
-use Rattle.asm_front.specs.Outcome.{main_file}
 use Rattle.asm_front.specs.ReadsBack.{file_place, final_value, CodesReadBack, ReadsBack}
 use Rattle.asm_front.proofs.SmallForms.{final_small}
 use Rattle.asm_front.proofs.CodePieces.{all_hold, code_there}
 use Rattle.asm_front.proofs.CodeReads.{code_reads}
 use Rattle.asm_front.proofs.JumpsInObject.{JumpFacts, jumps_read_back}
 use Rattle.asm_front.proofs.LaidItems.{AreSettled, section_kept}
-use Rattle.asm_front.proofs.ObjectReads.{bare_read_back, assembly_is}
+use Rattle.asm_front.proofs.ObjectReads.{Makes, bare_read_back, assembly_is}
 
 -- what stands in the image begins what stands from its place on in the object
 object_begins : (object image piece : List ℕ) (at : ℕ) → object ≡ image → (there : PieceAt image at piece) → drop at object ≡ piece ++ there.rest
 object_begins object image piece at same there = ap (drop at) same ∙ drop_stands image at piece there
 
--- each instruction with operands that was written reads back
-codes_read_back : AreSettled → ReadsOneWay → EncodingsFill → EncodingsNote → (flags : Flags) (source : List ℕ) (made : NotedObject)
-    → assembly_of flags main_file source ≡ Ok made
-    → CodesReadBack flags source made.object
-codes_read_back settled one_way fills notes flags source made e before after s text placed whole laid are front all is written no_jump filed =
+-- each instruction with operands that is handed out reads back
+codes_read_back : AreSettled → ReadsOneWay → EncodingsFill → EncodingsNote → (flags : Flags) (handed : List TokenStatement) (made : NotedObject)
+    → Makes flags handed made
+    → CodesReadBack flags handed made.object
+codes_read_back settled one_way fills notes flags handed made e before after s text placed whole laid are front all is written no_jump filed =
     let empty = nothing_placed flags.no_warn in
-    let split = map-append in_tokens before (s ∷ after) in
-    let whole_is = sym (ap (λ statements. place_all statements empty) split) ∙ all in
-    let insn = insn_there notes (map in_tokens before) (in_tokens s) (map in_tokens after) empty placed whole text
-    (nothing_within flags.no_warn) front whole_is written no_jump in
+    let insn = insn_there notes before s after empty placed whole text
+    (nothing_within flags.no_warn) front all written no_jump in
     let symbols = whole.table.symbols in
-    let pos = pos_at (in_tokens s).file (in_tokens s).line in
+    let pos = pos_at s.file s.line in
     let number = placed.current in
     let item = next_item placed in
     let offset = next_offset placed in
@@ -56,12 +51,12 @@ codes_read_back settled one_way fills notes flags source made e before after s t
     let section = insn.stands.section in
     let within : IsWithin section =
     All-there IsWithin whole.sections number section insn.stands.found
-    (all_within (map in_tokens (before ++ s ∷ after)) empty whole all (nothing_within flags.no_warn)) in
+    (all_within (before ++ s ∷ after) empty whole all (nothing_within flags.no_warn)) in
     let takes : (section.kind == 8) ≡ false =
     sym (ap (λ found. option_map_or (λ (kept : SectionOf LaidItem). kept.kind == no_bits) found false)
     (section_kept symbols whole.sections laid number section is insn.stands.found).1) ∙ filed in
     let there = code_there settled symbols whole.sections laid number item offset pos code fields is insn.stands within.apart takes in
-    let same : made.object ≡ image_of symbols laid = assembly_is flags source made (before ++ s ∷ after) whole laid are all is e in
+    let same : made.object ≡ image_of symbols laid = assembly_is flags handed made (before ++ s ∷ after) whole laid are all is e in
     let at = file_place symbols laid number item offset in
     record {
       coded = insn.coded;
@@ -73,12 +68,12 @@ codes_read_back settled one_way fills notes flags source made e before after s t
           (object_begins made.object (image_of symbols laid) _ at same there);
     }
 
--- each instruction that was written reads back
-pub reads_back : AreSettled → ReadsOneWay → BareCodesRead → BareCodesStand → EncodingsFill → EncodingsNote → JumpFacts → (flags : Flags) (source : List ℕ) (made : NotedObject)
-    → assembly_of flags main_file source ≡ Ok made
-    → ReadsBack flags source made.object
-reads_back settled one_way read stand fills notes facts flags source made e = record {
-  bare = bare_read_back settled one_way read stand flags source made e;
-  coded = codes_read_back settled one_way fills notes flags source made e;
-  jumps = jumps_read_back settled one_way facts flags source made e;
+-- each instruction that is handed out reads back
+pub reads_back : AreSettled → ReadsOneWay → BareCodesRead → BareCodesStand → EncodingsFill → EncodingsNote → JumpFacts → (flags : Flags) (handed : List TokenStatement) (made : NotedObject)
+    → Makes flags handed made
+    → ReadsBack flags handed made.object
+reads_back settled one_way read stand fills notes facts flags handed made e = record {
+  bare = bare_read_back settled one_way read stand flags handed made e;
+  coded = codes_read_back settled one_way fills notes flags handed made e;
+  jumps = jumps_read_back settled one_way facts flags handed made e;
 }

@@ -3,11 +3,10 @@ use Rattle.std.proofs.Common.{◌≡◌, ℕ, zero, suc, ◌+◌, ◌-◌, ◌^�
 use Rattle.std.specs.Prelude.{◌==◌, slice_get, slice_index, option_map, unwrap_or, IfSome}
 use Rattle.std.specs.Option.{option_map_or}
 use Rattle.std.proofs.lemmas.Bool.{or_cases, ltb-true, leb-true}
-use Rattle.std.proofs.lemmas.List.{map-append}
 use Rattle.std.proofs.lemmas.Option.{none-some, same_Some, slice_get-map}
 use Rattle.asm_base.specs.declared.positions.Pos.{Pos}
 use Rattle.asm_base.specs.Refusals.{◌>>=◌}
-use Rattle.asm_lines.specs.NextStatements.{TokenStatement, in_tokens}
+use Rattle.asm_lines.specs.NextStatements.{TokenStatement}
 use Rattle.asm_symbols.specs.SymbolMap.{SymbolMap}
 use Rattle.asm_frags.specs.declared.fields.Field.{Field}
 use Rattle.asm_frags.specs.declared.fields.FieldSize.TheVariants.{Four}
@@ -52,8 +51,6 @@ use Rattle.asm_place.specs.Sources.{pos_at, place_all}
 use Rattle.x86_encode.specs.declared.encoded.FieldKind.TheVariants as kind
 use Rattle.asm_front.specs.Ending.{Flags, first_over}
 use Rattle.asm_front.specs.declared.ending.NotedObject.{NotedObject}
-use Rattle.asm_front.specs.Assembly.{assembly_of}
-use Rattle.asm_front.specs.Outcome.{main_file}
 use Rattle.asm_place.proofs.PlacingLaws.{all_within}
 use Rattle.asm_front.specs.ReadsBack.{file_place, final_value, has_no_bits, JumpReadsAt, JumpReadsBack, JumpsReadBack}
 use Rattle.asm_front.proofs.HeldFields.{field_held}
@@ -61,7 +58,7 @@ use Rattle.asm_front.proofs.JumpFields.{stands_in_item, jump_constant}
 use Rattle.asm_front.proofs.LowLayouts.{layout_low}
 use Rattle.asm_front.proofs.OwnPlaces.{names_own_place}
 use Rattle.asm_front.proofs.LaidItems.{AreSettled, layout_is, kept_section, section_kept, laid_stays, laid_sized, first_kept}
-use Rattle.asm_front.proofs.ObjectReads.{reads_code, assembly_is, none_over}
+use Rattle.asm_front.proofs.ObjectReads.{Makes, reads_code, assembly_is, none_over}
 use Rattle.asm_front.proofs.SmallForms.{held_small, final_small}
 
 -- what is known of all jumps: where their items stand in the sections and in the object, and what their bytes read as
@@ -267,12 +264,9 @@ jump_reads_back settled one_way facts no_warn front s later text condition place
       reads = jump_at one_way facts text condition (not (bytes == 2)) object piece.rest at distance jump (ap (drop at) same ∙ drop_stands (image_of symbols laid) at _ piece) held;
     }
 
--- each direct jump that was written reads back as it
-pub jumps_read_back : AreSettled → ReadsOneWay → JumpFacts → (flags : Flags) (source : List ℕ) (made : NotedObject) → assembly_of flags main_file source ≡ Ok made
-    → JumpsReadBack flags source made.object
-jumps_read_back settled one_way facts flags source made e before after s text condition placed whole laid are front all is written jump filed =
-    let empty = nothing_placed flags.no_warn in
-    let split = map-append in_tokens before (s ∷ after) in
-    let whole_is = sym (ap (λ statements. place_all statements empty) split) ∙ all in
-    jump_reads_back settled one_way facts flags.no_warn (map in_tokens before) (in_tokens s) (map in_tokens after) text condition placed whole laid made.object front whole_is is
-    (assembly_is flags source made (before ++ s ∷ after) whole laid are all is e) (none_over flags source made (before ++ s ∷ after) whole laid are all is e) written jump filed
+-- each direct jump that is handed out reads back as it
+pub jumps_read_back : AreSettled → ReadsOneWay → JumpFacts → (flags : Flags) (handed : List TokenStatement) (made : NotedObject) → Makes flags handed made
+    → JumpsReadBack flags handed made.object
+jumps_read_back settled one_way facts flags handed made e before after s text condition placed whole laid are front all is written jump filed =
+    jump_reads_back settled one_way facts flags.no_warn before s after text condition placed whole laid made.object front all is
+    (assembly_is flags handed made (before ++ s ∷ after) whole laid are all is e) (none_over flags handed made (before ++ s ∷ after) whole laid are all is e) written jump filed

@@ -1,9 +1,11 @@
 -- The proofs of this crate.
 pub mod LaidItems
 pub mod ObjectReads
-pub mod PlacementLemmas
-pub mod AnswerLemmas
 pub mod FaultLaws
+pub mod ToldFiles
+pub mod AnswerLemmas
+pub mod AnswerFacts
+pub mod WholeSources
 pub mod AnswersReadBack
 mod ObjectSamples
 pub mod CodeValues
@@ -17,3 +19,4 @@ pub mod LowLayouts
 pub mod OwnPlaces
 pub mod JumpsInObject
 pub mod CodesInObject
+pub mod HandedStatements

@@ -1,13 +1,10 @@
 -- Written bytes read back: the bytes of an instruction stand in the object.
-use Rattle.std.proofs.Common.{◌≡◌, ℕ, ◌+◌, ◌≤◌, ◌&&◌, not, nat_lt, Bool, true, false, cond, List, [], ◌∷◌, ◌++◌, Option, Some, None, Result, Ok, Err, length, map, drop, refl, sym, ap, ◌∙◌, arith}
-use Rattle.std.proofs.lemmas.List.{map-append}
+use Rattle.std.proofs.Common.{◌≡◌, ℕ, ◌+◌, ◌≤◌, ◌&&◌, not, Bool, true, false, cond, List, [], ◌∷◌, ◌++◌, Option, Some, None, Result, Ok, Err, length, drop, refl, sym, ap, ◌∙◌, arith}
 use Rattle.std.specs.Prelude.{slice_get}
 use Rattle.asm_base.specs.Tokens.{SpelledToken}
-use Rattle.asm_base.specs.WholeFile.{most_bytes}
 use Rattle.asm_base.specs.declared.notes.Noted.{Noted}
 use Rattle.asm_base.specs.declared.positions.Pos.{Pos}
-use Rattle.asm_lines.specs.Statements.{StatementAt, statements_of}
-use Rattle.asm_lines.specs.NextStatements.{in_tokens}
+use Rattle.asm_lines.specs.NextStatements.{TokenStatement}
 use Rattle.asm_symbols.specs.SymbolMap.{SymbolMap}
 use Rattle.assigned_forms.specs.Expanding.{expanded}
 use Rattle.asm_relax.specs.Settling.{LaidSections, unless, layout_of}
@@ -33,8 +30,6 @@ use Rattle.elf_file.proofs.FilePlaces.{drop_stands}
 use Rattle.asm_front.specs.Ending.{Flags, first_warning, warned_end, made_end, first_over, unless_over, laid_end, noted, finished}
 use Rattle.asm_front.specs.declared.ending.Ended.{Ended}
 use Rattle.asm_front.specs.declared.ending.NotedObject.{NotedObject}
-use Rattle.asm_front.specs.Assembly.{placed_end, source_placement, assembly_of_lines, assembly_of}
-use Rattle.asm_front.specs.Outcome.{main_file}
 use Rattle.asm_front.specs.ReadsBack.{ReadsAt, file_place, BareReadBack}
 use Rattle.asm_front.proofs.LaidItems.{AreSettled, kept_section, section_kept, laid_stays, laid_sized, first_kept, others_kept, beside_kept}
 
@@ -122,49 +117,36 @@ finished_is fatal whole laid made is e =
     let answer = layout_of whole.table.symbols whole.sections in
     laid_is fatal whole.table whole.notes answer laid made.object is (noted_is whole.notes (laid_end fatal whole.table whole.notes answer) made e)
 
-lines_is : (flags : Flags) (source : List ℕ) (made : NotedObject) (statements : List StatementAt) (whole : Placed) → statements_of main_file source ≡ Ok statements
-    → place_all (map in_tokens statements) (nothing_placed flags.no_warn) ≡ Ok whole → assembly_of_lines flags main_file source ≡ Ok made
+-- the statements that are handed out have this object, with these notes
+abbrev pub Makes : Flags → List TokenStatement → NotedObject → Type 0
+Makes flags handed made = (whole : Placed) → place_all handed (nothing_placed flags.no_warn) ≡ Ok whole
     → finished flags.fatal_warnings whole.sections whole.table whole.notes ≡ Ok made
-unfolding assembly_of_lines
-lines_is flags source made statements whole are all e =
-    let placement : source_placement flags.no_warn main_file (statements_of main_file source) ≡ Ok whole = ap (source_placement flags.no_warn main_file) are ∙ all in
-    sym (ap (placed_end flags.fatal_warnings) placement) ∙ e
 
--- a source that has an object is not too large
-not_too_large : {B E : Type 0} (large : Bool) (fault : E) (r : Result B E) (y : B) → cond large (Err fault) r ≡ Ok y → r ≡ Ok y
-not_too_large true fault r y e = absurd cc
-not_too_large false fault r y e = e
+-- their object is that of the layout of what they placed, of which no section is too large
+assembled_is : (flags : Flags) (handed : List TokenStatement) (made : NotedObject) (statements : List TokenStatement) (whole : Placed) (laid : LaidSections)
+    → handed ≡ statements → place_all statements (nothing_placed flags.no_warn) ≡ Ok whole
+    → layout_of whole.table.symbols whole.sections ≡ Ok laid → Makes flags handed made → (made.object ≡ image_of whole.table.symbols laid) × (first_over laid ≡ None)
+assembled_is flags handed made statements whole laid are all is makes =
+    finished_is flags.fatal_warnings whole laid made is (makes whole (ap (λ list. place_all list (nothing_placed flags.no_warn)) are ∙ all))
 
--- an object is that of the layout of what the statements of its source placed, of which no section is too large
-assembled_is : (flags : Flags) (source : List ℕ) (made : NotedObject) (statements : List StatementAt) (whole : Placed) (laid : LaidSections)
-    → statements_of main_file source ≡ Ok statements → place_all (map in_tokens statements) (nothing_placed flags.no_warn) ≡ Ok whole
-    → layout_of whole.table.symbols whole.sections ≡ Ok laid → assembly_of flags main_file source ≡ Ok made
-    → (made.object ≡ image_of whole.table.symbols laid) × (first_over laid ≡ None)
-unfolding assembly_of
-assembled_is flags source made statements whole laid are all is e =
-    finished_is flags.fatal_warnings whole laid made is
-    (lines_is flags source made statements whole are all (not_too_large (nat_lt most_bytes (length source)) _ (assembly_of_lines flags main_file source) made e))
+pub assembly_is : (flags : Flags) (handed : List TokenStatement) (made : NotedObject) (statements : List TokenStatement) (whole : Placed) (laid : LaidSections)
+    → handed ≡ statements → place_all statements (nothing_placed flags.no_warn) ≡ Ok whole
+    → layout_of whole.table.symbols whole.sections ≡ Ok laid → Makes flags handed made → made.object ≡ image_of whole.table.symbols laid
+assembly_is flags handed made statements whole laid are all is makes = (assembled_is flags handed made statements whole laid are all is makes).0
 
-pub assembly_is : (flags : Flags) (source : List ℕ) (made : NotedObject) (statements : List StatementAt) (whole : Placed) (laid : LaidSections)
-    → statements_of main_file source ≡ Ok statements → place_all (map in_tokens statements) (nothing_placed flags.no_warn) ≡ Ok whole
-    → layout_of whole.table.symbols whole.sections ≡ Ok laid → assembly_of flags main_file source ≡ Ok made → made.object ≡ image_of whole.table.symbols laid
-assembly_is flags source made statements whole laid are all is e = (assembled_is flags source made statements whole laid are all is e).0
+pub none_over : (flags : Flags) (handed : List TokenStatement) (made : NotedObject) (statements : List TokenStatement) (whole : Placed) (laid : LaidSections)
+    → handed ≡ statements → place_all statements (nothing_placed flags.no_warn) ≡ Ok whole
+    → layout_of whole.table.symbols whole.sections ≡ Ok laid → Makes flags handed made → first_over laid ≡ None
+none_over flags handed made statements whole laid are all is makes = (assembled_is flags handed made statements whole laid are all is makes).1
 
-pub none_over : (flags : Flags) (source : List ℕ) (made : NotedObject) (statements : List StatementAt) (whole : Placed) (laid : LaidSections)
-    → statements_of main_file source ≡ Ok statements → place_all (map in_tokens statements) (nothing_placed flags.no_warn) ≡ Ok whole
-    → layout_of whole.table.symbols whole.sections ≡ Ok laid → assembly_of flags main_file source ≡ Ok made → first_over laid ≡ None
-none_over flags source made statements whole laid are all is e = (assembled_is flags source made statements whole laid are all is e).1
-
--- each instruction without operands that was written reads back
-pub bare_read_back : AreSettled → ReadsOneWay → BareCodesRead → BareCodesStand → (flags : Flags) (source : List ℕ) (made : NotedObject) → assembly_of flags main_file source ≡ Ok made → BareReadBack flags source made.object
-bare_read_back settled one_way read stand flags source made e before after s coded placed whole laid are front all is written =
-    let split = map-append in_tokens before (s ∷ after) in
-    let whole_is = sym (ap (λ statements. place_all statements (nothing_placed flags.no_warn)) split) ∙ all in
-    let holds = instruction_there stand (map in_tokens before) (in_tokens s) (map in_tokens after) (nothing_placed flags.no_warn) placed whole coded
-    (nothing_within flags.no_warn) front whole_is written in
+-- each instruction without operands that is handed out reads back
+pub bare_read_back : AreSettled → ReadsOneWay → BareCodesRead → BareCodesStand → (flags : Flags) (handed : List TokenStatement) (made : NotedObject) → Makes flags handed made → BareReadBack flags handed made.object
+bare_read_back settled one_way read stand flags handed made e before after s coded placed whole laid are front all is written =
+    let holds = instruction_there stand before s after (nothing_placed flags.no_warn) placed whole coded
+    (nothing_within flags.no_warn) front all written in
     let symbols = whole.table.symbols in
     let at = file_place symbols laid placed.current (next_item placed) (next_offset placed) in
-    let same : made.object ≡ image_of symbols laid = assembly_is flags source made (before ++ s ∷ after) whole laid are all is e in
+    let same : made.object ≡ image_of symbols laid = assembly_is flags handed made (before ++ s ∷ after) whole laid are all is e in
     let stands = object_stands settled symbols whole.sections laid placed.current (next_item placed) (next_offset placed) coded.bytes is holds in
     reads_code one_way made.object coded.bytes stands.rest at coded.insn (ap (drop at) same ∙ drop_stands (image_of symbols laid) at coded.bytes stands)
-    (written_reads read (behind_labels (in_tokens s).tokens) coded written)
+    (written_reads read (behind_labels s.tokens) coded written)

@@ -1,25 +1,77 @@
--- The answer of a call of `assemble` for an object that was made, or a fault of the source.
-use Rattle.std.specs.Prelude.{◌≡◌, List, ℕ, Result, Ok, Err}
-use Rattle.asm_base.specs.declared.refusals.Refusal.{Refusal}
-use Rattle.asm_base.specs.declared.refusals.Refusal.TheVariants as refusal
+-- The answer of a call of `assemble`, by what expansion answered.
+use Rattle.std.specs.Prelude.{◌≡◌, ◌≤◌, ◌+◌, ◌*◌, Bool, false, List, [], ◌∷◌, drop, length, ℕ, Option, None, Some, Result, Ok, Err}
+use Rattle.asm_base.specs.History.{FileEvent, happened, whole_files}
+use Rattle.asm_base.specs.Inputs.{Contents}
+use Rattle.asm_base.specs.WholeFile.{most_bytes}
+use Rattle.asm_base.specs.declared.faults.Fault.TheVariants.{Statement}
+use Rattle.asm_lines.specs.declared.faults.LineCause.{LineCause}
+use Rattle.asm_place.specs.Faults.{is_file_too_large}
+use Rattle.asm_place.specs.Sources.{fault_at, pos_at}
 use Rattle.asm_place.specs.declared.place_faults.FaultAt.{FaultAt}
-use Rattle.asm_front.specs.Outcome.{files_of}
+use Rattle.macro_words.specs.Statements.{line_cause}
+use Rattle.macro_words.specs.Files.{line_of_cause}
+use Rattle.asm_macro.specs.declared.faults.ExpandFault.{ExpandFault}
+use Rattle.asm_macro.specs.declared.faults.ExpandFault.TheVariants as expand
+use Rattle.asm_macro.specs.Placing.{Step, ended, fails, refused, untold}
+use Rattle.asm_values.specs.State.{Placed, nothing_placed}
+use Rattle.asm_front.specs.Ending.{Flags}
+use Rattle.asm_front.specs.Assembly.{Assembly, assembled, faulty, macro_fault, assembly_by, expansion_of, main_file}
+use Rattle.asm_front.specs.Outcome.{AssemblesAs, CountsMissed}
 use Rattle.asm_front.specs.declared.answers.Assembled.{Assembled}
 use Rattle.asm_front.specs.declared.answers.AsmFault.{AsmFault}
 use Rattle.asm_front.specs.declared.answers.AsmFault.TheVariants.{Source, Read, NoMemory}
-use Rattle.asm_front.specs.declared.ending.NotedObject.{NotedObject}
 
--- the object or fault is answered with the notes and the names of the files, unless memory runs out
-abbrev pub IsAnswered : List ℕ → Result NotedObject (Refusal FaultAt) → Result Assembled AsmFault → Type 0
-IsAnswered name (Ok noted) (Ok made) = (made.object ≡ noted.object) × (made.notes ≡ noted.notes) × (made.files ≡ files_of name)
-IsAnswered name (Ok noted) (Err (Source fault pos notes files)) = ⊥
-IsAnswered name (Ok noted) (Err Read) = ⊥
-IsAnswered name (Ok noted) (Err NoMemory) = Unit {0}
-IsAnswered name (Err (refusal.Fault at)) (Ok made) = ⊥
-IsAnswered name (Err (refusal.Fault at)) (Err (Source fault pos notes files)) = (fault ≡ at.fault) × (pos ≡ at.pos) × (notes ≡ at.notes) × (files ≡ files_of name)
-IsAnswered name (Err (refusal.Fault at)) (Err Read) = ⊥
-IsAnswered name (Err (refusal.Fault at)) (Err NoMemory) = Unit {0}
-IsAnswered name (Err refusal.NoMemory) (Ok made) = ⊥
-IsAnswered name (Err refusal.NoMemory) (Err (Source fault pos notes files)) = ⊥
-IsAnswered name (Err refusal.NoMemory) (Err Read) = ⊥
-IsAnswered name (Err refusal.NoMemory) (Err NoMemory) = Unit {0}
+-- the object or the fault is answered, unless memory runs out
+abbrev pub IsAnswered : Assembly → Result Assembled AsmFault → Type 0
+IsAnswered assembly (Ok made) = assembly ≡ assembled (record { object = made.object; notes = made.notes }) made.files
+IsAnswered assembly (Err (Source fault pos notes files)) = assembly ≡ faulty (fault_at fault pos notes) files
+IsAnswered assembly (Err Read) = ⊥
+IsAnswered assembly (Err NoMemory) = Unit {0}
+
+-- what came of a source of this name, with what is placed and the files that were started then; a fault of the lines of the source comes
+-- before all statements
+abbrev pub came_of : Bool → List ℕ → List (List ℕ) → Placed → Result (Unit {0}) (ExpandFault FaultAt) → Step Placed FaultAt
+came_of no_warn name files placed (Ok u) = ended files placed
+came_of no_warn name files placed (Err (expand.Lines cause)) =
+    fails (name ∷ []) (line_cause cause) (pos_at main_file (line_of_cause cause)) (nothing_placed no_warn)
+came_of no_warn name files placed (Err (expand.Expansion cause pos)) = fails files cause pos placed
+came_of no_warn name files placed (Err (expand.Placing fault)) = refused files fault
+came_of no_warn name files placed (Err expand.Read) = untold
+came_of no_warn name files placed (Err expand.NoMemory) = untold
+
+-- the answer by what came of the source: a fault of the input is handed on
+abbrev pub IsAnswer : Flags → List ℕ → List (List ℕ) → Placed → Result (Unit {0}) (ExpandFault FaultAt) → Result Assembled AsmFault → Type 0
+IsAnswer flags name files placed (Err expand.Read) result = result ≡ Err Read
+IsAnswer flags name files placed expanded result =
+    IsAnswered (assembly_by flags.fatal_warnings name (came_of flags.no_warn name files placed expanded)) result
+
+-- the fault of the source that a fault of its lines is
+abbrev pub line_answer : LineCause → FaultAt
+line_answer cause = fault_at (Statement (macro_fault (line_cause cause))) (pos_at main_file (line_of_cause cause)) []
+
+-- a statement that is refused is not called a file that is too large
+abbrev pub AnswersSmall : Result (Unit {0}) (ExpandFault FaultAt) → Result Assembled AsmFault → Type 0
+AnswersSmall (Err (expand.Placing at)) (Err (Source fault pos notes files)) = is_file_too_large fault ≡ false
+AnswersSmall expanded result = Unit {0}
+
+-- the answer for a text that is not too large, where contents are told
+abbrev pub AssemblesText : Flags → Option Contents → List ℕ → List ℕ → Result Assembled AsmFault → Type 0
+AssemblesText flags None name text result = Unit {0}
+AssemblesText flags (Some contents) name text result =
+    AssemblesAs (assembly_by flags.fatal_warnings name (expansion_of flags.no_warn (Some contents) name text)) result
+
+-- the count of starts of what has no contents, where they are told
+abbrev pub CountsText : Flags → Option Contents → List ℕ → List ℕ → ℕ → ℕ → Type 0
+CountsText flags None name text before now = before ≤ now
+CountsText flags (Some contents) name text before now =
+    CountsMissed (assembly_by flags.fatal_warnings name (expansion_of flags.no_warn (Some contents) name text)) before now
+
+-- where there is an object, the files that the text started were read to their end
+abbrev pub ReadsText : Result Assembled AsmFault → Option (List FileEvent) → Option (List FileEvent) → Type 0
+ReadsText (Ok made) before now = now ≡ happened before (whole_files (drop 1 made.files))
+ReadsText (Err fault) before now = Unit {0}
+
+-- so many bytes were read of them
+abbrev pub TakesText : Result Assembled AsmFault → ℕ → ℕ → Type 0
+TakesText (Ok made) before now = (before ≤ now) × (now ≤ before + (most_bytes + 1) * length made.files)
+TakesText (Err fault) before now = before ≤ now

@@ -1,55 +1,108 @@
--- What a source stands for: its object, or its first fault and where that stands, with the notes that are made before.
-use Rattle.std.specs.Prelude.{ℕ, Bool, List, [], length, map, nat_lt, if◌then◌else◌, Result, Ok, Err}
-use Rattle.asm_base.specs.Refusals.{◌>>=◌}
+-- What a source stands for with the files that it starts: its object, or its first fault and where that stands, with the notes that are
+-- made before.
+use Rattle.std.specs.Prelude.{ℕ, Bool, List, [], ◌∷◌, drop, length, map, nat_lt, codes, if◌then◌else◌, Option, Some, Result, Ok, Err}
+use Rattle.asm_base.specs.Inputs.{Contents}
+use Rattle.asm_base.specs.declared.faults.StatementFault.{StatementFault}
 use Rattle.asm_base.specs.declared.faults.StatementFault.TheVariants as statement
 use Rattle.asm_base.specs.declared.faults.Fault.TheVariants.{Statement}
 use Rattle.asm_base.specs.WholeFile.{most_bytes}
 use Rattle.asm_lines.specs.Statements.{StatementAt, statements_of}
 use Rattle.asm_lines.specs.NextStatements.{TokenStatement, in_tokens}
 use Rattle.asm_lines.specs.declared.faults.LineCause.{LineCause}
-use Rattle.asm_lines.specs.declared.faults.LineCause.TheVariants as line
-use Rattle.asm_lines.specs.declared.source_causes.SourceCause.{SourceCause}
-use Rattle.asm_lines.specs.declared.source_causes.SourceCause.TheVariants.{Lines, Placing}
+use Rattle.macro_words.specs.declared.causes.MacroCause.{MacroCause}
+use Rattle.macro_words.specs.declared.causes.MacroCause.TheVariants as macros
+use Rattle.asm_macro.specs.Expansion.{started}
+use Rattle.asm_macro.specs.Placing.{Step, goes, ended, fails, refused, misses, untold, expansion, handed, most_turns}
 use Rattle.asm_values.specs.State.{Placed, nothing_placed}
-use Rattle.asm_place.specs.Sources.{pos_at, fault_at, place_all}
+use Rattle.asm_place.specs.Sources.{pos_at, fault_at, place}
 use Rattle.asm_place.specs.declared.place_faults.FaultAt.{FaultAt}
 use Rattle.asm_front.specs.Ending.{Flags, finished}
+use Rattle.asm_front.specs.Knowing.{told_by}
 use Rattle.asm_front.specs.declared.ending.NotedObject.{NotedObject}
 
--- a fault of a line of the file, at its place; no note stands before it
-abbrev pub line_fault : ℕ → LineCause → FaultAt
-line_fault file (line.NulByte number) = fault_at (Statement statement.NulByte) (pos_at file number) []
-line_fault file (line.UnclosedString number) = fault_at (Statement statement.UnclosedString) (pos_at file number) []
-line_fault file (line.UnclosedComment number) = fault_at (Statement statement.UnclosedComment) (pos_at file number) []
-line_fault file (line.StatementTooLong number) = fault_at (Statement statement.StatementTooLong) (pos_at file number) []
+-- what a source stands for: its object with the notes, or its first fault, either with the names of the files as messages show them; or
+-- nothing, where it starts a file that is not there
+pub data Assembly : Type 0 where
+  assembled : NotedObject → List (List ℕ) → Assembly
+  faulty : FaultAt → List (List ℕ) → Assembly
+  missing : Assembly
 
--- the fault of a source: of a line of the file, or of a statement
-abbrev pub source_fault : ℕ → SourceCause FaultAt → FaultAt
-source_fault file (Lines cause) = line_fault file cause
-source_fault file (Placing fault) = fault
+-- the name of the source in messages; standard input has none of its own
+abbrev pub shown_name : List ℕ → List ℕ
+shown_name [] = codes "{standard input}"
+shown_name (byte ∷ bytes) = byte ∷ bytes
+
+-- the names of files as messages show them: the source is the first that was started
+abbrev pub shown_files : List ℕ → List (List ℕ) → List (List ℕ)
+shown_files name started = shown_name name ∷ drop 1 started
+
+-- the source has the number 0
+abbrev pub main_file : ℕ
+main_file = 0
+
+-- the fault of the source that a fault of expansion is
+abbrev pub macro_fault : MacroCause → StatementFault
+macro_fault macros.NulByte = statement.NulByte
+macro_fault macros.UnclosedString = statement.UnclosedString
+macro_fault macros.UnclosedComment = statement.UnclosedComment
+macro_fault macros.StatementTooLong = statement.StatementTooLong
+macro_fault macros.FileTooLarge = statement.FileTooLarge
+macro_fault macros.BadExpression = statement.BadExpression
+macro_fault macros.NumberTooWide = statement.NumberTooWide
+macro_fault macros.ExpressionTooDeep = statement.ExpressionTooDeep
+macro_fault macros.DivisionByZero = statement.DivisionByZero
+macro_fault macros.ValueNotKnown = statement.ValueNotKnown
+macro_fault macros.NotASumOfSymbols = statement.NotASumOfSymbols
+macro_fault macros.BadMacroLine = statement.BadMacroLine
+macro_fault macros.MissingArgument = statement.MissingArgument
+macro_fault macros.UnclosedBlock = statement.UnclosedBlock
+macro_fault macros.EndWithoutBeginning = statement.EndWithoutBeginning
+macro_fault macros.NestedTooDeeply = statement.NestedTooDeeply
+macro_fault macros.ExpansionTooLong = statement.ExpansionTooLong
+macro_fault macros.MacroAlreadyDefined = statement.MacroAlreadyDefined
+macro_fault macros.BadFileName = statement.BadFileName
 
 -- the fault of a file that is too large, at its first line
 abbrev pub too_large : ℕ → FaultAt
 too_large file = fault_at (Statement statement.FileTooLarge) (pos_at file 1) []
 
--- the statements of the file as they are handed out, or the fault of a line
-abbrev pub lines_answer : ℕ → Result (List StatementAt) LineCause → Result (List TokenStatement) FaultAt
-lines_answer file (Ok statements) = Ok (map in_tokens statements)
-lines_answer file (Err cause) = Err (line_fault file cause)
+-- what comes of placing one statement that is handed out
+abbrev pub placed_after : Placed → TokenStatement → Result Placed FaultAt
+placed_after before statement = place statement before
 
--- the object of what the statements placed, or their first fault
-abbrev pub placed_end : Bool → Result Placed FaultAt → Result NotedObject FaultAt
-placed_end fatal placed = placed >>= λ whole. finished fatal whole.sections whole.table whole.notes
+-- the object of all that was placed, or the fault at the end
+abbrev pub ended_by : List (List ℕ) → Result NotedObject FaultAt → Assembly
+ended_by files (Ok made) = assembled made files
+ended_by files (Err fault) = faulty fault files
 
--- what the statements of a source place, or the first fault
-abbrev pub source_placement : Bool → ℕ → Result (List StatementAt) LineCause → Result Placed FaultAt
-source_placement no_warn file lines = lines_answer file lines >>= λ statements. place_all statements (nothing_placed no_warn)
+-- what a source of this name stands for, by what comes of its statements: a fault of expansion has the notes that were made before. Each
+-- list comes to its outcome, and none is untold where contents are told
+abbrev pub assembly_by : Bool → List ℕ → Step Placed FaultAt → Assembly
+assembly_by fatal name (ended files whole) = ended_by (shown_files name files) (finished fatal whole.sections whole.table whole.notes)
+assembly_by fatal name (fails files cause pos placed) =
+    faulty (fault_at (Statement (macro_fault cause)) pos placed.notes) (shown_files name files)
+assembly_by fatal name (refused files fault) = faulty fault (shown_files name files)
+assembly_by fatal name misses = missing
+assembly_by fatal name untold = missing
+assembly_by fatal name (goes state placed) = missing
 
--- the object of a source that is not too large
-unfoldable pub assembly_of_lines : Flags → ℕ → List ℕ → Result NotedObject FaultAt
-assembly_of_lines flags file source =
-    placed_end flags.fatal_warnings (source_placement flags.no_warn file (statements_of file source))
+-- what comes of the statements of a source of this name, where contents are told or not
+unfoldable pub expansion_of : Bool → Option Contents → List ℕ → List ℕ → Step Placed FaultAt
+expansion_of no_warn contents name source =
+    expansion placed_after told_by contents (name ∷ []) (nothing_placed no_warn) (statements_of main_file source)
 
--- the object of a source, or its first fault; the number is the file's
-unfoldable pub assembly_of : Flags → ℕ → List ℕ → Result NotedObject FaultAt
-assembly_of flags file source = if nat_lt most_bytes (length source) then Err (too_large file) else assembly_of_lines flags file source
+-- the object of a source of this name, or its first fault
+unfoldable pub assembly_of : Flags → Contents → List ℕ → List ℕ → Assembly
+assembly_of flags contents name source =
+    if nat_lt most_bytes (length source) then faulty (too_large main_file) (shown_files name [])
+    else assembly_by flags.fatal_warnings name (expansion_of flags.no_warn (Some contents) name source)
+
+-- the statements that are handed out of these lines
+abbrev pub handed_by : Bool → Contents → List ℕ → Result (List StatementAt) LineCause → List TokenStatement
+handed_by no_warn contents name (Ok statements) =
+    handed placed_after told_by (Some contents) most_turns (started (name ∷ []) (map in_tokens statements)) (nothing_placed no_warn)
+handed_by no_warn contents name (Err cause) = []
+
+-- the statements that the expansion of a source of this name hands out, in order
+unfoldable pub handed_of : Flags → Contents → List ℕ → List ℕ → List TokenStatement
+handed_of flags contents name source = handed_by flags.no_warn contents name (statements_of main_file source)

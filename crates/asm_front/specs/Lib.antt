@@ -1,4 +1,5 @@
 -- The definitions that the contracts cite, in reading order.
+pub mod Knowing
 pub mod Ending
 pub mod Assembly
 pub mod Outcome

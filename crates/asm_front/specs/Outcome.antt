@@ -1,55 +1,38 @@
 -- What a call of `assemble` answers, by what the input tells of the source.
-use Rattle.std.specs.Prelude.{◌≡◌, ℕ, ◌+◌, ◌≤◌, min, IsTrue, List, [], ◌∷◌, codes, Option, None, Some, Result, Ok, Err}
+use Rattle.std.specs.Prelude.{◌≡◌, ℕ, ◌+◌, ◌*◌, ◌≤◌, ◌⊎◌, min, IsTrue, List, [], ◌∷◌, drop, length, Option, None, Some, Result, Ok, Err}
 use Rattle.asm_base.specs.Counts.{HasRisen, last_count}
+use Rattle.asm_base.specs.History.{FileEvent, happened, whole_files}
 use Rattle.asm_base.specs.WholeFile.{most_bytes}
 use Rattle.asm_base.specs.Inputs.{Contents}
 use Rattle.asm_place.specs.Faults.{is_file_too_large}
 use Rattle.asm_place.specs.Sources.{fault_at}
-use Rattle.asm_place.specs.declared.place_faults.FaultAt.{FaultAt}
 use Rattle.asm_front.specs.Ending.{Flags}
-use Rattle.asm_front.specs.declared.ending.NotedObject.{NotedObject}
-use Rattle.asm_front.specs.Assembly.{assembly_of}
+use Rattle.asm_front.specs.Assembly.{Assembly, assembled, faulty, missing, shown_name, assembly_of}
 use Rattle.asm_front.specs.declared.answers.Options.{Options}
 use Rattle.asm_front.specs.declared.answers.Assembled.{Assembled}
 use Rattle.asm_front.specs.declared.answers.AsmFault.{AsmFault}
 use Rattle.asm_front.specs.declared.answers.AsmFault.TheVariants.{Source, Read, NoMemory}
 
--- the name of the source in messages; standard input has none of its own
-abbrev pub shown_name : List ℕ → List ℕ
-shown_name [] = codes "{standard input}"
-shown_name (byte ∷ bytes) = byte ∷ bytes
-
--- the names of the files of the source
-abbrev pub files_of : List ℕ → List (List ℕ)
-files_of name = shown_name name ∷ []
-
--- the one source file has the number 0
-abbrev pub main_file : ℕ
-main_file = 0
-
 -- the options that the assembly depends on
 abbrev pub flags_of : Options → Flags
 flags_of options = record { no_warn = options.no_warn; fatal_warnings = options.fatal_warnings }
 
--- the answer for a source of this assembly: its object or its first fault, with the notes
-abbrev pub AssemblesAs : List ℕ → Result NotedObject FaultAt → Result Assembled AsmFault → Type 0
-AssemblesAs name assembly (Ok made) = (assembly ≡ Ok (record { object = made.object; notes = made.notes })) × (made.files ≡ files_of name)
-AssemblesAs name assembly (Err (Source fault pos notes files)) = (assembly ≡ Err (fault_at fault pos notes)) × (files ≡ files_of name)
-AssemblesAs name assembly (Err Read) = Unit {0}
-AssemblesAs name assembly (Err NoMemory) = Unit {0}
+-- the answer for a source of this assembly: its object or its first fault, with the notes and the names of the files
+abbrev pub AssemblesAs : Assembly → Result Assembled AsmFault → Type 0
+AssemblesAs assembly (Ok made) = assembly ≡ assembled (record { object = made.object; notes = made.notes }) made.files
+AssemblesAs assembly (Err (Source fault pos notes files)) = assembly ≡ faulty (fault_at fault pos notes) files
+AssemblesAs assembly (Err Read) = Unit {0}
+AssemblesAs assembly (Err NoMemory) = Unit {0}
 
 -- the answer for the file of a name; a file that does not exist has neither object nor fault
-abbrev pub AssemblesFile : Flags → List ℕ → Option (List ℕ) → Result Assembled AsmFault → Type 0
-AssemblesFile flags name (Some source) result = AssemblesAs name (assembly_of flags main_file source) result
-AssemblesFile flags name None (Ok made) = ⊥
-AssemblesFile flags name None (Err (Source fault pos notes files)) = ⊥
-AssemblesFile flags name None (Err Read) = Unit {0}
-AssemblesFile flags name None (Err NoMemory) = Unit {0}
+abbrev pub AssemblesFile : Flags → Contents → List ℕ → Option (List ℕ) → Result Assembled AsmFault → Type 0
+AssemblesFile flags contents name (Some source) result = AssemblesAs (assembly_of flags contents name source) result
+AssemblesFile flags contents name None result = AssemblesAs missing result
 
 -- the answer for the contents of the name, where the input tells them
 abbrev pub Assembles : Flags → Option Contents → List ℕ → Result Assembled AsmFault → Type 0
 Assembles flags None name result = Unit {0}
-Assembles flags (Some contents) name result = AssemblesFile flags name (contents name) result
+Assembles flags (Some contents) name result = AssemblesFile flags contents name (contents name) result
 
 -- the count of failures has risen where the input failed, and is the same else
 abbrev pub HasAssemblyCause : Result Assembled AsmFault → ℕ → ℕ → Type 0
@@ -58,10 +41,24 @@ HasAssemblyCause (Err (Source fault pos notes files)) before now = now ≡ befor
 HasAssemblyCause (Err Read) before now = (before ≤ now) × HasRisen before now
 HasAssemblyCause (Err NoMemory) before now = now ≡ before
 
--- the files are those of the source, whether contents are told or not
+-- the count of starts of what has no contents is as before, but where the source starts a file that is not there
+abbrev pub CountsMissed : Assembly → ℕ → ℕ → Type 0
+CountsMissed assembly before now = (now ≡ before) ⊎ ((assembly ≡ missing) × (before ≤ now) × HasRisen before now)
+
+-- the same of the file of the name; it has risen where that is not there
+abbrev pub CountsMissingFiles : Flags → Contents → List ℕ → Option (List ℕ) → ℕ → ℕ → Type 0
+CountsMissingFiles flags contents name None before now = (before ≤ now) × HasRisen before now
+CountsMissingFiles flags contents name (Some source) before now = CountsMissed (assembly_of flags contents name source) before now
+
+-- the same for the contents of the name, where they are told; the count never falls
+abbrev pub CountsMisses : Flags → Option Contents → List ℕ → ℕ → ℕ → Type 0
+CountsMisses flags None name before now = before ≤ now
+CountsMisses flags (Some contents) name before now = CountsMissingFiles flags contents name (contents name) before now
+
+-- the source is the first of the files, whether contents are told or not
 abbrev pub NamesFiles : List ℕ → Result Assembled AsmFault → Type 0
-NamesFiles name (Ok made) = made.files ≡ files_of name
-NamesFiles name (Err (Source fault pos notes files)) = files ≡ files_of name
+NamesFiles name (Ok made) = made.files ≡ shown_name name ∷ drop 1 made.files
+NamesFiles name (Err (Source fault pos notes files)) = files ≡ shown_name name ∷ drop 1 files
 NamesFiles name (Err Read) = Unit {0}
 NamesFiles name (Err NoMemory) = Unit {0}
 
@@ -72,9 +69,19 @@ KeepsCount (Err (Source fault pos notes files)) before now = now ≡ before
 KeepsCount (Err Read) before now = Unit {0}
 KeepsCount (Err NoMemory) before now = Unit {0}
 
+-- where there is an object, the source and each file that it started were read to their end, one after the other
+abbrev pub ReadsFiles : List ℕ → Result Assembled AsmFault → Option (List FileEvent) → Option (List FileEvent) → Type 0
+ReadsFiles name (Ok made) before now = now ≡ happened before (whole_files (name ∷ drop 1 made.files))
+ReadsFiles name (Err fault) before now = Unit {0}
+
 -- a file is called too large only where more than the most bytes were taken
 abbrev pub TakesSource : Result Assembled AsmFault → ℕ → ℕ → Type 0
 TakesSource (Ok made) before now = Unit {0}
 TakesSource (Err (Source fault pos notes files)) before now = IsTrue (is_file_too_large fault) → min (before + (most_bytes + 1)) last_count ≤ now
 TakesSource (Err Read) before now = Unit {0}
 TakesSource (Err NoMemory) before now = Unit {0}
+
+-- where there is an object, of each file at most one byte more than the most was read; the number of bytes that were read never falls
+abbrev pub TakesFiles : Result Assembled AsmFault → ℕ → ℕ → Type 0
+TakesFiles (Ok made) before now = (before ≤ now) × (now ≤ before + (most_bytes + 1) * (length made.files + 1))
+TakesFiles (Err fault) before now = before ≤ now

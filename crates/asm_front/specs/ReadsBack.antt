@@ -1,10 +1,9 @@
 -- The bytes of an object at the place of each instruction, read as instructions.
-use Rattle.std.specs.Prelude.{ℕ, ◌+◌, ◌≡◌, ◌==◌, Bool, false, List, ◌∷◌, ◌++◌, map, drop, length, Option, None, Some, unwrap_or, Result, Ok, Err, slice_get}
+use Rattle.std.specs.Prelude.{ℕ, ◌+◌, ◌≡◌, ◌==◌, Bool, false, List, ◌∷◌, ◌++◌, drop, length, Option, None, Some, unwrap_or, Result, Ok, Err, slice_get}
 use Rattle.std.specs.Option.{option_map_or}
 use Rattle.asm_base.specs.Inputs.{Contents}
 use Rattle.asm_base.specs.declared.positions.Pos.{Pos}
-use Rattle.asm_lines.specs.Statements.{StatementAt, statements_of}
-use Rattle.asm_lines.specs.NextStatements.{TokenStatement, in_tokens}
+use Rattle.asm_lines.specs.NextStatements.{TokenStatement}
 use Rattle.asm_symbols.specs.SymbolMap.{SymbolMap}
 use Rattle.asm_frags.specs.declared.fields.Field.{Field}
 use Rattle.asm_frags.specs.Substituting.{substituted_field}
@@ -29,7 +28,7 @@ use Rattle.asm_place.specs.Sources.{pos_at, place_all}
 use Rattle.asm_place.specs.Instructions.{instruction_of, next_item, next_offset}
 use Rattle.elf_object.specs.Places.{section_offset, moved}
 use Rattle.asm_front.specs.Ending.{Flags}
-use Rattle.asm_front.specs.Outcome.{main_file}
+use Rattle.asm_front.specs.Assembly.{handed_of}
 use Rattle.asm_front.specs.declared.answers.Assembled.{Assembled}
 use Rattle.asm_front.specs.declared.answers.AsmFault.{AsmFault}
 
@@ -51,13 +50,13 @@ file_place symbols sections number item offset =
 abbrev pub next_place : SymbolMap → LaidSections → Placed → ℕ
 next_place symbols laid placed = file_place symbols laid placed.current (next_item placed) (next_offset placed)
 
--- each instruction of the source without operands and prefix reads back at its place, where the statements that are handed out before it end
-abbrev pub BareReadBack : Flags → List ℕ → List ℕ → Type 0
-BareReadBack flags source object =
-    (before after : List StatementAt) (s : StatementAt) (coded : Coded) (placed whole : Placed) (laid : LaidSections)
-    → statements_of main_file source ≡ Ok (before ++ s ∷ after) → place_all (map in_tokens before) (nothing_placed flags.no_warn) ≡ Ok placed
-    → place_all (map in_tokens (before ++ s ∷ after)) (nothing_placed flags.no_warn) ≡ Ok whole → layout_of whole.table.symbols whole.sections ≡ Ok laid
-    → instruction_of (in_tokens s) ≡ Some coded → ReadsAt object (next_place whole.table.symbols laid placed) coded.insn
+-- each instruction without operands and prefix that is handed out reads back at its place, where the statements before it end
+abbrev pub BareReadBack : Flags → List TokenStatement → List ℕ → Type 0
+BareReadBack flags handed object =
+    (before after : List TokenStatement) (s : TokenStatement) (coded : Coded) (placed whole : Placed) (laid : LaidSections)
+    → handed ≡ before ++ s ∷ after → place_all before (nothing_placed flags.no_warn) ≡ Ok placed
+    → place_all (before ++ s ∷ after) (nothing_placed flags.no_warn) ≡ Ok whole → layout_of whole.table.symbols whole.sections ≡ Ok laid
+    → instruction_of s ≡ Some coded → ReadsAt object (next_place whole.table.symbols laid placed) coded.insn
 
 -- WITH OPERANDS OR A PREFIX
 
@@ -116,14 +115,15 @@ pub record InsnReadsBack (object : List ℕ) (symbols : SymbolMap) (laid : LaidS
 abbrev pub has_no_bits : LaidSections → ℕ → Bool
 has_no_bits laid number = option_map_or (λ section. section.kind == no_bits) (slice_get laid number) false
 
--- each instruction of the source with operands or a prefix that is no direct jump reads back at its place, where its section has bytes in the file
-abbrev pub CodesReadBack : Flags → List ℕ → List ℕ → Type 0
-CodesReadBack flags source object =
-    (before after : List StatementAt) (s : StatementAt) (text : InsnText) (placed whole : Placed) (laid : LaidSections)
-    → statements_of main_file source ≡ Ok (before ++ s ∷ after) → place_all (map in_tokens before) (nothing_placed flags.no_warn) ≡ Ok placed
-    → place_all (map in_tokens (before ++ s ∷ after)) (nothing_placed flags.no_warn) ≡ Ok whole → layout_of whole.table.symbols whole.sections ≡ Ok laid
-    → insn_in (in_tokens s) ≡ Some text → jump_in text ≡ None → has_no_bits laid placed.current ≡ false
-    → InsnReadsBack object whole.table.symbols laid (in_tokens s) text placed
+-- each instruction with operands or a prefix that is handed out and is no direct jump reads back at its place, where its section has bytes in the
+-- file
+abbrev pub CodesReadBack : Flags → List TokenStatement → List ℕ → Type 0
+CodesReadBack flags handed object =
+    (before after : List TokenStatement) (s : TokenStatement) (text : InsnText) (placed whole : Placed) (laid : LaidSections)
+    → handed ≡ before ++ s ∷ after → place_all before (nothing_placed flags.no_warn) ≡ Ok placed
+    → place_all (before ++ s ∷ after) (nothing_placed flags.no_warn) ≡ Ok whole → layout_of whole.table.symbols whole.sections ≡ Ok laid
+    → insn_in s ≡ Some text → jump_in text ≡ None → has_no_bits laid placed.current ≡ false
+    → InsnReadsBack object whole.table.symbols laid s text placed
 
 -- DIRECT JUMPS
 
@@ -148,30 +148,30 @@ pub record JumpReadsBack (object : List ℕ) (symbols : SymbolMap) (laid : LaidS
   pub jump : IsJump (pos_at s.file s.line) s.tokens text placed
   pub reads : JumpReadsAt object (jump_place symbols laid placed) text (jump_value symbols laid (pos_at s.file s.line) text jump.forms placed)
 
--- each direct jump of the source reads back at its place, where its section has bytes in the file
-abbrev pub JumpsReadBack : Flags → List ℕ → List ℕ → Type 0
-JumpsReadBack flags source object =
-    (before after : List StatementAt) (s : StatementAt) (text : InsnText) (condition : Option Condition) (placed whole : Placed) (laid : LaidSections)
-    → statements_of main_file source ≡ Ok (before ++ s ∷ after) → place_all (map in_tokens before) (nothing_placed flags.no_warn) ≡ Ok placed
-    → place_all (map in_tokens (before ++ s ∷ after)) (nothing_placed flags.no_warn) ≡ Ok whole → layout_of whole.table.symbols whole.sections ≡ Ok laid
-    → insn_in (in_tokens s) ≡ Some text → jump_in text ≡ Some condition → has_no_bits laid placed.current ≡ false
-    → JumpReadsBack object whole.table.symbols laid (in_tokens s) text placed
+-- each direct jump that is handed out reads back at its place, where its section has bytes in the file
+abbrev pub JumpsReadBack : Flags → List TokenStatement → List ℕ → Type 0
+JumpsReadBack flags handed object =
+    (before after : List TokenStatement) (s : TokenStatement) (text : InsnText) (condition : Option Condition) (placed whole : Placed) (laid : LaidSections)
+    → handed ≡ before ++ s ∷ after → place_all before (nothing_placed flags.no_warn) ≡ Ok placed
+    → place_all (before ++ s ∷ after) (nothing_placed flags.no_warn) ≡ Ok whole → layout_of whole.table.symbols whole.sections ≡ Ok laid
+    → insn_in s ≡ Some text → jump_in text ≡ Some condition → has_no_bits laid placed.current ≡ false
+    → JumpReadsBack object whole.table.symbols laid s text placed
 
--- each instruction of the source reads back in the object, where its section has bytes in the file
-pub record ReadsBack (flags : Flags) (source object : List ℕ) : Type 0 where
-  pub bare : BareReadBack flags source object
-  pub coded : CodesReadBack flags source object
-  pub jumps : JumpsReadBack flags source object
+-- each instruction that is handed out reads back in the object, where its section has bytes in the file
+pub record ReadsBack (flags : Flags) (handed : List TokenStatement) (object : List ℕ) : Type 0 where
+  pub bare : BareReadBack flags handed object
+  pub coded : CodesReadBack flags handed object
+  pub jumps : JumpsReadBack flags handed object
 
 -- ANSWERS
 
--- where the source is told, its object reads back as the source
-abbrev pub AnswerReadsBack : Flags → Option (List ℕ) → Result Assembled AsmFault → Type 0
-AnswerReadsBack flags None result = Unit {0}
-AnswerReadsBack flags (Some source) (Ok made) = ReadsBack flags source made.object
-AnswerReadsBack flags (Some source) (Err fault) = Unit {0}
+-- where the source is told, its object reads back as each statement that its expansion hands out
+abbrev pub AnswerReadsBack : Flags → Contents → List ℕ → Option (List ℕ) → Result Assembled AsmFault → Type 0
+AnswerReadsBack flags contents name None result = Unit {0}
+AnswerReadsBack flags contents name (Some source) (Ok made) = ReadsBack flags (handed_of flags contents name source) made.object
+AnswerReadsBack flags contents name (Some source) (Err fault) = Unit {0}
 
 -- where the contents of the name are told, the object reads back as they
 abbrev pub ReadsBackFrom : Flags → Option Contents → List ℕ → Result Assembled AsmFault → Type 0
 ReadsBackFrom flags None name result = Unit {0}
-ReadsBackFrom flags (Some contents) name result = AnswerReadsBack flags (contents name) result
+ReadsBackFrom flags (Some contents) name result = AnswerReadsBack flags contents name (contents name) result

@@ -1,18 +1,21 @@
 //! What holds of every source.
 
-ghost use Rattle.std.specs.Prelude.{◌≡◌, ℕ, List, Ok, Err, false};
-ghost use Rattle.asm_base.specs.declared.faults.Fault.{Fault};
+ghost use Rattle.std.specs.Prelude.{◌≡◌, ℕ, Bool, List, Some, Err, false};
+ghost use Rattle.asm_base.specs.Inputs.{Contents};
 ghost use Rattle.asm_base.specs.declared.notes.Noted.{Noted};
-ghost use Rattle.asm_base.specs.declared.positions.Pos.{Pos};
+ghost use Rattle.asm_frags.specs.Writing.{LooseSection};
+ghost use Rattle.asm_macro.specs.Placing.{untold};
 ghost use Rattle.asm_place.specs.Faults.{is_file_too_large};
-ghost use Rattle.asm_place.specs.Sources.{fault_at};
-ghost use Rattle.asm_front.specs.Ending.{Flags};
+ghost use Rattle.asm_place.specs.declared.place_faults.FaultAt.{FaultAt};
+ghost use Rattle.asm_uses.specs.Tables.{Table};
+ghost use Rattle.asm_front.specs.Ending.{Flags, finished};
 ghost use Rattle.asm_front.specs.declared.ending.NotedObject.{NotedObject};
-ghost use Rattle.asm_front.specs.Assembly.{assembly_of, assembly_of_lines};
-ghost use Rattle.asm_front.specs.Outcome.{main_file};
+ghost use Rattle.asm_front.specs.Assembly.{assembled, assembly_of, expansion_of, handed_of};
 ghost use Rattle.asm_front.specs.ReadsBack.{ReadsBack};
 
-use asm_place::{jump_items, jumps_read, places_stand, placing_within};
+use crate::placers::SourcePlacer;
+use asm_macro::handed_statements_are_placed;
+use asm_place::{jump_items, jumps_read, places_stand, placing_in_order, placing_within};
 use asm_relax::{settled_by_the_ranking, settled_is_placed, settled_items_have_room, sizes_add_up};
 use elf_object::{bytes_stand, items_stand, values_stand};
 use item_bytes::jump_reads_back;
@@ -20,21 +23,28 @@ use x86_encode::encodings_are_codes;
 use x86_lookup::bare_codes_read;
 use x86_table::read_one_way;
 
-/// Only the reading of a file answers that it is too large: no later step does.
-#[tactic(auto, using(crate::proofs::FaultLaws::not_too_large))]
-pub fn never_too_large()
-    ensures { (flags : Flags) (file : ℕ) (source : List ℕ) (fault : Fault) (pos : Pos)
-        (notes : List Noted)
-        → assembly_of_lines flags file source ≡ Err (fault_at fault pos notes)
-        → is_file_too_large fault ≡ false }
+/// Only the reading of files calls one too large: the end of a source does not.
+pub fn the_end_is_no_reading()
+    ensures { (fatal : Bool) (sections : List LooseSection) (table : Table) (notes : List Noted) (fault : FaultAt)
+        → finished fatal sections table notes ≡ Err fault → is_file_too_large fault.fault ≡ false }
 {}
 
-/// Each instruction of a source stands in the object, where the statements before it end, as bytes that read as it, with the
-/// values that its fields have there, and as no other instruction. A direct jump, short or near, reads as the jump to its target.
+/// Where contents are told, no file that a source starts is untold.
+pub fn told_files_are_known()
+    ensures { (no_warn : Bool) (contents : Contents) (name source : List ℕ)
+        → expansion_of no_warn (Some contents) name source ≡ untold → ⊥ }
+{}
+
+/// Each instruction that the expansion of a source hands out stands in the object, where the statements before it end, as bytes that
+/// read as it, with the values that its fields have there, and as no other instruction. A direct jump, short or near,
+/// reads as the jump to its target.
 pub fn written_reads_back()
-    ensures { (flags : Flags) (source : List ℕ) (made : NotedObject)
-        → assembly_of flags main_file source ≡ Ok made → ReadsBack flags source made.object }
+    ensures { (flags : Flags) (contents : Contents) (name source : List ℕ) (made : NotedObject)
+        (files : List (List ℕ)) → assembly_of flags contents name source ≡ assembled made files
+        → ReadsBack flags (handed_of flags contents name source) made.object }
 {
+    handed_statements_are_placed::<SourcePlacer>();
+    placing_in_order();
     settled_is_placed();
     bytes_stand();
     values_stand();

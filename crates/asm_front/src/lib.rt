@@ -1,13 +1,16 @@
 //! From the name of a source to its object.
 #![tactic(auto)]
 
+mod answering;
 mod answers;
 mod assembling;
 mod ending;
+mod knowing;
 mod large_sections;
 mod laws;
+mod placers;
 
 pub use answers::{AsmFault, Assembled, Options};
 pub use assembling::assemble;
 pub use ending::NotedObject;
-pub use laws::{never_too_large, written_reads_back};
+pub use laws::{the_end_is_no_reading, told_files_are_known, written_reads_back};

@@ -1,10 +1,11 @@
 use Rattle.asm_front.proofs.CodesInObject.{reads_back}
+use Rattle.asm_front.proofs.HandedStatements.{handed_makes}
 use Rattle.asm_front.proofs.JumpsInObject.{JumpFacts}
 use Rattle.asm_front.proofs.LaidItems.{AreSettled}
 use Rattle.asm_front.proofs.laws.written_reads_back.Goals as goal
 
 pub returns : goal.returns
-returns c =
+returns c flags contents name source made files is =
     let settled : AreSettled = record {
       placed = c.settled_is_placed.ensures.placed;
       sized = c.settled_is_placed.ensures.sized;
@@ -27,4 +28,5 @@ returns c =
       named = c.places_stand.ensures.named;
     } in
     reads_back settled c.read_one_way.ensures c.bare_codes_read.ensures.read c.bare_codes_read.ensures.stand c.encodings_are_codes.ensures.fields
-    c.encodings_are_codes.ensures.notes facts
+    c.encodings_are_codes.ensures.notes facts flags _ made
+    (handed_makes c.handed_statements_are_placed.ensures c.placing_in_order.ensures flags contents name source made files is)

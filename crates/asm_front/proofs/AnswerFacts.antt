@@ -1,0 +1,124 @@
+-- What an answer says beside its assembly: what was read, and which faults say that a file is too large.
+use Rattle.std.proofs.Common.{◌≡◌, ℕ, ◌+◌, ◌*◌, ◌<◌, ◌≤◌, Bool, true, false, IsTrue, List, [], ◌∷◌, length, length-drop, Result, Ok, Err, refl, sym, ap, ◌∙◌, subst, arith}
+use Rattle.asm_base.specs.WholeFile.{most_bytes}
+use Rattle.asm_lines.specs.declared.faults.LineCause.{LineCause}
+use Rattle.asm_lines.specs.declared.faults.LineCause.TheVariants as line
+use Rattle.macro_words.specs.declared.causes.MacroCause.{MacroCause}
+use Rattle.macro_words.specs.declared.causes.MacroCause.TheVariants as macros
+use Rattle.asm_macro.specs.Expanding.{TakesIncludes, TakesTooLarge}
+use Rattle.asm_macro.specs.declared.faults.ExpandFault.{ExpandFault}
+use Rattle.asm_macro.specs.declared.faults.ExpandFault.TheVariants as expand
+use Rattle.asm_place.specs.Faults.{is_too_large, is_file_too_large}
+use Rattle.asm_place.specs.Sources.{fault_at}
+use Rattle.asm_place.specs.declared.place_faults.FaultAt.{FaultAt}
+use Rattle.asm_values.specs.State.{Placed}
+use Rattle.asm_front.specs.Ending.{Flags, finished}
+use Rattle.asm_front.specs.declared.ending.NotedObject.{NotedObject}
+use Rattle.asm_front.specs.Assembly.{assembled, faulty, macro_fault, shown_files, ended_by}
+use Rattle.asm_front.specs.Answering.{AnswersSmall, IsAnswered, IsAnswer, line_answer, TakesText}
+use Rattle.asm_front.specs.Outcome.{TakesSource}
+use Rattle.asm_front.specs.declared.answers.Assembled.{Assembled}
+use Rattle.asm_front.specs.declared.answers.AsmFault.{AsmFault}
+use Rattle.asm_front.specs.declared.answers.AsmFault.TheVariants.{Source, Read, NoMemory}
+use Rattle.asm_front.proofs.FaultLaws.{end_is_no_reading}
+
+module _ (flags : Flags) (name : List ℕ) (files : List (List ℕ)) (placed : Placed) where
+  -- an object comes only where expansion came to its end
+  object_by : (answer : Result NotedObject FaultAt) (noted : NotedObject) (shown : List (List ℕ)) → ended_by (shown_files name files) answer ≡ assembled noted shown → shown ≡ shown_files name files
+  object_by (Ok made) noted shown is = cc
+  object_by (Err fault) noted shown is = absurd cc
+
+  text_ended : (expanded : Result (Unit {0}) (ExpandFault FaultAt)) (made : Assembled) → IsAnswer flags name files placed expanded (Ok made)
+      → (expanded ≡ Ok tt) × (made.files ≡ shown_files name files)
+  text_ended (Ok u) made so = (refl, object_by (finished flags.fatal_warnings placed.sections placed.table placed.notes) _ made.files so)
+  text_ended (Err (expand.Lines cause)) made so = absurd cc
+  text_ended (Err (expand.Expansion cause pos)) made so = absurd cc
+  text_ended (Err (expand.Placing fault)) made so = absurd cc
+  text_ended (Err expand.Read) made so = absurd cc
+  text_ended (Err expand.NoMemory) made so = absurd cc
+
+  -- so many bytes were read of them
+  pub text_taken : (expanded : Result (Unit {0}) (ExpandFault FaultAt)) (result : Result Assembled AsmFault) (before now : ℕ) → IsAnswer flags name files placed expanded result
+      → TakesIncludes files before now → 0 < length files → TakesText result before now
+  text_taken expanded (Err fault) before now so takes some = takes.0
+  text_taken expanded (Ok made) before now so takes some =
+      let count : length made.files ≡ length files = ap length (text_ended expanded made so).1 ∙ omega (arith, length-drop 1 files) in
+      (takes.0, subst (λ n. now ≤ before + (most_bytes + 1) * n) (sym count) takes.1)
+
+-- FILES THAT ARE TOO LARGE
+
+-- a fault of expansion that says that a file is too large
+large_cause : (cause : MacroCause) → IsTrue (is_too_large (macro_fault cause)) → cause ≡ macros.FileTooLarge
+large_cause macros.NulByte large = absurd cc
+large_cause macros.UnclosedString large = absurd cc
+large_cause macros.UnclosedComment large = absurd cc
+large_cause macros.StatementTooLong large = absurd cc
+large_cause macros.FileTooLarge large = refl
+large_cause macros.BadExpression large = absurd cc
+large_cause macros.NumberTooWide large = absurd cc
+large_cause macros.ExpressionTooDeep large = absurd cc
+large_cause macros.DivisionByZero large = absurd cc
+large_cause macros.ValueNotKnown large = absurd cc
+large_cause macros.NotASumOfSymbols large = absurd cc
+large_cause macros.BadMacroLine large = absurd cc
+large_cause macros.MissingArgument large = absurd cc
+large_cause macros.UnclosedBlock large = absurd cc
+large_cause macros.EndWithoutBeginning large = absurd cc
+large_cause macros.NestedTooDeeply large = absurd cc
+large_cause macros.ExpansionTooLong large = absurd cc
+large_cause macros.MacroAlreadyDefined large = absurd cc
+large_cause macros.BadFileName large = absurd cc
+
+-- what is not large is nothing that was read
+never_large : {C : Type 0} (large : Bool) → large ≡ false → IsTrue large → C
+never_large true is large = absurd cc
+never_large false is large = absurd cc
+
+ended_fault : (shown : List (List ℕ)) (answer : Result NotedObject FaultAt) (fault : FaultAt) (files : List (List ℕ)) → ended_by shown answer ≡ faulty fault files → answer ≡ Err fault
+ended_fault shown (Ok made) fault files is = absurd cc
+ended_fault shown (Err at) fault files is = cc
+
+same_fault : (at other : FaultAt) (shown files : List (List ℕ)) → faulty at shown ≡ faulty other files → other.fault ≡ at.fault
+same_fault at other shown files is = cc
+
+module _ (flags : Flags) (name : List ℕ) (files : List (List ℕ)) (placed : Placed) where
+  pub text_large : (expanded : Result (Unit {0}) (ExpandFault FaultAt)) (result : Result Assembled AsmFault) (before now : ℕ) → IsAnswer flags name files placed expanded result
+      → AnswersSmall expanded result → TakesTooLarge expanded before now → TakesSource result before now
+  text_large expanded (Ok made) before now so small takes = tt
+  text_large expanded (Err Read) before now so small takes = tt
+  text_large expanded (Err NoMemory) before now so small takes = tt
+  text_large (Ok u) (Err (Source fault pos notes names)) before now so small takes =
+      never_large (is_file_too_large fault) (end_is_no_reading flags.fatal_warnings placed.sections placed.table placed.notes (fault_at fault pos notes)
+      (ended_fault (shown_files name files) (finished flags.fatal_warnings placed.sections placed.table placed.notes) (fault_at fault pos notes) names so))
+  text_large (Err (expand.Lines (line.NulByte n))) (Err (Source fault pos notes names)) before now so small takes = never_large (is_file_too_large fault) (ap is_file_too_large (same_fault _ (fault_at fault pos notes) _ names so))
+  text_large (Err (expand.Lines (line.UnclosedString n))) (Err (Source fault pos notes names)) before now so small takes = never_large (is_file_too_large fault) (ap is_file_too_large (same_fault _ (fault_at fault pos notes) _ names so))
+  text_large (Err (expand.Lines (line.UnclosedComment n))) (Err (Source fault pos notes names)) before now so small takes = never_large (is_file_too_large fault) (ap is_file_too_large (same_fault _ (fault_at fault pos notes) _ names so))
+  text_large (Err (expand.Lines (line.StatementTooLong n))) (Err (Source fault pos notes names)) before now so small takes = never_large (is_file_too_large fault) (ap is_file_too_large (same_fault _ (fault_at fault pos notes) _ names so))
+  text_large (Err (expand.Expansion cause at)) (Err (Source fault pos notes names)) before now so small takes =
+      λ large. takes (large_cause cause (subst (λ f. IsTrue (is_file_too_large f)) (same_fault _ (fault_at fault pos notes) _ names so) large))
+  text_large (Err (expand.Placing at)) (Err (Source fault pos notes names)) before now so small takes = never_large (is_file_too_large fault) small
+  text_large (Err expand.Read) (Err (Source fault pos notes names)) before now so small takes = absurd cc
+  text_large (Err expand.NoMemory) (Err (Source fault pos notes names)) before now so small takes = absurd cc
+
+-- ANSWERS OF FAULTS
+
+-- a fault of the lines of the source
+pub lines_answered : (flags : Flags) (name shown : List ℕ) (files begun : List (List ℕ)) (placed : Placed) (expanded : Result (Unit {0}) (ExpandFault FaultAt)) (cause : LineCause) (at : FaultAt)
+    (result : Result Assembled AsmFault) → expanded ≡ Err (expand.Lines cause) → at ≡ line_answer cause → shown ≡ name → begun ≡ []
+    → IsAnswered (faulty at (shown_files shown begun)) result → IsAnswer flags name files placed expanded result
+lines_answered flags name shown files begun placed expanded cause at result is same named none so =
+    subst (λ e. IsAnswer flags name files placed e result) (sym is)
+    (subst (λ a. IsAnswered (faulty a (shown_files name [])) result) same
+    (subst (λ n. IsAnswered (faulty at (shown_files n [])) result) named (subst (λ b. IsAnswered (faulty at (shown_files shown b)) result) none so)))
+
+small_by : (at : FaultAt) (shown : List (List ℕ)) (refusal : FaultAt) (result : Result Assembled AsmFault) → is_file_too_large at.fault ≡ false → IsAnswered (faulty at shown) result
+    → AnswersSmall (Err (expand.Placing refusal)) result
+small_by at shown refusal (Ok made) small so = tt
+small_by at shown refusal (Err Read) small so = tt
+small_by at shown refusal (Err NoMemory) small so = tt
+small_by at shown refusal (Err (Source fault pos notes files)) small so = ap is_file_too_large (same_fault at (fault_at fault pos notes) shown files so) ∙ small
+
+-- a statement that is refused
+pub placing_small : (expanded : Result (Unit {0}) (ExpandFault FaultAt)) (refusal at : FaultAt) (shown : List (List ℕ)) (result : Result Assembled AsmFault) → expanded ≡ Err (expand.Placing refusal)
+    → is_file_too_large at.fault ≡ false → IsAnswered (faulty at shown) result → AnswersSmall expanded result
+placing_small expanded refusal at shown result is small so = subst (λ e. AnswersSmall e result) (sym is) (small_by at shown refusal result small so)
