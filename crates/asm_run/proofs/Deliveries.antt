@@ -29,20 +29,19 @@ delivered_in_part output bytes messages before said made after says in_part = el
 ]
 
 -- what the source stands for whose assembly gave this object
-object_of_source : (invocation : Invocation) (file : Option (List ℕ)) (made : Assembled) (messages : List ℕ)
-    → AssemblesFile (flags_by invocation) invocation.file file (Ok made) → messages ≡ remarks made.files made.notes
-    → file_outcome invocation file ≡ object invocation.object made.object messages
-object_of_source invocation None made messages assembles same = absurd assembles
-object_of_source invocation (Some source) made messages assembles same =
-    ap (source_outcome invocation) assembles.0 ∙ ap (λ files. object invocation.object made.object (remarks files made.notes)) (sym assembles.1) ∙ ap (object invocation.object made.object) (sym same)
+object_of_source : (invocation : Invocation) (contents : Contents) (file : Option (List ℕ)) (made : Assembled) (messages : List ℕ)
+    → AssemblesFile (flags_by invocation) contents invocation.file file (Ok made) → messages ≡ remarks made.files made.notes
+    → file_outcome invocation contents file ≡ object invocation.object made.object messages
+object_of_source invocation contents None made messages assembles same = absurd cc
+object_of_source invocation contents (Some source) made messages assembles same =
+    ap (source_outcome invocation) assembles ∙ ap (object invocation.object made.object) (sym same)
 
 -- and whose assembly gave this fault
-fault_of_source : (invocation : Invocation) (file : Option (List ℕ)) (fault : Fault) (pos : Pos) (notes : List Noted) (files : List (List ℕ)) (text : List ℕ)
-    → AssemblesFile (flags_by invocation) invocation.file file (Err (Source fault pos notes files)) → text ≡ refusal files notes fault pos
-    → file_outcome invocation file ≡ refused text
-fault_of_source invocation None fault pos notes files text assembles same = absurd assembles
-fault_of_source invocation (Some source) fault pos notes files text assembles same =
-    ap (source_outcome invocation) assembles.0 ∙ ap (λ names. refused (refusal names notes fault pos)) (sym assembles.1) ∙ ap refused (sym same)
+fault_of_source : (invocation : Invocation) (contents : Contents) (file : Option (List ℕ)) (fault : Fault) (pos : Pos) (notes : List Noted) (files : List (List ℕ)) (text : List ℕ)
+    → AssemblesFile (flags_by invocation) contents invocation.file file (Err (Source fault pos notes files)) → text ≡ refusal files notes fault pos
+    → file_outcome invocation contents file ≡ refused text
+fault_of_source invocation contents None fault pos notes files text assembles same = absurd cc
+fault_of_source invocation contents (Some source) fault pos notes files text assembles same = ap (source_outcome invocation) assembles ∙ ap refused (sym same)
 
 -- the messages were said and the object was made
 pub delivered : (contents : Option Contents) (invocation : Invocation) (flags : Flags) (name : List ℕ) (made : Assembled) (messages : List ℕ) (e : Effects)
@@ -50,9 +49,9 @@ pub delivered : (contents : Option Contents) (invocation : Invocation) (flags : 
     → MakesObject invocation.object made.object messages e → IsDone invocation.object (invocation_outcome invocation contents) e
 delivered None invocation flags name made messages e asked named assembles same makes = (made.object, messages, makes)
 delivered (Some contents) invocation flags name made messages e asked named assembles same makes =
-    let here : AssemblesFile (flags_by invocation) invocation.file (contents invocation.file) (Ok made) =
-    subst (λ f. AssemblesFile f invocation.file (contents invocation.file) (Ok made)) asked (subst (λ n. AssemblesFile flags n (contents n) (Ok made)) named assembles) in
-    subst (λ o. IsDone invocation.object (Some o) e) (sym (object_of_source invocation (contents invocation.file) made messages here same)) makes
+    let here : AssemblesFile (flags_by invocation) contents invocation.file (contents invocation.file) (Ok made) =
+    subst (λ f. AssemblesFile f contents invocation.file (contents invocation.file) (Ok made)) asked (subst (λ n. AssemblesFile flags contents n (contents n) (Ok made)) named assembles) in
+    subst (λ o. IsDone invocation.object (Some o) e) (sym (object_of_source invocation contents (contents invocation.file) made messages here same)) makes
 
 -- or only in part
 pub made_in_part : (contents : Option Contents) (invocation : Invocation) (flags : Flags) (name : List ℕ) (made : Assembled) (messages : List ℕ) (e : Effects)
@@ -60,9 +59,9 @@ pub made_in_part : (contents : Option Contents) (invocation : Invocation) (flags
     → MakesInPart invocation.object made.object messages e → IsWriteFault invocation.object (invocation_outcome invocation contents) e
 made_in_part None invocation flags name made messages e asked named assembles same makes = (made.object, messages, makes)
 made_in_part (Some contents) invocation flags name made messages e asked named assembles same makes =
-    let here : AssemblesFile (flags_by invocation) invocation.file (contents invocation.file) (Ok made) =
-    subst (λ f. AssemblesFile f invocation.file (contents invocation.file) (Ok made)) asked (subst (λ n. AssemblesFile flags n (contents n) (Ok made)) named assembles) in
-    subst (λ o. IsWriteFault invocation.object (Some o) e) (sym (object_of_source invocation (contents invocation.file) made messages here same)) makes
+    let here : AssemblesFile (flags_by invocation) contents invocation.file (contents invocation.file) (Ok made) =
+    subst (λ f. AssemblesFile f contents invocation.file (contents invocation.file) (Ok made)) asked (subst (λ n. AssemblesFile flags contents n (contents n) (Ok made)) named assembles) in
+    subst (λ o. IsWriteFault invocation.object (Some o) e) (sym (object_of_source invocation contents (contents invocation.file) made messages here same)) makes
 
 -- the messages of a fault were said
 pub told : (contents : Option Contents) (invocation : Invocation) (flags : Flags) (name : List ℕ) (fault : Fault) (pos : Pos) (notes : List Noted) (files : List (List ℕ)) (text : List ℕ) (e : Effects)
@@ -71,9 +70,9 @@ pub told : (contents : Option Contents) (invocation : Invocation) (flags : Flags
 told None invocation flags name fault pos notes files text e asked named assembles same refuses = (text, refuses)
 told (Some contents) invocation flags name fault pos notes files text e asked named assembles same refuses =
     let answer : Result Assembled AsmFault = Err (Source fault pos notes files) in
-    let here : AssemblesFile (flags_by invocation) invocation.file (contents invocation.file) answer =
-    subst (λ f. AssemblesFile f invocation.file (contents invocation.file) answer) asked (subst (λ n. AssemblesFile flags n (contents n) answer) named assembles) in
-    subst (λ o. IsSourceFault (Some o) e) (sym (fault_of_source invocation (contents invocation.file) fault pos notes files text here same)) refuses
+    let here : AssemblesFile (flags_by invocation) contents invocation.file (contents invocation.file) answer =
+    subst (λ f. AssemblesFile f contents invocation.file (contents invocation.file) answer) asked (subst (λ n. AssemblesFile flags contents n (contents n) answer) named assembles) in
+    subst (λ o. IsSourceFault (Some o) e) (sym (fault_of_source invocation contents (contents invocation.file) fault pos notes files text here same)) refuses
 
 -- or only in part
 pub told_in_part : (contents : Option Contents) (invocation : Invocation) (flags : Flags) (name : List ℕ) (fault : Fault) (pos : Pos) (notes : List Noted) (files : List (List ℕ)) (text : List ℕ) (e : Effects)
@@ -82,6 +81,6 @@ pub told_in_part : (contents : Option Contents) (invocation : Invocation) (flags
 told_in_part None invocation flags name fault pos notes files text e asked named assembles same refuses = ([], text, inl refuses)
 told_in_part (Some contents) invocation flags name fault pos notes files text e asked named assembles same refuses =
     let answer : Result Assembled AsmFault = Err (Source fault pos notes files) in
-    let here : AssemblesFile (flags_by invocation) invocation.file (contents invocation.file) answer =
-    subst (λ f. AssemblesFile f invocation.file (contents invocation.file) answer) asked (subst (λ n. AssemblesFile flags n (contents n) answer) named assembles) in
-    subst (λ o. IsWriteFault invocation.object (Some o) e) (sym (fault_of_source invocation (contents invocation.file) fault pos notes files text here same)) refuses
+    let here : AssemblesFile (flags_by invocation) contents invocation.file (contents invocation.file) answer =
+    subst (λ f. AssemblesFile f contents invocation.file (contents invocation.file) answer) asked (subst (λ n. AssemblesFile flags contents n (contents n) answer) named assembles) in
+    subst (λ o. IsWriteFault invocation.object (Some o) e) (sym (fault_of_source invocation contents (contents invocation.file) fault pos notes files text here same)) refuses

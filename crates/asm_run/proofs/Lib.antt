@@ -2,6 +2,7 @@
 pub mod SaidPieces
 pub mod MadeFiles
 pub mod Deliveries
+pub mod StartedFiles
 mod CommandSamples
 pub mod ReadsBackAgain
 pub mod Reading

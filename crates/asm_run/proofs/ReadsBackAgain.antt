@@ -1,35 +1,39 @@
 -- What holds of every assembled source holds of what a command line stands for.
-use Rattle.std.proofs.Common.{◌≡◌, ℕ, List, Option, None, Some, Result, Ok, Err, refl}
+use Rattle.std.proofs.Common.{◌≡◌, ℕ, List, Option, None, Some, refl}
 use Rattle.asm_base.specs.Inputs.{Contents}
-use Rattle.asm_place.specs.declared.place_faults.FaultAt.{FaultAt}
+use Rattle.asm_lines.specs.NextStatements.{TokenStatement}
 use Rattle.asm_front.specs.Ending.{Flags}
 use Rattle.asm_front.specs.declared.ending.NotedObject.{NotedObject}
-use Rattle.asm_front.specs.Assembly.{assembly_of}
-use Rattle.asm_front.specs.Outcome.{main_file}
+use Rattle.asm_front.specs.Assembly.{Assembly, assembled, faulty, assembly_of, handed_of}
+use Rattle.asm_front.specs.Assembly as assembly
 use Rattle.asm_front.specs.ReadsBack.{ReadsBack}
 use Rattle.asm_run.specs.Words.{Invocation}
 use Rattle.asm_run.specs.Outcome.{flags_by, source_outcome}
 use Rattle.asm_run.specs.ReadsBack.{OutcomeReadsBack, FileReadsBack, InvocationReadsBack, CommandReadsBack}
 
 -- the law of the definition
-abbrev Law : Type 0
-Law = (flags : Flags) (source : List ℕ) (made : NotedObject) → assembly_of flags main_file source ≡ Ok made → ReadsBack flags source made.object
+abbrev pub Law : Type 0
+Law = (flags : Flags) (contents : Contents) (name source : List ℕ) (made : NotedObject) (files : List (List ℕ))
+    → assembly_of flags contents name source ≡ assembled made files → ReadsBack flags (handed_of flags contents name source) made.object
 
-answer_reads_back : (invocation : Invocation) (flags : Flags) (source : List ℕ) (answer : Result NotedObject FaultAt)
-    → ((made : NotedObject) → answer ≡ Ok made → ReadsBack flags source made.object) → OutcomeReadsBack flags source (source_outcome invocation answer)
-answer_reads_back invocation flags source (Ok made) law = law made refl
-answer_reads_back invocation flags source (Err first) law = tt
+answer_reads_back : (invocation : Invocation) (flags : Flags) (handed : List TokenStatement) (answer : Assembly)
+    → ((made : NotedObject) (files : List (List ℕ)) → answer ≡ assembled made files → ReadsBack flags handed made.object) → OutcomeReadsBack flags handed (source_outcome invocation answer)
+answer_reads_back invocation flags handed (assembled made files) law = law made files refl
+answer_reads_back invocation flags handed (faulty first files) law = tt
+answer_reads_back invocation flags handed assembly.missing law = tt
 
-file_reads_back : Law → (invocation : Invocation) (file : Option (List ℕ)) → FileReadsBack invocation file
-file_reads_back law invocation None = tt
-file_reads_back law invocation (Some source) =
-    answer_reads_back invocation (flags_by invocation) source (assembly_of (flags_by invocation) main_file source) (law (flags_by invocation) source)
+file_reads_back : Law → (invocation : Invocation) (contents : Contents) (file : Option (List ℕ)) → FileReadsBack invocation contents file
+file_reads_back law invocation contents None = tt
+file_reads_back law invocation contents (Some source) =
+    answer_reads_back invocation (flags_by invocation) (handed_of (flags_by invocation) contents invocation.file source) (assembly_of (flags_by invocation) contents invocation.file source)
+    (law (flags_by invocation) contents invocation.file source)
 
 invocation_reads_back : Law → (invocation : Invocation) (contents : Option Contents) → InvocationReadsBack invocation contents
 invocation_reads_back law invocation None = tt
-invocation_reads_back law invocation (Some contents) = file_reads_back law invocation (contents invocation.file)
+invocation_reads_back law invocation (Some contents) = file_reads_back law invocation contents (contents invocation.file)
 
-pub command_reads_back : ((flags : Flags) (source : List ℕ) (made : NotedObject) → assembly_of flags main_file source ≡ Ok made → ReadsBack flags source made.object)
+pub command_reads_back : ((flags : Flags) (contents : Contents) (name source : List ℕ) (made : NotedObject) (files : List (List ℕ))
+    → assembly_of flags contents name source ≡ assembled made files → ReadsBack flags (handed_of flags contents name source) made.object)
     → (command : Option Invocation) (contents : Option Contents) → CommandReadsBack command contents
 command_reads_back law None contents = tt
 command_reads_back law (Some invocation) contents = invocation_reads_back law invocation contents

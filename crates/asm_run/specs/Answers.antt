@@ -1,7 +1,9 @@
 -- What each answer of a run promises, by what the command line stands for.
-use Rattle.std.specs.Prelude.{◌≡◌, ℕ, ◌≤◌, List, false, Option, None, Some, ◌⊎◌, length, take}
+use Rattle.std.specs.Prelude.{◌≡◌, ℕ, ◌+◌, ◌*◌, ◌≤◌, List, ◌∷◌, false, Option, None, Some, ◌⊎◌, length, take}
 use Rattle.std.specs.Option.{option_map}
 use Rattle.asm_base.specs.Counts.{HasRisen}
+use Rattle.asm_base.specs.History.{FileEvent, happened, whole_files}
+use Rattle.asm_base.specs.WholeFile.{most_bytes}
 use Rattle.asm_base.specs.Console.{Said, after_say}
 use Rattle.asm_base.specs.Output.{Made, file, finished_file}
 use Rattle.asm_base.specs.declared.outside.Channel.TheVariants as channel
@@ -138,3 +140,10 @@ CountsMissingOutcome (Some usage) before now = now ≡ before
 CountsMissingOutcome (Some missing) before now = ((before ≤ now) × HasRisen before now) ⊎ (now ≡ before)
 CountsMissingOutcome (Some (refused messages)) before now = now ≡ before
 CountsMissingOutcome (Some (object name bytes messages)) before now = now ≡ before
+
+-- what `Done` promises of files: the source of this name and each file that it started were read to their end, one after the other, and of each
+-- at most one byte more than the most was taken
+pub record ReadsAll (name : List ℕ) (before now : Option (List FileEvent)) (taken taken_after : ℕ) : Type 0 where
+  pub included : List (List ℕ)
+  pub history : now ≡ happened before (whole_files (name ∷ included))
+  pub at_most : taken_after ≤ taken + (most_bytes + 1) * (length included + 2)

@@ -1,19 +1,17 @@
 -- What a command line stands for.
-use Rattle.std.specs.Prelude.{ℕ, List, Option, None, Some, Result, Ok, Err}
+use Rattle.std.specs.Prelude.{ℕ, List, Option, None, Some}
 use Rattle.asm_base.specs.Inputs.{Contents}
 use Rattle.asm_base.specs.Messages.{remarks, refusal}
-use Rattle.asm_place.specs.declared.place_faults.FaultAt.{FaultAt}
 use Rattle.asm_front.specs.Ending.{Flags}
-use Rattle.asm_front.specs.declared.ending.NotedObject.{NotedObject}
-use Rattle.asm_front.specs.Assembly.{assembly_of}
-use Rattle.asm_front.specs.Outcome.{main_file, files_of}
+use Rattle.asm_front.specs.Assembly.{Assembly, assembled, faulty, assembly_of}
+use Rattle.asm_front.specs.Assembly as assembly
 use Rattle.asm_run.specs.Words.{Invocation, command_of}
 
 -- what a command line stands for
 pub data Outcome : Type 0 where
   -- the words are no command
   usage : Outcome
-  -- the file has no contents
+  -- a file that is started has no contents
   missing : Outcome
   -- the source has a fault
   refused : (messages : List ℕ) → Outcome
@@ -24,20 +22,21 @@ pub data Outcome : Type 0 where
 abbrev pub flags_by : Invocation → Flags
 flags_by invocation = record { no_warn = invocation.no_warn; fatal_warnings = invocation.fatal_warnings }
 
--- what a source stands for that has this object or this first fault
-abbrev pub source_outcome : Invocation → Result NotedObject FaultAt → Outcome
-source_outcome invocation (Ok made) = object invocation.object made.object (remarks (files_of invocation.file) made.notes)
-source_outcome invocation (Err first) = refused (refusal (files_of invocation.file) first.notes first.fault first.pos)
+-- what a source of this assembly stands for
+abbrev pub source_outcome : Invocation → Assembly → Outcome
+source_outcome invocation (assembled made files) = object invocation.object made.object (remarks files made.notes)
+source_outcome invocation (faulty first files) = refused (refusal files first.notes first.fault first.pos)
+source_outcome invocation assembly.missing = missing
 
--- what the contents of the source's name stand for, if there are any
-abbrev pub file_outcome : Invocation → Option (List ℕ) → Outcome
-file_outcome invocation None = missing
-file_outcome invocation (Some source) = source_outcome invocation (assembly_of (flags_by invocation) main_file source)
+-- what the contents of the source's name stand for, if there are any, with those of the files that it starts
+abbrev pub file_outcome : Invocation → Contents → Option (List ℕ) → Outcome
+file_outcome invocation contents None = missing
+file_outcome invocation contents (Some source) = source_outcome invocation (assembly_of (flags_by invocation) contents invocation.file source)
 
 -- what the invocation stands for, where the contents are told
 abbrev pub invocation_outcome : Invocation → Option Contents → Option Outcome
 invocation_outcome invocation None = None
-invocation_outcome invocation (Some contents) = Some (file_outcome invocation (contents invocation.file))
+invocation_outcome invocation (Some contents) = Some (file_outcome invocation contents (contents invocation.file))
 
 -- what the words stand for, where they are a command and where they are none
 abbrev pub command_outcome : Option Invocation → Option Contents → Option Outcome

@@ -1,27 +1,30 @@
 -- The object that a command line stands for, read again.
 use Rattle.std.specs.Prelude.{ℕ, List, Option, None, Some}
 use Rattle.asm_base.specs.Inputs.{Contents}
+use Rattle.asm_lines.specs.NextStatements.{TokenStatement}
+use Rattle.asm_front.specs.Assembly.{handed_of}
 use Rattle.asm_front.specs.Ending.{Flags}
 use Rattle.asm_front.specs.ReadsBack.{ReadsBack}
 use Rattle.asm_run.specs.Words.{Invocation}
 use Rattle.asm_run.specs.Outcome.{Outcome, usage, missing, refused, object, flags_by, file_outcome}
 
--- in an object the place of each instruction in a section with bytes in the file reads as the instruction of the source, and as no other
-abbrev pub OutcomeReadsBack : Flags → List ℕ → Outcome → Type 0
-OutcomeReadsBack flags source usage = Unit {0}
-OutcomeReadsBack flags source missing = Unit {0}
-OutcomeReadsBack flags source (refused messages) = Unit {0}
-OutcomeReadsBack flags source (object name bytes messages) = ReadsBack flags source bytes
+-- in an object the place of each instruction in a section with bytes in the file reads as the instruction that was handed out, and as no other
+abbrev pub OutcomeReadsBack : Flags → List TokenStatement → Outcome → Type 0
+OutcomeReadsBack flags handed usage = Unit {0}
+OutcomeReadsBack flags handed missing = Unit {0}
+OutcomeReadsBack flags handed (refused messages) = Unit {0}
+OutcomeReadsBack flags handed (object name bytes messages) = ReadsBack flags handed bytes
 
--- the same of the file that stands under the name
-abbrev pub FileReadsBack : Invocation → Option (List ℕ) → Type 0
-FileReadsBack invocation None = Unit {0}
-FileReadsBack invocation (Some source) = OutcomeReadsBack (flags_by invocation) source (file_outcome invocation (Some source))
+-- the same of the file that stands under the name, and of the statements that its expansion hands out
+abbrev pub FileReadsBack : Invocation → Contents → Option (List ℕ) → Type 0
+FileReadsBack invocation contents None = Unit {0}
+FileReadsBack invocation contents (Some source) =
+    OutcomeReadsBack (flags_by invocation) (handed_of (flags_by invocation) contents invocation.file source) (file_outcome invocation contents (Some source))
 
 -- the same of the invocation, where the contents are told
 abbrev pub InvocationReadsBack : Invocation → Option Contents → Type 0
 InvocationReadsBack invocation None = Unit {0}
-InvocationReadsBack invocation (Some contents) = FileReadsBack invocation (contents invocation.file)
+InvocationReadsBack invocation (Some contents) = FileReadsBack invocation contents (contents invocation.file)
 
 -- the same of words that are a command
 abbrev pub CommandReadsBack : Option Invocation → Option Contents → Type 0

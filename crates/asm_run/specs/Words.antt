@@ -76,3 +76,8 @@ usage_text = codes "usage: as [-o FILE] [--64] [--scfi=experimental] [-W|--no-wa
 abbrev pub output_of : Option Invocation → List ℕ
 output_of None = []
 output_of (Some invocation) = invocation.object
+
+-- the source's name of a command, and standard input's where the words are none
+abbrev pub file_of : Option Invocation → List ℕ
+file_of None = []
+file_of (Some invocation) = invocation.file

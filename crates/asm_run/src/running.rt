@@ -1,14 +1,13 @@
 //! One run, from the words of the command line to the answer.
 
-ghost use Rattle.std.specs.Prelude.{◌≡◌, ◌≤◌, ◌+◌, ◌⊎◌, ◌↔◌, [], map, None, IfOk, OnOk, OnErr, string_bytes};
+ghost use Rattle.std.specs.Prelude.{◌≡◌, ◌≤◌, ◌⊎◌, ◌↔◌, [], map, None, IfOk, OnOk, OnErr, string_bytes};
 ghost use Rattle.std.specs.Io.KnownBytes.{IsAtEnd};
 ghost use Rattle.asm_base.specs.Counts.{HasCause, HasRisen, IsQuiet};
-ghost use Rattle.asm_base.specs.WholeFile.{most_bytes};
-ghost use Rattle.asm_run.specs.Words.{command_of, output_of};
+ghost use Rattle.asm_run.specs.Words.{command_of, file_of, output_of};
 ghost use Rattle.asm_run.specs.Invoked.{invoked};
 ghost use Rattle.asm_run.specs.Outcome.{invocation_outcome, outcome};
 ghost use Rattle.asm_run.specs.ReadsBack.{CommandReadsBack};
-ghost use Rattle.asm_run.specs.Answers.{Answers, Completes, CountsMissingOutcome, MakesFile, MakesFileInPart, MakesInPart, MakesObject};
+ghost use Rattle.asm_run.specs.Answers.{Answers, Completes, CountsMissingOutcome, MakesFile, MakesFileInPart, MakesInPart, MakesObject, ReadsAll};
 
 use crate::saying::say_all;
 use crate::words::{Invocation, read_command};
@@ -82,7 +81,7 @@ fn deliver<O: Output, C: Console>(
 }
 
 /// Assembles the source that is asked for.
-#[tactic(auto, using(crate::proofs::Deliveries::delivered, crate::proofs::Deliveries::made_in_part, crate::proofs::Deliveries::told, crate::proofs::Deliveries::told_in_part))]
+#[tactic(auto, using(crate::proofs::Deliveries::delivered, crate::proofs::Deliveries::made_in_part, crate::proofs::Deliveries::told, crate::proofs::Deliveries::told_in_part, crate::proofs::StartedFiles::missed, crate::proofs::StartedFiles::none_started, crate::proofs::StartedFiles::all_read))]
 fn run_source<I: Inputs, O: Output, C: Console>(
     alloc: Global,
     invocation: Invocation,
@@ -113,9 +112,11 @@ fn run_source<I: Inputs, O: Output, C: Console>(
     ensures missing { CountsMissingOutcome
         (invocation_outcome (invoked invocation.entry) (I.contents ins.old))
         (I.missing ins.old) (I.missing ins.new) }
-    ensures taken { I.taken ins.new ≤ I.taken ins.old + (most_bytes + 1) }
+    ensures taken { I.taken ins.old ≤ I.taken ins.new }
     ensures contents { I.contents ins.new ≡ I.contents ins.old }
     ensures whole { result ≡ Status.Done → IsAtEnd (I.rest ins.new) }
+    ensures reads { result ≡ Status.Done → ReadsAll invocation.entry.file.now
+        (I.history ins.old) (I.history ins.new) (I.taken ins.old) (I.taken ins.new) }
 {
     let options = match options_for(alloc, invocation) {
         Ok(options) => options,
@@ -184,7 +185,7 @@ pub fn run<I: Inputs, O: Output, C: Console>(
         → command_of (map string_bytes words.now.items) ≡ None
         → (result ≡ Status.Usage) ⊎ (result ≡ Status.NoMemory) }
 
-    // In the object that the words stand for, each instruction's place reads as the instruction of the source, and as no other.
+    // In the object that the words stand for, each instruction's place reads as the instruction that was handed out, and as no other.
     ensures reads_back { CommandReadsBack (command_of (map string_bytes words.now.items))
         (I.contents ins.old) }
 
@@ -192,9 +193,12 @@ pub fn run<I: Inputs, O: Output, C: Console>(
     ensures missing { CountsMissingOutcome
         (outcome (map string_bytes words.now.items) (I.contents ins.old))
         (I.missing ins.old) (I.missing ins.new) }
-    ensures taken { I.taken ins.new ≤ I.taken ins.old + (most_bytes + 1) }
+    ensures taken { I.taken ins.old ≤ I.taken ins.new }
     ensures contents { I.contents ins.new ≡ I.contents ins.old }
     ensures whole { result ≡ Status.Done → IsAtEnd (I.rest ins.new) }
+    ensures reads { result ≡ Status.Done
+        → ReadsAll (file_of (command_of (map string_bytes words.now.items)))
+        (I.history ins.old) (I.history ins.new) (I.taken ins.old) (I.taken ins.new) }
     ensures usage_reads_nothing { command_of (map string_bytes words.now.items) ≡ None
         → ins.new ≡ ins.old }
 {

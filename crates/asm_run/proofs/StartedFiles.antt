@@ -1,0 +1,56 @@
+-- The files that a run starts: how often one is not there, and how they are read.
+use Rattle.std.proofs.Common.{◌≡◌, ℕ, ◌+◌, ◌*◌, ◌≤◌, ◌⊎◌, inl, inr, List, ◌∷◌, drop, length, Option, None, Some, Result, Ok, Err, refl, sym, ap, ◌∙◌, subst, arith}
+use Rattle.asm_base.specs.Counts.{HasRisen}
+use Rattle.asm_base.specs.History.{FileEvent, happened, whole_files}
+use Rattle.asm_base.specs.Inputs.{Contents}
+use Rattle.asm_base.specs.WholeFile.{most_bytes}
+use Rattle.asm_front.specs.Ending.{Flags}
+use Rattle.asm_front.specs.Assembly.{Assembly, assembled, faulty, assembly_of}
+use Rattle.asm_front.specs.Assembly as assembly
+use Rattle.asm_front.specs.Outcome.{CountsMissed, CountsMissingFiles, CountsMisses, NamesFiles, ReadsFiles, TakesFiles}
+use Rattle.asm_front.specs.declared.answers.Assembled.{Assembled}
+use Rattle.asm_run.specs.Answers.{CountsMissingOutcome, ReadsAll}
+use Rattle.asm_run.specs.Outcome.{flags_by, source_outcome, file_outcome, invocation_outcome}
+use Rattle.asm_run.specs.Words.{Invocation}
+
+of_assembly : (invocation : Invocation) (answer : Assembly) (before now : ℕ) → CountsMissed answer before now → CountsMissingOutcome (Some (source_outcome invocation answer)) before now
+of_assembly invocation (assembled made files) before now (inl same) = same
+of_assembly invocation (assembled made files) before now (inr risen) = absurd cc
+of_assembly invocation (faulty first files) before now (inl same) = same
+of_assembly invocation (faulty first files) before now (inr risen) = absurd cc
+of_assembly invocation assembly.missing before now (inl same) = inr same
+of_assembly invocation assembly.missing before now (inr risen) = inl (risen.1, risen.2)
+
+of_file : (invocation : Invocation) (contents : Contents) (file : Option (List ℕ)) (before now : ℕ) → CountsMissingFiles (flags_by invocation) contents invocation.file file before now
+    → CountsMissingOutcome (Some (file_outcome invocation contents file)) before now
+of_file invocation contents None before now counts = inl counts
+of_file invocation contents (Some source) before now counts = of_assembly invocation (assembly_of (flags_by invocation) contents invocation.file source) before now counts
+
+-- the count of starts of what has no contents is that of the outcome
+pub missed : (contents : Option Contents) (invocation : Invocation) (flags : Flags) (name : List ℕ) (before now : ℕ) → flags ≡ flags_by invocation → name ≡ invocation.file
+    → CountsMisses flags contents name before now → CountsMissingOutcome (invocation_outcome invocation contents) before now
+missed None invocation flags name before now asked named counts = counts
+missed (Some contents) invocation flags name before now asked named counts =
+    of_file invocation contents (contents invocation.file) before now
+    (subst (λ f. CountsMissingFiles f contents invocation.file (contents invocation.file) before now) asked
+    (subst (λ n. CountsMissingFiles flags contents n (contents n) before now) named counts))
+
+none_of : (invocation : Invocation) (contents : Contents) (file : Option (List ℕ)) (n : ℕ) → CountsMissingOutcome (Some (file_outcome invocation contents file)) n n
+none_of invocation contents None n = inr refl
+none_of invocation contents (Some source) n = of_assembly invocation (assembly_of (flags_by invocation) contents invocation.file source) n n (inl refl)
+
+-- nothing was started
+pub none_started : (contents : Option Contents) (invocation : Invocation) (n : ℕ) → CountsMissingOutcome (invocation_outcome invocation contents) n n
+none_started None invocation n = omega arith
+none_started (Some contents) invocation n = none_of invocation contents (contents invocation.file) n
+
+-- each file that was started was read to its end
+pub all_read : (name file : List ℕ) (made : Assembled) (before now : Option (List FileEvent)) (taken taken_after : ℕ) → name ≡ file → NamesFiles name (Ok made)
+    → ReadsFiles name (Ok made) before now → TakesFiles (Ok made) taken taken_after → ReadsAll file before now taken taken_after
+all_read name file made before now taken taken_after named files reads takes =
+    let count : length made.files ≡ length (drop 1 made.files) + 1 = ap length files ∙ omega arith in
+    record {
+      included = drop 1 made.files;
+      history = subst (λ n. now ≡ happened before (whole_files (n ∷ drop 1 made.files))) named reads;
+      at_most = omega (arith, takes.1, count);
+    }
