@@ -41,7 +41,7 @@ check:
 	rt ci
 
 # What no clause can say: the built program on files and devices that fail, and its objects linked by gcc, those of random C programs
-# with them. Random expressions beside Python's integers, and the objects of random sources and the code of random instructions beside
+# with them. Random expressions beside Python's integers, and the objects of random sources, those with macros too, and the code of random instructions beside
 # those of the machine's GNU as. The rows of the instruction table beside the machine's objdump, and what is made of them: a document,
 # and the indices and keys by which they are found.
 check-outside: all
@@ -52,6 +52,7 @@ check-outside: all
 	checks/programs.py --ours build/as
 	checks/expressions.py build/as
 	checks/compare.py --ours build/as
+	checks/macros.py --ours build/as
 	checks/instructions.py --ours build/as
 	checks/rows.py
 	tools/instructions.py --check

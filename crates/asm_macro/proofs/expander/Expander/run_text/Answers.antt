@@ -4,7 +4,8 @@ use Rattle.asm_base.specs.Tokens.{SpelledToken, spelled}
 use Rattle.asm_base.specs.declared.tokens.Token.{Token}
 use Rattle.asm_lines.specs.NextStatements.{TokenStatement}
 use Rattle.macro_blocks.specs.declared.frames.Taken.{Taken}
-use Rattle.macro_blocks.specs.Frames.{Takes, level_of, read_at}
+use Rattle.macro_blocks.specs.Frames.{Takes, level_of}
+use Rattle.macro_blocks.specs.Places.{read_at}
 use Rattle.macro_blocks.specs.Levels.{with_statements}
 use Rattle.macro_words.specs.declared.causes.MacroCause.TheVariants.{UnclosedBlock}
 use Rattle.macro_words.proofs.Labels.{left_seen}
