@@ -85,6 +85,7 @@ impl Placer for SourcePlacer {
 
     ghost placed = { λ before statement. place statement before };
 
+    #[inline(always)]
     fn place(&mut self, pos: Pos, tokens: &[Token]) -> Result<(), Refusal<StatementRefusal>> {
         match self.statements.place(pos, tokens) {
             Ok(()) => Ok(()),

@@ -120,6 +120,7 @@ impl Placer for StatementPlacer {
     ghost placed = { λ before statement. place statement before };
 
     #[tactic(auto, unfolding(crate::specs::Sources::place))]
+    #[inline(always)]
     fn place(&mut self, pos: Pos, tokens: &[Token]) -> Result<(), Refusal<FaultAt>> {
         match place_tokens(&mut self.assembler, pos, tokens) {
             Ok(()) => Ok(()),
