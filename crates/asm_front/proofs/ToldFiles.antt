@@ -1,5 +1,5 @@
 -- Where contents are told, no file that a list starts is untold.
-use Rattle.std.proofs.Common.{◌≡◌, ℕ, zero, suc, ◌+◌, nat_le, Bool, true, false, cond, List, [], ◌∷◌, ◌++◌, length, map, filter, count_by, Option, None, Some, Result, Ok, Err, refl, ap, ◌∙◌, sym}
+use Rattle.std.proofs.Common.{◌≡◌, ℕ, zero, suc, ◌+◌, nat_le, Bool, true, false, cond, List, [], ◌∷◌, ◌++◌, length, map, count_by, Option, None, Some, Result, Ok, Err, refl, ap, ◌∙◌, sym}
 use Rattle.std.specs.List.{list_any}
 use Rattle.std.proofs.lemmas.Bool.{false≢true}
 use Rattle.asm_base.specs.Inputs.{Contents}
@@ -28,7 +28,7 @@ use Rattle.macro_blocks.specs.declared.blocks.Block.TheVariants as block
 use Rattle.macro_blocks.specs.declared.blocks.Ending.{Ending}
 use Rattle.macro_blocks.specs.declared.blocks.Ending.TheVariants as ending
 use Rattle.asm_macro.specs.Expansion as list
-use Rattle.asm_macro.specs.Expansion.{MacroAs, State, Turn, with_made, with_read, with_body, enter, go_on, search_branch, conditional_by, conditional, passed_over, branch_end_by, branch_end, conditional_end_by, conditional_end, repeat_copies, repeat, each_copies, each, is_called, known_macro, add_macro, define, call, forget, purge, after_call, exit_by, exit, is_inner_part, is_file_part, start_file, include_file, include, rewritten, macro_named, behind_own_labels, head_by, head, close_by, turn_level, turn_levels, turn, under, started, most_given}
+use Rattle.asm_macro.specs.Expansion.{MacroAs, State, Turn, with_made, with_read, with_body, enter, go_on, search_branch, conditional_by, conditional, passed_over, branch_end_by, branch_end, conditional_end_by, conditional_end, repeat_copies, repeat, each_copies, each, is_called, without, add_macro, define, call, forget, purge, after_call, exit_by, exit, is_inner_part, is_file_part, start_file, include_file, include, rewritten, macro_named, behind_own_labels, head_by, head, close_by, turn_level, turn_levels, turn, under, started, most_given}
 use Rattle.asm_macro.specs.Placing.{Step, goes, ended, fails, refused, misses, untold, with_placed, placed_by_turn, and_then, step, steps, expansion, most_turns}
 use Rattle.asm_place.specs.declared.place_faults.FaultAt.{FaultAt}
 use Rattle.asm_values.specs.State.{Placed, nothing_placed}
@@ -138,7 +138,7 @@ of_call one pos operands level state = of_read pos (call_arguments one.parameter
 
 of_forget : (pos : Pos) (name : List ℕ) (state : State) → Told (forget pos name state)
 of_forget pos name state =
-    either (list_any (is_called name) state.macros) (list.goes (record state { macros = filter (known_macro name) state.macros })) (list.fails BadMacroLine pos)
+    either (list_any (is_called name) state.macros) (list.goes (record state { macros = without name state.macros })) (list.fails BadMacroLine pos)
     (record { is = refl }) (record { is = refl })
 
 of_purge : (pos : Pos) (operands : List SpelledToken) (level : Level) (state : State) → Told (purge pos operands level state)
