@@ -16,6 +16,9 @@ use std::alloc::Global;
 /// How many rows stand in a block.
 const BLOCK: usize = 64;
 
+/// For so many blocks more, before those that its distance spans and behind them, a row may have entries.
+const MORE: usize = 7;
+
 /// The node of the first block of so many rows.
 pub(crate) fn first_leaf(count: usize) -> usize
     requires { count < 2 ^ 32 }
@@ -191,8 +194,16 @@ fn add_all(
     Ok(())
 }
 
-/// Gives a row entries for the blocks from one to another: those of the row before it, where that has entries for just
-/// these blocks, and else its own.
+/// Whether the row before has entries for the blocks from one to another, and for few others.
+#[inline(always)]
+fn has_run(first: usize, last: usize, before: (usize, usize)) -> bool
+    ensures { result ≡ true → (before.0 ≤ first) × (last ≤ before.1) }
+{
+    before.0 <= first && last <= before.1 && first - before.0 <= MORE && before.1 - last <= MORE
+}
+
+/// Gives a row entries for the blocks from one to another: those of the row before it, where that has entries for these
+/// blocks and few others, and else its own. Answers the first and the last block for which it has entries.
 #[inline(always)]
 fn add_run(
     entries: &mut Entries,
@@ -201,7 +212,7 @@ fn add_run(
     first: usize,
     last: usize,
     before: (usize, usize),
-) -> Result<(), NoMemory>
+) -> Result<(usize, usize), NoMemory>
     requires inside { row < length all.rows.now }
     requires few { length all.rows.now < 2 ^ 32 }
     requires first { first ≤ block_of (length all.rows.now) }
@@ -218,15 +229,17 @@ fn add_run(
     ensures nodes { vec_len entries.new.heads ≡ vec_len entries.old.heads }
     ensures follows { OnOk result ((entries.new.follows.items ≡ entries.old.follows.items)
         ⊎ (entries.new.follows.items ≡ slice_set entries.old.follows.items row true)) }
-    ensures run { OnOk result (IsRun (length all.entry.rows.now) entries.new.rows.items
+    ensures own { OnOk result (IsRun (length all.entry.rows.now) entries.new.rows.items
         entries.new.nodes.items entries.new.follows.items first last (row + 1)) }
+    ensures run { IfOk result (λ run. IsRun (length all.entry.rows.now) entries.new.rows.items
+        entries.new.nodes.items entries.new.follows.items run.0 run.1 (row + 1)) }
 {
-    if first == before.0 && last == before.1 {
+    if has_run(first, last, before) {
         entries.follows[row] = true;
-        return Ok(());
+        return Ok(before);
     }
     add_all(entries, all, row, first, last)?;
-    Ok(())
+    Ok((first, last))
 }
 
 /// The rows whose distances are looked at: by entries where these stand within a section, and else by a list.
@@ -315,8 +328,8 @@ impl Watchers {
             Some((start, end)) => {
                 let first = start / BLOCK;
                 let last = end / BLOCK;
-                add_run(&mut self.entries, all, row, first, last, before)?;
-                Ok((first, last))
+                let run = add_run(&mut self.entries, all, row, first, last, before)?;
+                Ok(run)
             }
             None => {
                 self.wide.push(row as u32)?;
