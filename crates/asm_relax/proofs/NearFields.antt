@@ -2,6 +2,7 @@
 use Rattle.std.proofs.Common.{◌≡◌, ℕ, ◌+◌, ◌-◌, ◌^◌, ◌<◌, ◌≤◌, ◌||◌, ◌⊎◌, inl, inr, Bool, true, false, cond, List, [], ◌∷◌, Option, Some, None, length, option_map, refl, sym, ap, ◌∙◌, arith}
 use Rattle.std.specs.Prelude.{slice_get, nat_lt, nat_le}
 use Rattle.std.proofs.lemmas.Bool.{cases_lt, lt-ltb, le-leb}
+use Rattle.asm_base.specs.declared.positions.Pos.{Pos}
 use Rattle.asm_expr.specs.declared.forms.Term.{Term}
 use Rattle.asm_expr.specs.Forms.{Form, wrapped, term_of}
 use Rattle.asm_expr.specs.Knowledge.{label}
@@ -113,3 +114,8 @@ module _ {P : Type 0} (map : SymbolMap) (sections : List (SectionOf (Frag P ℕ)
       ∙ kind_holds field.role.kind field.role.behind at origin number small.behind low_at near_origin small.constant in
       ap (λ (found : Option ℕ). misfit field.pos field.role.kind field.size (option_map (counted field.size field.role) found)) made
       ∙ ap (λ b. cond b None (Some (DistanceOutOfRange field.pos (counted field.size field.role value)))) held
+
+-- a field that takes as many bytes as its value needs holds any value
+pub number_misfit : (pos : Pos) (kind : FieldKind) (size : FieldSize) (value : Option ℕ) → kind ≡ Number → misfit pos kind size value ≡ None
+number_misfit pos kind size None is = refl
+number_misfit pos kind size (Some value) is = ap (λ (k : FieldKind). misfit pos k size (Some value)) is

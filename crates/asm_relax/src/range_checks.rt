@@ -3,6 +3,7 @@
 
 ghost use Rattle.std.specs.Prelude.{◌≡◌, ◌+◌, ◌<◌, ◌≤◌, ◌∷◌, [], true, false, None, All, nat_lt, option_map};
 ghost use Rattle.std.specs.List.{position_or_len};
+ghost use Rattle.asm_frags.specs.declared.roles.FieldKind.TheVariants.{Number};
 ghost use Rattle.asm_relax.specs.Faults.{first_of};
 ghost use Rattle.asm_relax.specs.LowPlaces.{MovesOn, KeepsLow, StandLow, StandWithin, IsSmall};
 ghost use Rattle.asm_relax.specs.RangeChecks.{origin_shift, moves_back, section_back, is_large, begins_late, first_large, large_section, misfit, field_misfit, section_misfit, first_fault};
@@ -11,7 +12,7 @@ use crate::faults::LayoutFault;
 use crate::field_values::{held_value, is_near_pair, spot_within};
 use crate::places::{section_size, shift_in};
 use asm_expr::Term;
-use asm_frags::{Field, FieldSize, Frag, Laid, Section, Sections};
+use asm_frags::{Field, FieldKind, FieldSize, Frag, Laid, Section, Sections};
 use asm_symbols::{Spot, Symbols};
 use item_contents::{Align, Fill, FragVisit, Growing, Org, visit};
 
@@ -137,12 +138,23 @@ fn is_near(
     are_within(section, spot, field) && is_small(field)
 }
 
+/// Whether a field of this kind takes as many bytes as its value needs.
+#[inline(always)]
+fn is_number(kind: FieldKind) -> bool
+    ensures { result ≡ true → kind ≡ Number }
+{
+    matches!(kind, FieldKind::Number)
+}
+
 /// Whether it is plain that a field holds its value, without that value.
 #[inline(always)]
 fn is_plain(symbols: &Symbols, sections: &Sections<Laid>, field: &Field) -> bool
     requires low { All KeepsLow sections.now }
     ensures { result ≡ true → field_misfit symbols.now sections.now field.now ≡ None }
 {
+    if is_number(field.role.kind) {
+        return true;
+    }
     match field.form.terms() {
         [one, other] => is_near(symbols, sections, field, one, other),
         _ => false,
