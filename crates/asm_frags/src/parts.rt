@@ -1,6 +1,6 @@
 //! Sections: the words of their headers, their plain bytes with fields, and their items in order.
 
-ghost use Rattle.std.specs.Prelude.{◌≡◌, ◌<◌, ◌≤◌, ◌^◌, length, IfOk, IfErr};
+ghost use Rattle.std.specs.Prelude.{◌≡◌, ◌<◌, ◌≤◌, ◌^◌, ◌++◌, length, IfOk, IfErr, OnOk, OnErr};
 ghost use Rattle.asm_base.specs.declared.refusals.Refusal.TheVariants.{NoMemory};
 ghost use Rattle.asm_frags.specs.Substituting.{laid_section};
 ghost use Rattle.asm_frags.specs.Addresses.{section_laid_at};
@@ -17,7 +17,7 @@ use crate::substituting::{Substitution, substitute_fields};
 use asm_base::{Pos, Text};
 use asm_expr::Linear;
 use item_contents::{Content, Growing, Growth, are_zeros, is_known_zeros};
-use std::alloc::Global;
+use std::alloc::{AllocError, Global};
 use std::marker::Model;
 
 /// The most plain bytes of a section.
@@ -163,9 +163,25 @@ impl<P: Phase> Section<P> {
     }
 }
 
+/// Puts bytes behind these. Most are few: a lone one needs no copy of a slice.
+#[inline(always)]
+fn append(bytes: &mut Vec<u8>, more: &[u8]) -> Result<(), AllocError>
+    ensures ok { OnOk result (bytes.new.items ≡ bytes.old.items ++ more.now) }
+    ensures kept { OnErr result (bytes.new.items ≡ bytes.old.items) }
+{
+    match more {
+        [byte] => match bytes.push(*byte) {
+            Ok(()) => Ok(()),
+            Err(_) => Err(AllocError),
+        },
+        _ => bytes.extend_from_slice(more),
+    }
+}
+
 impl Section<Loose> {
     ghost use Rattle.asm_frags.specs.Answers.{Changes};
-    ghost use Rattle.asm_frags.specs.Writing.{bytes_put, field_put, growing_put, item_put};
+    ghost use Rattle.std.specs.Prelude.{◌≡◌, ◌+◌, ◌≤◌, ◌^◌, false, length, Ok};
+    ghost use Rattle.asm_frags.specs.Writing.{bytes_put, ends_in_run, field_put, growing_put, item_put, with_bytes};
 
     /// Puts the item last. `BadSection` comes exactly where the section has the type `SHT_NOBITS` and the item is not known
     /// to be zeros.
@@ -189,11 +205,23 @@ impl Section<Loose> {
         if bytes.len() > MOST_BYTES - self.bytes.len() {
             return Err(FragFault::NoMemory);
         }
-        self.bytes.reserve(bytes.len())?;
         if !self.items.ends_in_run() {
-            self.items
-                .add(Frag::new(pos, Content::Run).behind(self.bytes.len()))?;
+            return self.begin_run(pos, bytes);
         }
+        append(&mut self.bytes, bytes)?;
+        Ok(())
+    }
+
+    /// Puts plain bytes last, as a new run.
+    #[inline(never)]
+    fn begin_run(&mut self, pos: Pos, bytes: &[u8]) -> Result<(), FragFault>
+        requires new { ends_in_run self.old.items ≡ false }
+        requires few { length self.old.bytes + length bytes.now ≤ 2 ^ 33 }
+        ensures { Changes self.old self.new result (Ok (with_bytes pos bytes.now self.old)) }
+    {
+        self.bytes.reserve(bytes.len())?;
+        self.items
+            .add(Frag::new(pos, Content::Run).behind(self.bytes.len()))?;
         // `reserve` made room for them.
         self.bytes.extend_from_slice(bytes).unwrap();
         Ok(())
