@@ -5,12 +5,13 @@ use Rattle.std.proofs.lemmas.List.{length-map}
 use Rattle.asm_base.specs.declared.positions.Pos.{Pos}
 use Rattle.asm_base.specs.declared.tokens.Token.{Token}
 use Rattle.asm_operands.specs.declared.place_faults.PlaceCause.{PlaceCause}
+use Rattle.asm_operands.specs.declared.place_faults.PlaceCause.TheVariants.{NumberTooWide}
 use Rattle.asm_base.specs.Tokens.{spelled, SpelledToken}
 use Rattle.asm_base.specs.Refusals.{Fails, ◌>>=◌}
 use Rattle.asm_base.specs.declared.refusals.Refusal.{Refusal}
 use Rattle.asm_base.specs.declared.refusals.Refusal.TheVariants.{Fault, NoMemory}
 use Rattle.asm_values.specs.State.{Placed}
-use Rattle.asm_place.specs.Placing.{place_label, place_body, place_unlabelled, is_too_wide, has_wide_label, place_labelled}
+use Rattle.asm_place.specs.Placing.{place_label, place_body, place_unlabelled, is_too_wide, has_wide_label, place_labelled, place_tokens}
 use Rattle.asm_operands.specs.Operands.{begins_with_label, is_label}
 use Rattle.asm_place.proofs.TokenLists.{two_left}
 
@@ -84,6 +85,13 @@ unfolding has_wide_label
 wide_none [] none = refl
 wide_none (first ∷ []) none = refl
 wide_none (first ∷ second ∷ rest) none = ap (λ b. b && (is_too_wide first || has_wide_label rest)) none
+
+-- a statement without labels
+pub tokens_unlabelled : (pos : Pos) (tokens : List SpelledToken) (placed : Placed) → begins_with_label tokens ≡ false
+    → place_unlabelled pos tokens placed ≡ place_tokens pos tokens placed
+unfolding place_tokens
+tokens_unlabelled pos tokens placed none =
+    sym (ap (λ wide. cond wide (Err NumberTooWide) (place_labelled pos tokens placed)) (wide_none tokens none) ∙ unlabelled pos tokens placed none)
 
 -- a label takes two tokens
 two_of : (tokens : List SpelledToken) → begins_with_label tokens ≡ true → 2 ≤ length tokens

@@ -4,7 +4,7 @@ use Rattle.asm_expr.specs.declared.naming.Name.{Name}
 use Rattle.asm_expr.specs.declared.naming.Name.TheVariants as naming
 use Rattle.asm_expr.specs.declared.trees.Written.TheVariants as written
 use Rattle.asm_expr.specs.Forms.{Form}
-use Rattle.asm_expr.specs.Knowledge.{Knowledge}
+use Rattle.asm_expr.specs.Knowledge.{Told, Knowledge}
 use Rattle.asm_expr.specs.Linear.{linear, binary_form}
 use Rattle.asm_operands.specs.declared.place_faults.PlaceCause.{PlaceCause}
 use Rattle.asm_operands.specs.Expressions.{form_in}
@@ -20,7 +20,9 @@ use Rattle.asm_uses.specs.Places.{known_at, uses_place}
 use Rattle.asm_uses.specs.PlainSums.{plain_form, IsElsewhere, IsPlain}
 use Rattle.asm_uses.specs.SumForms.{sum_form}
 use Rattle.asm_values.specs.State.{Placed, here, known_here}
+use Rattle.att_operands.specs.Values.{IsFitting}
 use Rattle.x86_insn.specs.Amounts.{named_tree}
+use Rattle.asm_place.specs.Amounts.{NameFits}
 
 -- a symbol, and a number more
 abbrev pub moved : ℕ → ℕ → SymbolSum
@@ -72,3 +74,13 @@ module _ (placed : Placed) (bytes : List ℕ) (more index : ℕ) (plain : Plain)
   form_found map same is found made =
       form_in_table (subst (λ (m : SymbolMap). index_of (naming.Plain bytes) (names m.symbols) ≡ Some index) same is)
       (subst (λ (m : SymbolMap). IsPlain m (Symbol index) (Plus (Number more)) plain) same found) (subst (λ (m : SymbolMap). form ≡ plain_form (told m) plain) same made)
+
+-- what is known of a name that is found is what its symbol is told as
+pub fits_found : (placed : Placed) (bytes : List ℕ) (index : ℕ)
+    → ((map : SymbolMap) (spot : Spot) (text : List ℕ) (index : ℕ) → index_of (naming.Plain text) (names map.symbols) ≡ Some index → IsElsewhere map (known_at map spot) index)
+    → index_of (naming.Plain bytes) (names placed.table.symbols.symbols) ≡ Some index → IsFitting (told placed.table.symbols index) → NameFits (known_here placed) bytes
+fits_found placed bytes index law is fits =
+    let map = placed.table.symbols in
+    let known = known_here placed in
+    subst (λ own. IsFitting (known.told own)) (sym (number_is map (naming.Plain bytes) index is))
+    (subst (λ (told : Told). IsFitting told) (sym (law map (here placed) bytes index is).told) fits)

@@ -1,12 +1,14 @@
 -- The amounts of an instruction's values, and the trees that they stand for.
-use Rattle.std.specs.Prelude.{◌∷◌, [], List, Result, Ok, Err}
+use Rattle.std.specs.Prelude.{◌≡◌, ℕ, ◌∷◌, [], List, Option, None, Some, Result, Ok, Err}
 use Rattle.asm_base.specs.declared.refusals.Refusal.{Refusal}
 use Rattle.asm_base.specs.declared.refusals.Refusal.TheVariants.{Fault, NoMemory}
 use Rattle.asm_base.specs.declared.positions.Pos.{Pos}
+use Rattle.asm_expr.specs.declared.naming.Name.TheVariants as naming
 use Rattle.asm_expr.specs.declared.trees.Written.TheVariants.{Plain}
 use Rattle.asm_expr.specs.Knowledge.{Knowledge}
 use Rattle.asm_expr.specs.Trees.{Tree}
 use Rattle.asm_operands.specs.declared.place_faults.PlaceCause.{PlaceCause}
+use Rattle.asm_symbols.specs.SymbolMap.{SymbolMap, names, index_of}
 use Rattle.asm_values.specs.State.{Placed, with_names, known_here}
 use Rattle.x86_insn.specs.declared.amounts.Amount.{Amount}
 use Rattle.x86_insn.specs.declared.amounts.Amount.TheVariants as amount
@@ -23,10 +25,14 @@ trees_of insn = amount_tree insn.immediate.amount ∷ amount_tree insn.displacem
 abbrev pub place_amounts : Pos → Insn → Placed → Result Placed PlaceCause
 place_amounts pos insn placed = place_insn pos (shape_of insn) (amount_tree insn.immediate.amount) (amount_tree insn.displacement.amount) placed
 
+-- what is known of this name is below 2^64
+abbrev pub NameFits : Knowledge → List ℕ → Type 0
+NameFits known bytes = IsFitting (known.told (known.meant (Plain bytes)))
+
 -- what is known of the name of an amount is below 2^64
 abbrev pub AmountFits : Knowledge → Amount → Type 0
 AmountFits known (amount.Number value) = Unit {0}
-AmountFits known (amount.Name bytes more) = IsFitting (known.told (known.meant (Plain bytes.now)))
+AmountFits known (amount.Name bytes more) = NameFits known bytes.now
 AmountFits known (amount.Tree boxed) = Unit {0}
 
 -- so is what is known of the names of both amounts
@@ -39,3 +45,10 @@ abbrev pub FitsThere : {T : Type 0} → Result T (Refusal PlaceCause) → Pos �
 FitsThere (Ok done) pos insn placed = InsnFits (known_here (with_names pos (trees_of insn) placed)) insn
 FitsThere (Err (Fault cause)) pos insn placed = InsnFits (known_here (with_names pos (trees_of insn) placed)) insn
 FitsThere (Err NoMemory) pos insn placed = Unit {0}
+
+-- the symbol, where one is told, is that of the name of the amount
+abbrev pub IsSymbolOf : SymbolMap → Amount → Option ℕ → Type 0
+IsSymbolOf map held None = Unit {0}
+IsSymbolOf map (amount.Number value) (Some symbol) = ⊥
+IsSymbolOf map (amount.Name bytes more) (Some symbol) = index_of (naming.Plain bytes.now) (names map.symbols) ≡ Some symbol
+IsSymbolOf map (amount.Tree boxed) (Some symbol) = ⊥

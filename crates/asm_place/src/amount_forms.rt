@@ -5,17 +5,20 @@ ghost use Rattle.asm_base.specs.Refusals.{GivesBy};
 ghost use Rattle.asm_expr.specs.declared.naming.Name.TheVariants.{Plain};
 ghost use Rattle.asm_expr.specs.Trees.{tree_of};
 ghost use Rattle.asm_operands.specs.Expressions.{form_in};
+ghost use Rattle.asm_symbols.specs.Looking.{told};
 ghost use Rattle.asm_symbols.specs.SymbolMap.{names, index_of};
 ghost use Rattle.asm_uses.specs.Tables.{with_tree, with_trees, is_meant, naming_of};
 ghost use Rattle.asm_uses.specs.Places.{uses_place};
 ghost use Rattle.asm_values.specs.PlacedBy.{placed_by};
 ghost use Rattle.asm_values.specs.State.{known_here};
+ghost use Rattle.att_operands.specs.Values.{IsFitting};
 ghost use Rattle.x86_insn.specs.Amounts.{amount_tree, named_tree};
-ghost use Rattle.asm_place.specs.Amounts.{trees_of, AmountFits, InsnFits};
+ghost use Rattle.asm_place.specs.Amounts.{trees_of, NameFits, AmountFits, InsnFits, IsSymbolOf};
 
 use asm_base::{NoMemory, Pos};
-use asm_expr::{Expr, Known, Linear, Look, constant_form};
+use asm_expr::{Expr, Known, Linear, Look, SymId, constant_form};
 use asm_operands::PlaceFault;
+use asm_symbols::Symbols;
 use asm_uses::{
     Added, Naming, Operand, SymbolSum, SymbolUses, form_in, plain_form, plain_of, sum_form_in,
     uses_place,
@@ -30,23 +33,53 @@ pub(crate) struct PlacedForm {
     pub(crate) keeps: bool,
 }
 
-/// The name of the amount, if it has one, has a symbol from now on, whatever room there is. Answers
-/// whether each `Nb` in it means a label that came before.
+/// What came of the names of an amount: whether each `Nb` in it means a label that came before, and the symbol of
+/// the amount that is one name and a number.
+#[derive(Clone, Copy)]
+struct Interned {
+    meant: bool,
+    symbol: Option<SymId>,
+}
+
+/// The name of the amount, if it has one, has a symbol from now on, whatever room there is.
+#[inline(always)]
 #[tactic(auto, unfolding(asm_uses::specs::Tables::with_tree, asm_uses::specs::Tables::is_meant))]
-fn intern_amount(table: &mut SymbolUses, pos: Pos, amount: &Amount) -> Result<bool, NoMemory>
+fn intern_amount(table: &mut SymbolUses, pos: Pos, amount: &Amount) -> Result<Interned, NoMemory>
     ensures ok { OnOk result (table.new ≡ with_tree pos (amount_tree amount.now) table.old) }
-    ensures meant { IfOk result (λ meant.
-        meant ≡ is_meant table.old.symbols.counts (amount_tree amount.now)) }
+    ensures meant { IfOk result (λ made.
+        made.meant ≡ is_meant table.old.symbols.counts (amount_tree amount.now)) }
     ensures counts { OnOk result (table.new.symbols.counts ≡ table.old.symbols.counts) }
+    ensures symbol { IfOk result (λ made.
+        IsSymbolOf table.new.symbols amount.now made.symbol) }
 {
     match amount {
-        Amount::Number(_) => Ok(true),
+        Amount::Number(_) => Ok(Interned {
+            meant: true,
+            symbol: None,
+        }),
         Amount::Name(bytes, _) => {
-            table.intern_text(pos, bytes)?;
-            Ok(true)
+            let id = table.intern_text(pos, bytes)?;
+            Ok(Interned {
+                meant: true,
+                symbol: Some(id),
+            })
         }
-        Amount::Tree(expr) => table.intern_tree(pos, expr),
+        Amount::Tree(expr) => {
+            let meant = table.intern_tree(pos, expr)?;
+            Ok(Interned {
+                meant,
+                symbol: None,
+            })
+        }
     }
+}
+
+/// The names of an instruction are symbols: whether these are allowed, and the symbol of the displacement that is one
+/// name and a number.
+#[derive(Clone, Copy)]
+pub(crate) struct InsnNames {
+    pub(crate) naming: Naming,
+    pub(crate) displacement: Option<SymId>,
 }
 
 /// The names of an instruction have symbols from now on, whatever room there is.
@@ -55,37 +88,78 @@ pub(crate) fn intern_amounts(
     table: &mut SymbolUses,
     pos: Pos,
     insn: &Insn,
-) -> Result<Naming, NoMemory>
+) -> Result<InsnNames, NoMemory>
     ensures ok { OnOk result (table.new ≡ with_trees pos (trees_of insn.now) table.old) }
-    ensures naming { IfOk result (λ naming. naming ≡ naming_of (trees_of insn.now) table.old) }
+    ensures naming { IfOk result (λ made. made.naming ≡ naming_of (trees_of insn.now) table.old) }
+    ensures symbol { IfOk result (λ made.
+        IsSymbolOf table.new.symbols insn.now.displacement.amount made.displacement) }
 {
     let before = table.symbols().len();
     let own = intern_amount(table, pos, &insn.immediate.amount)?;
     let moved = intern_amount(table, pos, &insn.displacement.amount)?;
-    Ok(Naming {
-        before,
-        meant: own && moved,
+    Ok(InsnNames {
+        naming: Naming {
+            before,
+            meant: own.meant && moved.meant,
+        },
+        displacement: moved.symbol,
     })
 }
 
+/// What is known of a symbol is a number of the program.
+#[inline(always)]
+fn told_fits(symbols: &Symbols, symbol: SymId)
+    ensures { IsFitting (told symbols.now symbol) }
+{
+    if let Look::Form(form) = symbols.look(symbol) {
+        form.constant();
+    }
+}
+
+/// What is known of a name, which this symbol has, is a number of the program.
+#[inline(always)]
+fn symbol_fits(assembler: &Assembler, bytes: &[u8], symbol: SymId)
+    requires { index_of (Plain bytes.now) (names (placed_by assembler.now).table.symbols.symbols)
+        ≡ Some symbol }
+    ensures { NameFits (known_here (placed_by assembler.now)) bytes.now }
+{
+    texts_are_no_place();
+    told_fits(assembler.table.symbols(), symbol);
+}
+
+/// What is known of any name is a number of the program.
+#[inline(never)]
+fn name_fits(assembler: &Assembler, bytes: &[u8])
+    ensures { NameFits (known_here (placed_by assembler.now)) bytes.now }
+{
+    let view = assembler.view();
+    if let Look::Form(form) = view.look(view.symbols.meant_text(bytes)) {
+        form.constant();
+    }
+}
+
 /// What is known of the name of an amount is a number of the program.
-fn amount_fits(assembler: &Assembler, amount: &Amount)
+#[inline(always)]
+fn amount_fits(assembler: &Assembler, amount: &Amount, symbol: Option<SymId>)
+    requires { IsSymbolOf (placed_by assembler.now).table.symbols amount.now symbol }
     ensures { AmountFits (known_here (placed_by assembler.now)) amount.now }
 {
     if let Amount::Name(bytes, _) = amount {
-        let view = assembler.view();
-        if let Look::Form(form) = view.look(view.symbols.meant_text(bytes)) {
-            form.constant();
+        match symbol {
+            Some(id) => symbol_fits(assembler, bytes, id),
+            None => name_fits(assembler, bytes),
         }
     }
 }
 
 /// So is what is known of the names of both amounts.
-pub(crate) fn amounts_fit(assembler: &Assembler, insn: &Insn)
+#[inline(always)]
+pub(crate) fn amounts_fit(assembler: &Assembler, insn: &Insn, symbol: Option<SymId>)
+    requires { IsSymbolOf (placed_by assembler.now).table.symbols insn.now.displacement.amount symbol }
     ensures { InsnFits (known_here (placed_by assembler.now)) insn.now }
 {
-    amount_fits(assembler, &insn.immediate.amount);
-    amount_fits(assembler, &insn.displacement.amount);
+    amount_fits(assembler, &insn.immediate.amount, None);
+    amount_fits(assembler, &insn.displacement.amount, symbol);
 }
 
 /// The form of a tree.
@@ -129,6 +203,18 @@ fn any_named_form(
     })
 }
 
+/// The symbol that the name has, which may be there.
+#[inline(always)]
+fn found_symbol(symbols: &Symbols, bytes: &[u8], symbol: Option<SymId>) -> Option<SymId>
+    requires { IfSome symbol (λ id. index_of (Plain bytes.now) (names symbols.now.symbols) ≡ Some id) }
+    ensures { result ≡ index_of (Plain bytes.now) (names symbols.now.symbols) }
+{
+    match symbol {
+        Some(id) => Some(id),
+        None => symbols.find_text(bytes),
+    }
+}
+
 /// The form of the symbol that the name has and a number more, where that is the same wherever the
 /// instruction stands. None says nothing of it.
 #[inline(always)]
@@ -136,7 +222,10 @@ fn plain_named_form(
     assembler: &Assembler,
     bytes: &[u8],
     number: u64,
+    symbol: Option<SymId>,
 ) -> Result<Option<Linear>, NoMemory>
+    requires { IfSome symbol (λ id. index_of (Plain bytes.now)
+        (names (placed_by assembler.now).table.symbols.symbols) ≡ Some id) }
     ensures value { IfOk result (λ found. IfSome found (λ form.
         form_in (known_here (placed_by assembler.now)) (named_tree bytes.now number) ≡ Ok form)) }
     ensures free { IfOk result (λ found. IfSome found (λ form.
@@ -144,7 +233,7 @@ fn plain_named_form(
 {
     texts_are_no_place();
     let symbols = assembler.table.symbols();
-    let Some(id) = symbols.find_text(bytes) else {
+    let Some(id) = found_symbol(symbols, bytes, symbol) else {
         return Ok(None);
     };
     let sum = SymbolSum {
@@ -158,13 +247,21 @@ fn plain_named_form(
 }
 
 /// The form of a name and a number more, by the short way where there is one.
-fn named_form(assembler: &Assembler, bytes: &[u8], number: u64) -> Result<PlacedForm, PlaceFault>
+#[inline(always)]
+fn named_form(
+    assembler: &Assembler,
+    bytes: &[u8],
+    number: u64,
+    symbol: Option<SymId>,
+) -> Result<PlacedForm, PlaceFault>
+    requires { IfSome symbol (λ id. index_of (Plain bytes.now)
+        (names (placed_by assembler.now).table.symbols.symbols) ≡ Some id) }
     ensures value { GivesBy (λ made. made.form) result
         (form_in (known_here (placed_by assembler.now)) (named_tree bytes.now number)) }
     ensures keeps { IfOk result (λ made.
         made.keeps ≡ uses_place (known_here (placed_by assembler.now)).place made.form) }
 {
-    match plain_named_form(assembler, bytes, number)? {
+    match plain_named_form(assembler, bytes, number, symbol)? {
         Some(form) => Ok(PlacedForm { form, keeps: false }),
         None => any_named_form(assembler, bytes, number),
     }
@@ -172,7 +269,12 @@ fn named_form(assembler: &Assembler, bytes: &[u8], number: u64) -> Result<Placed
 
 /// The form of an amount.
 #[tactic(auto, unfolding(asm_operands::specs::Expressions::form_in, asm_expr::specs::Linear::linear))]
-pub(crate) fn amount_form(assembler: &Assembler, amount: &Amount) -> Result<PlacedForm, PlaceFault>
+pub(crate) fn amount_form(
+    assembler: &Assembler,
+    amount: &Amount,
+    symbol: Option<SymId>,
+) -> Result<PlacedForm, PlaceFault>
+    requires { IsSymbolOf (placed_by assembler.now).table.symbols amount.now symbol }
     ensures value { GivesBy (λ made. made.form) result
         (form_in (known_here (placed_by assembler.now)) (amount_tree amount.now)) }
     ensures keeps { IfOk result (λ made.
@@ -183,7 +285,7 @@ pub(crate) fn amount_form(assembler: &Assembler, amount: &Amount) -> Result<Plac
             form: constant_form(assembler.alloc, *value),
             keeps: false,
         }),
-        Amount::Name(bytes, number) => named_form(assembler, bytes, *number),
+        Amount::Name(bytes, number) => named_form(assembler, bytes, *number, symbol),
         Amount::Tree(expr) => tree_form(assembler, expr),
     }
 }

@@ -209,15 +209,14 @@ fn put_jump(
     pos: Pos,
     condition: Option<Condition>,
     insn: &Insn,
-    forms: &InsnForms,
+    forms: InsnForms,
 ) -> Result<(), PlaceFault>
-    ensures placed { PlacesBy (put_jump pos condition (shape_of insn.now) forms.now)
+    ensures placed { PlacesBy (put_jump pos condition (shape_of insn.now) forms)
         assembler.old assembler.new result }
     ensures kept { assembler.new.notes ≡ assembler.old.notes }
 {
-    let alloc = assembler.alloc;
     let suffix = said_suffix(insn.displacement.suffix);
-    let form = from_own_place(alloc, copied_form(alloc, &forms.displacement)?)?;
+    let form = from_own_place(assembler.alloc, forms.displacement)?;
     assembler.push_growing(pos, Growth::Jump(condition), suffix, form)
 }
 
@@ -227,14 +226,14 @@ pub(crate) fn put_insn(
     assembler: &mut Assembler,
     pos: Pos,
     insn: &Insn,
-    forms: &InsnForms,
+    forms: InsnForms,
 ) -> Result<(), PlaceFault>
-    ensures placed { PlacesBy (put_insn pos (shape_of insn.now) forms.now)
+    ensures placed { PlacesBy (put_insn pos (shape_of insn.now) forms)
         assembler.old assembler.new result }
     ensures kept { assembler.new.notes ≡ assembler.old.notes }
 {
     match direct_jump(insn) {
         Some(condition) => put_jump(assembler, pos, condition, insn, forms),
-        None => put_coded(assembler, pos, insn, forms),
+        None => put_coded(assembler, pos, insn, &forms),
     }
 }

@@ -11,9 +11,9 @@ ghost use Rattle.asm_uses.specs.Tables.{naming_of};
 ghost use Rattle.x86_insn.specs.Amounts.{amount_tree};
 ghost use Rattle.asm_expr.specs.Trees.{number};
 ghost use Rattle.asm_place.specs.Coding.{shape_of, insn_of_trees, place_insn, place_text, place_read, lone_code, place_instruction};
-ghost use Rattle.asm_place.specs.Amounts.{trees_of, place_amounts, FitsThere};
+ghost use Rattle.asm_place.specs.Amounts.{trees_of, place_amounts, FitsThere, IsSymbolOf};
 
-use crate::amount_forms::{PlacedForm, amount_form, amounts_fit, intern_amounts};
+use crate::amount_forms::{InsnNames, PlacedForm, amount_form, amounts_fit, intern_amounts};
 use crate::code_putting::put_insn;
 use crate::codes::{InsnForms, operand_fault};
 use asm_base::{Pos, Token};
@@ -31,22 +31,28 @@ fn place_interned(
     assembler: &mut Assembler,
     pos: Pos,
     insn: &Insn,
-    naming: Naming,
+    made: InsnNames,
 ) -> Result<(), PlaceFault>
-    ensures placed { PlacesBy (insn_of_trees pos (shape_of insn.now) naming
+    requires { IsSymbolOf (placed_by assembler.old).table.symbols insn.now.displacement.amount
+        made.displacement }
+    ensures placed { PlacesBy (insn_of_trees pos (shape_of insn.now) made.naming
         (amount_tree insn.now.immediate.amount) (amount_tree insn.now.displacement.amount))
         assembler.old assembler.new result }
     ensures kept { assembler.new.notes ≡ assembler.old.notes }
 {
     let spot = assembler.here();
-    let one = amount_form(assembler, &insn.immediate.amount)?;
-    let other = amount_form(assembler, &insn.displacement.amount)?;
+    let InsnNames {
+        naming,
+        displacement,
+    } = made;
+    let one = amount_form(assembler, &insn.immediate.amount, None)?;
+    let other = amount_form(assembler, &insn.displacement.amount, displacement)?;
     let keeps = one.keeps || other.keeps;
     let forms = InsnForms {
         immediate: one.form,
         displacement: other.form,
     };
-    put_insn(assembler, pos, insn, &forms)?;
+    put_insn(assembler, pos, insn, forms)?;
     assembler.table.end_naming(pos, naming, spot, keeps)
 }
 
@@ -58,9 +64,9 @@ fn place_named(assembler: &mut Assembler, pos: Pos, insn: &Insn) -> Result<(), P
     ensures fits { FitsThere result pos insn.now (placed_by assembler.old) }
     ensures kept { assembler.new.notes ≡ assembler.old.notes }
 {
-    let naming = intern_amounts(&mut assembler.table, pos, insn)?;
-    amounts_fit(assembler, insn);
-    place_interned(assembler, pos, insn, naming)
+    let made = intern_amounts(&mut assembler.table, pos, insn)?;
+    amounts_fit(assembler, insn, made.displacement);
+    place_interned(assembler, pos, insn, made)
 }
 
 /// An instruction whose values are numbers.
@@ -84,7 +90,7 @@ fn place_numbers(
         immediate: constant_form(assembler.alloc, immediate),
         displacement: constant_form(assembler.alloc, displacement),
     };
-    put_insn(assembler, pos, insn, &forms)?;
+    put_insn(assembler, pos, insn, forms)?;
     assembler.table.allow(naming)
 }
 
@@ -128,6 +134,7 @@ fn lone_code(tokens: &[Token]) -> Option<&'static [u8]>
 }
 
 /// A statement that is an instruction.
+#[inline(never)]
 #[tactic(auto, unfolding(crate::specs::Coding::place_instruction))]
 pub(crate) fn place_instruction(
     assembler: &mut Assembler,

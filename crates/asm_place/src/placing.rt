@@ -72,7 +72,7 @@ fn place_change(assembler: &mut Assembler, number: u32, tokens: &[Token]) -> Res
 }
 
 /// A directive, by what it is.
-#[inline(never)]
+#[inline(always)]
 #[tactic(auto, unfolding(crate::specs::Placing::place_by))]
 fn place_by(
     assembler: &mut Assembler,
@@ -112,6 +112,7 @@ fn place_by(
 }
 
 /// A directive by its name.
+#[inline(never)]
 #[tactic(auto, unfolding(crate::specs::Placing::place_directive))]
 fn place_directive(
     assembler: &mut Assembler,
@@ -130,6 +131,7 @@ fn place_directive(
 }
 
 /// What stands behind the labels: an assignment, a directive or an instruction.
+#[inline(always)]
 #[tactic(auto, unfolding(crate::specs::Placing::place_body))]
 fn place_body(
     assembler: &mut Assembler,
@@ -167,6 +169,7 @@ fn place_label(assembler: &mut Assembler, pos: Pos, token: &Token) -> Result<(),
 }
 
 /// What stands behind the labels, where anything does.
+#[inline(always)]
 #[tactic(auto, unfolding(crate::specs::Placing::place_unlabelled))]
 fn place_unlabelled(assembler: &mut Assembler, pos: Pos, tokens: &[Token]) -> Result<(), PlaceFault>
     ensures placed { PlacesBy (place_unlabelled pos (map spelled tokens.now))
@@ -193,9 +196,10 @@ fn place_labelled(assembler: &mut Assembler, pos: Pos, tokens: &[Token]) -> Resu
     place_unlabelled(assembler, pos, &tokens[at..])
 }
 
-/// A statement: the numbers of all its labels are read before one is placed.
+/// A statement with labels: the numbers of all of them are read before one is placed.
+#[inline(never)]
 #[tactic(auto, unfolding(crate::specs::Placing::place_tokens))]
-pub(crate) fn place_tokens(
+fn place_with_labels(
     assembler: &mut Assembler,
     pos: Pos,
     tokens: &[Token],
@@ -208,4 +212,21 @@ pub(crate) fn place_tokens(
         return Err(PlaceFault::Fault(PlaceCause::NumberTooWide));
     }
     place_labelled(assembler, pos, tokens)
+}
+
+/// A statement. Most have no label.
+#[inline(always)]
+pub(crate) fn place_tokens(
+    assembler: &mut Assembler,
+    pos: Pos,
+    tokens: &[Token],
+) -> Result<(), PlaceFault>
+    ensures placed { PlacesBy (place_tokens pos (map spelled tokens.now))
+        assembler.old assembler.new result }
+    ensures kept { KeepsNotes result assembler.old.notes assembler.new.notes }
+{
+    if begins_with_label(tokens) {
+        return place_with_labels(assembler, pos, tokens);
+    }
+    place_unlabelled(assembler, pos, tokens)
 }
