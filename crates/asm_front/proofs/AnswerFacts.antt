@@ -1,6 +1,9 @@
 -- What an answer says beside its assembly: what was read, and which faults say that a file is too large.
-use Rattle.std.proofs.Common.{◌≡◌, ℕ, ◌+◌, ◌*◌, ◌<◌, ◌≤◌, Bool, true, false, IsTrue, List, [], ◌∷◌, length, length-drop, Result, Ok, Err, refl, sym, ap, ◌∙◌, subst, arith}
+use Rattle.std.proofs.Common.{◌≡◌, ℕ, ◌+◌, ◌*◌, ◌<◌, ◌≤◌, Bool, true, false, IsTrue, List, [], ◌∷◌, drop, length, length-drop, Result, Ok, Err, refl, sym, ap, ◌∙◌, subst, arith}
 use Rattle.asm_base.specs.WholeFile.{most_bytes}
+use Rattle.asm_base.specs.declared.faults.Fault.{Fault}
+use Rattle.asm_base.specs.declared.notes.Noted.{Noted}
+use Rattle.asm_base.specs.declared.positions.Pos.{Pos}
 use Rattle.asm_lines.specs.declared.faults.LineCause.{LineCause}
 use Rattle.asm_lines.specs.declared.faults.LineCause.TheVariants as line
 use Rattle.macro_words.specs.declared.causes.MacroCause.{MacroCause}
@@ -38,12 +41,50 @@ module _ (flags : Flags) (name : List ℕ) (files : List (List ℕ)) (placed : P
   text_ended (Err expand.NoMemory) made so = absurd cc
 
   -- so many bytes were read of them
-  pub text_taken : (expanded : Result (Unit {0}) (ExpandFault FaultAt)) (result : Result Assembled AsmFault) (before now : ℕ) → IsAnswer flags name files placed expanded result
-      → TakesIncludes files before now → 0 < length files → TakesText result before now
-  text_taken expanded (Err fault) before now so takes some = takes.0
-  text_taken expanded (Ok made) before now so takes some =
-      let count : length made.files ≡ length files = ap length (text_ended expanded made so).1 ∙ omega (arith, length-drop 1 files) in
+  taken_by : (shown : List (List ℕ)) (before now : ℕ) → shown ≡ shown_files name files → 0 < length files → (before ≤ now) × (now ≤ before + (most_bytes + 1) * length files)
+      → (before ≤ now) × (now ≤ before + (most_bytes + 1) * length shown)
+  taken_by shown before now is some takes =
+      let count : length shown ≡ length files = ap length is ∙ omega (arith, length-drop 1 files) in
       (takes.0, subst (λ n. now ≤ before + (most_bytes + 1) * n) (sym count) takes.1)
+
+  -- the end of a source has a fault with all files
+  fault_by : (answer : Result NotedObject FaultAt) (fault : FaultAt) (shown : List (List ℕ)) → ended_by (shown_files name files) answer ≡ faulty fault shown → shown ≡ shown_files name files
+  fault_by (Ok made) fault shown is = absurd cc
+  fault_by (Err first) fault shown is = cc
+
+  text_fault_taken : (expanded : Result (Unit {0}) (ExpandFault FaultAt)) (fault : Fault) (pos : Pos) (notes : List Noted) (shown : List (List ℕ)) (before now : ℕ)
+      → IsAnswer flags name files placed expanded (Err (Source fault pos notes shown)) → TakesIncludes expanded files before now → 0 < length files
+      → (before ≤ now) × (now ≤ before + (most_bytes + 1) * length shown)
+  text_fault_taken (Ok u) fault pos notes shown before now so takes some =
+      let same = fault_by (finished flags.fatal_warnings placed.sections placed.table placed.notes) _ shown so in
+      let count : length shown ≡ length (drop 1 files) + 1 = ap length same ∙ omega arith in
+      (takes.0, omega (arith, takes.1, count))
+  text_fault_taken (Err (expand.Lines cause)) fault pos notes shown before now so takes some = (omega (arith, takes), omega (arith, takes))
+  text_fault_taken (Err (expand.Expansion cause at)) fault pos notes shown before now so takes some =
+      let same : shown ≡ shown_files name files = cc in taken_by shown before now same some takes
+  text_fault_taken (Err (expand.Placing at)) fault pos notes shown before now so takes some =
+      let same : shown ≡ shown_files name files = cc in taken_by shown before now same some takes
+  text_fault_taken (Err expand.Read) fault pos notes shown before now so takes some = absurd cc
+  text_fault_taken (Err expand.NoMemory) fault pos notes shown before now so takes some = absurd cc
+
+  later : (expanded : Result (Unit {0}) (ExpandFault FaultAt)) (before now : ℕ) → TakesIncludes expanded files before now → before ≤ now
+  later (Ok u) before now takes = takes.0
+  later (Err (expand.Lines cause)) before now takes = omega (arith, takes)
+  later (Err (expand.Expansion cause at)) before now takes = takes.0
+  later (Err (expand.Placing at)) before now takes = takes.0
+  later (Err expand.Read) before now takes = takes.0
+  later (Err expand.NoMemory) before now takes = takes.0
+
+  pub text_taken : (expanded : Result (Unit {0}) (ExpandFault FaultAt)) (result : Result Assembled AsmFault) (before now : ℕ) → IsAnswer flags name files placed expanded result
+      → TakesIncludes expanded files before now → 0 < length files → TakesText result before now
+  text_taken expanded (Err (Source fault pos notes shown)) before now so takes some = text_fault_taken expanded fault pos notes shown before now so takes some
+  text_taken expanded (Err Read) before now so takes some = later expanded before now takes
+  text_taken expanded (Err NoMemory) before now so takes some = later expanded before now takes
+  text_taken expanded (Ok made) before now so takes some =
+      let ends = text_ended expanded made so in
+      let all : (before ≤ now) × (now ≤ before + (most_bytes + 1) * length (drop 1 files)) = subst (λ e. TakesIncludes e files before now) ends.0 takes in
+      let same : length (drop 1 made.files) ≡ length (drop 1 files) = ap (λ them. length (drop 1 them)) ends.1 in
+      (all.0, subst (λ n. now ≤ before + (most_bytes + 1) * n) (sym same) all.1)
 
 -- FILES THAT ARE TOO LARGE
 

@@ -10,7 +10,7 @@ use Rattle.asm_place.specs.declared.place_faults.FaultAt.{FaultAt}
 use Rattle.asm_front.specs.Ending.{Flags}
 use Rattle.asm_front.specs.Assembly.{Assembly, assembled, faulty, missing, shown_files, main_file, too_large, assembly_by, expansion_of, assembly_of}
 use Rattle.asm_front.specs.Answering.{IsAnswered, AssemblesText, CountsText, ReadsText, TakesText}
-use Rattle.asm_front.specs.Outcome.{AssemblesAs, AssemblesFile, Assembles, CountsMissed, CountsMissingFiles, CountsMisses, HasAssemblyCause, KeepsCount, ReadsFiles, TakesFiles, TakesSource}
+use Rattle.asm_front.specs.Outcome.{AssemblesAs, AssemblesFile, Assembles, CountsMissed, CountsMissingFiles, CountsMisses, HasAssemblyCause, KeepsCount, NamesFiles, ReadsFiles, TakesFiles, TakesSource}
 use Rattle.asm_front.specs.declared.answers.Assembled.{Assembled}
 use Rattle.asm_front.specs.declared.answers.AsmFault.{AsmFault}
 use Rattle.asm_front.specs.declared.answers.AsmFault.TheVariants.{Source, Read, NoMemory}
@@ -121,9 +121,13 @@ all_read name (Err fault) before between now first then_read = tt
 all_read name (Ok made) before between now first then_read =
     then_read ∙ ap (λ known. happened known (whole_files (drop 1 made.files))) first ∙ both_happened before (whole_file name) (whole_files (drop 1 made.files))
 
-pub all_taken : (result : Result Assembled AsmFault) (before between now : ℕ) → before ≤ between → between ≤ before + (most_bytes + 1) → TakesText result between now → TakesFiles result before now
-all_taken (Err fault) before between now low high takes = omega (arith, low, takes)
-all_taken (Ok made) before between now low high takes = (omega (arith, low, takes.0), omega (arith, high, takes.1))
+pub all_taken : (result : Result Assembled AsmFault) (name : List ℕ) (before between now : ℕ) → NamesFiles name result → before ≤ between → between ≤ before + (most_bytes + 1) → TakesText result between now → TakesFiles result before now
+all_taken (Err (Source fault pos notes files)) name before between now named low high takes = (omega (arith, low, takes.0), omega (arith, high, takes.1))
+all_taken (Err Read) name before between now named low high takes = omega (arith, low, takes)
+all_taken (Err NoMemory) name before between now named low high takes = omega (arith, low, takes)
+all_taken (Ok made) name before between now named low high takes =
+    let count : length made.files ≡ length (drop 1 made.files) + 1 = ap length named ∙ omega arith in
+    (omega (arith, low, takes.0), omega (arith, high, takes.1, count))
 
 pub source_taken : (result : Result Assembled AsmFault) (before between now : ℕ) → before ≤ between → TakesSource result between now → TakesSource result before now
 source_taken (Ok made) before between now low takes = tt
@@ -139,9 +143,11 @@ large_taken (Err NoMemory) before now much = tt
 large_taken (Err (Source fault pos notes files)) before now much = λ large. much
 
 -- an answer of an assembly that is a fault has no object
-pub large_files : (name : List ℕ) (fault : FaultAt) (result : Result Assembled AsmFault) (before now : ℕ) → before ≤ now → IsAnswered (faulty fault (shown_files name [])) result → TakesFiles result before now
-large_files name fault (Ok made) before now low so = absurd cc
-large_files name fault (Err stop) before now low so = low
+pub large_files : (name : List ℕ) (fault : FaultAt) (result : Result Assembled AsmFault) (before now : ℕ) → before ≤ now → now ≤ before + (most_bytes + 1) → IsAnswered (faulty fault (shown_files name [])) result → TakesFiles result before now
+large_files name fault (Ok made) before now low high so = absurd cc
+large_files name fault (Err (Source stop pos notes files)) before now low high so = (low, omega (arith, high))
+large_files name fault (Err Read) before now low high so = low
+large_files name fault (Err NoMemory) before now low high so = low
 
 pub large_read : (name : List ℕ) (fault : FaultAt) (result : Result Assembled AsmFault) (before now : Option (List FileEvent)) → IsAnswered (faulty fault (shown_files name [])) result → ReadsFiles name result before now
 large_read name fault (Ok made) before now so = absurd cc

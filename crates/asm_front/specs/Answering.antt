@@ -73,5 +73,7 @@ ReadsText (Err fault) before now = Unit {0}
 
 -- so many bytes were read of them
 abbrev pub TakesText : Result Assembled AsmFault → ℕ → ℕ → Type 0
-TakesText (Ok made) before now = (before ≤ now) × (now ≤ before + (most_bytes + 1) * length made.files)
-TakesText (Err fault) before now = before ≤ now
+TakesText (Ok made) before now = (before ≤ now) × (now ≤ before + (most_bytes + 1) * length (drop 1 made.files))
+TakesText (Err (Source fault pos notes files)) before now = (before ≤ now) × (now ≤ before + (most_bytes + 1) * length files)
+TakesText (Err Read) before now = before ≤ now
+TakesText (Err NoMemory) before now = before ≤ now

@@ -81,7 +81,10 @@ TakesSource (Err (Source fault pos notes files)) before now = IsTrue (is_file_to
 TakesSource (Err Read) before now = Unit {0}
 TakesSource (Err NoMemory) before now = Unit {0}
 
--- where there is an object, of each file at most one byte more than the most was read; the number of bytes that were read never falls
+-- of each file at most one byte more than the most was read, where the files are told also of one that was too large; the number of bytes
+-- that were read never falls
 abbrev pub TakesFiles : Result Assembled AsmFault → ℕ → ℕ → Type 0
-TakesFiles (Ok made) before now = (before ≤ now) × (now ≤ before + (most_bytes + 1) * (length made.files + 1))
-TakesFiles (Err fault) before now = before ≤ now
+TakesFiles (Ok made) before now = (before ≤ now) × (now ≤ before + (most_bytes + 1) * length made.files)
+TakesFiles (Err (Source fault pos notes files)) before now = (before ≤ now) × (now ≤ before + (most_bytes + 1) * (length files + 1))
+TakesFiles (Err Read) before now = before ≤ now
+TakesFiles (Err NoMemory) before now = before ≤ now

@@ -16,7 +16,7 @@ pub mod OwnLengths
 pub mod Cuts
 pub mod OnePass
 pub mod Skipping
-pub mod PlacingSteps
+pub mod LineFaults
 pub mod TokenFronts
 pub mod TokenLists
 mod Samples

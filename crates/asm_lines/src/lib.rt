@@ -12,16 +12,17 @@ mod line_checks;
 mod line_numbers;
 mod placing;
 mod reading;
-mod source_causes;
 mod statement_tokens;
 mod statements;
 
 pub use classes::every_byte_has_its_class;
 pub use cursors::{NextStatement, next_statement};
 pub use faults::{LineCause, LineFault};
-pub use laws::{lines_never_fall, no_statement_has_nul, one_list_of_tokens, statements_are_whole};
-pub use line_checks::fault_of_lines;
-pub use placing::{Placer, place_source};
+pub use laws::{
+    line_faults_are_found, lines_never_fall, no_statement_has_nul, one_list_of_tokens,
+    statements_are_whole,
+};
+pub use line_checks::{fault_of_lines, has_nul};
+pub use placing::Placer;
 pub use reading::read_statements;
-pub use source_causes::{SourceCause, SourceFault};
 pub use statements::{Statement, Statements};

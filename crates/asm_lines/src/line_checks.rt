@@ -13,7 +13,7 @@ use asm_base::{Refusal, Text};
 use std::alloc::{AllocError, Global};
 
 /// Whether a byte 0 stands in the source.
-pub(crate) fn has_nul(source: &[u8]) -> bool
+pub fn has_nul(source: &[u8]) -> bool
     ensures { result ≡ nat_lt (nul_offset source.now) (length source.now) }
 {
     source.contains(&0)
@@ -21,11 +21,7 @@ pub(crate) fn has_nul(source: &[u8]) -> bool
 
 /// The first fault of the lines. Only a source that is refused is read for it.
 #[inline(never)]
-pub(crate) fn line_fault(
-    alloc: Global,
-    text: &Text,
-    file: u32,
-) -> Result<Option<LineCause>, AllocError>
+fn line_fault(alloc: Global, text: &Text, file: u32) -> Result<Option<LineCause>, AllocError>
     ensures { IfOk result (λ found. IsFaultOfLines found (statements_of file text.now)) }
 {
     match read_statements(alloc, text, file) {

@@ -1,7 +1,8 @@
 -- The front of a source, statement by statement.
-use Rattle.std.proofs.Common.{◌≡◌, ℕ, ◌+◌, ◌<◌, ◌≤◌, Bool, false, is_some, true≢false, List, [], ◌∷◌, map, Option, None, Some, Result, Ok, Err, refl, sym, ap, ◌∙◌, arith}
+use Rattle.std.proofs.Common.{◌≡◌, ℕ, ◌+◌, ◌<◌, ◌≤◌, Bool, false, is_some, true≢false, List, [], ◌∷◌, map, Option, None, Some, Result, Ok, Err, length, take, drop, ◌-◌, refl, sym, ap, ◌∙◌, arith}
+use Rattle.std.proofs.lemmas.List.{drop-map, take_rest}
 use Rattle.asm_base.specs.Inputs.{Contents}
-use Rattle.asm_base.specs.Tokens.{SpelledToken}
+use Rattle.asm_base.specs.Tokens.{SpelledToken, spelled}
 use Rattle.asm_base.specs.declared.tokens.Token.{Token}
 use Rattle.asm_lines.specs.LineNumbers.{line_of}
 use Rattle.asm_lines.specs.NextStatements.{TokenStatement, IsNext, IsEnd, in_tokens, next_in_tokens, found_left}
@@ -19,6 +20,10 @@ use Rattle.asm_macro.specs.Fronts.{IsPlaced, LeadsTo, plain, rest_at}
 use Rattle.asm_macro.proofs.Runs.{steps_none, steps_one, steps_more}
 use Rattle.asm_macro.proofs.Turns.{plain_turn}
 use Rattle.asm_macro.proofs.HeadTurns.{long_turn}
+
+-- what stands behind the labels, as the program hands it on
+pub left_seen : (tokens : List Token) (at : ℕ) → map spelled (take (length tokens - at) (drop at tokens)) ≡ drop at (map spelled tokens)
+left_seen tokens at = ap (map spelled) (take_rest tokens at) ∙ sym (drop-map spelled at tokens)
 
 -- the word of a statement by what stands behind its labels
 pub plain_by : (s : TokenStatement) (tokens : List SpelledToken) → tokens ≡ behind_labels s.tokens → word_named (named_by tokens) ≡ None → IsPlain s

@@ -1,5 +1,6 @@
 -- The proofs of this crate.
 mod Samples
+pub mod ShallowLists
 pub mod FrontLemmas
 pub mod Handed
 pub mod HeadTurns

@@ -1,5 +1,5 @@
 -- What comes of a source, by its definition.
-use Rattle.std.proofs.Common.{◌≡◌, inl, inr, ℕ, ◌+◌, ◌<◌, true, List, [], ◌∷◌, ◌++◌, length, length-append, drop, Option, Result, Ok, Err, OnOk, refl, sym, ap, ◌∙◌, arith}
+use Rattle.std.proofs.Common.{◌≡◌, inl, inr, ℕ, ◌+◌, ◌*◌, ◌<◌, ◌≤◌, true, List, [], ◌∷◌, ◌++◌, length, length-append, drop, Option, Result, Ok, Err, OnOk, refl, sym, ap, ◌∙◌, arith}
 use Rattle.std.specs.Io.KnownBytes.{IsAtEnd}
 use Rattle.asm_base.specs.Inputs.{Contents}
 use Rattle.asm_base.specs.History.{happened, whole_files}
@@ -11,6 +11,7 @@ use Rattle.asm_macro.specs.declared.faults.ExpandFault.TheVariants.{Lines, Expan
 use Rattle.asm_macro.specs.Expansion.{started}
 use Rattle.asm_macro.specs.Placing.{Step, ended, fails, refused, misses, untold, steps, expansion, most_turns}
 use Rattle.asm_macro.specs.Laws.{is_final}
+use Rattle.asm_base.specs.WholeFile.{most_bytes}
 use Rattle.asm_macro.specs.Expanding.{Comes, IsExpansion, HasExpansionCause, CountsMisses, KeepsMissing, ReadsIncludes, TakesIncludes, TakesTooLarge}
 use Rattle.asm_macro.specs.Fronts.{rest_at}
 use Rattle.asm_macro.specs.Readings.{InputAs, CountsMissed, HasRead, HasStopped}
@@ -102,24 +103,26 @@ module _ {S F : Type 0} (placed : S → TokenStatement → Result S F) (told : S
   counted : (names more : List (List ℕ)) → length files ≡ 1 → names ≡ files ++ more → length names ≡ 1 + length more
   counted names more one is = ap length is ∙ length-append files more ∙ ap (λ n. n + length more) one
 
-  taken_read : (names : List (List ℕ)) (before now : InputAs) → length files ≡ 1 → HasRead files names before now → TakesIncludes names before.taken now.taken
+  taken_read : (names : List (List ℕ)) (before now : InputAs) → length files ≡ 1 → HasRead files names before now → TakesIncludes {F = F} (Ok tt) names before.taken now.taken
   taken_read names before now one is =
-      let count = counted names is.more one is.names in
+      let same : length (drop 1 names) ≡ length is.more = ap length (ap (drop 1) is.names ∙ behind_one files is.more one) in
       let most = is.taken in
-      (is.later, omega (arith, count, most))
+      (is.later, omega (arith, same, most))
 
-  taken_stopped : (fault : ExpandFault F) (M U : Type 0) (names : List (List ℕ)) (before now : InputAs) → length files ≡ 1 → HasStopped fault M U files names before now → TakesIncludes names before.taken now.taken
+  -- so many bytes were read where expansion stopped
+  abbrev TakesAll : List (List ℕ) → InputAs → InputAs → Type 0
+  TakesAll names before now = (before.taken ≤ now.taken) × (now.taken ≤ before.taken + (most_bytes + 1) * length names)
+
+  taken_stopped : (fault : ExpandFault F) (M U : Type 0) (names : List (List ℕ)) (before now : InputAs) → length files ≡ 1 → HasStopped fault M U files names before now → TakesAll names before now
   taken_stopped fault M U names before now one is =
       let count = counted names is.more one is.names in
       let most = is.taken in
       (is.later, omega (arith, count, most))
 
   pub taken_clause : (result : Result (Unit {0}) (ExpandFault F)) (names : List (List ℕ)) (after : S) (before now : InputAs) → length files ≡ 1 → IsSourceExpanded placed told contents text files placer result names after before now
-      → TakesIncludes names before.taken now.taken
+      → TakesIncludes result names before.taken now.taken
   taken_clause (Ok u) names after before now one is = taken_read names before now one is.expands.1.uses
-  taken_clause (Err (Lines cause)) names after before now one is =
-      let same = ap (λ i. i.taken) is.2 in
-      (omega (arith, same), omega (arith, same))
+  taken_clause (Err (Lines cause)) names after before now one is = ap (λ i. i.taken) is.2
   taken_clause (Err (Expansion cause pos)) names after before now one is = taken_stopped (Expansion cause pos) _ _ names before now one is.expands.1.uses
   taken_clause (Err (Placing fault)) names after before now one is = taken_stopped (Placing fault) _ _ names before now one is.expands.1.uses
   taken_clause (Err Read) names after before now one is = taken_stopped Read _ _ names before now one is.expands.1.uses

@@ -1,9 +1,7 @@
 -- The ways in which a source is expanded or refused.
-use Rattle.std.proofs.Common.{◌≡◌, inl, inr, ℕ, nat_lt, true, false, List, length, Option, None, Result, Ok, Err, refl}
+use Rattle.std.proofs.Common.{inl, inr, ℕ, List, Option, Result, Ok, Err, refl}
 use Rattle.asm_base.specs.Inputs.{Contents}
-use Rattle.asm_lines.specs.Faults.{nul_offset}
-use Rattle.asm_lines.specs.NextStatements.{TokenStatement, HasNoLineFault, statements_left, found_left}
-use Rattle.asm_lines.proofs.PlacingSteps.{nul_never_ok, statements_all}
+use Rattle.asm_lines.specs.NextStatements.{TokenStatement, HasNoLineFault}
 use Rattle.macro_words.specs.declared.causes.MacroCause.TheVariants.{ExpansionTooLong}
 use Rattle.macro_words.specs.Conditions.{Knowledge}
 use Rattle.asm_macro.specs.declared.faults.ExpandFault.{ExpandFault}
@@ -17,10 +15,6 @@ use Rattle.asm_macro.specs.Sources.{IsSourceExpanded}
 use Rattle.asm_macro.proofs.Runs.{after_turns}
 use Rattle.asm_macro.proofs.Turnings.{untold_uses}
 use Rattle.asm_macro.proofs.Wholes.{read_none, stopped_by, stopped_placing, stopped_without}
-
--- a source with a byte 0 has a fault
-pub nul_fault : (text : List ℕ) → nat_lt (nul_offset text) (length text) ≡ true → HasNoLineFault 0 text → ⊥
-nul_fault text inside is = nul_never_ok 0 text (statements_left 0 text 0) inside is.statements
 
 untold_ends : {S F : Type 0} (result : Result (Unit {0}) (ExpandFault F)) (wanted : Step S F) (files : List (List ℕ)) (placer : S) → Ends result wanted files placer → Ends result untold files placer
 untold_ends (Ok u) wanted files placer is = inr refl
@@ -47,10 +41,10 @@ module _ {S F : Type 0} (placed : S → TokenStatement → Result S F) (told : S
   without_memory after input = stopped_without ⊥ ⊥ files input
 
   -- all statements are placed
-  pub source_ends : (n : ℕ) (after : S) (input : InputAs) → nat_lt (nul_offset text) (length text) ≡ false → LeadsTo placed told text placer n (λ names. ended names after) → found_left text 0 ≡ None
+  pub source_ends : (n : ℕ) (after : S) (input : InputAs) → HasNoLineFault 0 text → LeadsTo placed told text placer n (λ names. ended names after)
       → IsSourceExpanded placed told contents text files placer (Ok tt) files after input input
-  source_ends n after input none leads clean =
-      record { lines = statements_all 0 text none clean; expands = (n, record { comes = inl (leads contents files); uses = read_none files input }) }
+  source_ends n after input clean leads =
+      record { lines = clean.statements; expands = (n, record { comes = inl (leads contents files); uses = read_none files input }) }
 
   pub source_long : (n line : ℕ) (after : S) (input : InputAs) → HasNoLineFault 0 text → LeadsTo placed told text placer n (λ names. fails names ExpansionTooLong (record { file = 0; line = line }) after)
       → IsSourceExpanded placed told contents text files placer (Err (Expansion ExpansionTooLong (record { file = 0; line = line }))) files after input input

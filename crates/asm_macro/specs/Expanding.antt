@@ -44,9 +44,15 @@ abbrev pub ReadsIncludes : {F : Type 0} → Result (Unit {0}) (ExpandFault F) �
 ReadsIncludes (Ok u) started files before now = now ≡ happened before (whole_files (drop started files))
 ReadsIncludes (Err fault) started files before now = Unit {0}
 
--- of each file at most one byte more than the most is read, also of one that could not be read whole
-abbrev pub TakesIncludes : List (List ℕ) → ℕ → ℕ → Type 0
-TakesIncludes files before now = (before ≤ now) × (now ≤ before + (most_bytes + 1) * length files)
+-- nothing was read where the lines of the source have a fault; else of each file that was started at most one byte more than the most, also
+-- of one that could not be read whole
+abbrev pub TakesIncludes : {F : Type 0} → Result (Unit {0}) (ExpandFault F) → List (List ℕ) → ℕ → ℕ → Type 0
+TakesIncludes (Ok u) files before now = (before ≤ now) × (now ≤ before + (most_bytes + 1) * length (drop 1 files))
+TakesIncludes (Err (Lines cause)) files before now = now ≡ before
+TakesIncludes (Err (Expansion cause pos)) files before now = (before ≤ now) × (now ≤ before + (most_bytes + 1) * length files)
+TakesIncludes (Err (Placing fault)) files before now = (before ≤ now) × (now ≤ before + (most_bytes + 1) * length files)
+TakesIncludes (Err Read) files before now = (before ≤ now) × (now ≤ before + (most_bytes + 1) * length files)
+TakesIncludes (Err NoMemory) files before now = (before ≤ now) × (now ≤ before + (most_bytes + 1) * length files)
 
 -- a file is called too large only where more than the most bytes were taken
 abbrev pub TakesTooLarge : {F : Type 0} → Result (Unit {0}) (ExpandFault F) → ℕ → ℕ → Type 0

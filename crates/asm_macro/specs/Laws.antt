@@ -1,11 +1,11 @@
 -- What holds of every list that is rewritten.
-use Rattle.std.specs.Prelude.{◌≡◌, ℕ, ◌+◌, ◌≤◌, Bool, true, false, List, length, All, Option, None, Result, Ok, Err}
+use Rattle.std.specs.Prelude.{◌≡◌, ℕ, ◌+◌, ◌≤◌, Bool, true, false, List, length, count_by, All, Option, None, Result, Ok, Err}
 use Rattle.asm_base.specs.Inputs.{Contents}
 use Rattle.asm_lines.specs.NextStatements.{TokenStatement}
 use Rattle.asm_lines.specs.Placing.{placed_in_order}
 use Rattle.macro_words.specs.Statements.{word_in}
 use Rattle.macro_words.specs.Conditions.{Knowledge}
-use Rattle.asm_macro.specs.Expansion.{most_given, started}
+use Rattle.asm_macro.specs.Expansion.{State, is_file_part, is_inner_part, most_given, started}
 use Rattle.asm_macro.specs.Placing.{Step, goes, ended, refused, steps, handed, most_turns}
 
 -- there is no list to go on with
@@ -45,3 +45,14 @@ abbrev pub PlacesPlain : {S F : Type 0} → (S → TokenStatement → Result S F
 PlacesPlain placed known files statements contents placer =
     All IsPlain statements → length statements ≤ most_given
     → steps placed known contents (length statements + 2) (started files statements) placer ≡ outcome files (placed_in_order placed placer statements)
+
+-- at most 32 files are open, and 64 calls and repeats: so at most 96 end marks are in the list
+pub record IsShallow (state : State) : Type 0 where
+  pub files : count_by is_file_part state.levels ≤ 32
+  pub inner : count_by is_inner_part state.levels ≤ 64
+  pub all : length state.levels ≤ 96
+
+-- the list is shallow after every number of turns
+abbrev pub StaysShallow : {S F : Type 0} → (S → TokenStatement → Result S F) → (S → Knowledge) → List (List ℕ) → List TokenStatement → Option Contents → S → Type 0
+StaysShallow {S} placed known files statements contents placer =
+    (n : ℕ) (state : State) (after : S) → steps placed known contents n (started files statements) placer ≡ goes state after → IsShallow state

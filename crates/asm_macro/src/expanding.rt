@@ -32,7 +32,7 @@ pub fn expand_source<P: KnowingPlacer, I: Inputs>(
     ensures found { KeepsMissing result (I.missing ins.old) (I.missing ins.new) }
     ensures contents { I.contents ins.new ≡ I.contents ins.old }
     ensures history { ReadsIncludes result 1 files.new (I.history ins.old) (I.history ins.new) }
-    ensures taken { TakesIncludes files.new (I.taken ins.old) (I.taken ins.new) }
+    ensures taken { TakesIncludes result files.new (I.taken ins.old) (I.taken ins.new) }
     ensures too_large { TakesTooLarge result (I.taken ins.old) (I.taken ins.new) }
     ensures whole { IsAtEnd (I.rest ins.old) → OnOk result (IsAtEnd (I.rest ins.new)) }
     ensures started { 0 < length files.new }

@@ -1,7 +1,5 @@
 //! The statements of a source before its first word of expansion, placed in one pass over its bytes.
 
-ghost use Rattle.std.specs.Prelude.{◌≡◌, nat_lt, length};
-ghost use Rattle.asm_lines.specs.Faults.{nul_offset};
 ghost use Rattle.asm_macro.specs.Fronts.{ChecksLines, StopsAt};
 
 use crate::faults::ExpandFault;
@@ -26,14 +24,6 @@ pub(crate) enum Stop<F> {
     Faulty,
     /// Memory was refused.
     NoMemory,
-}
-
-/// Whether a byte 0 stands in the source.
-#[tactic(auto, using(asm_lines::proofs::PlacingSteps::nul_is_found))]
-pub(crate) fn has_nul(source: &[u8]) -> bool
-    ensures { result ≡ nat_lt (nul_offset source.now) (length source.now) }
-{
-    source.contains(&0)
 }
 
 /// The first fault of the lines of a source, if they have one.

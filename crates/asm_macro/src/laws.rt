@@ -4,7 +4,7 @@ ghost use Rattle.std.specs.Prelude.{ℕ, List, Option};
 ghost use Rattle.asm_base.specs.Inputs.{Contents};
 ghost use Rattle.asm_lines.specs.NextStatements.{TokenStatement};
 ghost use Rattle.macro_words.specs.Conditions.{Knowledge};
-ghost use Rattle.asm_macro.specs.Laws.{Ends, HasOneOutcome, PlacesHanded, PlacesPlain};
+ghost use Rattle.asm_macro.specs.Laws.{Ends, HasOneOutcome, PlacesHanded, PlacesPlain, StaysShallow};
 
 use asm_lines::Placer;
 
@@ -34,4 +34,11 @@ pub fn handed_statements_are_placed<P: Placer>()
     ensures { (known : P → Knowledge) → (files : List (List ℕ)) → (statements : List TokenStatement)
         → (contents : Option Contents) → (placer : P)
         → PlacesHanded P.placed known files statements contents placer }
+{}
+
+/// However many turns of a list are looked at, few files, calls and repeats are open.
+pub fn lists_stay_shallow<P: Placer>()
+    ensures { (known : P → Knowledge) → (files : List (List ℕ)) → (statements : List TokenStatement)
+        → (contents : Option Contents) → (placer : P)
+        → StaysShallow P.placed known files statements contents placer }
 {}

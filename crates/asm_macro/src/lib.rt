@@ -24,5 +24,6 @@ mod turning;
 pub use expanding::expand_source;
 pub use faults::ExpandFault;
 pub use laws::{
-    expansions_end, handed_statements_are_placed, one_outcome, plain_statements_are_placed,
+    expansions_end, handed_statements_are_placed, lists_stay_shallow, one_outcome,
+    plain_statements_are_placed,
 };

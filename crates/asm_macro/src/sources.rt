@@ -11,9 +11,10 @@ ghost use Rattle.asm_macro.specs.Sources.{IsSourceExpanded};
 
 use crate::expander::Expander;
 use crate::faults::ExpandFault;
-use crate::fronts::{Stop, check_lines, has_nul, place_front};
+use crate::fronts::{Stop, check_lines, place_front};
 use crate::macros::Macros;
 use asm_base::{Files, Inputs, Pos, Refusal, Text};
+use asm_lines::{has_nul, line_faults_are_found};
 use macro_blocks::Frame;
 use macro_words::{KnowingPlacer, MacroCause};
 use std::alloc::Global;
@@ -76,6 +77,7 @@ pub(crate) fn expand_text<P: KnowingPlacer, I: Inputs>(
         (input_by I.contents I.rest I.faults I.missing I.taken I.history ins.old)
         (input_by I.contents I.rest I.faults I.missing I.taken I.history ins.new) }
 {
+    line_faults_are_found();
     if has_nul(text.as_bytes()) {
         return check_lines(alloc, &text);
     }

@@ -1,6 +1,7 @@
 //! The head of the list: a statement is placed, or becomes what it stands for.
 
 ghost use Rattle.std.specs.Prelude.{◌≡◌, ◌<◌, ◌≤◌, Some, OnOk, length, map, take, drop, vec_len};
+ghost use Rattle.asm_base.specs.Refusals.{Gives};
 ghost use Rattle.asm_base.specs.Tokens.{spelled};
 ghost use Rattle.macro_blocks.specs.Frames.{level_of};
 ghost use Rattle.macro_words.specs.Statements.{labels_of, behind_labels};
@@ -18,6 +19,19 @@ use asm_base::{Inputs, Pos, Refusal, Token};
 use macro_blocks::Frame;
 use macro_words::{KnowingPlacer, MacroCause};
 
+/// Places a statement of an open text, apart from the loop over the statements in front.
+#[inline(never)]
+fn place_apart<P: KnowingPlacer>(
+    pos: Pos,
+    tokens: &[Token],
+    placer: &mut P,
+) -> Result<(), Refusal<P::Fault>>
+    ensures { Gives placer.new result (P.placed placer.old
+        (record { file = pos.file; line = pos.line; tokens = map spelled tokens.now })) }
+{
+    placer.place(pos, tokens)
+}
+
 impl Expander {
     /// A statement leaves the head, and is placed.
     pub(crate) fn hand_out<P: KnowingPlacer>(
@@ -34,7 +48,7 @@ impl Expander {
         if self.given >= MOST_GIVEN {
             return Err(ExpandFault::Expansion(MacroCause::ExpansionTooLong, pos));
         }
-        match placer.place(pos, tokens) {
+        match place_apart(pos, tokens, placer) {
             Ok(()) => {
                 self.given += 1;
                 Ok(())

@@ -1,5 +1,5 @@
 -- What is said and made of an answer of the assembly, whole or in part, by what the contents tell.
-use Rattle.std.proofs.Common.{◌≡◌, ℕ, List, Option, None, Some, Result, Ok, Err, [], length, sym, ap, ◌∙◌, inl, inr, subst, arith}
+use Rattle.std.proofs.Common.{◌≡◌, ℕ, List, Option, None, Some, Result, Ok, Err, [], drop, length, sym, ap, ◌∙◌, inl, inr, subst, arith}
 use Rattle.std.specs.Option.{option_map}
 use Rattle.std.proofs.Math.Seq.{take-length}
 use Rattle.asm_base.specs.Console.{Said, after_say}
@@ -31,10 +31,10 @@ delivered_in_part output bytes messages before said made after says in_part = el
 -- what the source stands for whose assembly gave this object
 object_of_source : (invocation : Invocation) (contents : Contents) (file : Option (List ℕ)) (made : Assembled) (messages : List ℕ)
     → AssemblesFile (flags_by invocation) contents invocation.file file (Ok made) → messages ≡ remarks made.files made.notes
-    → file_outcome invocation contents file ≡ object invocation.object made.object messages
+    → file_outcome invocation contents file ≡ object invocation.object made.object messages (drop 1 made.files)
 object_of_source invocation contents None made messages assembles same = absurd cc
 object_of_source invocation contents (Some source) made messages assembles same =
-    ap (source_outcome invocation) assembles ∙ ap (object invocation.object made.object) (sym same)
+    ap (source_outcome invocation) assembles ∙ ap (λ said. object invocation.object made.object said (drop 1 made.files)) (sym same)
 
 -- and whose assembly gave this fault
 fault_of_source : (invocation : Invocation) (contents : Contents) (file : Option (List ℕ)) (fault : Fault) (pos : Pos) (notes : List Noted) (files : List (List ℕ)) (text : List ℕ)

@@ -147,7 +147,7 @@ object_bytes None = []
 object_bytes (Some usage) = []
 object_bytes (Some missing) = []
 object_bytes (Some (refused messages)) = []
-object_bytes (Some (object name bytes messages)) = bytes
+object_bytes (Some (object name bytes messages included)) = bytes
 
 -- its length, and the bytes of its `.text`, which stand behind the header
 abbrev length_and_text : ℕ → Option Outcome → ℕ × List ℕ
@@ -159,7 +159,7 @@ said_by None = []
 said_by (Some usage) = []
 said_by (Some missing) = []
 said_by (Some (refused messages)) = messages
-said_by (Some (object name bytes messages)) = messages
+said_by (Some (object name bytes messages included)) = messages
 
 -- the flags
 abbrev flagged : List ℕ → List ℕ → Option Outcome

@@ -7,9 +7,9 @@ use Rattle.asm_base.specs.WholeFile.{most_bytes}
 use Rattle.asm_front.specs.Ending.{Flags}
 use Rattle.asm_front.specs.Assembly.{Assembly, assembled, faulty, assembly_of}
 use Rattle.asm_front.specs.Assembly as assembly
-use Rattle.asm_front.specs.Outcome.{CountsMissed, CountsMissingFiles, CountsMisses, NamesFiles, ReadsFiles, TakesFiles}
+use Rattle.asm_front.specs.Outcome.{Assembles, AssemblesFile, CountsMissed, CountsMissingFiles, CountsMisses, NamesFiles, ReadsFiles, TakesFiles}
 use Rattle.asm_front.specs.declared.answers.Assembled.{Assembled}
-use Rattle.asm_run.specs.Answers.{CountsMissingOutcome, ReadsAll}
+use Rattle.asm_run.specs.Answers.{CountsMissingOutcome, IncludesThese, ReadsAll}
 use Rattle.asm_run.specs.Outcome.{flags_by, source_outcome, file_outcome, invocation_outcome}
 use Rattle.asm_run.specs.Words.{Invocation}
 
@@ -44,13 +44,28 @@ pub none_started : (contents : Option Contents) (invocation : Invocation) (n : �
 none_started None invocation n = omega arith
 none_started (Some contents) invocation n = none_of invocation contents (contents invocation.file) n
 
+-- the files that were started are those of the outcome
+of_made : (invocation : Invocation) (contents : Contents) (file : Option (List ℕ)) (made : Assembled) → AssemblesFile (flags_by invocation) contents invocation.file file (Ok made)
+    → IncludesThese (Some (file_outcome invocation contents file)) (drop 1 made.files)
+of_made invocation contents None made assembles = absurd cc
+of_made invocation contents (Some source) made assembles =
+    subst (λ answer. IncludesThese (Some (source_outcome invocation answer)) (drop 1 made.files)) (sym assembles) refl
+
 -- each file that was started was read to its end
-pub all_read : (name file : List ℕ) (made : Assembled) (before now : Option (List FileEvent)) (taken taken_after : ℕ) → name ≡ file → NamesFiles name (Ok made)
-    → ReadsFiles name (Ok made) before now → TakesFiles (Ok made) taken taken_after → ReadsAll file before now taken taken_after
-all_read name file made before now taken taken_after named files reads takes =
+pub all_read : (contents : Option Contents) (invocation : Invocation) (flags : Flags) (name : List ℕ) (made : Assembled) (before now : Option (List FileEvent)) (taken taken_after : ℕ)
+    → flags ≡ flags_by invocation → name ≡ invocation.file → Assembles flags contents name (Ok made) → NamesFiles name (Ok made)
+    → ReadsFiles name (Ok made) before now → TakesFiles (Ok made) taken taken_after → ReadsAll (invocation_outcome invocation contents) invocation.file before now taken taken_after
+all_read contents invocation flags name made before now taken taken_after asked named assembles files reads takes =
     let count : length made.files ≡ length (drop 1 made.files) + 1 = ap length files ∙ omega arith in
     record {
       included = drop 1 made.files;
+      these = told_made contents assembles;
       history = subst (λ n. now ≡ happened before (whole_files (n ∷ drop 1 made.files))) named reads;
       at_most = omega (arith, takes.1, count);
     }
+  where
+    told_made : (told : Option Contents) → Assembles flags told name (Ok made) → IncludesThese (invocation_outcome invocation told) (drop 1 made.files)
+    told_made None is = tt
+    told_made (Some told) is =
+        of_made invocation told (told invocation.file) made
+        (subst (λ f. AssemblesFile f told invocation.file (told invocation.file) (Ok made)) asked (subst (λ n. AssemblesFile flags told n (told n) (Ok made)) named is))

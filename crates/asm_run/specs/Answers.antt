@@ -74,7 +74,7 @@ IsDone output None e = (bytes messages : List ℕ) × MakesObject output bytes m
 IsDone output (Some usage) e = ⊥
 IsDone output (Some missing) e = ⊥
 IsDone output (Some (refused messages)) e = ⊥
-IsDone output (Some (object name bytes messages)) e = MakesObject name bytes messages e
+IsDone output (Some (object name bytes messages included)) e = MakesObject name bytes messages e
 
 -- what `SourceFault` promises: the outcome is a refusal, and its messages were said
 abbrev pub IsSourceFault : Option Outcome → Effects → Type 0
@@ -82,7 +82,7 @@ IsSourceFault None e = (messages : List ℕ) × Refuses messages e
 IsSourceFault (Some usage) e = ⊥
 IsSourceFault (Some missing) e = ⊥
 IsSourceFault (Some (refused messages)) e = Refuses messages e
-IsSourceFault (Some (object name bytes messages)) e = ⊥
+IsSourceFault (Some (object name bytes messages included)) e = ⊥
 
 -- what `Usage` promises: the words are no command, and the usage text was said
 abbrev pub IsUsage : Option Outcome → Effects → Type 0
@@ -90,7 +90,7 @@ IsUsage None e = ⊥
 IsUsage (Some usage) e = Refuses usage_text e
 IsUsage (Some missing) e = ⊥
 IsUsage (Some (refused messages)) e = ⊥
-IsUsage (Some (object name bytes messages)) e = ⊥
+IsUsage (Some (object name bytes messages included)) e = ⊥
 
 -- what `ReadFault` promises: the words are a command, and nothing was said or made
 abbrev pub IsReadFault : Option Outcome → Effects → Type 0
@@ -98,7 +98,7 @@ IsReadFault None e = LeavesAll e
 IsReadFault (Some usage) e = ⊥
 IsReadFault (Some missing) e = LeavesAll e
 IsReadFault (Some (refused messages)) e = LeavesAll e
-IsReadFault (Some (object name bytes messages)) e = LeavesAll e
+IsReadFault (Some (object name bytes messages included)) e = LeavesAll e
 
 -- what `WriteFault` promises: of messages and object there are fronts, in their order
 abbrev pub IsWriteFault : List ℕ → Option Outcome → Effects → Type 0
@@ -106,7 +106,7 @@ IsWriteFault output None e = (bytes messages : List ℕ) × MakesInPart output b
 IsWriteFault output (Some usage) e = RefusesInPart usage_text e
 IsWriteFault output (Some missing) e = ⊥
 IsWriteFault output (Some (refused messages)) e = RefusesInPart messages e
-IsWriteFault output (Some (object name bytes messages)) e = MakesInPart name bytes messages e
+IsWriteFault output (Some (object name bytes messages included)) e = MakesInPart name bytes messages e
 
 -- what `NoMemory` promises: nothing was said or made
 abbrev pub IsNoMemory : Option Outcome → Effects → Type 0
@@ -114,7 +114,7 @@ IsNoMemory None e = LeavesAll e
 IsNoMemory (Some usage) e = LeavesAll e
 IsNoMemory (Some missing) e = LeavesAll e
 IsNoMemory (Some (refused messages)) e = LeavesAll e
-IsNoMemory (Some (object name bytes messages)) e = LeavesAll e
+IsNoMemory (Some (object name bytes messages included)) e = LeavesAll e
 
 -- what the status promises; where the words are a command and the input tells no contents no outcome is told, but the object's name is
 abbrev pub Answers : List ℕ → Option Outcome → Status → Effects → Type 0
@@ -131,7 +131,7 @@ Completes None status = (status ≡ Done) ⊎ (status ≡ SourceFault) ⊎ (stat
 Completes (Some usage) status = (status ≡ Usage) ⊎ (status ≡ NoMemory)
 Completes (Some missing) status = status ≡ NoMemory
 Completes (Some (refused messages)) status = (status ≡ SourceFault) ⊎ (status ≡ NoMemory)
-Completes (Some (object name bytes messages)) status = (status ≡ Done) ⊎ (status ≡ NoMemory)
+Completes (Some (object name bytes messages included)) status = (status ≡ Done) ⊎ (status ≡ NoMemory)
 
 -- the count of starts of what has no contents is as before, but for a missing file
 abbrev pub CountsMissingOutcome : Option Outcome → ℕ → ℕ → Type 0
@@ -139,11 +139,20 @@ CountsMissingOutcome None before now = before ≤ now
 CountsMissingOutcome (Some usage) before now = now ≡ before
 CountsMissingOutcome (Some missing) before now = ((before ≤ now) × HasRisen before now) ⊎ (now ≡ before)
 CountsMissingOutcome (Some (refused messages)) before now = now ≡ before
-CountsMissingOutcome (Some (object name bytes messages)) before now = now ≡ before
+CountsMissingOutcome (Some (object name bytes messages included)) before now = now ≡ before
 
--- what `Done` promises of files: the source of this name and each file that it started were read to their end, one after the other, and of each
--- at most one byte more than the most was taken
-pub record ReadsAll (name : List ℕ) (before now : Option (List FileEvent)) (taken taken_after : ℕ) : Type 0 where
+-- where the outcome is told, these are the files that the source starts
+abbrev pub IncludesThese : Option Outcome → List (List ℕ) → Type 0
+IncludesThese None these = Unit {0}
+IncludesThese (Some usage) these = ⊥
+IncludesThese (Some missing) these = ⊥
+IncludesThese (Some (refused messages)) these = ⊥
+IncludesThese (Some (object name bytes messages included)) these = these ≡ included
+
+-- what `Done` promises of files: the source of this name and each file that it starts were read to their end, one after the other, and nothing
+-- else was; of each at most one byte more than the most was taken
+pub record ReadsAll (outcome : Option Outcome) (name : List ℕ) (before now : Option (List FileEvent)) (taken taken_after : ℕ) : Type 0 where
   pub included : List (List ℕ)
+  pub these : IncludesThese outcome included
   pub history : now ≡ happened before (whole_files (name ∷ included))
-  pub at_most : taken_after ≤ taken + (most_bytes + 1) * (length included + 2)
+  pub at_most : taken_after ≤ taken + (most_bytes + 1) * (length included + 1)

@@ -1,5 +1,5 @@
 -- What a command line stands for.
-use Rattle.std.specs.Prelude.{ℕ, List, Option, None, Some}
+use Rattle.std.specs.Prelude.{ℕ, List, drop, Option, None, Some}
 use Rattle.asm_base.specs.Inputs.{Contents}
 use Rattle.asm_base.specs.Messages.{remarks, refusal}
 use Rattle.asm_front.specs.Ending.{Flags}
@@ -15,8 +15,8 @@ pub data Outcome : Type 0 where
   missing : Outcome
   -- the source has a fault
   refused : (messages : List ℕ) → Outcome
-  -- the source has an object
-  object : (name bytes messages : List ℕ) → Outcome
+  -- the source has an object, and starts these files
+  object : (name bytes messages : List ℕ) (included : List (List ℕ)) → Outcome
 
 -- what the invocation asks of the assembly
 abbrev pub flags_by : Invocation → Flags
@@ -24,7 +24,8 @@ flags_by invocation = record { no_warn = invocation.no_warn; fatal_warnings = in
 
 -- what a source of this assembly stands for
 abbrev pub source_outcome : Invocation → Assembly → Outcome
-source_outcome invocation (assembled made files) = object invocation.object made.object (remarks files made.notes)
+source_outcome invocation (assembled made files) =
+    object invocation.object made.object (remarks files made.notes) (drop 1 files)
 source_outcome invocation (faulty first files) = refused (refusal files first.notes first.fault first.pos)
 source_outcome invocation assembly.missing = missing
 

@@ -13,7 +13,7 @@ abbrev pub OutcomeReadsBack : Flags → List TokenStatement → Outcome → Type
 OutcomeReadsBack flags handed usage = Unit {0}
 OutcomeReadsBack flags handed missing = Unit {0}
 OutcomeReadsBack flags handed (refused messages) = Unit {0}
-OutcomeReadsBack flags handed (object name bytes messages) = ReadsBack flags handed bytes
+OutcomeReadsBack flags handed (object name bytes messages included) = ReadsBack flags handed bytes
 
 -- the same of the file that stands under the name, and of the statements that its expansion hands out
 abbrev pub FileReadsBack : Invocation → Contents → Option (List ℕ) → Type 0

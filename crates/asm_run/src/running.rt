@@ -115,7 +115,8 @@ fn run_source<I: Inputs, O: Output, C: Console>(
     ensures taken { I.taken ins.old ≤ I.taken ins.new }
     ensures contents { I.contents ins.new ≡ I.contents ins.old }
     ensures whole { result ≡ Status.Done → IsAtEnd (I.rest ins.new) }
-    ensures reads { result ≡ Status.Done → ReadsAll invocation.entry.file.now
+    ensures reads { result ≡ Status.Done → ReadsAll
+        (invocation_outcome (invoked invocation.entry) (I.contents ins.old)) invocation.entry.file.now
         (I.history ins.old) (I.history ins.new) (I.taken ins.old) (I.taken ins.new) }
 {
     let options = match options_for(alloc, invocation) {
@@ -197,7 +198,8 @@ pub fn run<I: Inputs, O: Output, C: Console>(
     ensures contents { I.contents ins.new ≡ I.contents ins.old }
     ensures whole { result ≡ Status.Done → IsAtEnd (I.rest ins.new) }
     ensures reads { result ≡ Status.Done
-        → ReadsAll (file_of (command_of (map string_bytes words.now.items)))
+        → ReadsAll (outcome (map string_bytes words.now.items) (I.contents ins.old))
+        (file_of (command_of (map string_bytes words.now.items)))
         (I.history ins.old) (I.history ins.new) (I.taken ins.old) (I.taken ins.new) }
     ensures usage_reads_nothing { command_of (map string_bytes words.now.items) ≡ None
         → ins.new ≡ ins.old }

@@ -6,7 +6,7 @@ use Rattle.asm_lines.specs.LineNumbers.{line_of}
 use Rattle.asm_lines.specs.Statements.{StatementAt, statements_of}
 use Rattle.asm_lines.specs.NextStatements.{StandsNext, HasNoLineFault, IsLineCheck}
 use Rattle.asm_lines.specs.Placing.{IsFaultOfLines}
-use Rattle.asm_lines.proofs.PlacingSteps.{found_never_ok, nul_never_ok, statements_all}
+use Rattle.asm_lines.proofs.LineFaults.{found_never_ok, nul_never_ok, statements_all}
 use Rattle.asm_lines.proofs.line_checks.fault_of_lines.Goals as goal
 
 -- where the lines have a fault, it is the one that is found

@@ -1,6 +1,6 @@
 -- A byte 0 is found where there is one.
 use Rattle.std.proofs.Common.{◌∙◌}
-use Rattle.asm_lines.proofs.PlacingSteps.{nul_is_found}
+use Rattle.asm_lines.proofs.LineFaults.{nul_is_found}
 use Rattle.asm_lines.proofs.line_checks.has_nul.Goals as goal
 
 pub returns : goal.returns

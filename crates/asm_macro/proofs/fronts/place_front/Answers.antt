@@ -5,13 +5,12 @@ use Rattle.asm_base.specs.declared.refusals.Refusal.{Refusal}
 use Rattle.asm_base.specs.declared.refusals.Refusal.TheVariants as refusal
 use Rattle.asm_base.specs.declared.tokens.Token.{Token}
 use Rattle.asm_lines.specs.NextStatements.{StandsNext, TokenStatement, next_in_tokens}
-use Rattle.macro_words.proofs.Labels.{left_seen}
 use Rattle.macro_words.specs.Conditions.{Knowledge}
 use Rattle.asm_macro.specs.declared.fronts.Stop.TheVariants as stop
 use Rattle.asm_macro.specs.Fronts.{LeadsTo, StopsAt}
 use Rattle.asm_macro.specs.Laws.{IsPlain}
 use Rattle.asm_macro.specs.Placing.{refused}
-use Rattle.asm_macro.proofs.FrontLemmas.{plain_by, no_word, front_init, front_next, front_long, front_refused, front_ends, front_clean}
+use Rattle.asm_macro.proofs.FrontLemmas.{left_seen, plain_by, no_word, front_init, front_next, front_long, front_refused, front_ends, front_clean}
 use Rattle.asm_macro.proofs.fronts.place_front.Goals as goal
 
 pub statements-init : goal.statements-init

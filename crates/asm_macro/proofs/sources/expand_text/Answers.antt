@@ -6,20 +6,20 @@ use Rattle.asm_lines.specs.Faults.{nul_offset}
 use Rattle.asm_macro.specs.declared.fronts.Stop.TheVariants as stop
 use Rattle.asm_macro.specs.Fronts.{StopsAt}
 use Rattle.asm_macro.specs.Readings.{input_by}
-use Rattle.asm_macro.proofs.SourceSteps.{nul_fault, checked_source, source_ends, source_long, source_refused, source_rest}
+use Rattle.asm_macro.proofs.SourceSteps.{checked_source, source_ends, source_long, source_refused, source_rest}
 use Rattle.asm_macro.proofs.sources.expand_text.Goals as goal
 
 pub returns-then-has_nul : goal.returns-then-has_nul
 returns-then-has_nul g c =
     let inside = ap (λ source. nat_lt (nul_offset source) (length source)) (sym c.as_bytes.ensures) ∙ sym c.has_nul.ensures ∙ c.if-has_nul.true in
-    checked_source g.P.Placer.placed g.P.KnowingPlacer.told (g.I.Inputs.contents c.args.ins.now) c.args.text c.args.files.now c.args.placer.now c.check_lines.result c.args.placer.now (input_by g.I.Inputs.contents g.I.Inputs.rest g.I.Inputs.faults g.I.Inputs.missing g.I.Inputs.taken g.I.Inputs.history c.args.ins.now) (nul_fault c.args.text inside) c.check_lines.ensures
+    checked_source g.P.Placer.placed g.P.KnowingPlacer.told (g.I.Inputs.contents c.args.ins.now) c.args.text c.args.files.now c.args.placer.now c.check_lines.result c.args.placer.now (input_by g.I.Inputs.contents g.I.Inputs.rest g.I.Inputs.faults g.I.Inputs.missing g.I.Inputs.taken g.I.Inputs.history c.args.ins.now) (c.line_faults_are_found.ensures.nul 0 c.args.text inside) c.check_lines.ensures
 
 pub returns-in-End : goal.returns-in-End
 returns-in-End g c =
     let none = ap (λ source. nat_lt (nul_offset source) (length source)) (sym c.as_bytes.ensures) ∙ sym c.has_nul.ensures ∙ c.if-has_nul.false in
     let Stops : List ℕ → Type 0 = λ source. StopsAt g.P.Placer.placed g.P.KnowingPlacer.told source c.args.placer.now c.place_front.new.placer stop.End in
     let stopped = subst Stops c.as_bytes-2.ensures c.in-End.ensures in
-    source_ends g.P.Placer.placed g.P.KnowingPlacer.told (g.I.Inputs.contents c.args.ins.now) c.args.text c.args.files.now c.args.placer.now stopped.0 c.place_front.new.placer (input_by g.I.Inputs.contents g.I.Inputs.rest g.I.Inputs.faults g.I.Inputs.missing g.I.Inputs.taken g.I.Inputs.history c.args.ins.now) none stopped.1 stopped.2
+    source_ends g.P.Placer.placed g.P.KnowingPlacer.told (g.I.Inputs.contents c.args.ins.now) c.args.text c.args.files.now c.args.placer.now stopped.0 c.place_front.new.placer (input_by g.I.Inputs.contents g.I.Inputs.rest g.I.Inputs.faults g.I.Inputs.missing g.I.Inputs.taken g.I.Inputs.history c.args.ins.now) (c.line_faults_are_found.ensures.clean 0 c.args.text none stopped.2) stopped.1
 
 pub returns-in-Ok : goal.returns-in-Ok
 returns-in-Ok g c =

@@ -8,7 +8,6 @@ use Rattle.macro_blocks.specs.Frames.{Takes, level_of}
 use Rattle.macro_blocks.specs.Places.{read_at}
 use Rattle.macro_blocks.specs.Levels.{with_statements}
 use Rattle.macro_words.specs.declared.causes.MacroCause.TheVariants.{UnclosedBlock}
-use Rattle.macro_words.proofs.Labels.{left_seen}
 use Rattle.asm_macro.specs.declared.faults.ExpandFault.TheVariants.{Expansion, NoMemory}
 use Rattle.asm_macro.specs.declared.heads.Head.{Head}
 use Rattle.asm_macro.specs.declared.turned.Turned.TheVariants as turned
@@ -17,6 +16,7 @@ use Rattle.asm_macro.specs.Heads.{IsHead}
 use Rattle.asm_macro.specs.Readings.{input_by}
 use Rattle.asm_macro.specs.Running.{RunsFrom, headed}
 use Rattle.asm_macro.specs.Turning.{state_of}
+use Rattle.asm_macro.proofs.FrontLemmas.{left_seen}
 use Rattle.asm_macro.proofs.Texts.{runs_without, text_more, text_next, text_ends, text_unclosed, text_stays}
 use Rattle.asm_macro.proofs.Turnings.{plain_fails}
 use Rattle.asm_macro.proofs.Runs.{steps_none}
