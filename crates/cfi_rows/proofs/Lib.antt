@@ -1,0 +1,17 @@
+pub mod ReadingLemmas
+pub mod SignedLemmas
+pub mod LongLemmas
+pub mod SignedLongLemmas
+pub mod RunLemmas
+pub mod PlacedLemmas
+pub mod OperandLemmas
+pub mod FairLemmas
+pub mod PieceLemmas
+pub mod WrittenLemmas
+pub mod EntryLemmas
+pub mod DigitLemmas
+pub mod LeastLemmas
+pub mod DifferenceLemmas
+pub mod RowListLemmas
+pub mod WorkedEntries
+pub mod FormLemmas

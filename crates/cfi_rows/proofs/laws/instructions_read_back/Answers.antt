@@ -1,0 +1,5 @@
+use Rattle.cfi_rows.proofs.PieceLemmas.{written_reads}
+use Rattle.cfi_rows.proofs.laws.instructions_read_back.Goals as goal
+
+pub returns-clause-read : goal.returns-clause-read
+returns-clause-read c op bytes rest is = written_reads op bytes rest is

@@ -1,0 +1,15 @@
+-- Each clause is a record that computes.
+use Rattle.cfi_rows.proofs.WorkedEntries.{differences, frame_rows, other_rows, written_bytes}
+use Rattle.cfi_rows.proofs.laws.worked_rows.Goals as goal
+
+pub returns-clause-framed : goal.returns-clause-framed
+returns-clause-framed c = frame_rows
+
+pub returns-clause-others : goal.returns-clause-others
+returns-clause-others c = other_rows
+
+pub returns-clause-bytes : goal.returns-clause-bytes
+returns-clause-bytes c = written_bytes
+
+pub returns-clause-differences : goal.returns-clause-differences
+returns-clause-differences c = differences

@@ -1,0 +1,12 @@
+pub mod Rows
+pub mod Leb128
+pub mod Instructions
+pub mod Places
+pub mod Entries
+pub mod Walks
+pub mod Room
+pub mod Written
+pub mod Lines
+pub mod Differences
+pub mod RowLists
+pub mod WorkedRows

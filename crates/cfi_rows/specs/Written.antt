@@ -1,0 +1,71 @@
+-- The bytes that instructions are written as (DWARF 5, sections 6.4.2 and 7.24), with a code alignment of 1 and a data alignment of -8.
+use Rattle.std.specs.Prelude.{ℕ, zero, suc, ◌+◌, ◌-◌, ◌/◌, ◌%◌, ◌^◌, ℤ, pos, negsuc, neg_ℤ, List, [], ◌∷◌, ◌++◌, Option, None, Some, nat_lt, nat_le, ◌==◌, ◌&&◌, if◌then◌else◌}
+use Rattle.std.specs.Option.{option_map}
+use Rattle.cfi_rows.specs.declared.rows.CfiOp.{CfiOp}
+use Rattle.cfi_rows.specs.declared.rows.CfiOp.TheVariants.{DefCfa, DefCfaRegister, DefCfaOffset, Set, Restore, Remember, RestoreState}
+use Rattle.cfi_rows.specs.declared.rows.Rule.{Rule}
+use Rattle.cfi_rows.specs.declared.rows.Rule.TheVariants.{Unspecified, Undefined, SameValue, Offset, ValueOffset, Register}
+
+-- a number in seven bits a byte, in at most one byte more than the first number says
+abbrev pub uleb_digits : ℕ → ℕ → List ℕ
+uleb_digits zero number = number ∷ []
+uleb_digits (suc more) number = if nat_lt number 128 then number ∷ [] else (128 + number % 128) ∷ uleb_digits more (number / 128)
+
+-- an unsigned number below 2 ^ 63, in as few bytes as hold it
+unfoldable pub uleb_bytes : ℕ → List ℕ
+uleb_bytes number = uleb_digits 8 number
+
+-- a number that is not below 0, with bit 6 of the last byte clear
+abbrev pub sleb_digits : ℕ → ℕ → List ℕ
+sleb_digits zero number = number ∷ []
+sleb_digits (suc more) number = if nat_lt number 64 then number ∷ [] else (128 + number % 128) ∷ sleb_digits more (number / 128)
+
+-- the number below 0 that is -1 less this number, with bit 6 of the last byte set
+abbrev pub sleb_digits_below : ℕ → ℕ → List ℕ
+sleb_digits_below zero number = (127 - number) ∷ []
+sleb_digits_below (suc more) number =
+    if nat_lt number 64 then (127 - number) ∷ [] else (255 - number % 128) ∷ sleb_digits_below more (number / 128)
+
+-- a signed number within -2 ^ 63 to 2 ^ 63 - 1, in as few bytes as hold it
+unfoldable pub sleb_bytes : ℤ → List ℕ
+sleb_bytes (pos number) = sleb_digits 9 number
+sleb_bytes (negsuc number) = sleb_digits_below 9 number
+
+-- a distance of at most so many bytes over 8, if it's a multiple
+abbrev pub slots : ℕ → ℕ → Option ℕ
+slots most distance = if nat_le distance most && (distance % 8 == 0) then Some (distance / 8) else None
+
+-- the CFA's offset: as it is behind some bytes, or factored behind others, where it's below 0
+abbrev pub cfa_offset : List ℕ → List ℕ → ℤ → Option (List ℕ)
+cfa_offset plain factored (pos offset) = if nat_lt offset (2 ^ 63) then Some (plain ++ uleb_bytes offset) else None
+cfa_offset plain factored (negsuc distance) = option_map (λ number. factored ++ sleb_bytes (pos number)) (slots (2 ^ 63) (distance + 1))
+
+-- an offset from the CFA, factored: behind some bytes where it's 0 or below, and behind others where it's above
+abbrev pub rule_offset : List ℕ → List ℕ → ℤ → Option (List ℕ)
+rule_offset below above (pos zero) = Some (below ++ uleb_bytes 0)
+rule_offset below above (pos (suc distance)) = option_map (λ number. above ++ sleb_bytes (neg_ℤ (pos number))) (slots (2 ^ 63 - 1) (distance + 1))
+rule_offset below above (negsuc distance) = option_map (λ number. below ++ uleb_bytes number) (slots (2 ^ 63) (distance + 1))
+
+-- a register of 0 to 63 gets a rule: undefined, same_value, offset, offset_extended_sf, val_offset, val_offset_sf, register
+abbrev pub rule_written : ℕ → Rule → Option (List ℕ)
+rule_written number Unspecified = None
+rule_written number Undefined = Some (0x07 ∷ number ∷ [])
+rule_written number SameValue = Some (0x08 ∷ number ∷ [])
+rule_written number (Offset offset) = rule_offset ((0x80 + number) ∷ []) (0x11 ∷ number ∷ []) offset
+rule_written number (ValueOffset offset) = rule_offset (0x14 ∷ number ∷ []) (0x15 ∷ number ∷ []) offset
+rule_written number (Register other) = if nat_lt other 64 then Some (0x09 ∷ number ∷ other ∷ []) else None
+
+-- a register above 63 is not written
+abbrev pub of_register : ℕ → Option (List ℕ) → Option (List ℕ)
+of_register number bytes = if nat_lt number 64 then bytes else None
+
+-- the bytes of an instruction: def_cfa, def_cfa_sf, def_cfa_register, def_cfa_offset, def_cfa_offset_sf, the rules, restore,
+-- remember_state, restore_state; none where no form holds it
+abbrev pub written : CfiOp → Option (List ℕ)
+written (DefCfa number offset) = of_register number (cfa_offset (0x0c ∷ number ∷ []) (0x12 ∷ number ∷ []) offset)
+written (DefCfaRegister number) = of_register number (Some (0x0d ∷ number ∷ []))
+written (DefCfaOffset offset) = cfa_offset (0x0e ∷ []) (0x13 ∷ []) offset
+written (Set number rule) = of_register number (rule_written number rule)
+written (Restore number) = of_register number (Some ((0xc0 + number) ∷ []))
+written Remember = Some (0x0a ∷ [])
+written RestoreState = Some (0x0b ∷ [])

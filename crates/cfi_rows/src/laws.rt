@@ -1,0 +1,100 @@
+//! What the definitions come to.
+
+ghost use Rattle.std.specs.Prelude.{◌≡◌, ◌+◌, ◌^◌, ◌<◌, ◌≤◌, ◌++◌, ℕ, ℤ, pos, neg_ℤ, ◌≤ℤ◌, ◌<ℤ◌, List, All, IsSome, length, slice_get, Some};
+ghost use Rattle.cfi_rows.specs.declared.rows.CfaRow.{CfaRow};
+ghost use Rattle.cfi_rows.specs.declared.rows.CfiOp.{CfiOp};
+ghost use Rattle.cfi_rows.specs.declared.rows.Insn.{Insn};
+ghost use Rattle.cfi_rows.specs.declared.rows.Insn.TheVariants.{Op};
+ghost use Rattle.cfi_rows.specs.Rows.{common_row, ops_after, rows_of, start_rows};
+ghost use Rattle.cfi_rows.specs.Instructions.{next};
+ghost use Rattle.cfi_rows.specs.Places.{AreCodeOf, decoded, Placed, row_after, row_in_force};
+ghost use Rattle.cfi_rows.specs.Entries.{common_bytes, initial_row, row_of};
+ghost use Rattle.cfi_rows.specs.Leb128.{sleb, uleb};
+ghost use Rattle.cfi_rows.specs.Written.{sleb_bytes, uleb_bytes, written};
+ghost use Rattle.cfi_rows.specs.Lines.{Line, AreLines, bytes_of, ops_of, entry_bytes, row_due};
+ghost use Rattle.cfi_rows.specs.Differences.{differences, IsReached, HaveForms};
+ghost use Rattle.cfi_rows.specs.RowLists.{RowPlace, AreRising, Leads, row_at_place};
+ghost use Rattle.cfi_rows.specs.WorkedRows.{FrameRows, OtherRows, WorkedDifferences, WrittenBytes};
+
+/// Bytes decode to the instructions that stand in them one behind the other, and to no others.
+#[tactic(auto, using(crate::proofs::WrittenLemmas::decoded_code, crate::proofs::WrittenLemmas::code_decoded))]
+pub fn instructions_stand_in_row()
+    ensures found { (insns : List Insn) (bytes : List ℕ) → AreCodeOf insns bytes
+        → decoded (length bytes) bytes ≡ Some insns }
+    ensures only { (insns : List Insn) (bytes : List ℕ) → decoded (length bytes) bytes ≡ Some insns
+        → AreCodeOf insns bytes }
+{}
+
+/// An instruction that is written reads back, whatever follows it. It is written exactly if some bytes read as it.
+#[tactic(auto, using(crate::proofs::PieceLemmas::written_reads, crate::proofs::FairLemmas::read_is_writable))]
+pub fn instructions_read_back()
+    ensures read { (op : CfiOp) (bytes rest : List ℕ) → written op ≡ Some bytes
+        → next (bytes ++ rest) ≡ Some (Op op, rest) }
+    ensures written { (op : CfiOp) (bytes rest : List ℕ) → All (λ byte. byte < 2 ^ 8) bytes
+        → next bytes ≡ Some (Op op, rest) → IsSome (written op) }
+{}
+
+/// A number is written in as few bytes as hold it: it reads back, and no bytes that read as it are fewer. Those that stand
+/// behind a number, `rest`, are none of it.
+pub fn numbers_are_least()
+    ensures unsigned_read { (number : ℕ) (rest : List ℕ) → number < 2 ^ 63
+        → uleb (uleb_bytes number ++ rest) ≡ Some (number, rest) }
+    ensures signed_read { (number : ℤ) (rest : List ℕ) → neg_ℤ (pos (2 ^ 63)) ≤ℤ number
+        → number <ℤ pos (2 ^ 63) → sleb (sleb_bytes number ++ rest) ≡ Some (number, rest) }
+    ensures unsigned { (number : ℕ) (bytes rest : List ℕ) → All (λ byte. byte < 2 ^ 8) bytes
+        → uleb bytes ≡ Some (number, rest)
+        → length (uleb_bytes number) + length rest ≤ length bytes }
+    ensures signed { (number : ℤ) (bytes rest : List ℕ) → All (λ byte. byte < 2 ^ 8) bytes
+        → sleb bytes ≡ Some (number, rest)
+        → length (sleb_bytes number) + length rest ≤ length bytes }
+{}
+
+/// Written instructions, whatever room each advance has and whatever padding follows, read as the row after all those
+/// up to a place.
+#[tactic(auto, using(crate::proofs::WrittenLemmas::written_row))]
+pub fn rows_read_back()
+    ensures { (initial : CfaRow) (at padding : ℕ) (lines : List Line) → AreLines 0 lines
+        → row_in_force initial at (bytes_of padding 0 lines)
+        ≡ row_after initial at (ops_of lines) (start_rows initial) }
+{}
+
+/// The same of a whole entry below its range; the common entry gives the row where a procedure begins.
+#[tactic(auto, using(crate::proofs::EntryLemmas::entry_row, crate::proofs::EntryLemmas::common_gives))]
+pub fn entries_read_back()
+    ensures entry { (at padding back first range : ℕ) (lines : List Line) → AreLines 0 lines
+        → back < 2 ^ 32 → 0 < back → first < 2 ^ 32 → range < 2 ^ 32
+        → length (bytes_of padding 0 lines) + 13 < 0xfffffff0
+        → row_of common_bytes (entry_bytes back first range (bytes_of padding 0 lines)) at
+        ≡ row_due at range lines }
+    ensures common { initial_row common_bytes ≡ Some common_row }
+{}
+
+/// The instructions of `diff` make of the first row the second, whatever is remembered: where both have a rule for each
+/// of 64 registers, and a register that is unspecified in the second is so in the first, or where the procedure begins.
+/// Rows that are alike at the return address are so. Each instruction can be written where the CFA and the rules can.
+#[tactic(auto, using(crate::proofs::DifferenceLemmas::differences_led, crate::proofs::FormLemmas::alike_reached, crate::proofs::FormLemmas::differences_written))]
+pub fn differences_lead()
+    ensures led { (initial from to : CfaRow) (saved : List CfaRow) → length from.rules ≡ 64
+        → length to.rules ≡ 64 → IsReached initial from to
+        → ops_after initial (differences from to) (rows_of from saved) ≡ Some (rows_of to saved) }
+    ensures alike { (from to : CfaRow) → length to.rules ≡ 64
+        → slice_get from.rules 16 ≡ slice_get to.rules 16 → IsReached common_row from to }
+    ensures written { (from to : CfaRow) → HaveForms from to
+        → All (λ op. IsSome (written op)) (differences from to) }
+{}
+
+/// Instructions that lead from row to row give at each place the row that stands there.
+#[tactic(auto, using(crate::proofs::RowListLemmas::rows_stand))]
+pub fn rows_stand_at_places()
+    ensures { (initial : CfaRow) (at : ℕ) (rows : List RowPlace) (ops : List Placed)
+        → AreRising 0 rows → Leads initial initial rows ops
+        → row_after initial at ops (start_rows initial) ≡ Some (row_at_place at initial rows) }
+{}
+
+/// The rows, the bytes and the differences that are worked out by hand.
+pub fn worked_rows()
+    ensures framed { FrameRows }
+    ensures others { OtherRows }
+    ensures bytes { WrittenBytes }
+    ensures differences { WorkedDifferences }
+{}
