@@ -2,6 +2,7 @@
 
 use crate::contents::{write_align, write_fill, write_run};
 use crate::faults::write_faults;
+use crate::frames::write_directives;
 use crate::layouts::write_layout;
 use crate::objects::write_object;
 use crate::symbols::{write_assigned, write_instances};
@@ -103,6 +104,7 @@ fn make_other_call(alloc: Global, call: &str, text: &str, out: &mut Vec<u8>) -> 
         "align" => call_align(alloc, text, out),
         "layout" => call_layout(alloc, text, out),
         "object" => write_object(alloc, text, out),
+        "cfi" => write_directives(alloc, text, out),
         _ => writeln!(out, "no such call"),
     }
 }

@@ -4,6 +4,7 @@
 mod calls;
 mod contents;
 mod faults;
+mod frames;
 mod layouts;
 mod made_sections;
 mod objects;

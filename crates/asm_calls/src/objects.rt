@@ -24,7 +24,7 @@ fn bytes_named<'a>(file: &'a [u8], name: &[u8]) -> Option<&'a [u8]> {
 }
 
 /// Bytes in hexadecimal, with a blank before each.
-fn write_hexadecimal(bytes: &[u8], out: &mut Vec<u8>) -> io::Result<()> {
+pub fn write_hexadecimal(bytes: &[u8], out: &mut Vec<u8>) -> io::Result<()> {
     for byte in bytes {
         write!(out, " {byte:02x}")?;
     }

@@ -1,0 +1,120 @@
+//! What directives make of procedures.
+
+use crate::objects::write_hexadecimal;
+use asm_base::Pos;
+use cfi_directives::{
+    CfiLine, Directives, DwarfRegister, Frame, Frames, Place, PlacedOps, RowDirective, SectionPlace,
+};
+use cfi_rows::{CfiOp, op_bytes};
+use std::alloc::Global;
+use std::io::{self, Write};
+
+/// The line of all directives.
+const POS: Pos = Pos { file: 0, line: 1 };
+
+/// A register and an offset, with a comma between.
+fn register_and_offset(text: &str) -> Option<(DwarfRegister, i64)> {
+    let (register, offset) = text.split_once(',')?;
+    let register = DwarfRegister::new(register.parse::<u64>().ok()?)?;
+    Some((register, offset.parse::<i64>().ok()?))
+}
+
+/// A directive of a row by its word, and what stands behind the sign `=`.
+fn row_directive(word: &str, text: &str) -> Option<RowDirective> {
+    match word {
+        "def_cfa_offset" => Some(RowDirective::DefCfaOffset(text.parse::<i64>().ok()?)),
+        "adjust_cfa_offset" => Some(RowDirective::AdjustCfaOffset(text.parse::<i64>().ok()?)),
+        "offset" => {
+            let (register, offset) = register_and_offset(text)?;
+            Some(RowDirective::Offset(register, offset))
+        }
+        "rel_offset" => {
+            let (register, offset) = register_and_offset(text)?;
+            Some(RowDirective::RelOffset(register, offset))
+        }
+        "remember_state" => Some(RowDirective::RememberState),
+        "restore_state" => Some(RowDirective::RestoreState),
+        _ => None,
+    }
+}
+
+/// The directive that a word of the input says.
+fn directive(text: &str) -> Option<CfiLine> {
+    match text {
+        "startproc" => Some(CfiLine::StartProc(POS)),
+        "endproc" => Some(CfiLine::EndProc),
+        _ => {
+            let (word, operands) = text.split_once('=').unwrap_or((text, ""));
+            Some(CfiLine::Row(row_directive(word, operands)?))
+        }
+    }
+}
+
+/// The bytes of an instruction.
+fn write_op(op: CfiOp, out: &mut Vec<u8>) -> io::Result<()> {
+    match op_bytes(op) {
+        Some(bytes) => {
+            write_hexadecimal(bytes.as_slice(), &mut *out)?;
+            writeln!(out, "")
+        }
+        None => writeln!(out, " no bytes"),
+    }
+}
+
+/// Each procedure: its section, whether it ended, and its instructions.
+fn write_frames(frames: &Frames, out: &mut Vec<u8>) -> io::Result<()> {
+    for frame in frames.as_slice() {
+        let section = frame.section;
+        let state = if frame.stop.is_some() {
+            "ended"
+        } else {
+            "open"
+        };
+        writeln!(out, "section {section}, {state}")?;
+        for placed in frame.ops.as_slice() {
+            let offset = placed.place.offset;
+            write!(out, "{offset}:")?;
+            write_op(placed.op, &mut *out)?;
+        }
+    }
+    Ok(())
+}
+
+/// A procedure that is put into an empty list.
+fn write_added(alloc: Global, out: &mut Vec<u8>) -> io::Result<()> {
+    let start = Place { item: 0, offset: 3 };
+    let mut frames = Frames::new(alloc);
+    let added = frames.add(Frame {
+        pos: POS,
+        section: 2,
+        start,
+        stop: None,
+        ops: PlacedOps::new(alloc),
+    });
+    match added {
+        Ok(()) => write_frames(&frames, out),
+        Err(_) => writeln!(out, "out of memory"),
+    }
+}
+
+/// `cfi WORD..`: directives, each one byte behind the one before it in section 1; and a procedure that is put into an empty list.
+pub fn write_directives(alloc: Global, text: &str, out: &mut Vec<u8>) -> io::Result<()> {
+    let mut directives = Directives::new(alloc);
+    let mut offset = 0;
+    for word in text.split(' ') {
+        let at = SectionPlace {
+            section: 1,
+            place: Place { item: 0, offset },
+        };
+        match directive(word) {
+            None => writeln!(out, "no such directive")?,
+            Some(line) => match directives.take(line, at) {
+                Ok(()) => {}
+                Err(fault) => writeln!(out, "{fault}")?,
+            },
+        }
+        offset = offset.saturating_add(1);
+    }
+    write_frames(&directives.into_frames(), &mut *out)?;
+    write_added(alloc, out)
+}

@@ -1,0 +1,14 @@
+pub mod WritableLemmas
+pub mod RowLemmas
+pub mod PutLemmas
+pub mod StuckLemmas
+pub mod StepLemmas
+pub mod MeaningLemmas
+pub mod DivisionLemmas
+pub mod TurnLemmas
+pub mod SoundLemmas
+pub mod FaultLemmas
+pub mod OrderLemmas
+pub mod AddressLemmas
+pub mod MeantLemmas
+pub mod WorkedLines
