@@ -1,0 +1,13 @@
+pub mod LabelLemmas
+pub mod PutLemmas
+pub mod NewTable
+pub mod ReadingLemmas
+pub mod ExtendLemmas
+pub mod EndLemmas
+pub mod NamedPlaces
+pub mod RefusedLemmas
+pub mod WorkedLemmas
+pub mod ApartLemmas
+pub mod FoundLemmas
+pub mod TableLemmas
+pub mod FormLemmas

@@ -1,0 +1,188 @@
+-- The whole table is found in the end.
+use Rattle.std.proofs.Common.{◌≡◌, ℕ, ◌<◌, ◌≤◌, inl, inr, Bool, true, false, List, [], ◌∷◌, ◌++◌, length, Option, None, Some, Ok, Err, if◌then◌else◌, get_or, refl, sym, ap, subst, ◌∙◌, zero, suc, ◌==◌, eq-eqb}
+use Rattle.std.specs.Prelude.{All, IsSomeAnd, codes}
+use Rattle.std.specs.List.{slice_get}
+use Rattle.std.specs.Option.{option_map_or}
+use Rattle.std.proofs.lemmas.Bool.{eqb-true}
+use Rattle.std.proofs.lemmas.List.Elements.{All-nil, All-cons, All-append}
+use Rattle.std.proofs.lemmas.Option.{slice_get-get_or, slice_get_within, get_or_from_slice_get}
+use Rattle.asm_base.specs.declared.positions.Pos.{Pos}
+use Rattle.asm_frags.specs.declared.faults.FragCause.TheVariants.{BadSection}
+use Rattle.asm_frags.specs.declared.fields.Field.{Field}
+use Rattle.asm_frags.specs.PlainBytes.{field_end}
+use Rattle.asm_frags.specs.SectionOf.{section_number}
+use Rattle.asm_frags.specs.Writing.{LooseItem, LooseSection, ends_in_run, takes_zeros_alone}
+use Rattle.cfi_directives.specs.declared.frames.Frame.{Frame}
+use Rattle.cfi_rows.specs.Entries.{common_bytes}
+use Rattle.eh_frame.specs.declared.ends.SectionEnd.{SectionEnd}
+use Rattle.eh_frame.specs.Pieces as piece
+use Rattle.eh_frame.specs.Pieces.{Tables, tables_of, piece_put}
+use Rattle.eh_frame.specs.Entries.{behind_plain, end_place}
+use Rattle.eh_frame.specs.Placing.{run_end, no_end, end_of, table_put, new_table, placed_there, placed_in, placed}
+use Rattle.eh_frame.specs.Standing.{Extends, OneExtends}
+use Rattle.eh_frame.specs.Found.{IsWithin, IsReadyAt, IsReady, PlainAt, EntriesStand, TableStands, IsPlaced}
+use Rattle.eh_frame.proofs.ExtendLemmas.{extends_same, one_same, entries_extend, table_extends}
+use Rattle.eh_frame.proofs.FoundLemmas.{piece_puts, entries_found, entries_within}
+
+-- the end of a section that is ready, where its last item is a run
+end_by : (found : Option LooseSection) (end : SectionEnd) → IsSomeAnd found (IsReadyAt end) → end.in_run ≡ true → option_map_or run_end found no_end ≡ end
+end_by None end ready run = absurd ready
+end_by (Some held) end ready run =
+    ap (λ (items : ℕ). record { items = items; bytes = length held.bytes; in_run = true }) ready.reaches.items
+    ∙ ap (λ (bytes : ℕ). record { items = end.items; bytes = bytes; in_run = true }) ready.reaches.bytes
+    ∙ ap (λ (in_run : Bool). record { items = end.items; bytes = end.bytes; in_run = in_run }) (sym run)
+
+end_is : (section : ℕ) (sections : List LooseSection) (end : SectionEnd) → IsReady section sections end → end.in_run ≡ true → end_of section sections ≡ end
+unfolding end_of
+end_is section sections end ready run = end_by (slice_get sections section) end ready run
+
+end_bytes : (section : ℕ) (sections : List LooseSection) (held : LooseSection) → slice_get sections section ≡ Some held → (end_of section sections).bytes ≡ length held.bytes
+unfolding end_of
+end_bytes section sections held is = ap (λ found. (option_map_or run_end found no_end).bytes) is
+
+both_made : {X : Type 0} (P Q R : X → Type 0) (o : Option X) → ((x : X) → P x → Q x → R x) → IsSomeAnd o P → IsSomeAnd o Q → IsSomeAnd o R
+both_made P Q R None make p q = absurd p
+both_made P Q R (Some x) make p q = make x p q
+
+pub table_found : (section : ℕ) (pos : Pos) (frames : List Frame) (tables : Tables) (held : LooseSection) → slice_get tables.sections section ≡ Some held → IsWithin held
+    → IsSomeAnd (slice_get (table_put section pos frames tables).sections section) (λ held. TableStands held section pos frames tables × IsWithin held)
+table_found section pos frames tables held is low =
+    let start : SectionEnd = record { items = length held.items; bytes = length held.bytes; in_run = ends_in_run held.items } in
+    let ready : IsReady section tables.sections start =
+    subst (λ (found : Option LooseSection). IsSomeAnd found (IsReadyAt start)) (sym is) (record { reaches = record { items = refl; bytes = refl; in_run = refl }; low = low }) in
+    let put : Tables = piece_put section pos (piece.plain common_bytes) tables in
+    let puts = piece_puts section pos (piece.plain common_bytes) tables start ready in
+    let ended : end_of section put.sections ≡ behind_plain (length common_bytes) start = end_is section put.sections (behind_plain (length common_bytes) start) puts.0 refl in
+    let began : (end_of section tables.sections).bytes ≡ length held.bytes = end_bytes section tables.sections held is in
+    let all : List LooseSection = (table_put section pos frames tables).sections in
+    let extends : OneExtends section put.sections all = entries_extend section (end_place section (end_of section tables.sections)) (end_of section put.sections) frames put in
+    both_made (λ held. PlainAt held (behind_plain (length common_bytes) start).items start.bytes common_bytes)
+    (λ held. EntriesStand held section (end_place section (end_of section tables.sections)) (end_of section put.sections) frames put × IsWithin held)
+    (λ held. TableStands held section pos frames tables × IsWithin held) (slice_get all section)
+    (λ last common entries. (
+      record {
+        common = subst (λ (items : ℕ). PlainAt last items (end_of section tables.sections).bytes common_bytes) (sym (ap (λ (end : SectionEnd). end.items) ended))
+            (subst (λ (bytes : ℕ). PlainAt last (behind_plain (length common_bytes) start).items bytes common_bytes) (sym began) common);
+        entries = entries.0;
+      },
+      entries.1,
+    ))
+    (puts.1 all extends)
+    (both_made (λ held. EntriesStand held section (end_place section (end_of section tables.sections)) (end_of section put.sections) frames put) IsWithin
+    (λ held. EntriesStand held section (end_place section (end_of section tables.sections)) (end_of section put.sections) frames put × IsWithin held) (slice_get all section)
+    (λ last entries within. (entries, within))
+    (entries_found section (end_place section (end_of section tables.sections)) (end_of section put.sections) frames put all
+    (subst (IsReady section put.sections) (sym ended) puts.0) (one_same section all))
+    (entries_within section (end_place section (end_of section tables.sections)) (end_of section put.sections) frames put
+    (subst (IsReady section put.sections) (sym ended) puts.0)))
+
+get_last : (xs : List LooseSection) (x : LooseSection) → slice_get (xs ++ x ∷ []) (length xs) ≡ Some x
+get_last [] x = refl
+get_last (y ∷ xs) x = get_last xs x
+
+new_low : IsWithin new_table
+new_low = record {
+  items = All-nil (λ (item : LooseItem). item.offset ≤ 0);
+  fields = All-nil (λ (field : Field). field_end field ≤ 0);
+  apart = tt;
+}
+
+get_first : (xs ys : List LooseSection) (i : ℕ) (x : LooseSection) → slice_get xs i ≡ Some x → slice_get (xs ++ ys) i ≡ Some x
+get_first [] ys i x is = absurd (let none : ⊥ = cc in none)
+get_first (y ∷ xs) ys zero x is = is
+get_first (y ∷ xs) ys (suc i) x is = get_first xs ys i x is
+
+-- the first and the second of what holds of a section
+parts : {X : Type 0} (P Q : X → Type 0) (o : Option X) → IsSomeAnd o (λ x. P x × Q x) → IsSomeAnd o P × IsSomeAnd o Q
+parts P Q None both = absurd both
+parts P Q (Some x) both = both
+
+-- all sections stay within their bytes where one is extended that does
+all_within : (section : ℕ) (before after : List LooseSection) → All IsWithin before → OneExtends section before after
+    → IsSomeAnd (slice_get after section) IsWithin → All IsWithin after
+all_within section before after low extends one = λ k d within. by k d within (k == section) refl
+  where
+    of_found : (k : ℕ) (d : LooseSection) (found : Option LooseSection) → slice_get after k ≡ found → IsSomeAnd found IsWithin → IsWithin (get_or after k d)
+    of_found k d None is is_within = absurd is_within
+    of_found k d (Some held) is is_within = subst IsWithin (sym (get_or_from_slice_get after k held d is)) is_within
+
+    by : (k : ℕ) (d : LooseSection) → k < length after → (same : Bool) → (k == section) ≡ same → IsWithin (get_or after k d)
+    by k d within true is =
+        of_found k d (slice_get after k) refl
+        (subst (λ (n : ℕ). IsSomeAnd (slice_get after n) IsWithin) (sym (eqb-true k section is)) one)
+    by k d within false is =
+        let inside : k < length before = subst (λ (n : ℕ). k < n) extends.count within in
+        let there : slice_get before k ≡ Some (get_or before k d) = slice_get-get_or before k d inside in
+        subst IsWithin (sym (get_or_from_slice_get after k (get_or before k d) d (extends.others k (λ same. absurd (let none : ⊥ = cc (is, eq-eqb k section same) in none)) ∙ there)))
+        (low k d inside)
+
+-- each section is extended where one is
+each_extends : (section : ℕ) (before after : List LooseSection) → OneExtends section before after → (number : ℕ) (held : LooseSection)
+    → slice_get before number ≡ Some held → (now : LooseSection) × (slice_get after number ≡ Some now) × Extends held now
+each_extends section before after extends number held is = by (number == section) refl
+  where
+    by : (same : Bool) → (number == section) ≡ same → (now : LooseSection) × (slice_get after number ≡ Some now) × Extends held now
+    by true same =
+        subst (λ (n : ℕ). (now : LooseSection) × (slice_get after n ≡ Some now) × Extends held now) (sym (eqb-true number section same))
+        (extends.there held (subst (λ (n : ℕ). slice_get before n ≡ Some held) (eqb-true number section same) is))
+    by false apart =
+        (held, extends.others number (λ same. absurd (let none : ⊥ = cc (apart, eq-eqb number section same) in none)) ∙ is, extends_same held)
+
+module _ (frame : Frame) (frames : List Frame) (tables after : Tables) (low : All IsWithin tables.sections) where
+  -- where it takes more than zeros, the section that is there
+  found_by : (section : ℕ) (held : LooseSection) (zeros : Bool) → section_number (codes ".eh_frame") tables.sections ≡ Some section
+      → slice_get tables.sections section ≡ Some held
+      → (if zeros then Err BadSection else Ok (table_put section frame.pos (frame ∷ frames) tables)) ≡ Ok after → IsPlaced frame frames tables after
+  found_by section held true named there is = absurd (let none : ⊥ = cc in none)
+  found_by section held false named there is =
+      let made : after ≡ table_put section frame.pos (frame ∷ frames) tables = cc in
+      let within : section < length tables.sections = slice_get_within tables.sections section held there in
+      let all : List LooseSection = (table_put section frame.pos (frame ∷ frames) tables).sections in
+      let found = parts (λ held. TableStands held section frame.pos (frame ∷ frames) tables) IsWithin (slice_get all section)
+      (table_found section frame.pos (frame ∷ frames) tables held there
+      (subst IsWithin (get_or_from_slice_get tables.sections section held held there) (low section held within))) in
+      let extends : OneExtends section tables.sections all = table_extends section frame.pos (frame ∷ frames) tables in
+      record {
+        section = section;
+        first = tables;
+        begins = inl (named, refl);
+        put = made;
+        stands = subst (λ (after : Tables). IsSomeAnd (slice_get after.sections section) (λ held. TableStands held section frame.pos (frame ∷ frames) tables)) (sym made) found.0;
+        within = subst (λ (after : Tables). All IsWithin after.sections) (sym made) (all_within section tables.sections all low extends found.1);
+        grows = subst (λ (after : Tables). (number : ℕ) (held : LooseSection) → slice_get tables.sections number ≡ Some held
+            → (now : LooseSection) × (slice_get after.sections number ≡ Some now) × Extends held now) (sym made) (each_extends section tables.sections all extends);
+      }
+
+  in_section : (section : ℕ) (found : Option LooseSection) → section_number (codes ".eh_frame") tables.sections ≡ Some section
+      → slice_get tables.sections section ≡ found → placed_there section found frame.pos (frame ∷ frames) tables ≡ Ok after → IsPlaced frame frames tables after
+  in_section section None named there is = absurd (let none : ⊥ = cc in none)
+  in_section section (Some held) named there is = found_by section held (takes_zeros_alone held) named there is
+
+  by_number : (found : Option ℕ) → section_number (codes ".eh_frame") tables.sections ≡ found
+      → placed_in found frame.pos (frame ∷ frames) tables ≡ Ok after → IsPlaced frame frames tables after
+  by_number (Some section) named is = in_section section (slice_get tables.sections section) named refl is
+  by_number None named is =
+      let first : Tables = tables_of tables.symbols (tables.sections ++ new_table ∷ []) in
+      let made : after ≡ table_put (length tables.sections) frame.pos (frame ∷ frames) first = cc in
+      let section : ℕ = length tables.sections in
+      let all : List LooseSection = (table_put section frame.pos (frame ∷ frames) first).sections in
+      let found = parts (λ held. TableStands held section frame.pos (frame ∷ frames) first) IsWithin (slice_get all section)
+      (table_found section frame.pos (frame ∷ frames) first new_table (get_last tables.sections new_table) new_low) in
+      let extends : OneExtends section first.sections all = table_extends section frame.pos (frame ∷ frames) first in
+      let low_first : All IsWithin first.sections =
+      All-append IsWithin tables.sections (new_table ∷ []) low (All-cons IsWithin new_table [] new_low (All-nil IsWithin)) in
+      record {
+        section = section;
+        first = first;
+        begins = inr (named, refl, refl);
+        put = made;
+        stands = subst (λ (after : Tables). IsSomeAnd (slice_get after.sections section) (λ held. TableStands held section frame.pos (frame ∷ frames) first)) (sym made) found.0;
+        within = subst (λ (after : Tables). All IsWithin after.sections) (sym made) (all_within section first.sections all low_first extends found.1);
+        grows = subst (λ (after : Tables). (number : ℕ) (held : LooseSection) → slice_get tables.sections number ≡ Some held
+            → (now : LooseSection) × (slice_get after.sections number ≡ Some now) × Extends held now) (sym made)
+            (λ number held there. each_extends section first.sections all extends number held (get_first tables.sections (new_table ∷ []) number held there));
+      }
+
+  pub is_placed : placed (frame ∷ frames) tables ≡ Ok after → IsPlaced frame frames tables after
+  unfolding placed
+  is_placed is = by_number (section_number (codes ".eh_frame") tables.sections) refl is

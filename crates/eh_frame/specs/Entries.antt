@@ -1,0 +1,85 @@
+-- The entries of a frame table as pieces, and where they end (psABI for AMD64, section 4.2.4; DWARF 5, section 6.4).
+use Rattle.std.specs.Prelude.{ℕ, ◌+◌, ◌-◌, ◌^◌, ◌==◌, Bool, true, false, List, [], ◌∷◌, length, if◌then◌else◌}
+use Rattle.std.specs.Option.{unwrap_or}
+use Rattle.asm_levels.specs.Needs.{advance_level}
+use Rattle.cfi_directives.specs.declared.frames.Frame.{Frame}
+use Rattle.cfi_directives.specs.declared.frames.PlacedOp.{PlacedOp}
+use Rattle.cfi_directives.specs.declared.places.Place.{Place}
+use Rattle.cfi_directives.specs.declared.places.SectionPlace.{SectionPlace}
+use Rattle.cfi_directives.specs.Meant.{place_in, stop_of}
+use Rattle.cfi_rows.specs.declared.rows.CfiOp.{CfiOp}
+use Rattle.cfi_rows.specs.Written.{written}
+use Rattle.item_bytes.specs.Advances.{advance_bytes}
+use Rattle.eh_frame.specs.declared.ends.SectionEnd.{SectionEnd}
+use Rattle.eh_frame.specs.declared.marks.Mark.TheVariants.{Here, At}
+use Rattle.eh_frame.specs.Pieces.{Piece, plain, number, pointer, advance, padding}
+
+-- the end behind so many plain bytes more, which go on with a run that is last
+abbrev pub behind_plain : ℕ → SectionEnd → SectionEnd
+behind_plain count end = record {
+  items = if end.in_run then end.items else end.items + 1;
+  bytes = end.bytes + count;
+  in_run = true;
+}
+
+-- the end behind an item more
+abbrev pub behind_item : SectionEnd → SectionEnd
+behind_item end = record { items = end.items + 1; bytes = end.bytes; in_run = false }
+
+-- the end behind a piece
+abbrev pub behind_piece : Piece → SectionEnd → SectionEnd
+behind_piece (plain bytes) end = behind_plain (length bytes) end
+behind_piece (number distance) end = behind_plain 4 end
+behind_piece (pointer place) end = behind_plain 4 end
+behind_piece (advance distance) end = behind_item end
+behind_piece (padding log) end = behind_item end
+
+-- the end behind pieces
+abbrev pub behind_pieces : List Piece → SectionEnd → SectionEnd
+behind_pieces [] end = end
+behind_pieces (piece ∷ pieces) end = behind_pieces pieces (behind_piece piece end)
+
+-- the end as a place of the section of this number
+abbrev pub end_place : ℕ → SectionEnd → SectionPlace
+end_place section end = record { section = section; place = record { item = end.items; offset = end.bytes } }
+
+-- the bytes of an instruction
+abbrev pub op_code : CfiOp → List ℕ
+op_code op = unwrap_or (written op) []
+
+-- the bytes of the advance by a distance that is known, as few as hold it: none for 0
+abbrev pub known_advance : ℕ → List ℕ
+known_advance distance = advance_bytes (advance_level distance) distance
+
+-- the advance from one place to another: its bytes, where no item stands between the places, or what layout settles
+abbrev pub advance_piece : Bool → ℕ → Place → Place → Piece
+advance_piece true section last place = plain (known_advance (place.offset - last.offset))
+advance_piece false section last place = advance (record { to = At (place_in section place); from = At (place_in section last); plus = 0 })
+
+-- an instruction before other pieces, behind the advance from the last place
+abbrev pub with_op : ℕ → Place → PlacedOp → List Piece → List Piece
+with_op section last placed pieces =
+    advance_piece (last.item == placed.place.item) section last placed.place ∷ plain (op_code placed.op) ∷ pieces
+
+-- the instructions of a procedure from a place on, and zeros, which are nops, up to the next multiple of 2 ^ log
+abbrev pub op_pieces : ℕ → ℕ → Place → List PlacedOp → List Piece
+op_pieces section log last [] = padding log ∷ []
+op_pieces section log last (placed ∷ ops) = with_op section last placed (op_pieces section log placed.place ops)
+
+-- what the length of an entry counts: the distance back to the common entry, the start, the range, no augmentation data, the instructions and the padding
+abbrev pub counted_pieces : SectionPlace → ℕ → Frame → List Piece
+counted_pieces common log frame =
+    number (record { to = Here; from = At common; plus = 0 })
+    ∷ pointer (place_in frame.section frame.start)
+    ∷ number (record { to = At (place_in frame.section (stop_of frame)); from = At (place_in frame.section frame.start); plus = 0 })
+    ∷ plain (0 ∷ [])
+    ∷ op_pieces frame.section log frame.start frame.ops
+
+-- the length: from behind its own four bytes to the end
+abbrev pub length_piece : SectionPlace → Piece
+length_piece end = number (record { to = At end; from = Here; plus = 2 ^ 64 - 4 })
+
+-- a frame description entry behind this end of the section of this number
+abbrev pub entry_pieces : ℕ → SectionEnd → SectionPlace → ℕ → Frame → List Piece
+entry_pieces section end common log frame =
+    length_piece (end_place section (behind_pieces (counted_pieces common log frame) (behind_plain 4 end))) ∷ counted_pieces common log frame
