@@ -31,7 +31,7 @@ fn zero<'a>() -> Value<'a>
 
 /// An instruction without operands.
 #[inline(always)]
-fn blank<'a>(name: Mnemonic, size: u8, prefix: Prefix) -> Insn<'a>
+pub fn blank<'a>(name: Mnemonic, size: u8, prefix: Prefix) -> Insn<'a>
     ensures { IsInsnOf result (blank name size prefix) }
 {
     Insn {

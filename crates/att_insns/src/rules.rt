@@ -137,7 +137,7 @@ fn or_move(insn: &mut Insn)
 }
 
 /// Memory has 32 bits.
-fn long_memory(insn: &mut Insn)
+pub fn long_memory(insn: &mut Insn)
     ensures { (i d : ValueText) → HasTexts insn.old i d
         → IsInsnOf insn.new (long_memory (text_of insn.old i d)) }
 {
@@ -184,7 +184,7 @@ fn apply_text(insn: &mut Insn, rule: Rule)
 
 /// What the operands mean by the rule of the mnemonic.
 #[inline(always)]
-pub(crate) fn apply(insn: &mut Insn, rule: Rule)
+pub fn apply(insn: &mut Insn, rule: Rule)
     ensures { (due : InsnText) → IsInsnOf insn.old due → IsInsnOf insn.new (ruled rule due) }
 {
     apply_text(insn, rule);
@@ -192,7 +192,7 @@ pub(crate) fn apply(insn: &mut Insn, rule: Rule)
 
 /// Whether an expression without a mark is the target of a branch.
 #[inline(always)]
-pub(crate) fn is_branch(rule: Rule) -> bool
+pub fn is_branch(rule: Rule) -> bool
     ensures { result ≡ is_branch rule }
 {
     matches!(rule, Rule::Branch)

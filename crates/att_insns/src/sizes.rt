@@ -17,7 +17,7 @@ use x86_table::{Pattern, Row};
 
 /// How many bits the registers of a class have.
 #[inline(always)]
-fn width(class: Class) -> u8
+pub fn width(class: Class) -> u8
     ensures { result ≡ width class }
 {
     match class {
@@ -60,11 +60,11 @@ fn takes(pattern: Pattern, slot: Slot) -> bool
 
 /// The operands of an instruction.
 #[derive(Clone, Copy)]
-struct Slots(Slot, Slot, Slot);
+pub struct Slots(pub Slot, pub Slot, pub Slot);
 
 /// Whether the row takes such operands.
 #[tactic(auto, unfolding(crate::specs::Sizes::takes_all))]
-fn takes_all(row: &Row, slots: Slots) -> bool
+pub fn takes_all(row: &Row, slots: Slots) -> bool
     ensures { result ≡ takes_all slots.0 slots.1 slots.2 row.now }
 {
     takes(row.first, slots.0) && (takes(row.second, slots.1) && takes(row.third, slots.2))
@@ -97,7 +97,7 @@ fn all_agree(rows: &[Row], slots: Slots, size: u8) -> bool
 
 /// The first row of the name that takes such operands.
 #[tactic(auto, using(crate::proofs::RowSearches::form_found))]
-fn first_form(name: Mnemonic, slots: Slots) -> Option<&'static Row>
+pub fn first_form(name: Mnemonic, slots: Slots) -> Option<&'static Row>
     ensures { let due = find (is_form name.0 slots.0 slots.1 slots.2) the_rows in
         option_map (λ row. row.now) result ≡ due }
 {

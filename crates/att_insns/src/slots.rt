@@ -7,7 +7,7 @@ use x86_insn::{Class, Slot};
 
 /// Whether no operand stands there.
 #[inline(always)]
-pub(crate) fn is_absent(slot: Slot) -> bool
+pub fn is_absent(slot: Slot) -> bool
     ensures { result ≡ is_absent slot }
 {
     matches!(slot, Slot::Absent)

@@ -29,7 +29,7 @@ with_fails tokens at own None fails = ap (as_value None 0) (placed_fails tokens 
 with_fails tokens at own (Some suffix) fails =
     ap (as_value (Some suffix) 2) (placed_fails (without_suffix tokens (suffixed_name tokens at)) at own (ap (reading 1 0) (same_expression tokens at) ∙ (has_fault (expression_by (drop at tokens) (Some suffix)) own).refused fails))
 
-value_fails : (tokens : List SpelledToken) (at : ℕ) (own : ExprCause) → ValueFails (drop at tokens) own → value_at tokens at ≡ Err (stated own)
+pub value_fails : (tokens : List SpelledToken) (at : ℕ) (own : ExprCause) → ValueFails (drop at tokens) own → value_at tokens at ≡ Err (stated own)
 unfolding value_at
 value_fails tokens at own fails =
     with_fails tokens at own (suffix_at tokens at) (subst (λ (s : Option Suffix). FailsAt (expression_by (drop at tokens) s) own) (same_suffix tokens at) fails)

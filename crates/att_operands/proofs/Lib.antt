@@ -14,6 +14,7 @@ pub mod ReadValues
 pub mod ReadOperands
 pub mod RefusedFails
 pub mod FailsRefused
+pub mod WholeValues
 pub mod WorkedTexts
 pub mod NegativeNumbers
 pub mod UsualOperands

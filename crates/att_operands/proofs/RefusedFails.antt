@@ -60,7 +60,7 @@ with_refused tokens at fault None is = placed_refused tokens (drop at tokens) at
 with_refused tokens at fault (Some suffix) is =
     placed_refused (without_suffix tokens (suffixed_name tokens at)) (expression_by (drop at tokens) (Some suffix)) at 2 (Some suffix) fault (same_expression tokens at) is
 
-value_refused : (tokens : List SpelledToken) (at : ℕ) (fault : OperandCause) → value_at tokens at ≡ Err fault → Failed (ValueFails (drop at tokens)) fault
+pub value_refused : (tokens : List SpelledToken) (at : ℕ) (fault : OperandCause) → value_at tokens at ≡ Err fault → Failed (ValueFails (drop at tokens)) fault
 unfolding value_at
 value_refused tokens at fault is =
     subst (λ (s : Option Suffix). Failed (FailsAt (expression_by (drop at tokens) s)) fault) (sym (same_suffix tokens at)) (with_refused tokens at fault (suffix_at tokens at) is)

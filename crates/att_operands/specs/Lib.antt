@@ -9,5 +9,6 @@ pub mod OperandTexts
 pub mod Usual
 pub mod Spells
 pub mod Failing
+pub mod WholeValues
 pub mod WorkedOperands
 pub mod Prefixes

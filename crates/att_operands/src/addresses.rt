@@ -20,7 +20,7 @@ pub struct ReadAddress {
 
 /// What the token at this place names as a register.
 #[inline(always)]
-pub(crate) fn register_by(tokens: &[Token], at: usize) -> Option<NamedRegister>
+pub fn register_by(tokens: &[Token], at: usize) -> Option<NamedRegister>
     ensures value { result ≡ register_by (slice_get (map spelled tokens.now) at) }
     ensures within { IsSome result → at < length tokens.now }
 {
@@ -45,7 +45,7 @@ fn register_at(tokens: &[Token], at: usize) -> Option<NamedRegister>
 
 /// The base that was named.
 #[inline(always)]
-fn base_by(named: Option<NamedRegister>) -> Option<Base>
+pub fn base_by(named: Option<NamedRegister>) -> Option<Base>
     ensures value { result ≡ base_by named }
     ensures named { IsSome result → IsSome named }
 {
@@ -65,7 +65,7 @@ fn base_by(named: Option<NamedRegister>) -> Option<Base>
 
 /// The register that was named as an index.
 #[inline(always)]
-fn index_by(named: Option<NamedRegister>) -> Option<u8>
+pub fn index_by(named: Option<NamedRegister>) -> Option<u8>
     ensures value { result ≡ index_by named }
     ensures named { IsSome result → IsSome named }
 {
@@ -103,7 +103,7 @@ fn scale_of(number: u64) -> Option<u8>
 /// The scale that the token at this place writes, by its logarithm.
 #[inline(always)]
 #[tactic(auto, unfolding(crate::specs::Addresses::scale_by))]
-fn scale_by(tokens: &[Token], at: usize) -> Option<u8>
+pub fn scale_by(tokens: &[Token], at: usize) -> Option<u8>
     ensures value { result ≡ scale_by (slice_get (map spelled tokens.now) at) }
     ensures within { IsSome result → at < length tokens.now }
 {
@@ -168,7 +168,7 @@ fn index_at(tokens: &[Token], base: Base, at: usize) -> Option<ReadAddress>
 
 /// Whether an index may stand with the base.
 #[inline(always)]
-fn takes_index(base: Base) -> bool
+pub fn takes_index(base: Base) -> bool
     ensures { result ≡ takes_index base }
 {
     !matches!(base, Base::Rip)

@@ -6,6 +6,7 @@ ghost use Rattle.att_operands.specs.OperandTexts.{OperandText, ReadPart, operand
 ghost use Rattle.att_operands.specs.Spells.{SpellsOperand, ends, IsReadWhole, IsSpelledIn};
 ghost use Rattle.att_operands.specs.Failing.{HasFaultExactly};
 ghost use Rattle.att_operands.specs.declared.faults.OperandCause.{OperandCause};
+ghost use Rattle.att_operands.specs.WholeValues.{ValuesAreRead, ValuesAreWritten, RefusedValuesFail, FailingValuesAreRefused};
 ghost use Rattle.att_operands.specs.WorkedOperands.{WorkedOperands};
 
 /// A text of an operand is read as that operand, whatever stands before it, where a comma or
@@ -23,6 +24,20 @@ pub fn spelled_is_read()
 pub fn read_is_spelled()
     ensures { (branch : Bool) (tokens : List SpelledToken) (at : ℕ) (found : ReadPart)
         → operand_at branch tokens at ≡ Ok found → IsSpelledIn branch tokens at found }
+{}
+
+/// A text of a value is read as it, and a value that is read from a whole text is written there.
+#[tactic(auto, using(crate::proofs::WholeValues::values_are_read, crate::proofs::WholeValues::values_are_written))]
+pub fn values_are_read()
+    ensures read { ValuesAreRead }
+    ensures written { ValuesAreWritten }
+{}
+
+/// A value is refused exactly where its expression fails, and for that.
+#[tactic(auto, using(crate::proofs::WholeValues::refused_values_fail, crate::proofs::WholeValues::failing_values_are_refused))]
+pub fn faults_of_a_value()
+    ensures fail { RefusedValuesFail }
+    ensures refused { FailingValuesAreRefused }
 {}
 
 /// A text spells one operand.

@@ -46,7 +46,7 @@ fn refused<'a>() -> Result<FoundOperand<'a>, OperandFault>
 /// The displacement of memory that shows none.
 #[inline(always)]
 #[tactic(auto, unfolding(asm_expr::specs::Linear::linear))]
-pub(crate) fn no_displacement<'a>() -> Value<'a>
+pub fn no_displacement<'a>() -> Value<'a>
     ensures { IsValueOf result no_displacement }
 {
     Value {

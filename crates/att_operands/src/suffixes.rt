@@ -45,7 +45,7 @@ fn suffix_by(tokens: &[Token], at: usize) -> Option<Suffix>
 
 /// Whether the digits are a numeric label: decimal, with a `b` or an `f` behind them.
 #[inline(never)]
-fn is_numeric_label(digits: &[u8]) -> bool
+pub fn is_numeric_label(digits: &[u8]) -> bool
     ensures { result ≡ is_numeric_label digits.now }
 {
     if digits.is_empty() {

@@ -27,7 +27,7 @@ pub(crate) struct ReadAmount<'a> {
 
 /// A value, and the index of the first token behind it.
 #[derive(Drop)]
-pub(crate) struct ReadValue<'a> {
+pub struct ReadValue<'a> {
     pub value: Value<'a>,
     pub next: usize,
 }
@@ -357,7 +357,7 @@ fn value_from<'a>(
 /// The value at this place, where an expression is due.
 #[inline(always)]
 #[tactic(auto, using(crate::proofs::FrontReadings::nothing_due))]
-pub(crate) fn value_at<'a>(
+pub fn value_at<'a>(
     alloc: Global,
     tokens: &[Token<'a>],
     at: usize,

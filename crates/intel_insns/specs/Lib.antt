@@ -1,0 +1,10 @@
+-- The definitions that contracts cite, in reading order.
+pub mod InsnTexts
+pub mod Rules
+pub mod Sizes
+pub mod UsualSizes
+pub mod Heads
+pub mod Reading
+pub mod Spells
+pub mod Failing
+pub mod WorkedInsns

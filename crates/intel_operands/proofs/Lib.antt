@@ -1,0 +1,11 @@
+pub mod TextLemmas
+pub mod SpelledTests
+pub mod PartTexts
+pub mod SumTexts
+pub mod LoneSums
+pub mod OutlineTexts
+pub mod SpelledIsRead
+pub mod ReadIsSpelled
+pub mod Faults
+pub mod UsualOperands
+pub mod WorkedTexts

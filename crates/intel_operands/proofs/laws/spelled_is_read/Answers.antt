@@ -1,0 +1,6 @@
+-- The layer below tells of values.
+use Rattle.intel_operands.proofs.SpelledIsRead.{operand_reads}
+use Rattle.intel_operands.proofs.laws.spelled_is_read.Goals as goal
+
+pub returns : goal.returns
+returns c = operand_reads c.values_are_read.ensures.read

@@ -1,0 +1,9 @@
+-- A test of the program's tokens is one of what they spell.
+use Rattle.intel_operands.specs.OperandTexts.{is_symbol}
+use Rattle.intel_operands.specs.OperandTexts.{has_symbol}
+use Rattle.intel_operands.proofs.SpelledTests.{any_spelled}
+use Rattle.intel_operands.proofs.values.has_symbol.Goals as goal
+
+pub returns : goal.returns
+unfolding has_symbol
+returns c = any_spelled is_symbol c.args.text.now c.any_symbol.result c.any_symbol.ensures
