@@ -1,5 +1,6 @@
 -- The definitions that contracts cite, in reading order.
 pub mod Distances
+pub mod Packing
 pub mod Sizes
 pub mod Shifts
 pub mod Needs

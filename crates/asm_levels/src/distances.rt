@@ -2,6 +2,7 @@
 
 ghost use Rattle.std.specs.Prelude.{◌≡◌, ◌+◌, ◌%◌, ◌^◌, ◌<◌, All, length, sum_by};
 ghost use Rattle.asm_levels.specs.Distances as spec;
+ghost use Rattle.asm_levels.specs.declared.distances.Distance.TheVariants.{Between};
 
 use asm_base::NoMemory;
 use range_table::RangeTable;
@@ -78,6 +79,19 @@ fn sum_value(shifts: &RangeTable, number: u64, terms: &[RowTerm]) -> u64
     value
 }
 
+/// A number plus the shift of one row less that of another.
+#[tactic(auto, unfolding(crate::specs::Distances::distance_value))]
+#[inline(always)]
+pub(crate) fn value_between(shifts: &RangeTable, number: u64, ahead: u32, behind: u32) -> u64
+    requires ahead { ahead < length shifts.now }
+    requires behind { behind < length shifts.now }
+    ensures { result ≡ spec.distance_value shifts.now (Between number ahead behind) }
+{
+    number
+        .wrapping_add(shifts.get(ahead as usize))
+        .wrapping_sub(shifts.get(behind as usize))
+}
+
 /// The distance, modulo 2^64, where the rows are moved so far.
 #[tactic(auto, unfolding(crate::specs::Distances::distance_value))]
 #[inline(always)]
@@ -90,11 +104,7 @@ pub(crate) fn distance_value(shifts: &RangeTable, distance: &Distance) -> u64
             number,
             ahead,
             behind,
-        } => {
-            number
-                .wrapping_add(shifts.get(*ahead as usize))
-                .wrapping_sub(shifts.get(*behind as usize))
-        }
+        } => value_between(shifts, *number, *ahead, *behind),
         Distance::Sum { number, terms } => sum_value(shifts, *number, terms.as_slice()),
     }
 }

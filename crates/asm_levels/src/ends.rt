@@ -3,26 +3,44 @@
 ghost use Rattle.std.specs.Prelude.{◌≡◌, ◌<◌, ◌≤◌, ◌^◌, ℕ, IfOk, length, slice_index};
 ghost use Rattle.asm_levels.specs.Resizing as spec;
 
-use crate::rows::{Row, RowSize};
+use crate::packing::{Held, PackedRow};
+use crate::rows::RowSize;
 use asm_base::NoMemory;
 use std::alloc::Global;
 
 /// Whether the row is an end mark.
-fn is_end(size: &RowSize) -> bool
-    ensures { result ≡ spec.is_end size.now }
+#[inline(always)]
+pub(crate) fn is_end(row: &PackedRow) -> bool
+    ensures { result ≡ spec.is_end row.now.size }
 {
-    matches!(size, RowSize::End)
+    match &row.held {
+        Held::End { .. } => true,
+        Held::Other(row) => matches!(row.size, RowSize::End),
+        Held::Fixed { .. }
+        | Held::Align { .. }
+        | Held::Jump { .. }
+        | Held::Leb128 { .. }
+        | Held::Advance { .. } => false,
+    }
 }
 
 /// Whether the size of the row depends on its address.
-fn depends_on_address(size: &RowSize) -> bool
-    ensures { result ≡ spec.depends_on_address size.now }
+fn depends_on_address(row: &PackedRow) -> bool
+    ensures { result ≡ spec.depends_on_address row.now.size }
 {
-    matches!(size, RowSize::Align { .. } | RowSize::Org { .. })
+    match &row.held {
+        Held::Align { .. } => true,
+        Held::Other(row) => matches!(row.size, RowSize::Align { .. } | RowSize::Org { .. }),
+        Held::Fixed { .. }
+        | Held::Jump { .. }
+        | Held::Leb128 { .. }
+        | Held::Advance { .. }
+        | Held::End { .. } => false,
+    }
 }
 
 /// The index behind the last row that the size of the one at this index moves, where those of the rows behind it are there.
-fn end_at(rows: &[Row], ends: &[u32], index: usize) -> u32
+fn end_at(rows: &[PackedRow], ends: &[u32], index: usize) -> u32
     requires inside { index < length rows.now }
     requires few { length rows.now < 2 ^ 32 }
     requires as_many { length ends.now ≡ length rows.now }
@@ -31,7 +49,7 @@ fn end_at(rows: &[Row], ends: &[u32], index: usize) -> u32
     ensures { spec.IsMovedBefore rows.now index result }
 {
     let next = index + 1;
-    if next == rows.len() || is_end(&rows[index].size) {
+    if next == rows.len() || is_end(&rows[index]) {
         next as u32
     } else {
         ends[next]
@@ -39,7 +57,7 @@ fn end_at(rows: &[Row], ends: &[u32], index: usize) -> u32
 }
 
 /// For each row the index behind the last one that its size moves.
-pub(crate) fn ends_of(alloc: Global, rows: &[Row]) -> Result<Vec<u32>, NoMemory>
+pub(crate) fn ends_of(alloc: Global, rows: &[PackedRow]) -> Result<Vec<u32>, NoMemory>
     requires { length rows.now < 2 ^ 32 }
     ensures { IfOk result (λ ends. spec.AreEnds rows.now ends.items) }
 {
@@ -53,13 +71,13 @@ pub(crate) fn ends_of(alloc: Global, rows: &[Row]) -> Result<Vec<u32>, NoMemory>
 }
 
 /// The rows whose size depends on their address, in order.
-pub(crate) fn dependents_of(alloc: Global, rows: &[Row]) -> Result<Vec<u32>, NoMemory>
+pub(crate) fn dependents_of(alloc: Global, rows: &[PackedRow]) -> Result<Vec<u32>, NoMemory>
     requires { length rows.now < 2 ^ 32 }
     ensures { IfOk result (λ list. spec.AreDependents rows.now list.items) }
 {
     let mut list = Vec::new(alloc);
     for (index, row) in rows.iter().enumerate() {
-        if depends_on_address(&row.size) {
+        if depends_on_address(row) {
             list.push(index as u32)?;
         }
     }

@@ -6,6 +6,7 @@ mod ends;
 mod laws;
 mod looking;
 mod needs;
+mod packing;
 mod plans;
 mod resizing;
 mod rounds;
@@ -20,5 +21,6 @@ pub use laws::{
     needs_stay_within_tops, padding_is_least, rows_stand_in_row, short_jumps_hold_a_signed_byte,
 };
 pub use needs::leb128_level;
+pub use packing::PackedRow;
 pub use plans::RowPlan;
 pub use rows::{Row, RowSize};

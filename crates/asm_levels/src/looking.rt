@@ -11,24 +11,24 @@ ghost use Rattle.asm_levels.specs.Watching as spec;
 ghost use Rattle.asm_levels.specs.Looking.{IsPartlyLooked, BegunBy, AreCalm, ArePassed};
 
 use crate::needs::top;
+use crate::packing::PackedRow;
 use crate::rounds::{level_taken, look, note};
-use crate::rows::Row;
 use crate::watching::{Entries, leaf_of};
 use asm_base::Steps;
 use level_ranks::raised_by_index;
 use range_table::RangeTable;
 use std::sync::ledger::Ledger;
 
-/// What a round looks at: the rows where they stand, and its number.
+/// What a round looks at: the rows where they stand, and its stamp.
 #[derive(Clone, Copy)]
 pub(crate) struct View<'a> {
-    pub(crate) rows: &'a [Row],
+    pub(crate) rows: &'a [PackedRow],
     pub(crate) shifts: &'a RangeTable,
-    pub(crate) round: u32,
+    pub(crate) round: u16,
 }
 
 /// Has no row looked at.
-pub(crate) fn forget(seen: &mut [u32])
+pub(crate) fn forget(seen: &mut [u16])
     ensures unseen { (at : ℕ) → slice_index seen.new at ≡ 0 }
     ensures as_many { length seen.new ≡ length seen.old }
 {
@@ -43,7 +43,7 @@ pub(crate) fn look_row<L: Ledger>(
     view: View,
     index: usize,
     levels: &mut [u8],
-    seen: &mut [u32],
+    seen: &mut [u16],
     risen: &mut [u32],
     count: usize,
     steps: &mut Steps<L>,
@@ -73,7 +73,7 @@ pub(crate) fn look_row<L: Ledger>(
         return count;
     }
     seen[index] = view.round;
-    let level = level_taken(view.shifts, &view.rows[index].size, levels[index], steps);
+    let level = level_taken(view.shifts, &view.rows[index], levels[index], steps);
     if level <= levels[index] {
         return count;
     }
@@ -88,7 +88,7 @@ fn look_run<L: Ledger>(
     entries: &Entries,
     first: usize,
     levels: &mut [u8],
-    seen: &mut [u32],
+    seen: &mut [u16],
     risen: &mut [u32],
     count: usize,
     steps: &mut Steps<L>,
@@ -134,7 +134,7 @@ fn look_node<L: Ledger>(
     entries: &Entries,
     node: usize,
     levels: &mut [u8],
-    seen: &mut [u32],
+    seen: &mut [u16],
     risen: &mut [u32],
     count: usize,
     steps: &mut Steps<L>,
@@ -184,8 +184,8 @@ fn look_above<L: Ledger>(
     entries: &Entries,
     leaf: usize,
     levels: &mut [u8],
-    seen: &mut [u32],
-    passed: &mut [u32],
+    seen: &mut [u16],
+    passed: &mut [u16],
     risen: &mut [u32],
     count: usize,
     steps: &mut Steps<L>,
@@ -244,8 +244,8 @@ fn look_touched<L: Ledger>(
     entries: &Entries,
     touched: &[u32],
     levels: &mut [u8],
-    seen: &mut [u32],
-    passed: &mut [u32],
+    seen: &mut [u16],
+    passed: &mut [u16],
     risen: &mut [u32],
     steps: &mut Steps<L>,
 ) -> usize
@@ -295,7 +295,7 @@ fn look_listed<L: Ledger>(
     view: View,
     list: &[u32],
     levels: &mut [u8],
-    seen: &mut [u32],
+    seen: &mut [u16],
     risen: &mut [u32],
     count: usize,
     steps: &mut Steps<L>,
@@ -339,8 +339,8 @@ pub(crate) fn look_few<L: Ledger>(
     wide: &[u32],
     touched: &[u32],
     levels: &mut [u8],
-    seen: &mut [u32],
-    passed: &mut [u32],
+    seen: &mut [u16],
+    passed: &mut [u16],
     risen: &mut [u32],
     steps: &mut Steps<L>,
 ) -> usize
@@ -389,8 +389,8 @@ pub(crate) fn look_where<L: Ledger>(
     moved: Option<usize>,
     touched: &[u32],
     levels: &mut [u8],
-    seen: &mut [u32],
-    passed: &mut [u32],
+    seen: &mut [u16],
+    passed: &mut [u16],
     risen: &mut [u32],
     steps: &mut Steps<L>,
 ) -> usize
@@ -447,7 +447,12 @@ pub(crate) fn look_where<L: Ledger>(
 
 /// Puts those of the first so many rows of this list that are at their highest level behind the others. Answers how
 /// many the others are.
-pub(crate) fn put_highest_last(rows: &[Row], levels: &[u8], list: &mut [u32], count: usize) -> usize
+pub(crate) fn put_highest_last(
+    rows: &[PackedRow],
+    levels: &[u8],
+    list: &mut [u32],
+    count: usize,
+) -> usize
     requires as_many_levels { length levels.now ≡ length rows.now }
     requires inside { (at : ℕ) → at < length list.old → slice_index list.old at < length rows.now }
     requires end { count ≤ length list.old }
@@ -460,7 +465,7 @@ pub(crate) fn put_highest_last(rows: &[Row], levels: &[u8], list: &mut [u32], co
     let mut at = 0usize;
     while at < left {
         let row = list[at] as usize;
-        if levels[row] < top(&rows[row].size) {
+        if levels[row] < top(&rows[row]) {
             at += 1;
         } else {
             left -= 1;

@@ -1,8 +1,8 @@
 //! Plans of rows: making one takes all memory, and settling it none.
 
 use crate::ends::{dependents_of, ends_of};
+use crate::packing::PackedRow;
 use crate::resizing::EndedRows;
-use crate::rows::Row;
 use crate::settling;
 use crate::watching::Watchers;
 use asm_base::{NoMemory, Steps};
@@ -17,7 +17,7 @@ const FEW: usize = 16;
 /// The rows of all sections, with room for their levels and shifts.
 #[derive(Drop)]
 pub struct RowPlan {
-    rows: Vec<Row>,
+    rows: Vec<PackedRow>,
     levels: Vec<u8>,
     shifts: RangeTable,
     /// For each row the index behind the last one that its size moves.
@@ -26,10 +26,10 @@ pub struct RowPlan {
     dependents: Vec<u32>,
     /// Which distances span which rows.
     watchers: Watchers,
-    /// The round in which each row was looked at last, of those that did not look at all.
-    seen: Vec<u32>,
-    /// The round in which each node over blocks of rows was passed last.
-    passed: Vec<u32>,
+    /// The stamp of the round in which each row was looked at last, of those that did not look at all.
+    seen: Vec<u16>,
+    /// The stamp of the round in which each node over blocks of rows was passed last.
+    passed: Vec<u16>,
     /// Room for the rows whose levels rise in a round, where these are few.
     risen: Vec<u32>,
     /// Room for the rows that have another size than in the round before.
@@ -68,7 +68,7 @@ impl RowPlan {
     ghost use Rattle.asm_levels.specs.Standing.{AllStand};
 
     /// The rows, each at its lowest level. It takes all memory that settling takes.
-    pub fn new(alloc: Global, rows: Vec<Row>) -> Result<RowPlan, NoMemory>
+    pub fn new(alloc: Global, rows: Vec<PackedRow>) -> Result<RowPlan, NoMemory>
         requires stand { AllStand rows.items }
         requires bytes { most_in rows.items < 2 ^ 62 }
         requires few { vec_len rows < 2 ^ 28 }
@@ -84,8 +84,8 @@ impl RowPlan {
             ends: &ends,
         };
         let watchers = Watchers::new(alloc, all)?;
-        let seen = vec![in alloc; 0u32; rows.len()]?;
-        let passed = vec![in alloc; 0u32; watchers.entries.heads.len()]?;
+        let seen = vec![in alloc; 0u16; rows.len()]?;
+        let passed = vec![in alloc; 0u16; watchers.entries.heads.len()]?;
         let few = rows.len() / FEW;
         let risen = vec![in alloc; 0u32; few]?;
         let touched = vec![in alloc; 0u32; few + dependents.len()]?;
@@ -157,7 +157,7 @@ impl RowPlan {
     }
 
     /// The rows.
-    pub fn rows(&self) -> &[Row]
+    pub fn rows(&self) -> &[PackedRow]
         ensures { result.now ≡ self.now.rows }
     {
         &self.rows

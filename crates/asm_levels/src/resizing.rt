@@ -7,21 +7,21 @@ ghost use Rattle.asm_levels.specs.Shifts.{shifts_of};
 ghost use Rattle.asm_levels.specs.Standing.{AllStand};
 ghost use Rattle.asm_levels.specs.Resizing.{AreMoved, AreEnds, AreDependents, AreSizedBut, AreResized, size_of_level};
 
+use crate::packing::PackedRow;
 use crate::rounds::note;
-use crate::rows::Row;
 use crate::shifts::{place, size_at, size_from};
 use range_table::RangeTable;
 
 /// Rows, and for each the index behind the last row that its size moves.
 #[derive(Clone, Copy)]
 pub(crate) struct EndedRows<'a> {
-    pub(crate) rows: &'a [Row],
+    pub(crate) rows: &'a [PackedRow],
     pub(crate) ends: &'a [u32],
 }
 
 /// The size of the row of this index at its level and address, where the rows up to it are moved so far.
 #[inline(always)]
-fn size_here(rows: &[Row], levels: &[u8], shifts: &RangeTable, index: usize) -> u64
+fn size_here(rows: &[PackedRow], levels: &[u8], shifts: &RangeTable, index: usize) -> u64
     requires inside { index < length rows.now }
     requires stand { AllStand rows.now }
     requires bytes { spec.most_in rows.now < 2 ^ 62 }
@@ -38,7 +38,7 @@ fn size_here(rows: &[Row], levels: &[u8], shifts: &RangeTable, index: usize) -> 
 
 /// The size of the row of this index, which does not depend on its address, at its level.
 #[inline(always)]
-fn size_of_level(rows: &[Row], levels: &[u8], index: usize) -> u64
+fn size_of_level(rows: &[PackedRow], levels: &[u8], index: usize) -> u64
     requires inside { index < length rows.now }
     requires stand { AllStand rows.now }
     requires bytes { spec.most_in rows.now < 2 ^ 62 }
@@ -47,7 +47,7 @@ fn size_of_level(rows: &[Row], levels: &[u8], index: usize) -> u64
     ensures { (default : Row) → result ≡ size_of_level
         (slice_index_or rows.now index default).size (slice_index levels.now index) }
 {
-    size_from(0, &rows[index].size, levels[index], 0)
+    size_from(0, &rows[index], levels[index], 0)
 }
 
 /// The size of the row of this index by the shifts, modulo 2^64, if it moves rows behind it.

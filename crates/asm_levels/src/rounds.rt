@@ -7,7 +7,7 @@ ghost use Rattle.asm_levels.specs.Resizing.{AreListed};
 ghost use Rattle.asm_levels.specs.Standing.{NamesRows, AllStand};
 
 use crate::needs::{needed, top};
-use crate::rows::{Row, RowSize};
+use crate::packing::PackedRow;
 use asm_base::Steps;
 use level_ranks::raised_by_index;
 use range_table::RangeTable;
@@ -17,20 +17,20 @@ use std::sync::ledger::Ledger;
 #[inline(always)]
 pub(crate) fn level_taken<L: Ledger>(
     shifts: &RangeTable,
-    size: &RowSize,
+    row: &PackedRow,
     level: u8,
     steps: &mut Steps<L>,
 ) -> u8
-    requires { NamesRows (length shifts.now) size.now }
-    ensures level { result ≡ max level (spec.needed shifts.now size.now) }
+    requires { NamesRows (length shifts.now) row.now.size }
+    ensures level { result ≡ max level (spec.needed shifts.now row.now.size) }
     ensures steps { steps.new
-        ≡ steps.old + (if spec.is_below_top size.now level then 1 else 0) }
+        ≡ steps.old + (if spec.is_below_top row.now.size level then 1 else 0) }
 {
-    if level >= top(size) {
+    if level >= top(row) {
         return level;
     }
     steps.tick();
-    level.max(needed(shifts, size))
+    level.max(needed(shifts, row))
 }
 
 /// Puts a row at this place of a list, if there is room.
@@ -47,7 +47,7 @@ pub(crate) fn note(list: &mut [u32], place: usize, row: usize)
 /// Raises each level to what the row's distance needs where the rows are moved so far. Answers how many rose, and
 /// lists these as far as there is room.
 pub(crate) fn look<L: Ledger>(
-    rows: &[Row],
+    rows: &[PackedRow],
     shifts: &RangeTable,
     levels: &mut [u8],
     risen: &mut [u32],
@@ -72,7 +72,7 @@ pub(crate) fn look<L: Ledger>(
     raised_by_index();
     let mut count = 0usize;
     for (index, row) in rows.iter().enumerate() {
-        let level = level_taken(shifts, &row.size, levels[index], steps);
+        let level = level_taken(shifts, row, levels[index], steps);
         if levels[index] < level {
             levels[index] = level;
             note(risen, count, index);

@@ -45,6 +45,3 @@ pub struct Row {
     pub offset: u64,
     pub size: RowSize,
 }
-
-// Each round walks over all rows.
-const _: () = prove!(size_of::<Row>() <= 48);

@@ -21,6 +21,23 @@ use level_ranks::{
 use range_table::RangeTable;
 use std::sync::ledger::Ledger;
 
+/// The stamp of the next round. Where no higher one is left, those of all rounds before are forgotten.
+fn next_stamp(stamp: u16, seen: &mut [u16], passed: &mut [u16]) -> u16
+    requires seen { (at : ℕ) → slice_index seen.old at ≤ stamp }
+    requires passed { (at : ℕ) → slice_index passed.old at ≤ stamp }
+    ensures seen { (at : ℕ) → slice_index seen.new at < result }
+    ensures passed { (at : ℕ) → slice_index passed.new at < result }
+    ensures as_many_seen { length seen.new ≡ length seen.old }
+    ensures as_many_passed { length passed.new ≡ length passed.old }
+{
+    if stamp == u16::MAX {
+        forget(seen);
+        forget(passed);
+        return 1;
+    }
+    stamp + 1
+}
+
 /// Raises the levels, round by round, until each holds its distance. Answers the number of rounds.
 pub(crate) fn settle<L: Ledger>(
     all: EndedRows,
@@ -29,8 +46,8 @@ pub(crate) fn settle<L: Ledger>(
     wide: &mut [u32],
     levels: &mut [u8],
     shifts: &mut RangeTable,
-    seen: &mut [u32],
-    passed: &mut [u32],
+    seen: &mut [u16],
+    passed: &mut [u16],
     risen: &mut [u32],
     touched: &mut [u32],
     steps: &mut Steps<L>,
@@ -74,14 +91,16 @@ pub(crate) fn settle<L: Ledger>(
     forget(seen);
     forget(passed);
     let mut rounds = 0u32;
+    let mut stamp = 0u16;
     let mut moved: Option<usize> = None;
     let mut left = wide.len();
     loop {
         rounds += 1;
+        stamp = next_stamp(stamp, seen, passed);
         let view = View {
             rows: all.rows,
             shifts,
-            round: rounds,
+            round: stamp,
         };
         let listed = &wide[..left];
         let count = look_where(

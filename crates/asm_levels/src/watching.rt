@@ -1,6 +1,6 @@
 //! Which distances span each block of rows.
 
-ghost use Rattle.std.specs.Prelude.{◌≡◌, ◌⊎◌, ◌+◌, ◌*◌, ◌<◌, ◌≤◌, ◌^◌, ℕ, true, IfOk, IfSome, OnOk, length, slice_index, slice_index_or, slice_set, vec_len};
+ghost use Rattle.std.specs.Prelude.{◌≡◌, ◌⊎◌, ◌+◌, ◌*◌, ◌<◌, ◌≤◌, ◌^◌, ℕ, min, max, true, IfOk, IfSome, OnOk, length, slice_index, slice_index_or, slice_set, vec_len};
 ghost use Rattle.asm_levels.specs.declared.rows.Row.{Row};
 ghost use Rattle.asm_levels.specs.Watching as spec;
 ghost use Rattle.asm_levels.specs.Watching.{AreLinked, HaveMore, HasOwnEntry, AreWatchers, IsRun, block_of};
@@ -8,6 +8,7 @@ ghost use Rattle.asm_levels.specs.Resizing.{AreEnds};
 
 use crate::distances::Distance;
 use crate::needs::top;
+use crate::packing::{Held, PackedRow};
 use crate::resizing::EndedRows;
 use crate::rows::RowSize;
 use asm_base::NoMemory;
@@ -249,9 +250,18 @@ pub(crate) struct Watchers {
     pub(crate) wide: Vec<u32>,
 }
 
-/// The first and the last row between which the distance of a row stands, if it is one of two rows.
+/// The lower and the higher one of two rows.
 #[inline(always)]
-fn span_of(size: &RowSize) -> Option<(usize, usize)>
+fn in_order(ahead: u32, behind: u32) -> (usize, usize)
+    ensures low { result.0 ≡ min ahead behind }
+    ensures high { result.1 ≡ max ahead behind }
+{
+    (ahead.min(behind) as usize, ahead.max(behind) as usize)
+}
+
+/// The rows between which the distance of a row in an allocation of its own stands.
+#[inline(never)]
+fn span_of_other(size: &RowSize) -> Option<(usize, usize)>
     ensures { IfSome result (λ span. spec.RowSpans size.now span.0 span.1) }
 {
     let (RowSize::Jump { distance, .. }
@@ -261,13 +271,22 @@ fn span_of(size: &RowSize) -> Option<(usize, usize)>
         return None;
     };
     match distance {
-        Distance::Between { ahead, behind, .. } => {
-            Some((
-                (*ahead).min(*behind) as usize,
-                (*ahead).max(*behind) as usize,
-            ))
-        }
+        Distance::Between { ahead, behind, .. } => Some(in_order(*ahead, *behind)),
         Distance::Sum { .. } => None,
+    }
+}
+
+/// The first and the last row between which the distance of a row stands, if it is one of two rows.
+#[inline(always)]
+fn span_of(row: &PackedRow) -> Option<(usize, usize)>
+    ensures { IfSome result (λ span. spec.RowSpans row.now.size span.0 span.1) }
+{
+    match &row.held {
+        Held::Jump { ahead, behind, .. } => Some(in_order(*ahead, *behind)),
+        Held::Leb128 { ahead, behind, .. } => Some(in_order(*ahead, *behind)),
+        Held::Advance { ahead, behind, .. } => Some(in_order(*ahead, *behind)),
+        Held::Fixed { .. } | Held::Align { .. } | Held::End { .. } => None,
+        Held::Other(row) => span_of_other(&row.size),
     }
 }
 
@@ -282,7 +301,7 @@ fn span_within(all: EndedRows, row: usize) -> Option<(usize, usize)>
     ensures first { IfSome result (λ span. span.0 < length all.entry.rows.now) }
     ensures last { IfSome result (λ span. span.1 < length all.entry.rows.now) }
 {
-    let (first, last) = span_of(&all.rows[row].size)?;
+    let (first, last) = span_of(&all.rows[row])?;
     let end = *all.ends.get(first)? as usize;
     if last < end {
         Some((first, last))
@@ -321,7 +340,7 @@ impl Watchers {
             self.new.entries.rows.items self.new.entries.nodes.items
             self.new.entries.follows.items run.0 run.1 (row + 1)) }
     {
-        if top(&all.rows[row].size) == 0 {
+        if top(&all.rows[row]) == 0 {
             return Ok((1, 0));
         }
         match span_within(all, row) {

@@ -14,7 +14,7 @@ ghost use Rattle.asm_relax.specs.RowBounds.{SizeFits, IsRowSize, RowFits, AllFit
 use crate::field_values::{is_linked, is_linked_pair};
 use asm_base::NoMemory;
 use asm_frags::{Field, Frag, Laid, Section, Sections, own_place};
-use asm_levels::{Distance, Row, RowPlan, RowSize, few_rows_have_few_bytes};
+use asm_levels::{Distance, PackedRow, Row, RowPlan, RowSize, few_rows_have_few_bytes};
 use asm_symbols::Symbols;
 use item_bytes::Condition;
 use item_contents::{Align, Content, Fill, FragVisit, Growing, Growth, Org, visit};
@@ -252,7 +252,7 @@ fn row_of(
 
 /// Puts a row last. One that is too many is refused as want of memory.
 #[inline(always)]
-fn push_row(made: &mut Vec<Row>, count: u32, row: Row) -> Result<(), NoMemory>
+fn push_row(alloc: Global, made: &mut Vec<PackedRow>, count: u32, row: Row) -> Result<(), NoMemory>
     requires fit { AllFit count made.old.items }
     requires row { RowFits count (length made.old.items) row }
     ensures rows { OnOk result (made.new.items ≡ made.old.items ++ row ∷ []) }
@@ -261,6 +261,7 @@ fn push_row(made: &mut Vec<Row>, count: u32, row: Row) -> Result<(), NoMemory>
     if made.len() >= MOST_ROWS {
         return Err(AllocError);
     }
+    let row = PackedRow::new(alloc, row)?;
     if made.len() < made.capacity() {
         made.push_reserved(row);
         return Ok(());
@@ -272,7 +273,7 @@ fn push_row(made: &mut Vec<Row>, count: u32, row: Row) -> Result<(), NoMemory>
 #[inline(always)]
 fn push_item(
     alloc: Global,
-    made: &mut Vec<Row>,
+    made: &mut Vec<PackedRow>,
     rows: RowsIn,
     fields: &[Field],
     index: u32,
@@ -287,18 +288,18 @@ fn push_item(
     if let Content::Growing(held) = &item.content {
         if let Some(size) = size_apart(rows, fields, *held) {
             let offset = item.offset as u64;
-            return push_row(made, rows.count, Row { offset, size });
+            return push_row(alloc, made, rows.count, Row { offset, size });
         }
     }
     let number = made.len() as u32;
     let row = row_of(alloc, rows, fields, number, index, item)?;
-    push_row(made, rows.count, row)
+    push_row(alloc, made, rows.count, row)
 }
 
 /// Puts the rows of items last, the first of which has this index.
 fn push_items(
     alloc: Global,
-    made: &mut Vec<Row>,
+    made: &mut Vec<PackedRow>,
     rows: RowsIn,
     fields: &[Field],
     items: &[Frag<Laid>],
@@ -319,7 +320,7 @@ fn push_items(
 /// Puts the rows of a section last.
 fn push_section(
     alloc: Global,
-    made: &mut Vec<Row>,
+    made: &mut Vec<PackedRow>,
     rows: RowsIn,
     section: &Section<Laid>,
 ) -> Result<(), NoMemory>
@@ -334,7 +335,7 @@ fn push_section(
         offset: bytes as u64,
         size: RowSize::End,
     };
-    push_row(made, rows.count, end)
+    push_row(alloc, made, rows.count, end)
 }
 
 /// The first row of each section, and how many rows there are.
@@ -367,7 +368,11 @@ fn starts_of(alloc: Global, sections: &[Section<Laid>]) -> Result<Starts, NoMemo
 }
 
 /// The rows of sections.
-fn all_rows(alloc: Global, rows: RowsIn, sections: &[Section<Laid>]) -> Result<Vec<Row>, NoMemory>
+fn all_rows(
+    alloc: Global,
+    rows: RowsIn,
+    sections: &[Section<Laid>],
+) -> Result<Vec<PackedRow>, NoMemory>
     ensures rows { IfOk result (λ made. made.items
         ≡ spec.rows_from (told_rows rows.entry) 0 sections.now) }
     ensures fit { IfOk result (λ made. AllFit rows.entry.count made.items) }
@@ -385,7 +390,7 @@ fn rows_of(
     alloc: Global,
     symbols: &Symbols,
     sections: &[Section<Laid>],
-) -> Result<Vec<Row>, NoMemory>
+) -> Result<Vec<PackedRow>, NoMemory>
     ensures rows { IfOk result (λ rows. rows.items ≡ spec.rows_of symbols.now sections.now) }
     ensures fit { IfOk result (λ rows. AllFit (spec.all_rows sections.now) rows.items) }
 {

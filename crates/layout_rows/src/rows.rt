@@ -2,7 +2,7 @@
 
 use crate::items::{Item, LabelName};
 use crate::labels::{Labels, Place};
-use asm_levels::{Distance, Row, RowSize};
+use asm_levels::{Distance, PackedRow, Row, RowSize};
 use std::alloc::{AllocError, Global};
 
 /// How far the end is behind the start.
@@ -57,10 +57,11 @@ fn size_of(item: &Item, here: Place, labels: &Labels) -> Option<RowSize> {
 
 /// Appends the row of an item that has one. Answers whether it names labels that are there.
 fn push_row(
+    alloc: Global,
     item: &Item,
     here: Place,
     labels: &mut Labels,
-    rows: &mut Vec<Row>,
+    rows: &mut Vec<PackedRow>,
 ) -> Result<bool, AllocError> {
     match item {
         Item::Bytes(_) => return Ok(true),
@@ -74,19 +75,19 @@ fn push_row(
         return Ok(false);
     };
     let offset = here.offset;
-    rows.push(Row { offset, size })?;
+    rows.push(PackedRow::new(alloc, Row { offset, size })?)?;
     Ok(true)
 }
 
 /// The rows of the items, with the end mark of the last section; none where a label is missing.
-pub fn rows_of(alloc: Global, items: &[Item]) -> Result<Option<Vec<Row>>, AllocError> {
+pub fn rows_of(alloc: Global, items: &[Item]) -> Result<Option<Vec<PackedRow>>, AllocError> {
     let Some(mut labels) = Labels::of(alloc, items)? else {
         return Ok(None);
     };
     let mut rows = Vec::new(alloc);
     let mut here = Place::first();
     for item in items {
-        if !push_row(item, here, &mut labels, &mut rows)? {
+        if !push_row(alloc, item, here, &mut labels, &mut rows)? {
             return Ok(None);
         }
         here = match here.behind(item) {
@@ -95,9 +96,10 @@ pub fn rows_of(alloc: Global, items: &[Item]) -> Result<Option<Vec<Row>>, AllocE
         };
     }
     let offset = here.offset;
-    rows.push(Row {
+    let end = Row {
         offset,
         size: RowSize::End,
-    })?;
+    };
+    rows.push(PackedRow::new(alloc, end)?)?;
     Ok(Some(rows))
 }

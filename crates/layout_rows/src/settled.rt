@@ -6,7 +6,7 @@ ghost use Rattle.asm_levels.specs.Needs as spec;
 use crate::forms::{push_advance, push_jump, push_leb128};
 use crate::standing::all_fit;
 use asm_base::Steps;
-use asm_levels::{Distance, Row, RowPlan, RowSize};
+use asm_levels::{Distance, PackedRow, RowPlan, RowSize};
 use std::alloc::{AllocError, Global};
 use std::io::{self, Write};
 use std::marker::Brand;
@@ -100,12 +100,15 @@ fn word_of(size: &RowSize) -> &'static str {
 fn write_row(alloc: Global, plan: &RowPlan, index: usize, out: &mut Vec<u8>) -> io::Result<()>
     requires { index < length plan.now.rows }
 {
-    let row = &plan.rows()[index];
+    // No row holds a sum.
+    let Some(row) = plan.rows()[index].row() else {
+        return Ok(());
+    };
     let shift = plan.shift(index);
     let address = row.offset.wrapping_add(shift);
     let word = word_of(&row.size);
     write!(out, "{word} at {address}:")?;
-    if has_levels(&row.size) {
+    if has_levels(&plan.rows()[index]) {
         let mut bytes = Vec::new(alloc);
         push_form(plan, &row.size, plan.level(index), &mut bytes)?;
         for byte in &bytes {
@@ -123,24 +126,20 @@ fn write_row(alloc: Global, plan: &RowPlan, index: usize, out: &mut Vec<u8>) -> 
 }
 
 /// Whether a row has more than one level.
-#[tactic(auto, unfolding(asm_levels::specs::Needs::top))]
-fn has_levels(size: &RowSize) -> bool
-    ensures { result ≡ spec.has_levels size.now }
+fn has_levels(row: &PackedRow) -> bool
+    ensures { result ≡ spec.has_levels row.now.size }
 {
-    matches!(
-        size,
-        RowSize::Jump { .. } | RowSize::Leb128 { .. } | RowSize::Advance { .. }
-    )
+    row.top() > 0
 }
 
 /// How many rows have more than one level: settling takes at most so many steps in a round.
 #[tactic(auto, unfolding(asm_levels::specs::Needs::several))]
-fn several(rows: &[Row]) -> usize
+fn several(rows: &[PackedRow]) -> usize
     ensures { result ≡ spec.several rows.now }
 {
     let mut count = 0;
     for row in rows {
-        if has_levels(&row.size) {
+        if has_levels(row) {
             count += 1;
         }
     }
@@ -151,7 +150,7 @@ fn several(rows: &[Row]) -> usize
 fn count_at(plan: &RowPlan, level: u8) -> usize {
     let mut count = 0usize;
     for (index, row) in plan.rows().iter().enumerate() {
-        if has_levels(&row.size) && plan.level(index) == level {
+        if has_levels(row) && plan.level(index) == level {
             count = count.saturating_add(1);
         }
     }
@@ -169,12 +168,21 @@ fn write_levels(plan: &RowPlan, out: &mut Vec<u8>) -> io::Result<()> {
     writeln!(out)
 }
 
+/// How many plain bytes stand before a mark at the end of a section, and none where the row is no such mark.
+fn end_offset(row: &PackedRow) -> Option<u64> {
+    let row = row.row()?;
+    match row.size {
+        RowSize::End => Some(row.offset),
+        _ => None,
+    }
+}
+
 /// The bytes of all sections.
 fn total(plan: &RowPlan) -> u64 {
     let mut bytes = 0u64;
     for (index, row) in plan.rows().iter().enumerate() {
-        if matches!(row.size, RowSize::End) {
-            let address = row.offset.wrapping_add(plan.shift(index));
+        if let Some(offset) = end_offset(row) {
+            let address = offset.wrapping_add(plan.shift(index));
             bytes = bytes.wrapping_add(address);
         }
     }
@@ -184,7 +192,7 @@ fn total(plan: &RowPlan) -> u64 {
 /// Writes the first rows but the marks at the ends of sections.
 fn write_rows(alloc: Global, plan: &RowPlan, out: &mut Vec<u8>) -> io::Result<()> {
     for (index, row) in plan.rows().iter().enumerate() {
-        if index < SHOWN_ITEMS && !matches!(row.size, RowSize::End) {
+        if index < SHOWN_ITEMS && end_offset(row).is_none() {
             write_row(alloc, plan, index, out)?;
         }
     }
@@ -192,7 +200,7 @@ fn write_rows(alloc: Global, plan: &RowPlan, out: &mut Vec<u8>) -> io::Result<()
 }
 
 /// Settles the rows, and writes their bytes, rounds and levels, and the first of them.
-pub fn write_settled(alloc: Global, rows: Vec<Row>, out: &mut Vec<u8>) -> io::Result<()> {
+pub fn write_settled(alloc: Global, rows: Vec<PackedRow>, out: &mut Vec<u8>) -> io::Result<()> {
     if !all_fit(&rows) {
         return writeln!(out, "too large");
     }

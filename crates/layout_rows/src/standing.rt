@@ -6,7 +6,7 @@ ghost use Rattle.asm_levels.specs.Sizes.{most_bytes};
 ghost use Rattle.asm_levels.specs.Standing.{AlignStands, OrgStands, NamesRows};
 ghost use Rattle.layout_rows.specs.Fitting.{RowFits, RowsFit};
 
-use asm_levels::{Distance, Row, RowSize};
+use asm_levels::{Distance, PackedRow, RowSize};
 
 /// The most bytes of one row, so that fewer than 2^28 of them have fewer than 2^62.
 const MOST_BYTES: u64 = 1 << 29;
@@ -51,14 +51,17 @@ fn size_fits(count: usize, index: usize, size: &RowSize) -> bool
 }
 
 /// Whether the row of this index fits among so many.
-fn row_fits(count: usize, index: usize, row: &Row) -> bool
+fn row_fits(count: usize, index: usize, row: &PackedRow) -> bool
     ensures { result ≡ true → RowFits count index row.now }
 {
-    row.offset <= 1 << 33 && size_fits(count, index, &row.size)
+    match row.row() {
+        Some(row) => row.offset <= 1 << 33 && size_fits(count, index, &row.size),
+        None => false,
+    }
 }
 
 /// Whether a plan of the rows can be made.
-pub fn all_fit(rows: &[Row]) -> bool
+pub fn all_fit(rows: &[PackedRow]) -> bool
     ensures { result ≡ true → RowsFit rows.now }
 {
     for (index, row) in rows.iter().enumerate() {

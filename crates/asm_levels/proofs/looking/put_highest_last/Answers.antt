@@ -1,5 +1,5 @@
 -- The row is put behind those that are left.
-use Rattle.std.proofs.Common.{◌≡◌, ◌-◌, ℕ, length, get_or, arith}
+use Rattle.std.proofs.Common.{◌≡◌, ◌-◌, ◌∙◌, ℕ, ap, sym, length, get_or, arith}
 use Rattle.std.proofs.lemmas.List.{get_or-map}
 use Rattle.asm_levels.specs.declared.rows.Row.{Row}
 use Rattle.asm_levels.specs.Needs.{top, tops}
@@ -25,7 +25,8 @@ loop-at-preserved c =
     let other : get_or now last 0 ≡ row = swapped.1 0 in
     let rest : (k : ℕ) → (k ≡ place → ⊥) → (k ≡ last → ⊥) → get_or now k 0 ≡ get_or list k 0 = (λ k apart different. swapped.2 k 0 apart different) in
     let inside = all.inside place (omega arith) in
-    let tops_is : get_or (tops rows) row 0 ≡ top (get_or rows row c.index-rows-row.result).size = get_or-map (λ (r : Row). top r.size) rows row c.index-rows-row.result 0 inside in
+    let tops_is : get_or (tops rows) row 0 ≡ top c.index-rows-row.result.size = get_or-map (λ (r : Row). top r.size) rows row c.index-rows-row.result 0 inside
+    ∙ ap (λ (r : Row). top r.size) (sym c.index-rows-row.is) in
     let is = c.top.ensures in
     let high = c.if-levels-row.false in
     let same : HaveSameRows c.args.list.now now = same_swap list now place last (omega arith) (omega arith) long one other rest c.args.list.now all.same_rows in

@@ -17,9 +17,9 @@ invariant-loop-rounds g l = record {
   from_start : l.fn.steps ≤ l.steps;
   at_least : 0 < l.rounds → l.fn.steps + several l.all.rows.now ≤ l.steps;
   many_seen : length l.seen ≡ length l.all.rows.now;
-  stamps : (at : ℕ) → get_or l.seen at 0 ≤ l.rounds;
+  stamps : (at : ℕ) → get_or l.seen at 0 ≤ l.stamp;
   many_passed : length l.passed ≡ vec_len l.entries.heads;
-  stamps_passed : (at : ℕ) → get_or l.passed at 0 ≤ l.rounds;
+  stamps_passed : (at : ℕ) → get_or l.passed at 0 ≤ l.stamp;
   first : l.rounds ≡ 0 → l.moved ≡ None;
   room : length l.risen + length l.dependents ≤ length l.touched;
   end : IfSome l.moved (λ many. many ≤ length l.touched);
