@@ -227,7 +227,12 @@ fn held_section<'a>(
             relocations: Vec::new(alloc),
         });
     }
-    let Filed { bytes, relocations } = file_fields(alloc, at, number, section)?;
+    let Filed {
+        bytes,
+        mut relocations,
+    } = file_fields(alloc, at, number, section)?;
+    // Most fields have values and leave no relocation: their room is given back before the object takes some.
+    relocations.shrink_to_fit();
     Ok(HeldSection {
         source: section,
         body: with_items(alloc, at, section, bytes)?,
