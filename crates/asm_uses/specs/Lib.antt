@@ -1,5 +1,6 @@
 -- The definitions that the contracts cite, in reading order.
 pub mod Tables
+pub mod Lending
 pub mod Attributes
 pub mod Labels
 pub mod Places

@@ -36,6 +36,8 @@ impl Model for SymbolUses {
 
 impl SymbolUses {
     ghost use Rattle.std.specs.Prelude.{◌≡◌, ◌<◌, ◌≤◌, length, Some, OnOk, IfOk, Ok};
+    ghost use Rattle.std.specs.Borrow.{sem};
+    ghost use Rattle.asm_uses.specs.Lending.{LendsMap};
     ghost use Rattle.asm_symbols.specs.Defining.{defined};
     ghost use Rattle.asm_symbols.specs.LeadsBack.{assigned};
     ghost use Rattle.asm_base.specs.Refusals.{Gives, GivesBy};
@@ -63,6 +65,14 @@ impl SymbolUses {
         ensures { result.now ≡ self.now.symbols }
     {
         &self.symbols
+    }
+
+    /// The symbol map, for symbols that no statement names: where those of statements are named stays.
+    pub fn symbols_mut(&mut self) -> &mut Symbols
+        ensures* lends { sem 𝓛 (LendsMap self.entry result) }
+        ensures value { result.now ≡ self.old.symbols }
+    {
+        &mut self.symbols
     }
 
     /// For each symbol where the first statement stands that names it.

@@ -10,4 +10,5 @@ pub mod WorkedLemmas
 pub mod ApartLemmas
 pub mod FoundLemmas
 pub mod TableLemmas
+pub mod LabelPlaces
 pub mod FormLemmas

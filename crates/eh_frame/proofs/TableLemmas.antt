@@ -32,7 +32,7 @@ end_by (Some held) end ready run =
     ∙ ap (λ (bytes : ℕ). record { items = end.items; bytes = bytes; in_run = true }) ready.reaches.bytes
     ∙ ap (λ (in_run : Bool). record { items = end.items; bytes = end.bytes; in_run = in_run }) (sym run)
 
-end_is : (section : ℕ) (sections : List LooseSection) (end : SectionEnd) → IsReady section sections end → end.in_run ≡ true → end_of section sections ≡ end
+pub end_is : (section : ℕ) (sections : List LooseSection) (end : SectionEnd) → IsReady section sections end → end.in_run ≡ true → end_of section sections ≡ end
 unfolding end_of
 end_is section sections end ready run = end_by (slice_get sections section) end ready run
 
@@ -80,14 +80,14 @@ get_last : (xs : List LooseSection) (x : LooseSection) → slice_get (xs ++ x �
 get_last [] x = refl
 get_last (y ∷ xs) x = get_last xs x
 
-new_low : IsWithin new_table
+pub new_low : IsWithin new_table
 new_low = record {
   items = All-nil (λ (item : LooseItem). item.offset ≤ 0);
   fields = All-nil (λ (field : Field). field_end field ≤ 0);
   apart = tt;
 }
 
-get_first : (xs ys : List LooseSection) (i : ℕ) (x : LooseSection) → slice_get xs i ≡ Some x → slice_get (xs ++ ys) i ≡ Some x
+pub get_first : (xs ys : List LooseSection) (i : ℕ) (x : LooseSection) → slice_get xs i ≡ Some x → slice_get (xs ++ ys) i ≡ Some x
 get_first [] ys i x is = absurd (let none : ⊥ = cc in none)
 get_first (y ∷ xs) ys zero x is = is
 get_first (y ∷ xs) ys (suc i) x is = get_first xs ys i x is
@@ -117,7 +117,7 @@ all_within section before after low extends one = λ k d within. by k d within (
         (low k d inside)
 
 -- each section is extended where one is
-each_extends : (section : ℕ) (before after : List LooseSection) → OneExtends section before after → (number : ℕ) (held : LooseSection)
+pub each_extends : (section : ℕ) (before after : List LooseSection) → OneExtends section before after → (number : ℕ) (held : LooseSection)
     → slice_get before number ≡ Some held → (now : LooseSection) × (slice_get after number ≡ Some now) × Extends held now
 each_extends section before after extends number held is = by (number == section) refl
   where

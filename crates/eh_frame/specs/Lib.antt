@@ -7,5 +7,6 @@ pub mod Refused
 pub mod Labels
 pub mod Standing
 pub mod Found
+pub mod StandingPlaces
 pub mod Reading
 pub mod WorkedTables

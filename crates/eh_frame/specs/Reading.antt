@@ -1,6 +1,5 @@
 -- How the bytes of an entry read, whatever layout makes of its pieces.
-use Rattle.std.specs.Prelude.{◌≡◌, ℕ, ◌+◌, ◌-◌, ◌^◌, ◌<◌, ◌≤◌, List, [], ◌∷◌, ◌++◌, length, nat_lt, nat_le, Option, None, IsSome, if◌then◌else◌}
-use Rattle.std.specs.Option.{option_map}
+use Rattle.std.specs.Prelude.{◌≡◌, ℕ, ◌+◌, ◌^◌, ◌<◌, ◌≤◌, List, [], ◌∷◌, ◌++◌, length, IsSome}
 use Rattle.asm_expr.specs.Forms.{wrapped}
 use Rattle.asm_frags.specs.declared.fields.FieldSize.TheVariants.{Four}
 use Rattle.asm_frags.specs.Fields.{low_bytes}
@@ -10,9 +9,8 @@ use Rattle.cfi_directives.specs.declared.frames.Frame.{Frame}
 use Rattle.cfi_directives.specs.declared.frames.PlacedOp.{PlacedOp}
 use Rattle.cfi_directives.specs.declared.places.Place.{Place}
 use Rattle.cfi_directives.specs.declared.places.SectionPlace.{SectionPlace}
-use Rattle.cfi_directives.specs.Meant.{from_start, place_in, row_meant, stands_at, stop_of}
+use Rattle.cfi_directives.specs.Meant.{from_start, row_meant, stands_at, stop_of}
 use Rattle.cfi_directives.specs.Sound.{IsWhole}
-use Rattle.cfi_rows.specs.declared.rows.CfaRow.{CfaRow}
 use Rattle.cfi_rows.specs.Entries.{common_bytes, row_of}
 use Rattle.item_contents.specs.declared.kinds.Growth.TheVariants as growth
 use Rattle.item_contents.specs.declared.kinds.Padding.TheVariants.{Byte}

@@ -19,6 +19,7 @@ ghost use Rattle.eh_frame.specs.Marks.{HaveTwoTerms, place_name, with_label};
 ghost use Rattle.eh_frame.specs.Refused.{HasZerosAlone};
 ghost use Rattle.eh_frame.specs.WorkedTables.{WorkedTables};
 ghost use Rattle.eh_frame.specs.Standing.{OneExtends, Reaches};
+ghost use Rattle.eh_frame.specs.StandingPlaces.{LabelsStand};
 ghost use Rattle.eh_frame.specs.Reading.{EntriesRead, RowsAreMeant};
 
 use asm_levels::advances_hold_their_distance;
@@ -110,4 +111,10 @@ pub fn pieces_are_found()
 #[tactic(auto, using(crate::proofs::FormLemmas::two_terms))]
 pub fn distances_have_two_terms()
     ensures { HaveTwoTerms }
+{}
+
+/// Where the places of procedures stand in their sections, so do those of the labels that their table brings: each is one
+/// of a procedure, or of the table itself.
+pub fn labels_stand()
+    ensures { LabelsStand }
 {}
