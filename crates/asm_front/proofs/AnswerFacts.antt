@@ -1,5 +1,5 @@
 -- What an answer says beside its assembly: what was read, and which faults say that a file is too large.
-use Rattle.std.proofs.Common.{◌≡◌, ℕ, ◌+◌, ◌*◌, ◌<◌, ◌≤◌, Bool, true, false, IsTrue, List, [], ◌∷◌, drop, length, length-drop, Result, Ok, Err, refl, sym, ap, ◌∙◌, subst, arith}
+use Rattle.std.proofs.Common.{◌≡◌, ℕ, ◌+◌, ◌*◌, ◌<◌, ◌≤◌, Bool, true, false, IsTrue, List, [], drop, length, length-drop, Result, Ok, Err, refl, sym, ap, ◌∙◌, subst, arith}
 use Rattle.asm_base.specs.WholeFile.{most_bytes}
 use Rattle.asm_base.specs.declared.faults.Fault.{Fault}
 use Rattle.asm_base.specs.declared.notes.Noted.{Noted}
@@ -33,7 +33,7 @@ module _ (flags : Flags) (name : List ℕ) (files : List (List ℕ)) (placed : P
 
   text_ended : (expanded : Result (Unit {0}) (ExpandFault FaultAt)) (made : Assembled) → IsAnswer flags name files placed expanded (Ok made)
       → (expanded ≡ Ok tt) × (made.files ≡ shown_files name files)
-  text_ended (Ok u) made so = (refl, object_by (finished flags.fatal_warnings placed.sections placed.table placed.notes) _ made.files so)
+  text_ended (Ok u) made so = (refl, object_by (finished flags.fatal_warnings placed.sections placed.table placed.procedures placed.notes) _ made.files so)
   text_ended (Err (expand.Lines cause)) made so = absurd cc
   text_ended (Err (expand.Expansion cause pos)) made so = absurd cc
   text_ended (Err (expand.Placing fault)) made so = absurd cc
@@ -56,7 +56,7 @@ module _ (flags : Flags) (name : List ℕ) (files : List (List ℕ)) (placed : P
       → IsAnswer flags name files placed expanded (Err (Source fault pos notes shown)) → TakesIncludes expanded files before now → 0 < length files
       → (before ≤ now) × (now ≤ before + (most_bytes + 1) * length shown)
   text_fault_taken (Ok u) fault pos notes shown before now so takes some =
-      let same = fault_by (finished flags.fatal_warnings placed.sections placed.table placed.notes) _ shown so in
+      let same = fault_by (finished flags.fatal_warnings placed.sections placed.table placed.procedures placed.notes) _ shown so in
       let count : length shown ≡ length (drop 1 files) + 1 = ap length same ∙ omega arith in
       (takes.0, omega (arith, takes.1, count))
   text_fault_taken (Err (expand.Lines cause)) fault pos notes shown before now so takes some = (omega (arith, takes), omega (arith, takes))
@@ -129,8 +129,8 @@ module _ (flags : Flags) (name : List ℕ) (files : List (List ℕ)) (placed : P
   text_large expanded (Err Read) before now so small takes = tt
   text_large expanded (Err NoMemory) before now so small takes = tt
   text_large (Ok u) (Err (Source fault pos notes names)) before now so small takes =
-      never_large (is_file_too_large fault) (end_is_no_reading flags.fatal_warnings placed.sections placed.table placed.notes (fault_at fault pos notes)
-      (ended_fault (shown_files name files) (finished flags.fatal_warnings placed.sections placed.table placed.notes) (fault_at fault pos notes) names so))
+      never_large (is_file_too_large fault) (end_is_no_reading flags.fatal_warnings placed.sections placed.table placed.procedures placed.notes (fault_at fault pos notes)
+      (ended_fault (shown_files name files) (finished flags.fatal_warnings placed.sections placed.table placed.procedures placed.notes) (fault_at fault pos notes) names so))
   text_large (Err (expand.Lines (line.NulByte n))) (Err (Source fault pos notes names)) before now so small takes = never_large (is_file_too_large fault) (ap is_file_too_large (same_fault _ (fault_at fault pos notes) _ names so))
   text_large (Err (expand.Lines (line.UnclosedString n))) (Err (Source fault pos notes names)) before now so small takes = never_large (is_file_too_large fault) (ap is_file_too_large (same_fault _ (fault_at fault pos notes) _ names so))
   text_large (Err (expand.Lines (line.UnclosedComment n))) (Err (Source fault pos notes names)) before now so small takes = never_large (is_file_too_large fault) (ap is_file_too_large (same_fault _ (fault_at fault pos notes) _ names so))

@@ -1,11 +1,16 @@
 -- No step but the reading of the file calls a file too large.
-use Rattle.std.proofs.Common.{◌≡◌, ℕ, Bool, true, false, List, [], ◌∷◌, Result, Ok, Err, refl, ap}
+use Rattle.std.proofs.Common.{◌≡◌, ℕ, Bool, false, List, [], ◌∷◌, Option, None, Some, Result, Ok, Err, refl, ap}
 use Rattle.std.specs.Result.{IfErr}
 use Rattle.std.proofs.lemmas.Result.{IfErr-at_err}
 use Rattle.asm_base.specs.declared.notes.Noted.{Noted}
 use Rattle.asm_relax.specs.Settling.{layout_of}
 use Rattle.asm_place.specs.Faults.{is_file_too_large}
-use Rattle.asm_uses.specs.Tables.{Table}
+use Rattle.asm_base.specs.declared.positions.Pos.{Pos}
+use Rattle.cfi_directives.specs.Procedures.{Procedures, frames_of}
+use Rattle.eh_frame.specs.Pieces.{Tables}
+use Rattle.asm_frags.specs.declared.faults.FragCause.{FragCause}
+use Rattle.asm_frags.specs.declared.faults.FragCause.TheVariants.{BadSection}
+use Rattle.asm_uses.specs.Tables.{Table, with_map}
 use Rattle.asm_frags.specs.Writing.{LooseSection}
 use Rattle.asm_base.specs.Refusals.{◌>>=◌}
 use Rattle.asm_lines.specs.NextStatements.{TokenStatement}
@@ -13,7 +18,8 @@ use Rattle.asm_values.specs.State.{Placed}
 use Rattle.asm_place.specs.Sources.{place, place_all}
 use Rattle.asm_place.specs.declared.place_faults.FaultAt.{FaultAt}
 use Rattle.asm_place.proofs.PlacingLaws.{no_fault_of_reading}
-use Rattle.asm_front.specs.Ending.{noted, laid_end, finished}
+use Rattle.asm_front.specs.Ending.{noted, laid_end, unclosed, first_line, with_frames, framed_end, unless_open, finished}
+use Rattle.asm_front.specs.declared.ending.NotedObject.{NotedObject}
 use Rattle.asm_front.specs.declared.ending.Ended.{Ended}
 
 -- what is known of the fault, if there is one
@@ -34,14 +40,27 @@ noted_fine : (notes : List Noted) (answer : Result (List ℕ) Ended) → NotTooL
 noted_fine notes (Ok object) = no_fault _
 noted_fine notes (Err ended) = a_fault _ refl
 
-finished_fine : (fatal : Bool) (sections : List LooseSection) (table : Table) (notes : List Noted) → NotTooLarge (finished fatal sections table notes)
+framed_fine : (fatal : Bool) (table : Table) (pos : Pos) (notes : List Noted) (answer : Result Tables FragCause) → NotTooLarge (framed_end fatal table pos notes answer)
+framed_fine fatal table pos notes (Ok tables) =
+    noted_fine notes (laid_end fatal (with_map table tables.symbols) notes (layout_of tables.symbols tables.sections))
+framed_fine fatal table pos notes (Err BadSection) = a_fault _ refl
+
+closed_fine : (place : Option Pos) (notes : List Noted) (answer : Result NotedObject FaultAt) → NotTooLarge answer → NotTooLarge (unless_open place notes answer)
+closed_fine None notes answer fine = fine
+closed_fine (Some pos) notes answer fine = a_fault _ refl
+
+finished_fine : (fatal : Bool) (sections : List LooseSection) (table : Table) (procedures : Procedures) (notes : List Noted)
+    → NotTooLarge (finished fatal sections table procedures notes)
 unfolding finished
-finished_fine fatal sections table notes = noted_fine notes (laid_end fatal table notes (layout_of table.symbols sections))
+finished_fine fatal sections table procedures notes =
+    closed_fine (unclosed procedures) notes _
+    (framed_fine fatal table (first_line (frames_of procedures)) notes (with_frames procedures table.symbols sections))
 
 -- the end of a source is no reading of a file
-pub end_is_no_reading : (fatal : Bool) (sections : List LooseSection) (table : Table) (notes : List Noted) (fault : FaultAt)
-    → finished fatal sections table notes ≡ Err fault → is_file_too_large fault.fault ≡ false
-end_is_no_reading fatal sections table notes fault is = IfErr-at_err (λ at. is_file_too_large at.fault ≡ false) is (finished_fine fatal sections table notes).holds
+pub end_is_no_reading : (fatal : Bool) (sections : List LooseSection) (table : Table) (procedures : Procedures) (notes : List Noted) (fault : FaultAt)
+    → finished fatal sections table procedures notes ≡ Err fault → is_file_too_large fault.fault ≡ false
+end_is_no_reading fatal sections table procedures notes fault is =
+    IfErr-at_err (λ at. is_file_too_large at.fault ≡ false) is (finished_fine fatal sections table procedures notes).holds
 
 -- nor is the placing of a statement
 pub placing_is_small : (s : TokenStatement) (before : Placed) (fault : FaultAt) → place s before ≡ Err fault → is_file_too_large fault.fault ≡ false

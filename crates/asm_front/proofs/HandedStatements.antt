@@ -30,8 +30,8 @@ Places = (known : Placed → Knowledge) (files : List (List ℕ)) (statements : 
 
 -- a list that has an object came to its end
 ended_is : (fatal : Bool) (name : List ℕ) (came : Step Placed FaultAt) (made : NotedObject) (files : List (List ℕ)) → assembly_by fatal name came ≡ assembled made files
-    → (names : List (List ℕ)) × (whole : Placed) × (came ≡ ended names whole) × (finished fatal whole.sections whole.table whole.notes ≡ Ok made)
-ended_is fatal name (ended names whole) made files is = (names, whole, refl, object_is (finished fatal whole.sections whole.table whole.notes) is)
+    → (names : List (List ℕ)) × (whole : Placed) × (came ≡ ended names whole) × (finished fatal whole.sections whole.table whole.procedures whole.notes ≡ Ok made)
+ended_is fatal name (ended names whole) made files is = (names, whole, refl, object_is (finished fatal whole.sections whole.table whole.procedures whole.notes) is)
   where
     object_is : (answer : Result NotedObject FaultAt) → ended_by (shown_files name names) answer ≡ assembled made files → answer ≡ Ok made
     object_is (Ok noted) same = cc
@@ -62,7 +62,7 @@ by_lines places in_order flags contents name (Ok statements) made files is whole
     sym (in_order (handed placed_after told_by (Some contents) most_turns list empty) empty)
     ∙ places told_by (name ∷ []) (map in_tokens statements) (Some contents) empty most_turns end.0 end.1 end.2 in
     let same : end.1 ≡ whole = cc in
-    ap (λ (all : Placed). finished flags.fatal_warnings all.sections all.table all.notes) (sym same) ∙ end.3
+    ap (λ (all : Placed). finished flags.fatal_warnings all.sections all.table all.procedures all.notes) (sym same) ∙ end.3
 
 -- the object of a source is made of the statements that are handed out
 pub handed_makes : Places → InOrder → (flags : Flags) (contents : Contents) (name source : List ℕ) (made : NotedObject) (files : List (List ℕ))

@@ -25,7 +25,7 @@ use Rattle.asm_relax.specs.ItemValues.{StandsIn, NamesOwnPlace, IsInItem}
 use Rattle.asm_relax.specs.Settling.{planned}
 use Rattle.asm_place.specs.Coding.{from_own_place}
 use Rattle.asm_place.specs.JumpPlaces.{JumpStandsAt}
-use Rattle.asm_place.specs.SymbolPlaces.{HasItems, MeaningStands, SymbolsStand}
+use Rattle.asm_place.specs.SymbolPlaces.{HasItems, MeaningStands}
 
 -- what holds of all holds of the one that is there
 pub all_there : {X : Type 0} (P : X → Type 0) (xs : List X) (index : ℕ) (x : X) → slice_get xs index ≡ Some x → All P xs → P x
@@ -81,8 +81,12 @@ planned_stands symbols sections place has =
       within = omega (arith, count, enough);
     }
 
-module _ (symbols : SymbolMap) (sections : List LooseSection) (stand : SymbolsStand sections symbols.symbols) where
-  by_meaning : (meant : Meaning) (place : Place) → MeaningStands sections (length symbols.symbols) meant → meant_place meant ≡ Some place → StandsIn (planned symbols sections) place
+-- each symbol that has a place stands in the sections, and forms name symbols up to this number
+abbrev pub StandUpTo : ℕ → List LooseSection → List Symbol → Type 0
+StandUpTo last sections symbols = All (λ symbol. MeaningStands sections last symbol.meaning) symbols
+
+module _ (symbols : SymbolMap) (sections : List LooseSection) (last : ℕ) (stand : StandUpTo last sections symbols.symbols) where
+  by_meaning : (meant : Meaning) (place : Place) → MeaningStands sections last meant → meant_place meant ≡ Some place → StandsIn (planned symbols sections) place
   by_meaning meaning.Undefined place stands is = absurd (none-some place is)
   by_meaning (meaning.Label spot) place stands is =
       let own : Place = record { section = spot.section; item = spot.item; offset = spot.offset } in
@@ -97,7 +101,7 @@ module _ (symbols : SymbolMap) (sections : List LooseSection) (stand : SymbolsSt
       → option_map_or (λ (symbol : Symbol). meant_place symbol.meaning) found None ≡ Some place → StandsIn (planned symbols sections) place
   by_symbol index None place there is = absurd (none-some place is)
   by_symbol index (Some symbol) place there is =
-      by_meaning symbol.meaning place (all_there (λ (one : Symbol). MeaningStands sections (length symbols.symbols) one.meaning) symbols.symbols index symbol there stand) is
+      by_meaning symbol.meaning place (all_there (λ (one : Symbol). MeaningStands sections last one.meaning) symbols.symbols index symbol there stand) is
 
   module _ (n item offset : ℕ) (pos : Pos) (condition : Option Condition) (field : Field) (stands : JumpStandsAt sections n item offset pos condition field)
       (of_section : field.section ≡ n) (behind_item : field.item ≡ item + 1) where

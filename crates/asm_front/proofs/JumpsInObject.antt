@@ -49,10 +49,13 @@ use Rattle.asm_place.proofs.StatementSplits.{all_split}
 use Rattle.asm_place.specs.JumpPlaces.{IsJump, jump_form, items_so_far, jump_field, JumpStandsAt, JumpStands, jump_written}
 use Rattle.asm_place.specs.Sources.{pos_at, place_all}
 use Rattle.x86_encode.specs.declared.encoded.FieldKind.TheVariants as kind
-use Rattle.asm_front.specs.Ending.{Flags, first_over}
+use Rattle.eh_frame.specs.Pieces.{Tables}
+use Rattle.asm_front.specs.Ending.{Flags, first_over, framed}
 use Rattle.asm_front.specs.declared.ending.NotedObject.{NotedObject}
-use Rattle.asm_place.proofs.PlacingLaws.{all_within}
 use Rattle.asm_front.specs.ReadsBack.{file_place, final_value, has_no_bits, JumpReadsAt, JumpReadsBack, JumpsReadBack}
+use Rattle.asm_front.proofs.FramedSections.{TableFacts, is_framed, jump_stays}
+use Rattle.asm_front.proofs.FramedSymbols.{labels_framed, symbols_framed, forms_framed}
+use Rattle.asm_front.proofs.PlacedItems.{PlaceFacts}
 use Rattle.asm_front.proofs.HeldFields.{field_held}
 use Rattle.asm_front.proofs.JumpFields.{stands_in_item, jump_constant}
 use Rattle.asm_front.proofs.LowLayouts.{layout_low}
@@ -63,10 +66,9 @@ use Rattle.asm_front.proofs.SmallForms.{held_small, final_small}
 
 -- what is known of all jumps: where their items stand in the sections and in the object, and what their bytes read as
 pub record JumpFacts : Type 0 where
-  pub begins : (no_warn : Bool) → AreWithin (nothing_placed no_warn).sections
   pub placed : (front : List TokenStatement) (s : TokenStatement) (later : List TokenStatement) (before placed whole : Placed) (text : InsnText) (condition : Option Condition)
       → AreWithin before.sections → place_all front before ≡ Ok placed → place_all (front ++ s ∷ later) before ≡ Ok whole
-      → insn_in s ≡ Some text → jump_in text ≡ Some condition → JumpStands whole.sections (pos_at s.file s.line) s.tokens text condition placed
+      → insn_in placed.syntax s ≡ Some text → jump_in text ≡ Some condition → JumpStands whole.sections (pos_at s.file s.line) s.tokens text condition placed
   pub stand : ItemsStand
   pub addresses : (items : List LaidItem) (index : ℕ) → slice_get (placed_from 0 items) index
       ≡ option_map (λ item. item_laid_at (item.offset + shift_of index 0 items) item.size item) (slice_get items index)
@@ -83,7 +85,7 @@ pub record JumpFacts : Type 0 where
   pub few : (statements : List TokenStatement) (no_warn : Bool) (placed : Placed) → place_all statements (nothing_placed no_warn) ≡ Ok placed
       → length placed.table.symbols.symbols ≤ 2 ^ 24
   pub named : (s : TokenStatement) (later : List TokenStatement) (placed whole : Placed) (text : InsnText) → PlacesStand placed
-      → (jump : IsJump (pos_at s.file s.line) s.tokens text placed) → place_all (s ∷ later) placed ≡ Ok whole → insn_in s ≡ Some text
+      → (jump : IsJump (pos_at s.file s.line) s.tokens text placed) → place_all (s ∷ later) placed ≡ Ok whole → insn_in placed.syntax s ≡ Some text
       → AreUpTo (length whole.table.symbols.symbols) jump.forms.displacement.terms
 
 -- THE ITEM
@@ -225,38 +227,45 @@ jump_at one_way facts text condition near bytes rest at distance jump stands hel
     }
 
 -- a direct jump among statements that are placed reads back as it in the object of their layout, where no section of that is too large
-pub jump_reads_back : AreSettled → ReadsOneWay → JumpFacts → (no_warn : Bool) (front : List TokenStatement) (s : TokenStatement) (later : List TokenStatement)
-    (text : InsnText) (condition : Option Condition) (placed whole : Placed) (laid : LaidSections) (object : List ℕ)
+pub jump_reads_back : AreSettled → ReadsOneWay → TableFacts → PlaceFacts → JumpFacts → (no_warn : Bool) (front : List TokenStatement) (s : TokenStatement) (later : List TokenStatement)
+    (text : InsnText) (condition : Option Condition) (placed whole : Placed) (tables : Tables) (laid : LaidSections) (object : List ℕ)
     → place_all front (nothing_placed no_warn) ≡ Ok placed → place_all (front ++ s ∷ later) (nothing_placed no_warn) ≡ Ok whole
-    → layout_of whole.table.symbols whole.sections ≡ Ok laid → object ≡ image_of whole.table.symbols laid → first_over laid ≡ None
-    → insn_in s ≡ Some text → jump_in text ≡ Some condition → has_no_bits laid placed.current ≡ false → JumpReadsBack object whole.table.symbols laid s text placed
-jump_reads_back settled one_way facts no_warn front s later text condition placed whole laid object front_is all is same none written jump filed =
+    → framed whole ≡ Ok tables → layout_of tables.symbols tables.sections ≡ Ok laid → object ≡ image_of tables.symbols laid → first_over laid ≡ None
+    → insn_in placed.syntax s ≡ Some text → jump_in text ≡ Some condition → has_no_bits laid placed.current ≡ false → JumpReadsBack object tables.symbols laid s text placed
+jump_reads_back settled one_way table placing facts no_warn front s later text condition placed whole tables laid object front_is all framed_is is same none written jump filed =
     let empty = nothing_placed no_warn in
-    let there = facts.placed front s later empty placed whole text condition (facts.begins no_warn) front_is all written jump in
-    let symbols = whole.table.symbols in
+    let begins = placing.begins no_warn in
+    let there = facts.placed front s later empty placed whole text condition begins front_is all written jump in
+    let symbols = tables.symbols in
+    let sections = tables.sections in
     let pos = pos_at s.file s.line in
     let n = placed.current in
     let item = items_so_far placed in
     let offset = next_offset placed in
     let field = jump_field pos text (jump_form there.jump.forms) placed in
-    let stands = there.stands in
+    let within = placing.within (front ++ s ∷ later) empty whole all begins in
+    let with_table = is_framed table whole tables within framed_is in
+    let stands = jump_stays whole.sections sections n item offset pos condition field with_table.grows there.stands in
     let takes : (stands.section.kind == 8) ≡ false =
     sym (ap (λ found. option_map_or (λ (kept : SectionOf LaidItem). kept.kind == no_bits) found false)
-    (section_kept symbols whole.sections laid n stands.section is stands.found).1) ∙ filed in
-    let piece = item_there settled facts symbols whole.sections laid n item offset pos condition field is stands takes in
+    (section_kept symbols sections laid n stands.section is stands.found).1) ∙ filed in
+    let piece = item_there settled facts symbols sections laid n item offset pos condition field is stands takes in
     let at = file_place symbols laid n item offset in
     let distance = final_value symbols laid field in
     let small = final_small symbols laid field (held_small kind.Branch there.jump.forms.displacement (λ far. absurd cc)) in
-    let fits = value_fits settled facts symbols whole.sections laid n item offset pos condition field is stands takes in
-    let bytes = item_size settled facts symbols whole.sections laid n item offset pos condition field is stands takes in
-    let within = all_within (front ++ s ∷ later) empty whole all (facts.begins no_warn) in
-    let low = layout_low facts.ranked symbols whole.sections within (sym (ap first_over (layout_is symbols whole.sections laid is)) ∙ none) in
+    let fits = value_fits settled facts symbols sections laid n item offset pos condition field is stands takes in
+    let bytes = item_size settled facts symbols sections laid n item offset pos condition field is stands takes in
+    let low = layout_low facts.ranked symbols sections with_table.within (sym (ap first_over (layout_is symbols sections laid is)) ∙ none) in
     let places = facts.places (front ++ s ∷ later) empty whole all (facts.starts no_warn) in
     let rest = sym (ap (λ r. r >>= place_all (s ∷ later)) front_is) ∙ (sym (all_split front (s ∷ later) empty) ∙ all) in
     let named = facts.named s later placed whole text (facts.places front empty placed front_is (facts.starts no_warn)) there.jump rest written in
-    let own = names_own_place whole.sections symbols there.jump.forms.displacement places.symbols (facts.few (front ++ s ∷ later) no_warn whole all) named in
-    let room = has_room settled facts symbols whole.sections laid n item offset pos condition field is stands takes low
-    (stands_in_item symbols whole.sections places.symbols n item offset pos condition field stands refl refl refl refl own
+    let labels = labels_framed table whole tables within places framed_is in
+    let last = length whole.table.symbols.symbols in
+    let stand = symbols_framed whole.sections sections whole.table.symbols symbols with_table.grows places.symbols labels in
+    let own = names_own_place sections symbols last there.jump.forms.displacement stand (facts.few (front ++ s ∷ later) no_warn whole all)
+    (λ index form assigned. forms_framed sections whole.table.symbols symbols index form labels assigned) named in
+    let room = has_room settled facts symbols sections laid n item offset pos condition field is stands takes low
+    (stands_in_item symbols sections last stand n item offset pos condition field stands refl refl refl refl own
     (jump_constant there.jump.forms.displacement)) in
     let held = room_held facts condition bytes room.level (held_value symbols laid (substituted_field (expanded symbols) field)) small fits room.sized room.room in
     record {
@@ -265,8 +274,9 @@ jump_reads_back settled one_way facts no_warn front s later text condition place
     }
 
 -- each direct jump that is handed out reads back as it
-pub jumps_read_back : AreSettled → ReadsOneWay → JumpFacts → (flags : Flags) (handed : List TokenStatement) (made : NotedObject) → Makes flags handed made
+pub jumps_read_back : AreSettled → ReadsOneWay → TableFacts → PlaceFacts → JumpFacts → (flags : Flags) (handed : List TokenStatement) (made : NotedObject) → Makes flags handed made
     → JumpsReadBack flags handed made.object
-jumps_read_back settled one_way facts flags handed made e before after s text condition placed whole laid are front all is written jump filed =
-    jump_reads_back settled one_way facts flags.no_warn before s after text condition placed whole laid made.object front all is
-    (assembly_is flags handed made (before ++ s ∷ after) whole laid are all is e) (none_over flags handed made (before ++ s ∷ after) whole laid are all is e) written jump filed
+jumps_read_back settled one_way table placing facts flags handed made e before after s text condition placed whole tables laid are front all framed_is is written jump filed =
+    jump_reads_back settled one_way table placing facts flags.no_warn before s after text condition placed whole tables laid made.object front all framed_is is
+    (assembly_is flags handed made (before ++ s ∷ after) whole tables laid are all framed_is is e)
+    (none_over flags handed made (before ++ s ∷ after) whole tables laid are all framed_is is e) written jump filed

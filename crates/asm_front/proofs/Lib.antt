@@ -17,6 +17,9 @@ pub mod CodeReads
 pub mod JumpFields
 pub mod LowLayouts
 pub mod OwnPlaces
+pub mod FramedSections
+pub mod PlacedItems
+pub mod FramedSymbols
 pub mod JumpsInObject
 pub mod CodesInObject
 pub mod HandedStatements

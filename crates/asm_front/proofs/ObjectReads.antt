@@ -1,5 +1,5 @@
 -- Written bytes read back: the bytes of an instruction stand in the object.
-use Rattle.std.proofs.Common.{◌≡◌, ℕ, ◌+◌, ◌≤◌, ◌&&◌, not, Bool, true, false, cond, List, [], ◌∷◌, ◌++◌, Option, Some, None, Result, Ok, Err, length, drop, refl, sym, ap, ◌∙◌, arith}
+use Rattle.std.proofs.Common.{◌≡◌, ℕ, ◌+◌, ◌≤◌, ◌&&◌, not, Bool, true, false, cond, List, [], ◌∷◌, ◌++◌, Option, Some, None, Result, Ok, Err, length, drop, refl, sym, ap, ◌∙◌, subst, arith}
 use Rattle.std.specs.Prelude.{slice_get}
 use Rattle.asm_base.specs.Tokens.{SpelledToken}
 use Rattle.asm_base.specs.declared.notes.Noted.{Noted}
@@ -11,15 +11,19 @@ use Rattle.asm_relax.specs.Settling.{LaidSections, unless, layout_of}
 use Rattle.asm_relax.specs.declared.faults.LayoutFault.{LayoutFault}
 use Rattle.x86_insn.specs.Views.{View}
 use Rattle.x86_table.specs.Reads.{Reads, ReadsOneWay}
-use Rattle.x86_lookup.specs.BareInstructions.{Coded, bare_instruction, BareCodesRead, BareCodesStand}
+use Rattle.x86_lookup.specs.BareInstructions.{Coded, bare_instruction, BareCodesRead}
 use Rattle.asm_operands.specs.Operands.{is_name, begins_with_dot}
 use Rattle.asm_frags.specs.Writing.{LooseSection}
 use Rattle.asm_values.specs.State.{Placed, nothing_placed}
-use Rattle.asm_uses.specs.Tables.{Table}
+use Rattle.asm_uses.specs.Tables.{Table, with_map}
+use Rattle.asm_words.specs.declared.directives.Syntax.{Syntax}
+use Rattle.asm_words.specs.declared.directives.Syntax.TheVariants.{Att, Intel}
+use Rattle.cfi_directives.specs.Procedures.{frames_of}
+use Rattle.eh_frame.specs.Pieces.{Tables}
+use Rattle.asm_frags.specs.declared.faults.FragCause.{FragCause}
+use Rattle.asm_place.specs.declared.place_faults.FaultAt.{FaultAt}
 use Rattle.asm_place.specs.Sources.{place_all}
 use Rattle.asm_place.specs.Instructions.{behind_labels, instruction_written, next_item, next_offset, StandsAt}
-use Rattle.asm_place.proofs.GrowthLemmas.{nothing_within}
-use Rattle.asm_place.proofs.InstructionLaws.{instruction_there}
 use Rattle.elf_object.specs.declared.faults.ObjectCause.{ObjectCause}
 use Rattle.elf_object.specs.Faults.{object_fault}
 use Rattle.elf_object.specs.Objects.{object_of}
@@ -27,10 +31,12 @@ use Rattle.elf_object.specs.Image.{image_of}
 use Rattle.elf_file.specs.Places.{PieceAt}
 use Rattle.elf_object.specs.Places.{IsFiled, IsBetween}
 use Rattle.elf_file.proofs.FilePlaces.{drop_stands}
-use Rattle.asm_front.specs.Ending.{Flags, first_warning, warned_end, made_end, first_over, unless_over, laid_end, noted, finished}
+use Rattle.asm_front.specs.Ending.{Flags, first_warning, warned_end, made_end, first_over, unless_over, laid_end, noted, unclosed, first_line, framed, framed_end, unless_open, finished}
 use Rattle.asm_front.specs.declared.ending.Ended.{Ended}
 use Rattle.asm_front.specs.declared.ending.NotedObject.{NotedObject}
 use Rattle.asm_front.specs.ReadsBack.{ReadsAt, file_place, BareReadBack}
+use Rattle.asm_front.proofs.FramedSections.{TableFacts, is_framed, bytes_stay}
+use Rattle.asm_front.proofs.PlacedItems.{PlaceFacts, bare_items}
 use Rattle.asm_front.proofs.LaidItems.{AreSettled, kept_section, section_kept, laid_stays, laid_sized, first_kept, others_kept, beside_kept}
 
 -- plain bytes that stand in a section stand in the object at their place
@@ -63,12 +69,14 @@ written_of_one true false found coded e = absurd cc
 written_of_one false plain found coded e = absurd cc
 
 -- the bytes of the instruction that is written read as it
-written_reads : BareCodesRead → (tokens : List SpelledToken) (coded : Coded) → instruction_written tokens ≡ Some coded → Reads coded.bytes coded.insn
+written_reads : BareCodesRead → (syntax : Syntax) (tokens : List SpelledToken) (coded : Coded) → instruction_written syntax tokens ≡ Some coded
+    → Reads coded.bytes coded.insn
 unfolding instruction_written
-written_reads read [] coded e = absurd cc
-written_reads read (name ∷ []) coded e =
+written_reads read Intel tokens coded e = absurd cc
+written_reads read Att [] coded e = absurd cc
+written_reads read Att (name ∷ []) coded e =
     read name.bytes coded (written_of_one (is_name name) (not (begins_with_dot name.bytes)) (bare_instruction name.bytes) coded e)
-written_reads read (name ∷ operand ∷ rest) coded e = absurd cc
+written_reads read Att (name ∷ operand ∷ rest) coded e = absurd cc
 
 -- bytes that begin with those that read as an instruction read as it, and as no other
 abbrev pub reads_code : ReadsOneWay → (bytes code rest : List ℕ) (at : ℕ) (insn : View) → drop at bytes ≡ code ++ rest → Reads code insn → ReadsAt bytes at insn
@@ -109,44 +117,58 @@ noted_is : (notes : List Noted) (answer : Result (List ℕ) Ended) (made : Noted
 noted_is notes (Ok object) made e = cc
 noted_is notes (Err ended) made e = absurd cc
 
--- the object that is made at the end is that of the layout, of which no section is too large
-finished_is : (fatal : Bool) (whole : Placed) (laid : LaidSections) (made : NotedObject) → layout_of whole.table.symbols whole.sections ≡ Ok laid
-    → finished fatal whole.sections whole.table whole.notes ≡ Ok made → (made.object ≡ image_of whole.table.symbols laid) × (first_over laid ≡ None)
+-- no procedure of an object is open
+unless_open_is : (place : Option Pos) (notes : List Noted) (answer : Result NotedObject FaultAt) (made : NotedObject) → unless_open place notes answer ≡ Ok made → answer ≡ Ok made
+unless_open_is None notes answer made e = e
+unless_open_is (Some pos) notes answer made e = absurd cc
+
+-- the object that is made at the end is that of the layout with the frame table, of which no section is too large
+finished_is : (fatal : Bool) (whole : Placed) (tables : Tables) (laid : LaidSections) (made : NotedObject) → framed whole ≡ Ok tables
+    → layout_of tables.symbols tables.sections ≡ Ok laid
+    → finished fatal whole.sections whole.table whole.procedures whole.notes ≡ Ok made → (made.object ≡ image_of tables.symbols laid) × (first_over laid ≡ None)
 unfolding finished
-finished_is fatal whole laid made is e =
-    let answer = layout_of whole.table.symbols whole.sections in
-    laid_is fatal whole.table whole.notes answer laid made.object is (noted_is whole.notes (laid_end fatal whole.table whole.notes answer) made e)
+finished_is fatal whole tables laid made are is e =
+    let table = with_map whole.table tables.symbols in
+    let pos = first_line (frames_of whole.procedures) in
+    let answer = layout_of tables.symbols tables.sections in
+    let closed : framed_end fatal whole.table pos whole.notes (framed whole) ≡ Ok made =
+    unless_open_is (unclosed whole.procedures) whole.notes (framed_end fatal whole.table pos whole.notes (framed whole)) made e in
+    let made_is : noted whole.notes (laid_end fatal table whole.notes answer) ≡ Ok made =
+    subst (λ (r : Result Tables FragCause). framed_end fatal whole.table pos whole.notes r ≡ Ok made) are closed in
+    laid_is fatal table whole.notes answer laid made.object is (noted_is whole.notes (laid_end fatal table whole.notes answer) made made_is)
 
 -- the statements that are handed out have this object, with these notes
 abbrev pub Makes : Flags → List TokenStatement → NotedObject → Type 0
 Makes flags handed made = (whole : Placed) → place_all handed (nothing_placed flags.no_warn) ≡ Ok whole
-    → finished flags.fatal_warnings whole.sections whole.table whole.notes ≡ Ok made
+    → finished flags.fatal_warnings whole.sections whole.table whole.procedures whole.notes ≡ Ok made
 
--- their object is that of the layout of what they placed, of which no section is too large
-assembled_is : (flags : Flags) (handed : List TokenStatement) (made : NotedObject) (statements : List TokenStatement) (whole : Placed) (laid : LaidSections)
-    → handed ≡ statements → place_all statements (nothing_placed flags.no_warn) ≡ Ok whole
-    → layout_of whole.table.symbols whole.sections ≡ Ok laid → Makes flags handed made → (made.object ≡ image_of whole.table.symbols laid) × (first_over laid ≡ None)
-assembled_is flags handed made statements whole laid are all is makes =
-    finished_is flags.fatal_warnings whole laid made is (makes whole (ap (λ list. place_all list (nothing_placed flags.no_warn)) are ∙ all))
+module _ (flags : Flags) (handed : List TokenStatement) (made : NotedObject) (statements : List TokenStatement) (whole : Placed) (tables : Tables) (laid : LaidSections)
+    (are : handed ≡ statements) (all : place_all statements (nothing_placed flags.no_warn) ≡ Ok whole) (framed_is : framed whole ≡ Ok tables)
+    (is : layout_of tables.symbols tables.sections ≡ Ok laid) (makes : Makes flags handed made) where
+  -- their object is that of the layout of what they placed, of which no section is too large
+  assembled_is : (made.object ≡ image_of tables.symbols laid) × (first_over laid ≡ None)
+  assembled_is =
+      finished_is flags.fatal_warnings whole tables laid made framed_is is (makes whole (ap (λ list. place_all list (nothing_placed flags.no_warn)) are ∙ all))
 
-pub assembly_is : (flags : Flags) (handed : List TokenStatement) (made : NotedObject) (statements : List TokenStatement) (whole : Placed) (laid : LaidSections)
-    → handed ≡ statements → place_all statements (nothing_placed flags.no_warn) ≡ Ok whole
-    → layout_of whole.table.symbols whole.sections ≡ Ok laid → Makes flags handed made → made.object ≡ image_of whole.table.symbols laid
-assembly_is flags handed made statements whole laid are all is makes = (assembled_is flags handed made statements whole laid are all is makes).0
+  pub assembly_is : made.object ≡ image_of tables.symbols laid
+  assembly_is = assembled_is.0
 
-pub none_over : (flags : Flags) (handed : List TokenStatement) (made : NotedObject) (statements : List TokenStatement) (whole : Placed) (laid : LaidSections)
-    → handed ≡ statements → place_all statements (nothing_placed flags.no_warn) ≡ Ok whole
-    → layout_of whole.table.symbols whole.sections ≡ Ok laid → Makes flags handed made → first_over laid ≡ None
-none_over flags handed made statements whole laid are all is makes = (assembled_is flags handed made statements whole laid are all is makes).1
+  pub none_over : first_over laid ≡ None
+  none_over = assembled_is.1
 
 -- each instruction without operands that is handed out reads back
-pub bare_read_back : AreSettled → ReadsOneWay → BareCodesRead → BareCodesStand → (flags : Flags) (handed : List TokenStatement) (made : NotedObject) → Makes flags handed made → BareReadBack flags handed made.object
-bare_read_back settled one_way read stand flags handed made e before after s coded placed whole laid are front all is written =
-    let holds = instruction_there stand before s after (nothing_placed flags.no_warn) placed whole coded
-    (nothing_within flags.no_warn) front all written in
-    let symbols = whole.table.symbols in
+pub bare_read_back : AreSettled → ReadsOneWay → BareCodesRead → TableFacts → PlaceFacts → (flags : Flags) (handed : List TokenStatement) (made : NotedObject) → Makes flags handed made
+    → BareReadBack flags handed made.object
+bare_read_back settled one_way read table facts flags handed made e before after s coded placed whole tables laid are front all framed_is is written =
+    let empty = nothing_placed flags.no_warn in
+    let begins = facts.begins flags.no_warn in
+    let stands = facts.bare_stands before s after empty placed whole coded begins front all written in
+    let grows = (is_framed table whole tables (facts.within (before ++ s ∷ after) empty whole all begins) framed_is).grows in
+    let holds = bytes_stay whole.sections tables.sections placed.current (next_item placed) (next_offset placed) coded.bytes grows stands
+    (bare_items facts before s after empty placed whole stands.section front all stands.found coded written) in
+    let symbols = tables.symbols in
     let at = file_place symbols laid placed.current (next_item placed) (next_offset placed) in
-    let same : made.object ≡ image_of symbols laid = assembly_is flags handed made (before ++ s ∷ after) whole laid are all is e in
-    let stands = object_stands settled symbols whole.sections laid placed.current (next_item placed) (next_offset placed) coded.bytes is holds in
-    reads_code one_way made.object coded.bytes stands.rest at coded.insn (ap (drop at) same ∙ drop_stands (image_of symbols laid) at coded.bytes stands)
-    (written_reads read (behind_labels s.tokens) coded written)
+    let same : made.object ≡ image_of symbols laid = assembly_is flags handed made (before ++ s ∷ after) whole tables laid are all framed_is is e in
+    let there = object_stands settled symbols tables.sections laid placed.current (next_item placed) (next_offset placed) coded.bytes is holds in
+    reads_code one_way made.object coded.bytes there.rest at coded.insn (ap (drop at) same ∙ drop_stands (image_of symbols laid) at coded.bytes there)
+    (written_reads read placed.syntax (behind_labels s.tokens) coded written)

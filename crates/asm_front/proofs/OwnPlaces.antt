@@ -18,8 +18,8 @@ use Rattle.asm_symbols.specs.SymbolMap.{SymbolMap}
 use Rattle.assigned_forms.specs.Expanding.{form_or_symbol, replacement, plus_terms, with_replaced, names_assigned, expanded_within, expanded}
 use Rattle.asm_relax.specs.ItemValues.{NamesOwnPlace}
 use Rattle.asm_place.specs.Coding.{from_own_place}
-use Rattle.asm_place.specs.SymbolPlaces.{AreUpTo, MeaningStands, SymbolsStand}
-use Rattle.asm_front.proofs.JumpFields.{all_there, inside}
+use Rattle.asm_place.specs.SymbolPlaces.{AreUpTo, MeaningStands}
+use Rattle.asm_front.proofs.JumpFields.{all_there, StandUpTo}
 
 -- A SUM WITH A FACTOR
 
@@ -80,15 +80,16 @@ module _ (own : ℕ) where
       let none : cond (term.symbol == own) term.coefficient 0 ≡ 0 = ap (λ b. cond b term.coefficient 0) apart in
       omega (arith, none, later)
 
-  module _ (sections : List LooseSection) (symbols : SymbolMap) (stand : SymbolsStand sections symbols.symbols) (few : length symbols.symbols < own) where
-    meant_uncounted : (meant : Meaning) (form : Form) → MeaningStands sections (length symbols.symbols) meant → form_of meant ≡ Some form → times own form.terms ≡ 0
+  module _ (sections : List LooseSection) (symbols : SymbolMap) (last : ℕ) (stand : StandUpTo last sections symbols.symbols) (few : last < own)
+      (low : (index : ℕ) (form : Form) → form_at symbols.symbols index ≡ Some form → index < own) where
+    meant_uncounted : (meant : Meaning) (form : Form) → MeaningStands sections last meant → form_of meant ≡ Some form → times own form.terms ≡ 0
     meant_uncounted meaning.Undefined form stands is = absurd (none-some form is)
     meant_uncounted (meaning.Label spot) form stands is = absurd (none-some form is)
     meant_uncounted (meaning.Common size align) form stands is = absurd (none-some form is)
     meant_uncounted (meaning.Space spot) form stands is = absurd (none-some form is)
     meant_uncounted (meaning.Assigned other) form stands is =
         let same : other ≡ form = cc in
-        subst (λ (f : Form). times own f.terms ≡ 0) same (uncounted (length symbols.symbols) other.terms few stands)
+        subst (λ (f : Form). times own f.terms ≡ 0) same (uncounted last other.terms few stands)
 
     -- the form of an assigned symbol does not count it, and it is not that symbol
     form_uncounted : (index : ℕ) (form : Form) → form_at symbols.symbols index ≡ Some form → (times own form.terms ≡ 0) × ((index == own) ≡ false)
@@ -98,10 +99,10 @@ module _ (own : ℕ) where
             → (times own form.terms ≡ 0) × ((index == own) ≡ false)
         by None there at = absurd (none-some form (sym (ap (λ (f : Option Symbol). elim f [ None ↦ None | Some symbol ↦ form_of symbol.meaning ]) there) ∙ at))
         by (Some symbol) there at =
-            let low = inside symbols.symbols index symbol there in
+            let below = low index form at in
             let apart : (index == own) ≡ false = grind (arith, nat_tests) in (
               meant_uncounted symbol.meaning form
-                  (all_there (λ (one : Symbol). MeaningStands sections (length symbols.symbols) one.meaning) symbols.symbols index symbol there stand)
+                  (all_there (λ (one : Symbol). MeaningStands sections last one.meaning) symbols.symbols index symbol there stand)
                   (sym (ap (λ (f : Option Symbol). elim f [ None ↦ None | Some symbol ↦ form_of symbol.meaning ]) there) ∙ at),
               apart,
             )
@@ -150,14 +151,17 @@ module _ (own : ℕ) where
     unfolding expanded
     expanded_counts form = within_counts (suc (length symbols.symbols)) form
 
--- the field of a jump to a target that names symbols that are there names its own place minus once
-pub names_own_place : (sections : List LooseSection) (symbols : SymbolMap) (target : Form) → SymbolsStand sections symbols.symbols → length symbols.symbols ≤ 2 ^ 24
-    → AreUpTo (length symbols.symbols) target.terms → NamesOwnPlace true (expanded symbols (from_own_place target))
-names_own_place sections symbols target stand few named =
-    let low : length symbols.symbols < own_place = omega (arith, few) in
-    let kept = expanded_counts own_place sections symbols stand low (from_own_place target) in
+-- the field of a jump to a target that names symbols up to a low number names its own place minus once
+pub names_own_place : (sections : List LooseSection) (symbols : SymbolMap) (last : ℕ) (target : Form) → StandUpTo last sections symbols.symbols → last ≤ 2 ^ 24
+    → ((index : ℕ) (form : Form) → form_at symbols.symbols index ≡ Some form → index < last)
+    → AreUpTo last target.terms → NamesOwnPlace true (expanded symbols (from_own_place target))
+names_own_place sections symbols last target stand few assigned named =
+    let low : last < own_place = omega (arith, few) in
+    let below : (index : ℕ) (form : Form) → form_at symbols.symbols index ≡ Some form → index < own_place =
+    λ index form is. (let before = assigned index form is in omega (arith, before, low)) in
+    let kept = expanded_counts own_place sections symbols last stand low below (from_own_place target) in
     let plus = plus_counts own_place target (2 ^ 64 - 1) (symbol_form own_place) in
-    let none = uncounted own_place (length symbols.symbols) target.terms low named in
+    let none = uncounted own_place last target.terms low named in
     let once : coefficient (symbol_form own_place) own_place ≡ 1 = refl in
     let minus : coefficient (from_own_place target) own_place ≡ 2 ^ 64 - 1 = omega arith in
     kept ∙ minus

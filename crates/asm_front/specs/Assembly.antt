@@ -78,7 +78,7 @@ ended_by files (Err fault) = faulty fault files
 -- what a source of this name stands for, by what comes of its statements: a fault of expansion has the notes that were made before. Each
 -- list comes to its outcome, and none is untold where contents are told
 abbrev pub assembly_by : Bool → List ℕ → Step Placed FaultAt → Assembly
-assembly_by fatal name (ended files whole) = ended_by (shown_files name files) (finished fatal whole.sections whole.table whole.notes)
+assembly_by fatal name (ended files whole) = ended_by (shown_files name files) (finished fatal whole.sections whole.table whole.procedures whole.notes)
 assembly_by fatal name (fails files cause pos placed) =
     faulty (fault_at (Statement (macro_fault cause)) pos placed.notes) (shown_files name files)
 assembly_by fatal name (refused files fault) = faulty fault (shown_files name files)

@@ -1,21 +1,31 @@
--- The end of a source: the layout of what was placed, and its object, or the first fault of either.
-use Rattle.std.specs.Prelude.{ℕ, ◌+◌, ◌-◌, ◌^◌, Bool, true, false, List, length, nat_lt, if◌then◌else◌, Option, None, Some, option_map, unwrap_or, slice_get, Result, Ok, Err}
+-- The end of a source: the frame table of its procedures, the layout of what was placed with it, and its object, or the first fault of these.
+use Rattle.std.specs.Prelude.{ℕ, ◌+◌, ◌-◌, ◌^◌, Bool, true, false, List, [], ◌∷◌, length, nat_lt, if◌then◌else◌, Option, None, Some, option_map, unwrap_or, slice_get, Result, Ok, Err}
 use Rattle.asm_base.specs.declared.faults.EndFault.{EndFault}
 use Rattle.asm_base.specs.declared.faults.EndFault.TheVariants as end
-use Rattle.asm_base.specs.declared.faults.Fault.TheVariants.{End}
+use Rattle.asm_base.specs.declared.faults.Fault.{Fault}
+use Rattle.asm_base.specs.declared.faults.Fault.TheVariants.{End, Statement}
+use Rattle.asm_base.specs.declared.faults.StatementFault.TheVariants as statement
 use Rattle.asm_base.specs.declared.notes.Noted.{Noted}
 use Rattle.asm_base.specs.declared.positions.Pos.{Pos}
 use Rattle.std.specs.List.{find}
 use Rattle.std.specs.Option.{option_map_or}
 use Rattle.asm_frags.specs.SectionOf.{SectionOf}
+use Rattle.asm_symbols.specs.SymbolMap.{SymbolMap}
 use Rattle.asm_relax.specs.Settling.{LaidItem, LaidSections, layout_of}
 use Rattle.asm_relax.specs.declared.faults.LayoutFault.{LayoutFault}
 use Rattle.asm_relax.specs.declared.faults.LayoutFault.TheVariants as layout
 use Rattle.elf_object.specs.declared.faults.ObjectCause.{ObjectCause}
 use Rattle.elf_object.specs.declared.faults.ObjectCause.TheVariants as object
 use Rattle.elf_object.specs.Objects.{object_of}
-use Rattle.asm_uses.specs.Tables.{Table, last_sized}
+use Rattle.cfi_directives.specs.declared.frames.Frame.{Frame}
+use Rattle.cfi_directives.specs.Procedures.{Procedures, frames_of}
+use Rattle.eh_frame.specs.Pieces.{Tables, tables_of}
+use Rattle.eh_frame.specs.Placing.{placed}
+use Rattle.asm_uses.specs.Tables.{Table, last_sized, with_map}
+use Rattle.asm_frags.specs.declared.faults.FragCause.{FragCause}
+use Rattle.asm_frags.specs.declared.faults.FragCause.TheVariants as frag
 use Rattle.asm_frags.specs.Writing.{LooseSection}
+use Rattle.asm_values.specs.State.{Placed}
 use Rattle.asm_place.specs.Sources.{fault_at}
 use Rattle.asm_place.specs.declared.place_faults.FaultAt.{FaultAt}
 use Rattle.asm_front.specs.declared.ending.Ended.{Ended}
@@ -105,6 +115,45 @@ abbrev pub noted : List Noted → Result (List ℕ) Ended → Result NotedObject
 noted notes (Ok object) = Ok (record { object = object; notes = notes })
 noted notes (Err ended) = Err (fault_at (End ended.fault) ended.pos notes)
 
--- the object at the end of the source, or the first fault there: of the layout, of the object, and warnings last
-unfoldable pub finished : Bool → List LooseSection → Table → List Noted → Result NotedObject FaultAt
-finished fatal sections table notes = noted notes (laid_end fatal table notes (layout_of table.symbols sections))
+-- where a procedure begins that is not closed
+abbrev pub unclosed : Procedures → Option Pos
+unclosed procedures = option_map (λ frame. frame.pos) procedures.begun
+
+-- the line of the last procedure
+abbrev pub last_line : List Frame → Option Pos
+last_line frames = option_map (λ frame. frame.pos) (slice_get frames (length frames - 1))
+
+-- the line of the first procedure
+abbrev pub first_line : List Frame → Pos
+first_line [] = source_start
+first_line (frame ∷ frames) = frame.pos
+
+-- the fault of a frame table
+abbrev pub table_fault : FragCause → Fault
+table_fault frag.BadSection = Statement statement.BadSection
+
+-- the symbols and the sections with the frame table of these procedures, or the cause for which it is refused
+abbrev pub with_frames : Procedures → SymbolMap → List LooseSection → Result Tables FragCause
+with_frames procedures symbols sections = placed (frames_of procedures) (tables_of symbols sections)
+
+-- those of what was placed
+abbrev pub framed : Placed → Result Tables FragCause
+framed whole = with_frames whole.procedures whole.table.symbols whole.sections
+
+-- the object or the fault behind the frame table, which is refused at the first procedure's line
+abbrev pub framed_end : Bool → Table → Pos → List Noted → Result Tables FragCause → Result NotedObject FaultAt
+framed_end fatal table pos notes (Ok tables) =
+    noted notes (laid_end fatal (with_map table tables.symbols) notes (layout_of tables.symbols tables.sections))
+framed_end fatal table pos notes (Err cause) = Err (fault_at (table_fault cause) pos notes)
+
+-- the answer, unless a procedure is not closed
+abbrev pub unless_open : Option Pos → List Noted → Result NotedObject FaultAt → Result NotedObject FaultAt
+unless_open None notes answer = answer
+unless_open (Some pos) notes answer = Err (fault_at (End end.UnclosedProcedure) pos notes)
+
+-- the object at the end of the source, or the first fault there: of a procedure that is not closed, of the frame table, of the layout with it, of the object,
+-- and warnings last
+unfoldable pub finished : Bool → List LooseSection → Table → Procedures → List Noted → Result NotedObject FaultAt
+finished fatal sections table procedures notes =
+    unless_open (unclosed procedures) notes
+    (framed_end fatal table (first_line (frames_of procedures)) notes (with_frames procedures table.symbols sections))

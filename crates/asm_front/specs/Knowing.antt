@@ -56,9 +56,13 @@ own_number written name = 2 ^ 32 - 1 - position_or_len (same_written name) writt
 unfoldable pub meant_among : List Written → SymbolMap → Written → ℕ
 meant_among written map name = unwrap_or (index_of (meant_name map.counts name) (names map.symbols)) (own_number written name)
 
+-- what is known of an expression with these names, beside these symbols
+abbrev pub known_with : List Written → SymbolMap → Knowledge → Knowledge
+known_with written map known = record known { meant = meant_among written map }
+
 -- what is known where the next statement stands, of an expression with these names
 abbrev pub known_among : List Written → Placed → Knowledge
-known_among written placed = record (known_here placed) { meant = meant_among written placed.table.symbols }
+known_among written placed = known_with written placed.table.symbols (known_here placed)
 
 -- the value of an expression, which has to be known where the next statement stands
 abbrev pub tree_value : Placed → Tree → Result ℕ PlaceCause

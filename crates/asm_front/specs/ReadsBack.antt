@@ -20,6 +20,7 @@ use Rattle.x86_encode.specs.Codes.{meant}
 use Rattle.x86_encode.specs.Filling.{Coding, filled, valued, ReadsAs}
 use Rattle.att_insns.specs.InsnTexts.{InsnText}
 use Rattle.x86_lookup.specs.BareInstructions.{Coded}
+use Rattle.eh_frame.specs.Pieces.{Tables}
 use Rattle.asm_values.specs.State.{Placed, nothing_placed}
 use Rattle.asm_place.specs.Coding.{view_in, shape_in, values_in, displacement_field, immediate_field}
 use Rattle.asm_place.specs.CodePlaces.{FieldInCode, ValueForms, insn_in, jump_in, IsCoded, field_in}
@@ -27,7 +28,7 @@ use Rattle.asm_place.specs.JumpPlaces.{IsJump, jump_form, items_so_far, jump_fie
 use Rattle.asm_place.specs.Sources.{pos_at, place_all}
 use Rattle.asm_place.specs.Instructions.{instruction_of, next_item, next_offset}
 use Rattle.elf_object.specs.Places.{section_offset, moved}
-use Rattle.asm_front.specs.Ending.{Flags}
+use Rattle.asm_front.specs.Ending.{Flags, framed}
 use Rattle.asm_front.specs.Assembly.{handed_of}
 use Rattle.asm_front.specs.declared.answers.Assembled.{Assembled}
 use Rattle.asm_front.specs.declared.answers.AsmFault.{AsmFault}
@@ -53,10 +54,10 @@ next_place symbols laid placed = file_place symbols laid placed.current (next_it
 -- each instruction without operands and prefix that is handed out reads back at its place, where the statements before it end
 abbrev pub BareReadBack : Flags → List TokenStatement → List ℕ → Type 0
 BareReadBack flags handed object =
-    (before after : List TokenStatement) (s : TokenStatement) (coded : Coded) (placed whole : Placed) (laid : LaidSections)
+    (before after : List TokenStatement) (s : TokenStatement) (coded : Coded) (placed whole : Placed) (tables : Tables) (laid : LaidSections)
     → handed ≡ before ++ s ∷ after → place_all before (nothing_placed flags.no_warn) ≡ Ok placed
-    → place_all (before ++ s ∷ after) (nothing_placed flags.no_warn) ≡ Ok whole → layout_of whole.table.symbols whole.sections ≡ Ok laid
-    → instruction_of s ≡ Some coded → ReadsAt object (next_place whole.table.symbols laid placed) coded.insn
+    → place_all (before ++ s ∷ after) (nothing_placed flags.no_warn) ≡ Ok whole → framed whole ≡ Ok tables → layout_of tables.symbols tables.sections ≡ Ok laid
+    → instruction_of placed.syntax s ≡ Some coded → ReadsAt object (next_place tables.symbols laid placed) coded.insn
 
 -- WITH OPERANDS OR A PREFIX
 
@@ -119,11 +120,11 @@ has_no_bits laid number = option_map_or (λ section. section.kind == no_bits) (s
 -- file
 abbrev pub CodesReadBack : Flags → List TokenStatement → List ℕ → Type 0
 CodesReadBack flags handed object =
-    (before after : List TokenStatement) (s : TokenStatement) (text : InsnText) (placed whole : Placed) (laid : LaidSections)
+    (before after : List TokenStatement) (s : TokenStatement) (text : InsnText) (placed whole : Placed) (tables : Tables) (laid : LaidSections)
     → handed ≡ before ++ s ∷ after → place_all before (nothing_placed flags.no_warn) ≡ Ok placed
-    → place_all (before ++ s ∷ after) (nothing_placed flags.no_warn) ≡ Ok whole → layout_of whole.table.symbols whole.sections ≡ Ok laid
-    → insn_in s ≡ Some text → jump_in text ≡ None → has_no_bits laid placed.current ≡ false
-    → InsnReadsBack object whole.table.symbols laid s text placed
+    → place_all (before ++ s ∷ after) (nothing_placed flags.no_warn) ≡ Ok whole → framed whole ≡ Ok tables → layout_of tables.symbols tables.sections ≡ Ok laid
+    → insn_in placed.syntax s ≡ Some text → jump_in text ≡ None → has_no_bits laid placed.current ≡ false
+    → InsnReadsBack object tables.symbols laid s text placed
 
 -- DIRECT JUMPS
 
@@ -151,11 +152,11 @@ pub record JumpReadsBack (object : List ℕ) (symbols : SymbolMap) (laid : LaidS
 -- each direct jump that is handed out reads back at its place, where its section has bytes in the file
 abbrev pub JumpsReadBack : Flags → List TokenStatement → List ℕ → Type 0
 JumpsReadBack flags handed object =
-    (before after : List TokenStatement) (s : TokenStatement) (text : InsnText) (condition : Option Condition) (placed whole : Placed) (laid : LaidSections)
+    (before after : List TokenStatement) (s : TokenStatement) (text : InsnText) (condition : Option Condition) (placed whole : Placed) (tables : Tables) (laid : LaidSections)
     → handed ≡ before ++ s ∷ after → place_all before (nothing_placed flags.no_warn) ≡ Ok placed
-    → place_all (before ++ s ∷ after) (nothing_placed flags.no_warn) ≡ Ok whole → layout_of whole.table.symbols whole.sections ≡ Ok laid
-    → insn_in s ≡ Some text → jump_in text ≡ Some condition → has_no_bits laid placed.current ≡ false
-    → JumpReadsBack object whole.table.symbols laid s text placed
+    → place_all (before ++ s ∷ after) (nothing_placed flags.no_warn) ≡ Ok whole → framed whole ≡ Ok tables → layout_of tables.symbols tables.sections ≡ Ok laid
+    → insn_in placed.syntax s ≡ Some text → jump_in text ≡ Some condition → has_no_bits laid placed.current ≡ false
+    → JumpReadsBack object tables.symbols laid s text placed
 
 -- each instruction that is handed out reads back in the object, where its section has bytes in the file
 pub record ReadsBack (flags : Flags) (handed : List TokenStatement) (object : List ℕ) : Type 0 where

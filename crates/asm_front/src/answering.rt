@@ -133,7 +133,7 @@ fn ended(
     parts: Placed,
 ) -> Result<Assembled, AsmFault>
     ensures { IsAnswered (ended_by (shown_files name.now started.now)
-        (ending.finished fatal parts.sections parts.table parts.notes)) result }
+        (ending.finished fatal parts.sections parts.table parts.procedures parts.notes)) result }
 {
     match finished(alloc, fatal, parts) {
         Ok(NotedObject { object, notes }) => match shown_files(alloc, name, started) {

@@ -1,19 +1,27 @@
-//! The end of a source: the layout of what was placed, and its object, or the first fault of either.
+//! The end of a source: the frame table of its procedures, the layout of what was placed with it, and its object, or the
+//! first fault of these.
 
 ghost use Rattle.std.specs.Prelude.{◌≡◌, ◌<◌, Ok, OnOk};
 ghost use Rattle.asm_front.specs.Ending as spec;
-ghost use Rattle.asm_base.specs.Refusals.{Raises, Returns};
+ghost use Rattle.asm_base.specs.Refusals.{Gives, Raises, Returns};
+ghost use Rattle.asm_base.specs.declared.refusals.Refusal.TheVariants as refusal;
+ghost use Rattle.cfi_directives.specs.Procedures.{frames_of};
+ghost use Rattle.eh_frame.specs.Pieces.{tables_of};
+ghost use Rattle.eh_frame.specs.Placing.{placed};
+ghost use Rattle.asm_place.specs.Sources.{fault_at};
+ghost use Rattle.asm_uses.specs.Tables.{with_map};
 ghost use Rattle.asm_relax.specs.declared.plan_states.PlanState.TheVariants.{Fresh, LaidOut};
 ghost use Rattle.asm_relax.specs.Settling.{layout_of, settled_plan, Settles};
 ghost use Rattle.elf_object.specs.Objects.{object_of};
 
 use crate::large_sections::first_over;
-use asm_base::{EndFault, Fault, Noted, Notes, Pos, Refusal, Steps};
-use asm_frags::{Laid, Sections};
+use asm_base::{EndFault, Fault, Noted, Notes, Pos, Refusal, StatementFault, Steps};
+use asm_frags::{FragCause, FragFault, Laid, Sections};
 use asm_place::FaultAt;
 use asm_relax::{LayoutFault, Plan, Settled};
 use asm_uses::SymbolUses;
 use asm_values::Placed;
+use cfi_directives::{Directives, Frames};
 use elf_object::{Object, ObjectCause, ObjectFault};
 use std::alloc::Global;
 use std::marker::Brand;
@@ -186,27 +194,126 @@ fn placed_object(
     }
 }
 
-/// What was placed with its object, or the first fault of layout and object behind the notes.
+/// A fault at the end of a source, behind its notes.
+fn refused(fault: Fault, pos: Pos, notes: Notes) -> Refusal<FaultAt>
+    ensures { result ≡ refusal.Fault (fault_at fault pos notes) }
+{
+    Refusal::Fault(FaultAt { fault, pos, notes })
+}
+
+/// The object of the placed sections, or the first fault of layout and object, with the notes.
+fn noted_object(
+    alloc: Global,
+    fatal: bool,
+    sections: Sections,
+    table: &SymbolUses,
+    notes: Notes,
+) -> Result<NotedObject, Refusal<FaultAt>>
+    ensures { Returns result (spec.noted notes (spec.laid_end fatal table.now notes
+        (layout_of table.now.symbols sections))) }
+{
+    match placed_object(alloc, fatal, sections, table, notes.as_slice()) {
+        Ok(object) => Ok(NotedObject { object, notes }),
+        Err(Refusal::Fault(ended)) => Err(refused(Fault::End(ended.fault), ended.pos, notes)),
+        Err(Refusal::NoMemory) => Err(Refusal::NoMemory),
+    }
+}
+
+/// The fault of a frame table.
+fn table_fault(cause: FragCause) -> Fault
+    ensures { result ≡ spec.table_fault cause }
+{
+    match cause {
+        FragCause::BadSection => Fault::Statement(StatementFault::BadSection),
+    }
+}
+
+/// The procedures, and where one begins that is not closed: it is the last.
+fn procedures_of(procedures: Directives) -> (Frames, Option<Pos>)
+    ensures frames { result.0 ≡ frames_of procedures }
+    ensures unclosed { result.1 ≡ spec.unclosed procedures }
+{
+    let open = procedures.is_open();
+    let frames = procedures.into_frames();
+    let pos = if open { last_line(&frames) } else { None };
+    (frames, pos)
+}
+
+/// The line of the last procedure.
+fn last_line(frames: &Frames) -> Option<Pos>
+    ensures { result ≡ spec.last_line frames.now }
+{
+    let all = frames.as_slice();
+    match all.get(all.len().saturating_sub(1)) {
+        Some(frame) => Some(frame.pos),
+        None => None,
+    }
+}
+
+/// The line of the first procedure.
+fn first_line(frames: &Frames) -> Pos
+    ensures { result ≡ spec.first_line frames.now }
+{
+    match frames.as_slice() {
+        [] => SOURCE_START,
+        [frame, ..] => frame.pos,
+    }
+}
+
+/// Puts the frame table of the procedures behind what was placed. Its labels are named by no statement.
+fn put_frames(
+    alloc: Global,
+    frames: &Frames,
+    table: &mut SymbolUses,
+    sections: &mut Sections,
+) -> Result<(), FragFault>
+    ensures put { Gives (tables_of table.new.symbols sections.new) result
+        (placed frames.now (tables_of table.old.symbols sections.old)) }
+    ensures uses { table.new ≡ with_map table.old table.new.symbols }
+{
+    eh_frame::place(alloc, frames, table.symbols_mut(), sections)
+}
+
+/// The object of the placed sections with the frame table of the procedures, or the first fault of these.
+fn framed_object(
+    alloc: Global,
+    fatal: bool,
+    mut sections: Sections,
+    mut table: SymbolUses,
+    frames: &Frames,
+    notes: Notes,
+) -> Result<NotedObject, Refusal<FaultAt>>
+    ensures { Returns result (spec.framed_end fatal table (spec.first_line frames.now) notes
+        (placed frames.now (tables_of table.symbols sections))) }
+{
+    match put_frames(alloc, frames, &mut table, &mut sections) {
+        Ok(()) => noted_object(alloc, fatal, sections, &table, notes),
+        Err(Refusal::Fault(cause)) => Err(refused(table_fault(cause), first_line(frames), notes)),
+        Err(Refusal::NoMemory) => Err(Refusal::NoMemory),
+    }
+}
+
+/// What was placed with its object, or the first fault at the end behind the notes: that of a procedure that is not closed
+/// comes before all others.
 #[tactic(auto, unfolding(crate::specs::Ending::finished))]
 pub(crate) fn finished(
     alloc: Global,
     fatal: bool,
     parts: Placed,
 ) -> Result<NotedObject, Refusal<FaultAt>>
-    ensures { Returns result (spec.finished fatal parts.sections parts.table parts.notes) }
+    ensures { Returns result (spec.finished fatal parts.sections parts.table
+        parts.procedures parts.notes) }
 {
     let Placed {
         sections,
         table,
+        procedures,
         notes,
     } = parts;
-    match placed_object(alloc, fatal, sections, &table, notes.as_slice()) {
-        Ok(object) => Ok(NotedObject { object, notes }),
-        Err(Refusal::Fault(ended)) => Err(Refusal::Fault(FaultAt {
-            fault: Fault::End(ended.fault),
-            pos: ended.pos,
-            notes,
-        })),
-        Err(Refusal::NoMemory) => Err(Refusal::NoMemory),
+    let (frames, unclosed) = procedures_of(procedures);
+    if let Some(pos) = unclosed {
+        let fault = Fault::End(EndFault::UnclosedProcedure);
+        return Err(refused(fault, pos, notes));
     }
+    framed_object(alloc, fatal, sections, table, &frames, notes)
 }

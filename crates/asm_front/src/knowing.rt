@@ -4,9 +4,13 @@ ghost use Rattle.std.specs.Prelude.{◌≡◌, map};
 ghost use Rattle.std.specs.List.{position_or_len};
 ghost use Rattle.asm_base.specs.Refusals.{GivesBy, Raises, Returns};
 ghost use Rattle.asm_base.specs.Tokens.{spelled};
+ghost use Rattle.asm_expr.specs.Linear.{known_now};
+ghost use Rattle.asm_expr.specs.NamesOf as tree;
 ghost use Rattle.asm_expr.specs.Trees.{tree_of};
 ghost use Rattle.asm_symbols.specs.SymbolMap.{names, index_of};
 ghost use Rattle.asm_symbols.specs.Counting.{meant_name};
+ghost use Rattle.asm_operands.specs.ExprFaults.{in_statement};
+ghost use Rattle.asm_uses.specs.KnownIn.{known_in};
 ghost use Rattle.asm_values.specs.PlacedBy.{placed_by};
 ghost use Rattle.asm_front.specs.Knowing as spec;
 ghost use Rattle.asm_front.specs.Knowing.{is_defined_by, is_defined_in, same_written, own_number, symbol_named};
@@ -18,6 +22,7 @@ use asm_symbols::{Meaning, Symbols};
 use asm_uses::View;
 use asm_values::Assembler;
 use macro_words::MacroCause;
+use std::alloc::Global;
 
 /// A fault of the operands of a line of expansion.
 fn line_cause(cause: PlaceCause) -> MacroCause
@@ -127,16 +132,25 @@ impl<'a> Known for Evaluated<'a> {
     }
 }
 
+/// The value of an expression, which has to be known where this is known of symbols.
+fn viewed_value(alloc: Global, view: View, expr: &Expr) -> Result<u64, PlaceFault>
+    ensures { Returns result (in_statement (known_now
+        (spec.known_with (tree.names_of (tree_of expr.now)) view.entry.symbols.now
+        (known_in view.entry)) (tree_of expr.now))) }
+{
+    let written = names_of(alloc, expr).map_err(ExprFault::raise)?;
+    let known = Evaluated {
+        view,
+        written: written.as_slice(),
+    };
+    known_value(alloc, expr, &known).map_err(ExprFault::raise)
+}
+
 /// The value of an expression, which has to be known.
 fn tree_value(assembler: &Assembler, expr: &Expr) -> Result<u64, PlaceFault>
     ensures { Returns result (spec.tree_value (placed_by assembler.now) (tree_of expr.now)) }
 {
-    let written = names_of(assembler.alloc, expr).map_err(ExprFault::raise)?;
-    let known = Evaluated {
-        view: assembler.view(),
-        written: written.as_slice(),
-    };
-    known_value(assembler.alloc, expr, &known).map_err(ExprFault::raise)
+    viewed_value(assembler.alloc, assembler.view(), expr)
 }
 
 /// The value of the one expression that these tokens are.

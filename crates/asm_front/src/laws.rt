@@ -8,6 +8,7 @@ ghost use Rattle.asm_macro.specs.Placing.{untold};
 ghost use Rattle.asm_place.specs.Faults.{is_file_too_large};
 ghost use Rattle.asm_place.specs.declared.place_faults.FaultAt.{FaultAt};
 ghost use Rattle.asm_uses.specs.Tables.{Table};
+ghost use Rattle.cfi_directives.specs.Procedures.{Procedures};
 ghost use Rattle.asm_front.specs.Ending.{Flags, finished};
 ghost use Rattle.asm_front.specs.declared.ending.NotedObject.{NotedObject};
 ghost use Rattle.asm_front.specs.Assembly.{assembled, assembly_of, expansion_of, handed_of};
@@ -15,8 +16,12 @@ ghost use Rattle.asm_front.specs.ReadsBack.{ReadsBack};
 
 use crate::placers::SourcePlacer;
 use asm_macro::handed_statements_are_placed;
-use asm_place::{jump_items, jumps_read, places_stand, placing_in_order, placing_within};
+use asm_place::{
+    encoding_items, encoding_stands, instruction_items, instruction_stands, jump_items, jumps_read,
+    places_stand, placing_grows, placing_in_order, placing_within,
+};
 use asm_relax::{settled_by_the_ranking, settled_is_placed, settled_items_have_room, sizes_add_up};
+use eh_frame::{labels_stand, pieces_are_found};
 use elf_object::{bytes_stand, items_stand, values_stand};
 use item_bytes::jump_reads_back;
 use x86_encode::encodings_are_codes;
@@ -25,8 +30,10 @@ use x86_table::read_one_way;
 
 /// Only the reading of files calls one too large: the end of a source does not.
 pub fn the_end_is_no_reading()
-    ensures { (fatal : Bool) (sections : List LooseSection) (table : Table) (notes : List Noted) (fault : FaultAt)
-        → finished fatal sections table notes ≡ Err fault → is_file_too_large fault.fault ≡ false }
+    ensures { (fatal : Bool) (sections : List LooseSection) (table : Table)
+        (procedures : Procedures) (notes : List Noted) (fault : FaultAt)
+        → finished fatal sections table procedures notes ≡ Err fault
+        → is_file_too_large fault.fault ≡ false }
 {}
 
 /// Where contents are told, no file that a source starts is untold.
@@ -55,8 +62,15 @@ pub fn written_reads_back()
     sizes_add_up();
     settled_items_have_room();
     settled_by_the_ranking();
+    placing_grows();
     placing_within();
     places_stand();
+    pieces_are_found();
+    labels_stand();
+    instruction_stands();
+    instruction_items();
+    encoding_stands();
+    encoding_items();
     jump_items();
     jumps_read();
     jump_reads_back();

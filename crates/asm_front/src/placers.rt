@@ -68,13 +68,14 @@ impl SourcePlacer {
         }
     }
 
-    /// The sections, the symbols and the notes.
+    /// The sections, the symbols, the procedures and the notes.
     pub(crate) fn into_parts(self) -> Placed
         ensures sections { result.sections ≡ self.sections }
         ensures table { result.table ≡ self.table }
+        ensures procedures { result.procedures ≡ self.procedures }
         ensures notes { result.notes ≡ self.notes }
     {
-        self.statements.into_parts()
+        self.statements.assembler.into_parts()
     }
 }
 

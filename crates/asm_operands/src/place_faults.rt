@@ -42,6 +42,11 @@ pub enum PlaceCause {
     SymbolAlreadyDefined,
     /// A symbol is used in a way that its other uses rule out.
     BadSymbolUse,
+    /// A directive of a procedure's frame table stands where no procedure is open.
+    CfiOutsideProcedure,
+    /// A procedure begins in another one, has a directive in another section, or remembers and restores rows that do not
+    /// pair.
+    UnbalancedCfiState,
 }
 
 /// Why a step refuses a statement.

@@ -20,22 +20,24 @@ use Rattle.asm_uses.specs.Tables.{Table, naming_of}
 use Rattle.asm_values.specs.State.{Placed, with_table, with_names, here, known_here}
 use Rattle.att_operands.specs.declared.faults.OperandCause.{OperandCause}
 use Rattle.att_insns.specs.InsnTexts.{InsnText}
-use Rattle.att_insns.specs.Reading.{insn_of}
+use Rattle.asm_words.specs.declared.directives.Syntax.{Syntax}
+use Rattle.asm_words.specs.declared.directives.Syntax.TheVariants.{Att, Intel}
 use Rattle.x86_encode.specs.declared.encoded.EncodeFault.{EncodeFault}
 use Rattle.x86_encode.specs.Encoding.{encoding_of}
 use Rattle.x86_encode.specs.EncodingLaws.{EncodingsNote}
 use Rattle.x86_encode.specs.Filling.{Coding}
 use Rattle.asm_place.specs.declared.codes.InsnForms.{InsnForms}
 use Rattle.asm_place.specs.declared.codes.CodeField.{CodeField}
-use Rattle.asm_place.specs.Coding.{InsnShape, shape_in, forms_of, values_in, of_code, fields_of, put_code, keeps_place, put_by_jump, put_coded, put_insn, place_insn, place_text, place_read, lone_code, place_coded, place_instruction}
+use Rattle.asm_place.specs.Coding.{InsnShape, shape_in, forms_of, values_in, of_code, fields_of, put_code, keeps_place, put_by_jump, put_coded, put_insn, place_insn, place_text, place_read, lone_code, insn_by, place_coded, place_instruction}
 use Rattle.asm_place.specs.Placing.{place_body, place_label, place_unlabelled, place_labelled, has_wide_label, place_tokens}
 use Rattle.asm_place.specs.Sources.{pos_at, place, place_all}
 use Rattle.asm_place.specs.Instructions.{behind_labels, instruction_written, run_end, with_more, IsContinued, Grows, IsWithin, AreWithin}
 use Rattle.asm_place.specs.CodePlaces.{text_read, insn_written, is_instruction, BeginsAsInstruction, insn_in, labelled, known_in, code_fields, with_held, zeros_in, blanked, AreApart, field_in, with_code, IsCodePut, IsInsnPut, CodeStandsAt, InsnStands, jump_in}
 use Rattle.asm_place.proofs.GrowthLemmas.{get_set, All-there, run_keeps, run_added}
+use Rattle.asm_place.proofs.Walks.{FramesKeep}
 use Rattle.asm_place.proofs.PlacingLaws.{all_grow, all_within}
 use Rattle.asm_place.proofs.StatementSplits.{err-ok, same_Ok, both_ok, all_split}
-use Rattle.asm_place.proofs.InstructionLaws.{wide_ok, label_keeps, located_ok, first_placed, run_items}
+use Rattle.asm_place.proofs.InstructionLaws.{wide_ok, Labels, same_labels, label_keeps, located_ok, first_placed, run_items}
 use Rattle.asm_place.proofs.FieldOrder.{zeros_long}
 use Rattle.asm_place.proofs.CodeParts.{apart_inside, slice_long, code_none, set_same, apart_before, code_put}
 use Rattle.asm_place.proofs.CodingFields.{coding_apart}
@@ -65,27 +67,22 @@ labels_split pos [] placed = refl
 labels_split pos (first ∷ []) placed = refl
 labels_split pos (first ∷ second ∷ rest) placed = label_splits (is_label first second) pos first second rest placed (labels_split pos rest)
 
--- labels change neither the sections nor which is the current one
+-- labels change neither the sections nor which is the current one, nor the syntax
 labels_keep_by : (test : Bool) (pos : Pos) (first : SpelledToken) (rest : List SpelledToken) (before labels : Placed)
-    → ((one : Placed) → labelled pos rest one ≡ Ok labels → (labels.sections ≡ one.sections) × (labels.current ≡ one.current))
+    → ((one : Placed) → labelled pos rest one ≡ Ok labels → Labels one labels)
     → cond test (place_label pos first before >>= (λ one. labelled pos rest one)) (Ok before) ≡ Ok labels
-    → (labels.sections ≡ before.sections) × (labels.current ≡ before.current)
+    → Labels before labels
 labels_keep_by true pos first rest before labels again is =
     both_ok _ _ labels is (λ one one_is later.
     let keeps = label_keeps pos first before one one_is in
     let more = again one later in
-    (more.0 ∙ keeps.0, more.1 ∙ keeps.1))
-labels_keep_by false pos first rest before labels again is =
-    let same = same_Ok before labels is in
-    (ap (λ (p : Placed). p.sections) (sym same), ap (λ (p : Placed). p.current) (sym same))
+    record { sections = more.sections ∙ keeps.sections; current = more.current ∙ keeps.current; syntax = more.syntax ∙ keeps.syntax })
+labels_keep_by false pos first rest before labels again is = same_labels before labels (same_Ok before labels is)
 
-pub labels_keep : (pos : Pos) (tokens : List SpelledToken) (before labels : Placed) → labelled pos tokens before ≡ Ok labels
-    → (labels.sections ≡ before.sections) × (labels.current ≡ before.current)
+pub labels_keep : (pos : Pos) (tokens : List SpelledToken) (before labels : Placed) → labelled pos tokens before ≡ Ok labels → Labels before labels
 unfolding labelled
-labels_keep pos [] before labels is =
-    let same = same_Ok before labels is in (ap (λ (p : Placed). p.sections) (sym same), ap (λ (p : Placed). p.current) (sym same))
-labels_keep pos (first ∷ []) before labels is =
-    let same = same_Ok before labels is in (ap (λ (p : Placed). p.sections) (sym same), ap (λ (p : Placed). p.current) (sym same))
+labels_keep pos [] before labels is = same_labels before labels (same_Ok before labels is)
+labels_keep pos (first ∷ []) before labels is = same_labels before labels (same_Ok before labels is)
 labels_keep pos (first ∷ second ∷ rest) before labels is =
     labels_keep_by (is_label first second) pos first rest before labels (λ one. labels_keep pos rest one labels) is
 
@@ -100,37 +97,46 @@ body_test false true false written text assignment unnamed directive instruction
 body_test false false dotted written text assignment unnamed directive instruction is = absurd (none-some text is)
 
 read_is : (pos : Pos) (lone : Option (List ℕ)) (read : Result InsnText OperandCause) (text : InsnText) (placed : Placed) (tokens : List SpelledToken)
-    → insn_of tokens ≡ read
+    → insn_by placed.syntax tokens ≡ read
     → text_read lone read ≡ Some text → place_coded pos lone tokens placed ≡ place_text pos text placed
 read_is pos (Some bytes) read text placed tokens of is = absurd (none-some text is)
 read_is pos None (Ok found) text placed tokens of is =
     ap (λ r. place_read pos r placed) of ∙ ap (λ t. place_text pos t placed) (same_Some found text is)
 read_is pos None (Err fault) text placed tokens of is = absurd (none-some text is)
 
-no_tokens : {C : Type 0} (text : InsnText) → insn_written [] ≡ Some text → C
+no_tokens : {C : Type 0} (syntax : Syntax) (text : InsnText) → insn_written syntax [] ≡ Some text → C
 unfolding insn_written
-no_tokens text is = absurd (none-some text is)
+no_tokens syntax text is = absurd (none-some text is)
 
-body_is : (pos : Pos) (first : SpelledToken) (rest : List SpelledToken) (text : InsnText) (placed : Placed) → insn_written (first ∷ rest) ≡ Some text
-    → place_body pos first rest placed ≡ place_text pos text placed
+body_is : (pos : Pos) (first : SpelledToken) (rest : List SpelledToken) (text : InsnText) (placed : Placed)
+    → insn_written placed.syntax (first ∷ rest) ≡ Some text → place_body pos first rest placed ≡ place_text pos text placed
 unfolding insn_written place_body place_instruction
 body_is pos first rest text placed is =
     let tokens = first ∷ rest in
-    let parts = body_test (names_symbol first && is_assignment rest) (is_name first) (begins_with_dot first.bytes)
-    (text_read (lone_code tokens) (insn_of tokens)) text _ _ _ _ is in
-    parts.1 ∙ read_is pos (lone_code tokens) (insn_of tokens) text placed tokens refl parts.0
+    let lone = lone_code placed.syntax tokens in
+    let read = insn_by placed.syntax tokens in
+    let parts = body_test (names_symbol first && is_assignment rest) (is_name first) (begins_with_dot first.bytes) (text_read lone read) text _ _ _ _ is in
+    parts.1 ∙ read_is pos lone read text placed tokens refl parts.0
 
-pub unlabelled_is : (pos : Pos) (tokens : List SpelledToken) (text : InsnText) (placed : Placed) → insn_written tokens ≡ Some text
+pub unlabelled_is : (pos : Pos) (tokens : List SpelledToken) (text : InsnText) (placed : Placed) → insn_written placed.syntax tokens ≡ Some text
     → place_unlabelled pos tokens placed ≡ place_text pos text placed
 unfolding place_unlabelled
-unlabelled_is pos [] text placed is = no_tokens text is
+unlabelled_is pos [] text placed is = no_tokens placed.syntax text is
 unlabelled_is pos (first ∷ rest) text placed is = body_is pos first rest text placed is
+
+-- what stands behind the labels is the same instruction before them: they keep the syntax
+pub behind_is : (pos : Pos) (tokens : List SpelledToken) (text : InsnText) (before labels : Placed) → labelled pos tokens before ≡ Ok labels
+    → insn_written before.syntax (behind_labels tokens) ≡ Some text
+    → place_unlabelled pos (behind_labels tokens) labels ≡ place_text pos text labels
+behind_is pos tokens text before labels labels_are written =
+    let keeps = labels_keep pos tokens before labels labels_are in
+    unlabelled_is pos (behind_labels tokens) text labels (ap (λ syntax. insn_written syntax (behind_labels tokens)) keeps.syntax ∙ written)
 
 -- EACH INSTRUCTION
 
 -- what is placed is read
 read_told : (found : Option Coded) (read : Result InsnText OperandCause) (pos : Pos) (tokens : List SpelledToken) (placed next : Placed)
-    → insn_of tokens ≡ read
+    → insn_by placed.syntax tokens ≡ read
     → place_coded pos (option_map (λ coded. coded.bytes) found) tokens placed ≡ Ok next
     → (is_some found || is_some (text_read (option_map (λ coded. coded.bytes) found) read)) ≡ true
 read_told (Some coded) read pos tokens placed next are is = refl
@@ -151,7 +157,7 @@ name_told true true found n d = absurd (false≢true (sym d))
 name_told true false found n d = refl
 
 bare_told : (first : SpelledToken) → is_name first ≡ true → begins_with_dot first.bytes ≡ false → instruction_written
-    (first ∷ []) ≡ bare_instruction first.bytes
+    Att (first ∷ []) ≡ bare_instruction first.bytes
 unfolding instruction_written
 bare_told first n d = name_told (is_name first) (begins_with_dot first.bytes) (bare_instruction first.bytes) n d
 
@@ -159,10 +165,10 @@ assigns_not : (assigns : Bool) (found : Option InsnText) → assigns ≡ false �
 assigns_not true found a = absurd (false≢true (sym a))
 assigns_not false found a = refl
 
-text_told : (first : SpelledToken) (rest : List SpelledToken) → BeginsAsInstruction first rest
-    → insn_written (first ∷ rest) ≡ text_read (lone_code (first ∷ rest)) (insn_of (first ∷ rest))
+text_told : (syntax : Syntax) (first : SpelledToken) (rest : List SpelledToken) → BeginsAsInstruction first rest
+    → insn_written syntax (first ∷ rest) ≡ text_read (lone_code syntax (first ∷ rest)) (insn_by syntax (first ∷ rest))
 unfolding insn_written
-text_told first rest begins =
+text_told syntax first rest begins =
     assigns_not (names_symbol first && is_assignment rest) _ begins.no_assignment ∙ name_told (is_name first)
     (begins_with_dot first.bytes) _ begins.name begins.no_directive
 
@@ -170,33 +176,46 @@ some_right : (one other : Bool) → other ≡ true → (one || other) ≡ true
 some_right true other is = refl
 some_right false other is = is
 
-instruction_told : (pos : Pos) (first : SpelledToken) (rest : List SpelledToken) (placed next : Placed) → BeginsAsInstruction first rest
-    → place_coded pos (lone_code (first ∷ rest)) (first ∷ rest) placed ≡ Ok next → is_instruction (first ∷ rest) ≡ true
-instruction_told pos first [] placed next begins is =
-    ap (λ o. is_some o || is_some (insn_written (first ∷ []))) (bare_told first begins.name begins.no_directive)
-    ∙ (ap (λ o. is_some (bare_instruction first.bytes) || is_some o) (text_told first [] begins)
-    ∙ read_told (bare_instruction first.bytes) (insn_of (first ∷ [])) pos (first ∷ []) placed next refl is)
-instruction_told pos first (second ∷ rest) placed next begins is =
-    some_right (is_some (instruction_written (first ∷ second ∷ rest))) (is_some (insn_written (first ∷ second ∷ rest)))
-    (ap is_some (text_told first (second ∷ rest) begins) ∙ read_told None (insn_of (first ∷ second ∷ rest)) pos (first ∷ second ∷ rest) placed next refl is)
+-- an instruction that is read, since it does not stand alone in AT&T syntax
+any_told : (pos : Pos) (syntax : Syntax) (first : SpelledToken) (rest : List SpelledToken) (placed next : Placed) → placed.syntax ≡ syntax
+    → BeginsAsInstruction first rest → lone_code syntax (first ∷ rest) ≡ None → place_coded pos None (first ∷ rest) placed ≡ Ok next
+    → is_instruction syntax (first ∷ rest) ≡ true
+any_told pos syntax first rest placed next same begins alone is =
+    let tokens = first ∷ rest in
+    some_right (is_some (instruction_written syntax tokens)) (is_some (insn_written syntax tokens))
+    (ap is_some (text_told syntax first rest begins ∙ ap (λ lone. text_read lone (insn_by syntax tokens)) alone)
+    ∙ read_told None (insn_by syntax tokens) pos tokens placed next (ap (λ s. insn_by s tokens) same) is)
+
+instruction_told : (pos : Pos) (syntax : Syntax) (first : SpelledToken) (rest : List SpelledToken) (placed next : Placed) → placed.syntax ≡ syntax
+    → BeginsAsInstruction first rest → place_coded pos (lone_code syntax (first ∷ rest)) (first ∷ rest) placed ≡ Ok next
+    → is_instruction syntax (first ∷ rest) ≡ true
+instruction_told pos Intel first rest placed next same begins is = any_told pos Intel first rest placed next same begins refl is
+instruction_told pos Att first (second ∷ rest) placed next same begins is = any_told pos Att first (second ∷ rest) placed next same begins refl is
+instruction_told pos Att first [] placed next same begins is =
+    ap (λ o. is_some o || is_some (insn_written Att (first ∷ []))) (bare_told first begins.name begins.no_directive)
+    ∙ (ap (λ o. is_some (bare_instruction first.bytes) || is_some o) (text_told Att first [] begins)
+    ∙ read_told (bare_instruction first.bytes) (insn_by Att (first ∷ [])) pos (first ∷ []) placed next (ap (λ s. insn_by s (first ∷ [])) same) is)
 
 body_told : (pos : Pos) (first : SpelledToken) (rest : List SpelledToken) (placed next : Placed) → BeginsAsInstruction first rest
-    → place_unlabelled pos (first ∷ rest) placed ≡ Ok next → is_instruction (first ∷ rest) ≡ true
+    → place_unlabelled pos (first ∷ rest) placed ≡ Ok next → is_instruction placed.syntax (first ∷ rest) ≡ true
 unfolding place_unlabelled place_body place_instruction
 body_told pos first rest placed next begins is =
-    instruction_told pos first rest placed next begins
+    instruction_told pos placed.syntax first rest placed next refl begins
     (sym (told_test (names_symbol first && is_assignment rest) (is_name first)
     (begins_with_dot first.bytes) _ _ _ _ begins.no_assignment begins.name begins.no_directive) ∙ is)
 
 -- a statement that is placed as an instruction is one without operands, or one with some
 pub tokens_told : (pos : Pos) (tokens : List SpelledToken) (first : SpelledToken) (rest : List SpelledToken)
     (before placed : Placed) → behind_labels tokens ≡ first ∷ rest
-    → BeginsAsInstruction first rest → place_tokens pos tokens before ≡ Ok placed → is_instruction (behind_labels tokens) ≡ true
+    → BeginsAsInstruction first rest → place_tokens pos tokens before ≡ Ok placed → is_instruction before.syntax (behind_labels tokens) ≡ true
 unfolding place_tokens
 tokens_told pos tokens first rest before placed are begins is =
     both_ok (labelled pos tokens before) (place_unlabelled pos (behind_labels tokens)) placed
     (sym (labels_split pos tokens before) ∙ wide_ok (has_wide_label tokens) (place_labelled pos tokens before) placed is) (λ labels labels_are body_is.
-    ap is_instruction are ∙ body_told pos first rest labels placed begins (sym (ap (λ ts. place_unlabelled pos ts labels) are) ∙ body_is))
+    let keeps = labels_keep pos tokens before labels labels_are in
+    ap (λ syntax. is_instruction syntax (behind_labels tokens)) (sym keeps.syntax)
+    ∙ (ap (is_instruction labels.syntax) are
+    ∙ body_told pos first rest labels placed begins (sym (ap (λ ts. place_unlabelled pos ts labels) are) ∙ body_is)))
 
 -- THE BYTES
 
@@ -270,22 +289,22 @@ text_put notes pos text before placed no_jump is =
 
 -- where the tokens are an instruction with operands, the bytes and the fields of its encoding are put last in the current section
 pub tokens_put : EncodingsNote → (pos : Pos) (tokens : List SpelledToken) (before placed : Placed) (text : InsnText)
-    → insn_written (behind_labels tokens) ≡ Some text → jump_in text ≡ None
+    → insn_written before.syntax (behind_labels tokens) ≡ Some text → jump_in text ≡ None
     → place_tokens pos tokens before ≡ Ok placed → IsInsnPut pos tokens text before placed
 unfolding place_tokens
 tokens_put notes pos tokens before placed text written no_jump is =
     both_ok _ _ placed (sym (labels_split pos tokens before) ∙ wide_ok (has_wide_label tokens) (place_labelled pos tokens before) placed is)
     (λ labels labels_are body_is.
     let keeps = labels_keep pos tokens before labels labels_are in
-    let put = text_put notes pos text labels placed no_jump (sym (unlabelled_is pos (behind_labels tokens) text labels written) ∙ body_is) in
+    let put = text_put notes pos text labels placed no_jump (sym (behind_is pos tokens text before labels labels_are written) ∙ body_is) in
     let fields = code_fields text put.forms put.code.made in
     record {
       coded = record { labels = labels; labels_are = labels_are; forms = put.forms; forms_are = put.forms_are; made = put.code.made; coding = put.code.coding };
-      put = subst (λ number. IsCodePut before.sections placed.sections number pos put.code.made.bytes fields) keeps.1
-          (subst (λ sections. IsCodePut sections placed.sections labels.current pos put.code.made.bytes fields) keeps.0 put.code.put);
+      put = subst (λ number. IsCodePut before.sections placed.sections number pos put.code.made.bytes fields) keeps.current
+          (subst (λ sections. IsCodePut sections placed.sections labels.current pos put.code.made.bytes fields) keeps.sections put.code.put);
     })
 
-statement_put : EncodingsNote → (s : TokenStatement) (before next : Placed) (text : InsnText) → insn_in s ≡ Some text → jump_in text ≡ None → place s before ≡ Ok next
+statement_put : EncodingsNote → (s : TokenStatement) (before next : Placed) (text : InsnText) → insn_in before.syntax s ≡ Some text → jump_in text ≡ None → place s before ≡ Ok next
     → IsInsnPut (pos_at s.file s.line) s.tokens text before next
 unfolding place
 statement_put notes s before next text written no_jump is =
@@ -375,11 +394,11 @@ put_stands before next whole number pos bytes fields put within grows =
     (grows.kept number new there))
 
 -- an instruction with operands stands in the whole
-pub insn_there : EncodingsNote
+pub insn_there : FramesKeep → EncodingsNote
     → (front : List TokenStatement) (s : TokenStatement) (later : List TokenStatement) (before placed whole : Placed) (text : InsnText)
-    → AreWithin before.sections → place_all front before ≡ Ok placed → place_all (front ++ s ∷ later) before ≡ Ok whole → insn_in s ≡ Some text
+    → AreWithin before.sections → place_all front before ≡ Ok placed → place_all (front ++ s ∷ later) before ≡ Ok whole → insn_in placed.syntax s ≡ Some text
     → jump_in text ≡ None → InsnStands whole.sections (pos_at s.file s.line) s.tokens text placed
-insn_there notes front s later before placed whole text within is_front is_whole written no_jump =
+insn_there frames notes front s later before placed whole text within is_front is_whole written no_jump =
     first_placed s later placed whole (sym (all_split front (s ∷ later) before ∙ ap (λ r. r >>= place_all (s ∷ later)) is_front) ∙ is_whole)
     (λ next is_next is_later.
     let insn = statement_put notes s placed next text written no_jump is_next in
@@ -388,5 +407,5 @@ insn_there notes front s later before placed whole text within is_front is_whole
       stands =
           put_stands placed.sections next.sections whole.sections placed.current (pos_at s.file s.line) insn.coded.made.bytes
           (code_fields text insn.coded.forms insn.coded.made)
-          insn.put (all_within front before placed is_front within) (all_grow later next whole is_later);
+          insn.put (all_within frames front before placed is_front within) (all_grow frames later next whole is_later);
     })

@@ -1,5 +1,5 @@
 -- Directives keep it so that each symbol that has a place stands in its section.
-use Rattle.std.proofs.Common.{◌≡◌, ℕ, Bool, true, false, List, [], ◌∷◌, length, Option, None, Some, Result, Ok, Err, refl, subst}
+use Rattle.std.proofs.Common.{◌≡◌, ℕ, Bool, true, false, List, [], ◌∷◌, length, Option, None, Some, Result, Ok, Err, refl}
 use Rattle.std.specs.Prelude.{◌^◌, codes, unwrap_or}
 use Rattle.std.specs.List.{list_any, count_by}
 use Rattle.asm_operands.specs.declared.place_faults.PlaceCause.{PlaceCause}
@@ -30,8 +30,7 @@ use Rattle.asm_words.specs.Paddings.{align_of, org_of}
 use Rattle.asm_uses.specs.declared.tables.Naming.{Naming}
 use Rattle.asm_base.specs.Refusals.{◌>>=◌}
 use Rattle.asm_operands.specs.Operands.{name_of, operands_of, is_dot, begins_with_place, symbol_name, each, joined_strings, needed}
-use Rattle.asm_operands.specs.Expressions.{expression_of, form_in, constant_in, up_to_three_listed, up_to_three_trees, up_to_three_forms, up_to_three_constants}
-use Rattle.asm_values.specs.KnownOperands.{KnownOperands, known_operands}
+use Rattle.asm_operands.specs.Expressions.{expression_of, form_in, constant_in, up_to_three_listed, up_to_three_trees, up_to_three_forms}
 use Rattle.asm_uses.specs.Places.{uses_place, spot_at, known_at, end_naming}
 use Rattle.asm_values.specs.State.{Placed, with_table, with_names, here, known_here, unless_dot}
 use Rattle.asm_values.specs.DataItems.{put_by, put_forms, is_cut, cut_notes}
@@ -47,13 +46,16 @@ use Rattle.asm_place.specs.Commons.{bss, with_space, with_common, is_said_local,
 use Rattle.asm_words.specs.Spaces.{space_size, space_of, units_of, unit_size, log_of}
 use Rattle.asm_base.specs.declared.faults.Note.TheVariants.{Written}
 use Rattle.asm_place.specs.Remarks.{place_err, place_error, place_warning}
+use Rattle.asm_words.specs.declared.directives.Syntax.{Syntax}
+use Rattle.asm_words.specs.declared.directives.Syntax.TheVariants.{Att, Intel}
+use Rattle.asm_place.specs.SyntaxWords.{with_syntax, says_names, place_syntax}
 use Rattle.asm_place.specs.Idents.{items_in, comment_bytes, comment_header, place_ident, place_file, one_string, file_name}
 use Rattle.asm_values.specs.Data.{put_data, place_data, place_strings, with_named, place_zero, place_skip, place_fill}
 use Rattle.asm_items.specs.Alignments.{is_code, place_align}
 use Rattle.asm_items.specs.Orgs.{known_origin, origin_by, place_org}
 use Rattle.asm_items.specs.Leb128Numbers.{put_number_by, put_numbers, put_leb128, some_expressions, place_leb128}
 use Rattle.asm_place.specs.Placing.{bare, initial_number, place_by, place_found, place_directive}
-use Rattle.asm_place.proofs.Walks.{Fine, made, refused, step, after}
+use Rattle.asm_place.proofs.Walks.{FramesKeep, Fine, made, refused, step, after, either}
 use Rattle.asm_uses.specs.Tables.{changed_by, file_named, naming_of, allowed}
 use Rattle.std.proofs.Common.{◌<◌, arith}
 use Rattle.asm_uses.specs.Tables.{with_name, with_tree}
@@ -63,7 +65,9 @@ use Rattle.asm_place.specs.SymbolPlaces.{AreUpTo, SymbolsStand, PlacesStand}
 use Rattle.asm_place.proofs.NamedSymbols.{form_up}
 use Rattle.asm_place.proofs.PlacingLaws.{entered_adds}
 use Rattle.asm_place.proofs.SymbolTables.{Allows, named_both, allows_on, with_name_stand, tree_stand, change_stand, named_change_stand, assigned_stand, kind_stand, say_all_stand, sized_stand, allowed_stand, define_space_stand, end_stand, file_stand}
-use Rattle.asm_place.proofs.PlaceSteps.{count, Gains, Stays, Closes, Walks, grown_twice, stays_on, closes_on, closed, walked, unmoved, items_grow, sections_stay, table_stays, table_gains, table_closes, current_stays, notes_close, notes_stay, names_gain, spot_stands, table_walk, table_close, bytes_walk, field_walk, push_walk, growing_walk, section_walk, pushed_walk, popped_walk}
+use Rattle.asm_place.proofs.KnownWalks.{AreAsked, given_walk, known_walk}
+use Rattle.asm_place.proofs.FramePlaces.{frame_walk}
+use Rattle.asm_place.proofs.PlaceSteps.{count, Gains, Stays, Closes, Walks, grown_twice, stays_on, closes_on, closed, walked, unmoved, items_grow, sections_stay, table_stays, table_gains, table_closes, current_stays, notes_close, notes_stay, syntax_stays, names_gain, spot_stands, table_walk, table_close, bytes_walk, field_walk, push_walk, growing_walk, section_walk, pushed_walk, popped_walk}
 
 -- DATA AND SPACE
 
@@ -109,22 +113,6 @@ item_walk pos naming item placed stands =
     step (push_walk pos placed.current item placed stands)
     (λ pushed stays. closes_on naming.before placed pushed _ stays
     (table_close naming.before pushed (allowed naming pushed.table) stays.stands (allowed_stand pushed.sections naming pushed.table)))
-
--- the names of operands are asked for, counted from what was placed before
-record AreAsked (placed : Placed) (given : KnownOperands) : Type 0 where
-  pub gains : Gains placed given.placed
-  pub base : given.naming.before ≡ count placed
-
--- a statement of known operands that closes
-given_walk : (placed : Placed) (given : KnownOperands) (r : Result Placed PlaceCause) → AreAsked placed given → Fine (Closes given.naming.before given.placed) r → Walks placed r
-given_walk placed given r asked closes = closed placed given.placed r asked.gains (subst (λ base. Fine (Closes base given.placed) r) asked.base closes)
-
-known_walk : (pos : Pos) (placed : Placed) (most : ℕ) (operands : List (List SpelledToken)) → PlacesStand placed → Fine (AreAsked placed) (known_operands pos placed most operands)
-unfolding known_operands
-known_walk pos placed most operands stands =
-    after (up_to_three_trees most operands)
-    (λ trees. after (up_to_three_forms (known_here (with_names pos (up_to_three_listed trees) placed)) trees)
-    (λ forms. after (up_to_three_constants forms) (λ values. made _ (record { gains = names_gain pos (up_to_three_listed trees) placed stands; base = refl }))))
 
 zero_walk : (pos : Pos) (tokens : List SpelledToken) (placed : Placed) → PlacesStand placed → Walks placed (place_zero pos tokens placed)
 unfolding place_zero
@@ -370,6 +358,16 @@ unfolding place_warning
 warning_walk pos tokens placed stands =
     after (one_string tokens) (λ text. made _ (notes_stay (record { note = Written text; pos = pos } ∷ []) placed stands))
 
+-- the syntax
+syntax_walk : (syntax : Syntax) (tokens : List SpelledToken) (placed : Placed) → PlacesStand placed → Walks placed (place_syntax syntax tokens placed)
+unfolding place_syntax
+syntax_walk Att [] placed stands = made _ (syntax_stays Att placed stands)
+syntax_walk Intel [] placed stands = refused _
+syntax_walk Att (word ∷ []) placed stands = either (says_names Att word) (made (with_syntax Att placed) (syntax_stays Att placed stands)) (refused _)
+syntax_walk Intel (word ∷ []) placed stands = either (says_names Intel word) (made (with_syntax Intel placed) (syntax_stays Intel placed stands)) (refused _)
+syntax_walk Att (word ∷ more ∷ rest) placed stands = refused _
+syntax_walk Intel (word ∷ more ∷ rest) placed stands = refused _
+
 -- directives
 bare_walk : (tokens : List SpelledToken) (placed : Placed) (answer : Result Placed PlaceCause) → Walks placed answer → Walks placed (bare tokens answer)
 bare_walk [] placed answer steps = steps
@@ -380,39 +378,43 @@ initial_few initially.Text = omega arith
 initial_few initially.Data = omega arith
 initial_few initially.Bss = omega arith
 
-by_walk : (found : Directive) (pos : Pos) (tokens : List SpelledToken) (placed : Placed) → PlacesStand placed → Walks placed (place_by found pos tokens placed)
-unfolding place_by
-by_walk (directive.Data size) pos tokens placed stands = data_walk pos size tokens placed stands
-by_walk (directive.Strings ended) pos tokens placed stands = strings_walk pos ended tokens placed stands
-by_walk (directive.Leb128 signed) pos tokens placed stands = leb128_walk pos signed tokens placed stands
-by_walk directive.Zero pos tokens placed stands = zero_walk pos tokens placed stands
-by_walk directive.Skip pos tokens placed stands = skip_walk pos tokens placed stands
-by_walk directive.Fill pos tokens placed stands = fill_walk pos tokens placed stands
-by_walk (directive.Align by) pos tokens placed stands = align_walk pos by tokens placed stands
-by_walk directive.Org pos tokens placed stands = org_walk pos tokens placed stands
-by_walk (directive.Enter initial) pos tokens placed stands =
-    bare_walk tokens placed (Ok (with_current (initial_number initial) placed))
-    (made _ (current_stays (initial_number initial) placed (stands.first (initial_number initial) (initial_few initial)) stands))
-by_walk directive.Section pos tokens placed stands = section_walk pos tokens placed stands
-by_walk directive.PushSection pos tokens placed stands = pushed_walk pos tokens placed stands
-by_walk directive.PopSection pos tokens placed stands = bare_walk tokens placed (popped placed) (popped_walk placed stands)
-by_walk directive.Previous pos tokens placed stands =
-    bare_walk tokens placed (Ok (with_current placed.previous placed)) (made _ (current_stays placed.previous placed stands.previous stands))
-by_walk (directive.Say attribute) pos tokens placed stands = said_walk pos attribute tokens placed stands
-by_walk directive.Type pos tokens placed stands = type_walk pos tokens placed stands
-by_walk directive.Size pos tokens placed stands = size_walk pos tokens placed stands
-by_walk (directive.Assign once) pos tokens placed stands = set_walk pos once tokens placed stands
-by_walk directive.Comm pos tokens placed stands = comm_walk pos tokens placed stands
-by_walk directive.Lcomm pos tokens placed stands = lcomm_walk pos tokens placed stands
-by_walk directive.Ident pos tokens placed stands = ident_walk pos tokens placed stands
-by_walk directive.File pos tokens placed stands = file_walk tokens placed stands
-by_walk (directive.Error said) pos tokens placed stands = error_walk said tokens placed
-by_walk directive.Warning pos tokens placed stands = warning_walk pos tokens placed stands
+module _ (frames : FramesKeep) where
+  by_walk : (found : Directive) (pos : Pos) (tokens : List SpelledToken) (placed : Placed) → PlacesStand placed → Walks placed (place_by found pos tokens placed)
+  unfolding place_by
+  by_walk (directive.Data size) pos tokens placed stands = data_walk pos size tokens placed stands
+  by_walk (directive.Strings ended) pos tokens placed stands = strings_walk pos ended tokens placed stands
+  by_walk (directive.Leb128 signed) pos tokens placed stands = leb128_walk pos signed tokens placed stands
+  by_walk directive.Zero pos tokens placed stands = zero_walk pos tokens placed stands
+  by_walk directive.Skip pos tokens placed stands = skip_walk pos tokens placed stands
+  by_walk directive.Fill pos tokens placed stands = fill_walk pos tokens placed stands
+  by_walk (directive.Align by) pos tokens placed stands = align_walk pos by tokens placed stands
+  by_walk directive.Org pos tokens placed stands = org_walk pos tokens placed stands
+  by_walk (directive.Enter initial) pos tokens placed stands =
+      bare_walk tokens placed (Ok (with_current (initial_number initial) placed))
+      (made _ (current_stays (initial_number initial) placed (stands.first (initial_number initial) (initial_few initial)) stands))
+  by_walk directive.Section pos tokens placed stands = section_walk pos tokens placed stands
+  by_walk directive.PushSection pos tokens placed stands = pushed_walk pos tokens placed stands
+  by_walk directive.PopSection pos tokens placed stands = bare_walk tokens placed (popped placed) (popped_walk placed stands)
+  by_walk directive.Previous pos tokens placed stands =
+      bare_walk tokens placed (Ok (with_current placed.previous placed)) (made _ (current_stays placed.previous placed stands.previous stands))
+  by_walk (directive.Say attribute) pos tokens placed stands = said_walk pos attribute tokens placed stands
+  by_walk directive.Type pos tokens placed stands = type_walk pos tokens placed stands
+  by_walk directive.Size pos tokens placed stands = size_walk pos tokens placed stands
+  by_walk (directive.Assign once) pos tokens placed stands = set_walk pos once tokens placed stands
+  by_walk directive.Comm pos tokens placed stands = comm_walk pos tokens placed stands
+  by_walk directive.Lcomm pos tokens placed stands = lcomm_walk pos tokens placed stands
+  by_walk directive.Ident pos tokens placed stands = ident_walk pos tokens placed stands
+  by_walk directive.File pos tokens placed stands = file_walk tokens placed stands
+  by_walk (directive.Error said) pos tokens placed stands = error_walk said tokens placed
+  by_walk directive.Warning pos tokens placed stands = warning_walk pos tokens placed stands
+  by_walk (directive.Syntax syntax) pos tokens placed stands = syntax_walk syntax tokens placed stands
+  by_walk directive.Code64 pos tokens placed stands = bare_walk tokens placed (Ok placed) (made _ (unmoved placed stands))
+  by_walk (directive.Frame frame) pos tokens placed stands = frame_walk frame pos tokens placed stands
 
-found_walk : (found : Option Directive) (pos : Pos) (tokens : List SpelledToken) (placed : Placed) → PlacesStand placed → Walks placed (place_found found pos tokens placed)
-found_walk None pos tokens placed stands = refused _
-found_walk (Some found) pos tokens placed stands = by_walk found pos tokens placed stands
+  found_walk : (found : Option Directive) (pos : Pos) (tokens : List SpelledToken) (placed : Placed) → PlacesStand placed → Walks placed (place_found found pos tokens placed)
+  found_walk None pos tokens placed stands = refused _
+  found_walk (Some found) pos tokens placed stands = by_walk found pos tokens placed stands
 
-pub directive_walk : (pos : Pos) (name : List ℕ) (tokens : List SpelledToken) (placed : Placed) → PlacesStand placed → Walks placed (place_directive pos name tokens placed)
-unfolding place_directive
-directive_walk pos name tokens placed stands = found_walk _ pos tokens placed stands
+  pub directive_walk : (pos : Pos) (name : List ℕ) (tokens : List SpelledToken) (placed : Placed) → PlacesStand placed → Walks placed (place_directive pos name tokens placed)
+  unfolding place_directive
+  directive_walk pos name tokens placed stands = found_walk _ pos tokens placed stands

@@ -25,11 +25,14 @@ use Rattle.asm_base.specs.Refusals.{◌>>=◌}
 use Rattle.asm_operands.specs.LayerFaults.{of_sections}
 use Rattle.asm_operands.specs.Operands.{is_name, is_dot, names_symbol, begins_with_dot, is_label}
 use Rattle.asm_values.specs.State.{Placed, with_table, unless_dot, put_bytes_into}
-use Rattle.asm_place.specs.Coding.{place_coded, place_instruction}
+use Rattle.asm_words.specs.declared.directives.Syntax.{Syntax}
+use Rattle.asm_words.specs.declared.directives.Syntax.TheVariants.{Att, Intel}
+use Rattle.asm_place.specs.Coding.{lone_code, place_coded, place_instruction}
 use Rattle.asm_place.specs.Placing.{place_body, place_label, place_labelled, has_wide_label, place_tokens}
 use Rattle.asm_place.specs.Sources.{pos_at, located, place, place_all}
 use Rattle.asm_place.specs.Instructions.{behind_labels, instruction_written, instruction_of, run_end, next_item, next_offset, with_more, IsContinued, Grows, IsWithin, AreWithin, IsPut, StandsAt}
 use Rattle.asm_place.proofs.GrowthLemmas.{get_set, All-there, run_keeps, run_added}
+use Rattle.asm_place.proofs.Walks.{FramesKeep}
 use Rattle.asm_place.proofs.PlacingLaws.{all_grow, all_within}
 use Rattle.asm_place.proofs.StatementSplits.{err-ok, same_Ok, both_ok, all_split}
 
@@ -80,13 +83,16 @@ body_test false true false assignment directive instruction named not_dotted = r
 abbrev Puts : Pos → Coded → Placed → Placed → Type 0
 Puts pos coded before placed = IsPut before.sections placed.sections before.current pos coded.bytes
 
-name_puts : BareCodesStand → (pos : Pos) (first : SpelledToken) (before placed : Placed) (coded : Coded) → instruction_written (first ∷ []) ≡ Some coded → place_body pos first [] before ≡ Ok placed → Puts pos coded before placed
+name_puts : BareCodesStand → (pos : Pos) (syntax : Syntax) (first : SpelledToken) (before placed : Placed) (coded : Coded) → before.syntax ≡ syntax
+    → instruction_written syntax (first ∷ []) ≡ Some coded → place_body pos first [] before ≡ Ok placed → Puts pos coded before placed
 unfolding instruction_written place_body place_instruction
-name_puts stand pos first before placed coded written is =
+name_puts stand pos Intel first before placed coded same written is = absurd (none-some coded written)
+name_puts stand pos Att first before placed coded same written is =
     let parts = name_test (is_name first) (begins_with_dot first.bytes) (bare_instruction first.bytes) coded written in
     put_last pos before.current coded.bytes (stand first.bytes coded parts.2) before placed
     (ap (λ found. place_coded pos (option_map (λ coded. coded.bytes) found) (first ∷ []) before) (sym parts.2)
-    ∙ (sym (body_test (names_symbol first) (is_name first) (begins_with_dot first.bytes) _ _ _ parts.0 parts.1) ∙ is))
+    ∙ (ap (λ syntax. place_coded pos (lone_code syntax (first ∷ [])) (first ∷ []) before) (sym same)
+    ∙ (sym (body_test (names_symbol first) (is_name first) (begins_with_dot first.bytes) _ _ _ parts.0 parts.1) ∙ is)))
 
 -- a statement that is placed names no symbol by `.`,
 dot_ok : (dot : Bool) (made placed : Placed) → unless_dot dot made ≡ Ok placed → made ≡ placed
@@ -98,52 +104,76 @@ pub wide_ok : (wide : Bool) (answer : Result Placed PlaceCause) (placed : Placed
 wide_ok true answer placed is = err-ok _ placed is
 wide_ok false answer placed is = is
 
--- a label changes neither the sections nor which is the current one
-pub label_keeps : (pos : Pos) (token : SpelledToken) (before placed : Placed) → place_label pos token before ≡ Ok placed → (placed.sections ≡ before.sections) × (placed.current ≡ before.current)
+-- a label changes neither the sections nor which is the current one, nor the syntax
+pub record Labels (before placed : Placed) : Type 0 where
+  pub sections : placed.sections ≡ before.sections
+  pub current : placed.current ≡ before.current
+  pub syntax : placed.syntax ≡ before.syntax
+
+pub same_labels : (before placed : Placed) → before ≡ placed → Labels before placed
+same_labels before placed is = record {
+  sections = ap (λ (p : Placed). p.sections) (sym is);
+  current = ap (λ (p : Placed). p.current) (sym is);
+  syntax = ap (λ (p : Placed). p.syntax) (sym is);
+}
+
+pub label_keeps : (pos : Pos) (token : SpelledToken) (before placed : Placed) → place_label pos token before ≡ Ok placed → Labels before placed
 unfolding place_label
 label_keeps pos token before placed is =
     both_ok _ _ placed is (λ table made is_placed.
     let same : with_table before table ≡ placed = dot_ok (is_dot token) (with_table before table) placed is_placed in
-    (ap (λ (p : Placed). p.sections) (sym same), ap (λ (p : Placed). p.current) (sym same)))
+    record {
+      sections = ap (λ (p : Placed). p.sections) (sym same);
+      current = ap (λ (p : Placed). p.current) (sym same);
+      syntax = ap (λ (p : Placed). p.syntax) (sym same);
+    })
 
-label_test : (pos : Pos) (test : Bool) (first second : SpelledToken) (rest : List SpelledToken) (before placed : Placed) (coded : Coded)
-    → ((labels : Placed) → instruction_written (behind_labels rest) ≡ Some coded → place_labelled pos rest labels ≡ Ok placed → Puts pos coded labels placed)
-    → instruction_written (cond test (behind_labels rest) (first ∷ second ∷ rest)) ≡ Some coded
+not_alone : (syntax : Syntax) (first second : SpelledToken) (rest : List SpelledToken) (coded : Coded) → instruction_written syntax (first ∷ second ∷ rest) ≡ Some coded → ⊥
+unfolding instruction_written
+not_alone Att first second rest coded written = none-some coded written
+not_alone Intel first second rest coded written = none-some coded written
+
+label_test : (pos : Pos) (syntax : Syntax) (test : Bool) (first second : SpelledToken) (rest : List SpelledToken) (before placed : Placed) (coded : Coded)
+    → before.syntax ≡ syntax
+    → ((labels : Placed) → labels.syntax ≡ syntax → instruction_written syntax (behind_labels rest) ≡ Some coded → place_labelled pos rest labels ≡ Ok placed
+    → Puts pos coded labels placed)
+    → instruction_written syntax (cond test (behind_labels rest) (first ∷ second ∷ rest)) ≡ Some coded
     → cond test (place_label pos first before >>= (λ labels. place_labelled pos rest labels)) (place_body pos first (second ∷ rest) before) ≡ Ok placed
     → Puts pos coded before placed
-unfolding instruction_written
-label_test pos true first second rest before placed coded again written is =
+label_test pos syntax true first second rest before placed coded same again written is =
     both_ok _ _ placed is (λ labels labelled later.
     let keeps = label_keeps pos first before labels labelled in
-    subst (λ sections. IsPut sections placed.sections before.current pos coded.bytes) keeps.0
-    (subst (λ number. IsPut labels.sections placed.sections number pos coded.bytes) keeps.1 (again labels written later)))
-label_test pos false first second rest before placed coded again written is = absurd (none-some coded written)
+    subst (λ sections. IsPut sections placed.sections before.current pos coded.bytes) keeps.sections
+    (subst (λ number. IsPut labels.sections placed.sections number pos coded.bytes) keeps.current (again labels (keeps.syntax ∙ same) written later)))
+label_test pos syntax false first second rest before placed coded same again written is = absurd (not_alone syntax first second rest coded written)
 
-no_tokens : (coded : Coded) → instruction_written [] ≡ Some coded → ⊥
+no_tokens : (syntax : Syntax) (coded : Coded) → instruction_written syntax [] ≡ Some coded → ⊥
 unfolding instruction_written
-no_tokens coded written = none-some coded written
+no_tokens Att coded written = none-some coded written
+no_tokens Intel coded written = none-some coded written
 
-labelled_put : BareCodesStand → (pos : Pos) (tokens : List SpelledToken) (before placed : Placed) (coded : Coded) → instruction_written (behind_labels tokens) ≡ Some coded
-    → place_labelled pos tokens before ≡ Ok placed → Puts pos coded before placed
+labelled_put : BareCodesStand → (pos : Pos) (syntax : Syntax) (tokens : List SpelledToken) (before placed : Placed) (coded : Coded) → before.syntax ≡ syntax
+    → instruction_written syntax (behind_labels tokens) ≡ Some coded → place_labelled pos tokens before ≡ Ok placed → Puts pos coded before placed
 unfolding behind_labels place_labelled
-labelled_put stand pos [] before placed coded written is = absurd (no_tokens coded written)
-labelled_put stand pos (first ∷ []) before placed coded written is = name_puts stand pos first before placed coded written is
-labelled_put stand pos (first ∷ second ∷ rest) before placed coded written is =
-    label_test pos (is_label first second) first second rest before placed coded (λ labels. labelled_put stand pos rest labels placed coded) written is
+labelled_put stand pos syntax [] before placed coded same written is = absurd (no_tokens syntax coded written)
+labelled_put stand pos syntax (first ∷ []) before placed coded same written is = name_puts stand pos syntax first before placed coded same written is
+labelled_put stand pos syntax (first ∷ second ∷ rest) before placed coded same written is =
+    label_test pos syntax (is_label first second) first second rest before placed coded same (λ labels. labelled_put stand pos syntax rest labels placed coded) written is
 
 -- where the tokens are an instruction, its bytes are put last in the current section, and nothing else
-pub instruction_put : BareCodesStand → (pos : Pos) (tokens : List SpelledToken) (before placed : Placed) (coded : Coded) → instruction_written (behind_labels tokens) ≡ Some coded
+pub instruction_put : BareCodesStand → (pos : Pos) (tokens : List SpelledToken) (before placed : Placed) (coded : Coded)
+    → instruction_written before.syntax (behind_labels tokens) ≡ Some coded
     → place_tokens pos tokens before ≡ Ok placed → IsPut before.sections placed.sections before.current pos coded.bytes
 unfolding place_tokens
 instruction_put stand pos tokens before placed coded written is =
-    labelled_put stand pos tokens before placed coded written (wide_ok (has_wide_label tokens) (place_labelled pos tokens before) placed is)
+    labelled_put stand pos before.syntax tokens before placed coded refl written (wide_ok (has_wide_label tokens) (place_labelled pos tokens before) placed is)
 
 -- what a statement adds, where the others before and behind it are placed too
 pub located_ok : (s : TokenStatement) (notes : List Noted) (answer : Result Placed PlaceCause) (next : Placed) → located s notes answer ≡ Ok next → answer ≡ Ok next
 located_ok s notes (Ok more) next is = ap Ok (same_Ok more next is)
 located_ok s notes (Err fault) next is = err-ok _ next is
 
-statement_put : BareCodesStand → (s : TokenStatement) (before next : Placed) (coded : Coded) → instruction_of s ≡ Some coded → place s before ≡ Ok next → Puts (pos_at s.file s.line) coded before next
+statement_put : BareCodesStand → (s : TokenStatement) (before next : Placed) (coded : Coded) → instruction_of before.syntax s ≡ Some coded → place s before ≡ Ok next → Puts (pos_at s.file s.line) coded before next
 unfolding place
 statement_put stand s before next coded written is =
     instruction_put stand (pos_at s.file s.line) s.tokens before next coded written
@@ -227,11 +257,11 @@ put_stands before next whole number pos bytes put within grows =
     (stands pos put.section bytes (All-there IsWithin before number put.section put.there within) whole number (grows.kept number new there) put.takes_bytes)
 
 -- the bytes of an instruction stand in the whole
-pub instruction_there : BareCodesStand → (front : List TokenStatement) (s : TokenStatement) (later : List TokenStatement) (before placed whole : Placed) (coded : Coded)
-    → AreWithin before.sections → place_all front before ≡ Ok placed → place_all (front ++ s ∷ later) before ≡ Ok whole → instruction_of s ≡ Some coded
+pub instruction_there : FramesKeep → BareCodesStand → (front : List TokenStatement) (s : TokenStatement) (later : List TokenStatement) (before placed whole : Placed) (coded : Coded)
+    → AreWithin before.sections → place_all front before ≡ Ok placed → place_all (front ++ s ∷ later) before ≡ Ok whole → instruction_of placed.syntax s ≡ Some coded
     → StandsAt whole.sections placed.current (next_item placed) (next_offset placed) coded.bytes
-instruction_there stand front s later before placed whole coded within is_front is_whole written =
+instruction_there frames stand front s later before placed whole coded within is_front is_whole written =
     first_placed s later placed whole (sym (all_split front (s ∷ later) before ∙ ap (λ r. r >>= place_all (s ∷ later)) is_front) ∙ is_whole)
     (λ next is_next is_later.
     put_stands placed.sections next.sections whole.sections placed.current (pos_at s.file s.line) coded.bytes
-    (statement_put stand s placed next coded written is_next) (all_within front before placed is_front within) (all_grow later next whole is_later))
+    (statement_put stand s placed next coded written is_next) (all_within frames front before placed is_front within) (all_grow frames later next whole is_later))

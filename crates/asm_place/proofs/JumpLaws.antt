@@ -41,10 +41,11 @@ use Rattle.asm_place.specs.Instructions.{behind_labels, with_more, IsContinued, 
 use Rattle.asm_place.specs.CodePlaces.{insn_written, insn_in, known_in, jump_in}
 use Rattle.asm_place.specs.JumpPlaces.{jump_form, IsJumpPut, items_so_far, jump_field, JumpStandsAt, JumpStands, jump_written}
 use Rattle.asm_place.proofs.GrowthLemmas.{get_set, All-there}
+use Rattle.asm_place.proofs.Walks.{FramesKeep}
 use Rattle.asm_place.proofs.PlacingLaws.{all_grow, all_within}
 use Rattle.asm_place.proofs.StatementSplits.{err-ok, same_Ok, both_ok, all_split}
 use Rattle.asm_place.proofs.InstructionLaws.{wide_ok, located_ok, first_placed}
-use Rattle.asm_place.proofs.CodeLaws.{labels_split, labels_keep, unlabelled_is, table_keeps}
+use Rattle.asm_place.proofs.CodeLaws.{labels_split, labels_keep, behind_is, table_keeps}
 
 -- WHAT IS PUT
 
@@ -99,19 +100,19 @@ jump_text pos text condition before placed jump is =
 
 -- where the tokens are a direct jump, an item that grows is put last in the current section
 pub jump_put : (pos : Pos) (tokens : List SpelledToken) (before placed : Placed) (text : InsnText) (condition : Option Condition)
-    → insn_written (behind_labels tokens) ≡ Some text → jump_in text ≡ Some condition
+    → insn_written before.syntax (behind_labels tokens) ≡ Some text → jump_in text ≡ Some condition
     → place_tokens pos tokens before ≡ Ok placed → IsJumpPut pos tokens text condition before placed
 unfolding place_tokens
 jump_put pos tokens before placed text condition written jump is =
     both_ok _ _ placed (sym (labels_split pos tokens before) ∙ wide_ok (has_wide_label tokens) (place_labelled pos tokens before) placed is)
     (λ labels labels_are body_is.
     let keeps = labels_keep pos tokens before labels labels_are in
-    let made = jump_text pos text condition labels placed jump (sym (unlabelled_is pos (behind_labels tokens) text labels written) ∙ body_is) in
+    let made = jump_text pos text condition labels placed jump (sym (behind_is pos tokens text before labels labels_are written) ∙ body_is) in
     let kind = Jump condition in
     let suffix = said_suffix text.displacement.suffix in
     let form = jump_form made.forms in
-    let grown = subst (λ number. IsGrown pos number kind suffix form before.sections placed.sections) keeps.1
-    (subst (λ sections. IsGrown pos labels.current kind suffix form sections placed.sections) keeps.0 made.grown) in
+    let grown = subst (λ number. IsGrown pos number kind suffix form before.sections placed.sections) keeps.current
+    (subst (λ sections. IsGrown pos labels.current kind suffix form sections placed.sections) keeps.sections made.grown) in
     record {
       jump = record { labels = labels; labels_are = labels_are; forms = made.forms; forms_are = made.forms_are };
       section = grown.section;
@@ -121,7 +122,7 @@ jump_put pos tokens before placed text condition written jump is =
 
 -- WHERE IT STANDS
 
-statement_jumps : (s : TokenStatement) (before next : Placed) (text : InsnText) (condition : Option Condition) → insn_in s ≡ Some text
+statement_jumps : (s : TokenStatement) (before next : Placed) (text : InsnText) (condition : Option Condition) → insn_in before.syntax s ≡ Some text
     → jump_in text ≡ Some condition → place s before ≡ Ok next → IsJumpPut (pos_at s.file s.line) s.tokens text condition before next
 unfolding place
 statement_jumps s before next text condition written jump is =
@@ -186,17 +187,17 @@ put_stands before next whole pos tokens text condition put within grows =
     (grows.kept number new there))
 
 -- a jump stands in the whole
-pub jump_there : (front : List TokenStatement) (s : TokenStatement) (later : List TokenStatement) (before placed whole : Placed) (text : InsnText) (condition : Option Condition)
-    → AreWithin before.sections → place_all front before ≡ Ok placed → place_all (front ++ s ∷ later) before ≡ Ok whole → insn_in s ≡ Some text
+pub jump_there : FramesKeep → (front : List TokenStatement) (s : TokenStatement) (later : List TokenStatement) (before placed whole : Placed) (text : InsnText) (condition : Option Condition)
+    → AreWithin before.sections → place_all front before ≡ Ok placed → place_all (front ++ s ∷ later) before ≡ Ok whole → insn_in placed.syntax s ≡ Some text
     → jump_in text ≡ Some condition → JumpStands whole.sections (pos_at s.file s.line) s.tokens text condition placed
-jump_there front s later before placed whole text condition within is_front is_whole written jump =
+jump_there frames front s later before placed whole text condition within is_front is_whole written jump =
     first_placed s later placed whole (sym (all_split front (s ∷ later) before ∙ ap (λ r. r >>= place_all (s ∷ later)) is_front) ∙ is_whole)
     (λ next is_next is_later.
     let put = statement_jumps s placed next text condition written jump is_next in
     record {
       jump = put.jump;
-      stands = put_stands placed next whole (pos_at s.file s.line) s.tokens text condition put (all_within front before placed is_front within)
-          (all_grow later next whole is_later);
+      stands = put_stands placed next whole (pos_at s.file s.line) s.tokens text condition put (all_within frames front before placed is_front within)
+          (all_grow frames later next whole is_later);
     })
 
 -- WHAT IT READS AS

@@ -18,6 +18,8 @@ pub mod JumpLaws
 pub mod NamedSymbols
 pub mod SymbolTables
 pub mod PlaceSteps
+pub mod KnownWalks
+pub mod FramePlaces
 pub mod DirectivePlaces
 pub mod PlaceWalk
 pub mod JumpTargets

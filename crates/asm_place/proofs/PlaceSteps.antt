@@ -1,6 +1,6 @@
 -- What is put into sections, and which are entered: each symbol that has a place stands in its section.
 use Rattle.std.proofs.Common.{◌≡◌, ℕ, Bool, true, false, cond, List, [], ◌∷◌, ◌++◌, length, Option, None, Some, Result, Ok, Err, refl, slice_get}
-use Rattle.std.specs.Prelude.{◌&&◌, ◌^◌, nat_lt, not}
+use Rattle.std.specs.Prelude.{◌&&◌, ◌^◌, All, nat_lt, not}
 use Rattle.std.specs.List.{list_all}
 use Rattle.asm_operands.specs.declared.place_faults.PlaceCause.{PlaceCause}
 use Rattle.asm_operands.specs.declared.place_faults.PlaceCause.TheVariants.{BadSection}
@@ -27,6 +27,8 @@ use Rattle.asm_operands.specs.Operands.{operands_of}
 use Rattle.asm_uses.specs.Places.{spot_at}
 use Rattle.asm_values.specs.State.{Placed, with_table, with_notes, with_names, known_here, put_section, put_bytes_into, put_field_into, put_growing_into, push_into}
 use Rattle.asm_words.specs.SectionWords.{SectionWords, section_words}
+use Rattle.asm_words.specs.declared.directives.Syntax.{Syntax}
+use Rattle.asm_place.specs.SyntaxWords.{with_syntax}
 use Rattle.asm_place.specs.SectionChanges.{with_current, option_trees, numbered, entered_as, enter_words, place_section, entered_now, place_pushed, back_to, popped, entry_size_in, header_by}
 use Rattle.asm_expr.specs.Trees.{Tree}
 use Rattle.asm_place.specs.Instructions.{Grows}
@@ -40,7 +42,11 @@ use Rattle.asm_symbols.specs.declared.entries.Meaning.TheVariants as meaning
 use Rattle.asm_symbols.specs.declared.entries.Symbol.{Symbol}
 use Rattle.asm_uses.specs.Tables.{Table, with_trees}
 use Rattle.asm_place.specs.Instructions.{with_more}
-use Rattle.asm_place.specs.SymbolPlaces.{HasItems, MeaningStands, PlacesStand}
+use Rattle.cfi_directives.specs.declared.frames.Frame.{Frame}
+use Rattle.cfi_directives.specs.declared.frames.PlacedOp.{PlacedOp}
+use Rattle.cfi_directives.specs.Meant.{stop_of}
+use Rattle.cfi_directives.specs.Procedures.{frames_of}
+use Rattle.asm_place.specs.SymbolPlaces.{HasItems, MeaningStands, ProcedureStands, PlacesStand}
 use Rattle.asm_place.proofs.GrowthLemmas.{All-there, continued_on}
 use Rattle.asm_place.proofs.PlacingLaws.{there_adds, entered_adds}
 use Rattle.asm_place.proofs.SymbolTables.{Names, Tables, Allows, trees_stand, allowed_stand}
@@ -74,7 +80,7 @@ pub record Closes (base : ℕ) (before after : Placed) : Type 0 where
 abbrev pub Walks : {E : Type 0} → Placed → Result Placed E → Type 0
 Walks before = Fine (Stays before)
 
-not_grown : (sections : List LooseSection) → Grows sections sections
+pub not_grown : (sections : List LooseSection) → Grows sections sections
 not_grown sections = (adds_nothing sections).grows
 
 pub grown_twice : (one two three : List LooseSection) → Grows one two → Grows two three → Grows one three
@@ -149,6 +155,16 @@ meaning_grows before after last grows (meaning.Common size align) stands = tt
 meaning_grows before after last grows (meaning.Space spot) stands = items_grow before after spot.section spot.item grows stands
 meaning_grows before after last grows (meaning.Assigned form) stands = stands
 
+-- procedures stand where they stood
+pub procedures_grow : (before after : List LooseSection) → Grows before after → (frames : List Frame) → All (ProcedureStands before) frames → All (ProcedureStands after) frames
+procedures_grow before after grows frames stand =
+    All-weaker (ProcedureStands before) (ProcedureStands after) (λ frame was. record {
+      start = items_grow before after frame.section frame.start.item grows was.start;
+      stop = items_grow before after frame.section (stop_of frame).item grows was.stop;
+      ops = All-weaker (λ (placed : PlacedOp). HasItems before frame.section placed.place.item) (λ (placed : PlacedOp). HasItems after frame.section placed.place.item)
+          (λ placed has. items_grow before after frame.section placed.place.item grows has) frame.ops was.ops;
+    }) frames stand
+
 -- sections that are entered and come back to
 abbrev pub EntryStands : List LooseSection → Entered → Type 0
 EntryStands sections entered = HasItems sections entered.current 0 × HasItems sections entered.previous 0
@@ -167,6 +183,7 @@ sections_stay placed sections grows stands = record {
     symbols = All-weaker (λ (symbol : Symbol). MeaningStands placed.sections (count placed) symbol.meaning)
         (λ (symbol : Symbol). MeaningStands sections (count placed) symbol.meaning)
         (λ symbol was. meaning_grows placed.sections sections (count placed) grows symbol.meaning was) placed.table.symbols.symbols stands.symbols;
+    procedures = procedures_grow placed.sections sections grows (frames_of placed.procedures) stands.procedures;
   };
   fits = λ few. few;
 }
@@ -175,7 +192,7 @@ pub table_stays : (placed : Placed) (table : Table) → Tables placed.sections p
 table_stays placed table kept stands = record {
   grows = not_grown placed.sections;
   more = kept.more;
-  stands = record { current = stands.current; previous = stands.previous; stack = stands.stack; first = stands.first; symbols = kept.kept stands.symbols };
+  stands = record { current = stands.current; previous = stands.previous; stack = stands.stack; first = stands.first; symbols = kept.kept stands.symbols; procedures = stands.procedures };
   fits = kept.fits;
 }
 
@@ -183,14 +200,14 @@ pub table_gains : (placed : Placed) (table : Table) → Names placed.sections pl
 table_gains placed table kept stands = record {
   grows = not_grown placed.sections;
   more = kept.more;
-  stands = record { current = stands.current; previous = stands.previous; stack = stands.stack; first = stands.first; symbols = kept.kept stands.symbols };
+  stands = record { current = stands.current; previous = stands.previous; stack = stands.stack; first = stands.first; symbols = kept.kept stands.symbols; procedures = stands.procedures };
 }
 
 pub table_closes : (base : ℕ) (placed : Placed) (table : Table) → Allows placed.sections base placed.table table → PlacesStand placed → Closes base placed (with_table placed table)
 table_closes base placed table kept stands = record {
   grows = not_grown placed.sections;
   more = kept.more;
-  stands = record { current = stands.current; previous = stands.previous; stack = stands.stack; first = stands.first; symbols = kept.kept stands.symbols };
+  stands = record { current = stands.current; previous = stands.previous; stack = stands.stack; first = stands.first; symbols = kept.kept stands.symbols; procedures = stands.procedures };
   few = kept.few;
 }
 
@@ -198,7 +215,7 @@ pub current_stays : (number : ℕ) (placed : Placed) → HasItems placed.section
 current_stays number placed there stands = record {
   grows = not_grown placed.sections;
   more = omega arith;
-  stands = record { current = there; previous = stands.current; stack = stands.stack; first = stands.first; symbols = stands.symbols };
+  stands = record { current = there; previous = stands.current; stack = stands.stack; first = stands.first; symbols = stands.symbols; procedures = stands.procedures };
   fits = λ few. few;
 }
 
@@ -206,7 +223,7 @@ pub notes_close : (notes : List Noted) (base : ℕ) (before placed : Placed) →
 notes_close notes base before placed closes = record {
   grows = closes.grows;
   more = closes.more;
-  stands = record { current = closes.stands.current; previous = closes.stands.previous; stack = closes.stands.stack; first = closes.stands.first; symbols = closes.stands.symbols };
+  stands = record { current = closes.stands.current; previous = closes.stands.previous; stack = closes.stands.stack; first = closes.stands.first; symbols = closes.stands.symbols; procedures = closes.stands.procedures };
   few = closes.few;
 }
 
@@ -214,7 +231,15 @@ pub notes_stay : (notes : List Noted) (placed : Placed) → PlacesStand placed �
 notes_stay notes placed stands = record {
   grows = not_grown placed.sections;
   more = omega arith;
-  stands = record { current = stands.current; previous = stands.previous; stack = stands.stack; first = stands.first; symbols = stands.symbols };
+  stands = record { current = stands.current; previous = stands.previous; stack = stands.stack; first = stands.first; symbols = stands.symbols; procedures = stands.procedures };
+  fits = λ few. few;
+}
+
+pub syntax_stays : (syntax : Syntax) (placed : Placed) → PlacesStand placed → Stays placed (with_syntax syntax placed)
+syntax_stays syntax placed stands = record {
+  grows = not_grown placed.sections;
+  more = omega arith;
+  stands = record { current = stands.current; previous = stands.previous; stack = stands.stack; first = stands.first; symbols = stands.symbols; procedures = stands.procedures };
   fits = λ few. few;
 }
 
@@ -345,6 +370,7 @@ pushed_walk pos tokens placed stands =
             (items_grow placed.sections entered.sections placed.current 0 stays.grows stands.current, items_grow placed.sections entered.sections placed.previous 0 stays.grows stands.previous);
         first = stays.stands.first;
         symbols = stays.stands.symbols;
+        procedures = stays.stands.procedures;
       };
       fits = stays.fits;
     }))
@@ -362,6 +388,7 @@ back_walk (Some entered) placed is stands =
         stack = All-take (EntryStands placed.sections) (length placed.stack - 1) placed.stack stands.stack;
         first = stands.first;
         symbols = stands.symbols;
+        procedures = stands.procedures;
       };
       fits = λ few. few;
     })

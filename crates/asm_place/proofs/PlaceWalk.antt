@@ -23,13 +23,12 @@ use Rattle.asm_expr.specs.Trees.{Tree}
 use Rattle.x86_encode.specs.Encoding.{encoding_of}
 use Rattle.att_operands.specs.declared.faults.OperandCause.{OperandCause}
 use Rattle.att_insns.specs.InsnTexts.{InsnText}
-use Rattle.att_insns.specs.Reading.{insn_of}
 use Rattle.asm_place.specs.declared.codes.InsnForms.{InsnForms}
 use Rattle.asm_place.specs.declared.codes.CodeField.{CodeField}
-use Rattle.asm_place.specs.Coding.{InsnShape, shape_in, forms_of, values_in, of_operands, of_code, fields_of, put_rest, put_code, keeps_place, put_coded, put_by_jump, put_insn, insn_of_trees, said_suffix, from_own_place, place_insn, place_read, lone_code, place_coded, place_instruction}
+use Rattle.asm_place.specs.Coding.{InsnShape, shape_in, forms_of, values_in, of_operands, of_code, fields_of, put_rest, put_code, keeps_place, put_coded, put_by_jump, put_insn, insn_of_trees, said_suffix, from_own_place, place_insn, place_read, lone_code, insn_by, place_coded, place_instruction}
 use Rattle.asm_place.specs.CodePlaces.{labelled}
 use Rattle.asm_place.specs.Sources.{pos_at, located, place, place_all}
-use Rattle.asm_place.proofs.Walks.{Fine, made, refused, step, after, either}
+use Rattle.asm_place.proofs.Walks.{FramesKeep, Fine, made, refused, step, after, either}
 use Rattle.asm_uses.specs.declared.tables.Naming.{Naming}
 use Rattle.asm_uses.specs.Tables.{naming_of}
 use Rattle.std.proofs.Common.{zero, suc, ◌<◌, arith}
@@ -37,7 +36,7 @@ use Rattle.std.proofs.lemmas.List.Elements.{All-nil}
 use Rattle.asm_symbols.specs.declared.entries.Symbol.{Symbol}
 use Rattle.asm_frags.specs.Sections.{first_sections}
 use Rattle.asm_values.specs.State.{nothing_placed}
-use Rattle.asm_place.specs.SymbolPlaces.{HasItems, MeaningStands, PlacesStand}
+use Rattle.asm_place.specs.SymbolPlaces.{HasItems, MeaningStands, ProcedureStands, PlacesStand}
 use Rattle.asm_place.proofs.SymbolTables.{onto, label_stand, change_stand, defined_stand}
 use Rattle.asm_place.proofs.PlaceSteps.{count, Stays, Closes, Walks, closes_on, closed, walked, unmoved, EntryStands, table_stays, names_gain, spot_stands, table_close, bytes_walk, field_walk, growing_walk}
 use Rattle.asm_place.proofs.DirectivePlaces.{here_stand, dot_walk, assignment_walk, directive_walk}
@@ -93,21 +92,14 @@ read_walk pos read placed stands =
     after (of_operands read) (λ text. insn_walk pos (shape_in text) text.immediate.tree text.displacement.tree placed stands)
 
 coded_walk : (pos : Pos) (code : Option (List ℕ)) (tokens : List SpelledToken) (placed : Placed) → PlacesStand placed → Walks placed (place_coded pos code tokens placed)
-coded_walk pos None tokens placed stands = read_walk pos (insn_of tokens) placed stands
+coded_walk pos None tokens placed stands = read_walk pos (insn_by placed.syntax tokens) placed stands
 coded_walk pos (Some bytes) tokens placed stands = bytes_walk pos placed.current bytes placed stands
 
 instruction_walk : (pos : Pos) (tokens : List SpelledToken) (placed : Placed) → PlacesStand placed → Walks placed (place_instruction pos tokens placed)
 unfolding place_instruction
-instruction_walk pos tokens placed stands = coded_walk pos (lone_code tokens) tokens placed stands
+instruction_walk pos tokens placed stands = coded_walk pos (lone_code placed.syntax tokens) tokens placed stands
 
 -- STATEMENTS
-
-body_walk : (pos : Pos) (first : SpelledToken) (rest : List SpelledToken) (placed : Placed) → PlacesStand placed → Walks placed (place_body pos first rest placed)
-unfolding place_body
-body_walk pos first rest placed stands =
-    either (names_symbol first && is_assignment rest) (assignment_walk pos first (drop 1 rest) placed stands)
-    (either (not (is_name first)) (refused UnknownMnemonic)
-    (either (begins_with_dot first.bytes) (directive_walk pos first.bytes rest placed stands) (instruction_walk pos (first ∷ rest) placed stands)))
 
 label_walk : (pos : Pos) (token : SpelledToken) (placed : Placed) → PlacesStand placed → Walks placed (place_label pos token placed)
 unfolding place_label
@@ -125,38 +117,9 @@ labels_walk pos (token ∷ []) placed stands = made _ (unmoved placed stands)
 labels_walk pos (first ∷ second ∷ rest) placed stands =
     either (is_label first second) (walked placed (label_walk pos first placed stands) (λ labels now. labels_walk pos rest labels now)) (made _ (unmoved placed stands))
 
-labelled_walk : (pos : Pos) (tokens : List SpelledToken) (placed : Placed) → PlacesStand placed → Walks placed (place_labelled pos tokens placed)
-unfolding place_labelled
-labelled_walk pos [] placed stands = made _ (unmoved placed stands)
-labelled_walk pos (first ∷ []) placed stands = body_walk pos first [] placed stands
-labelled_walk pos (first ∷ second ∷ rest) placed stands =
-    either (is_label first second) (walked placed (label_walk pos first placed stands) (λ labels now. labelled_walk pos rest labels now))
-    (body_walk pos first (second ∷ rest) placed stands)
-
-tokens_walk : (pos : Pos) (tokens : List SpelledToken) (placed : Placed) → PlacesStand placed → Walks placed (place_tokens pos tokens placed)
-unfolding place_tokens
-tokens_walk pos tokens placed stands = either (has_wide_label tokens) (refused NumberTooWide) (labelled_walk pos tokens placed stands)
-
-located_walk : (s : TokenStatement) (notes : List Noted) (before : Placed) (answer : Result Placed PlaceCause) → Walks before answer → Walks before (located s notes answer)
-located_walk s notes before (Ok more) steps = made more steps.holds
-located_walk s notes before (Err fault) steps = refused _
-
-place_walk : (s : TokenStatement) (placed : Placed) → PlacesStand placed → Walks placed (place s placed)
-unfolding place
-place_walk s placed stands = located_walk s placed.notes placed _ (tokens_walk (pos_at s.file s.line) s.tokens placed stands)
-
-pub statements_walk : (statements : List TokenStatement) (placed : Placed) → PlacesStand placed → Walks placed (place_all statements placed)
-unfolding place_all
-statements_walk [] placed stands = made _ (unmoved placed stands)
-statements_walk (s ∷ later) placed stands = walked placed (place_walk s placed stands) (statements_walk later)
-
 -- what a step that is done keeps
 pub kept_by : {E : Type 0} (before after : Placed) (answer : Result Placed E) → answer ≡ Ok after → Walks before answer → Stays before after
 kept_by before after answer is walk = IfOk-at_ok (Stays before) is walk.holds
-
--- placing keeps it so
-pub places_kept : (statements : List TokenStatement) (before placed : Placed) → place_all statements before ≡ Ok placed → PlacesStand before → PlacesStand placed
-places_kept statements before placed is stands = (kept_by before placed (place_all statements before) is (statements_walk statements before stands)).stands
 
 first_there : (no_warn : Bool) (number : ℕ) → number < 3 → HasItems (nothing_placed no_warn).sections number 0
 unfolding first_sections
@@ -173,10 +136,48 @@ places_begin no_warn = record {
   stack = All-nil (EntryStands (nothing_placed no_warn).sections);
   first = first_there no_warn;
   symbols = All-nil (λ (symbol : Symbol). MeaningStands (nothing_placed no_warn).sections 0 symbol.meaning);
+  procedures = All-nil (ProcedureStands (nothing_placed no_warn).sections);
 }
 
--- there are never more than 2^24 symbols
-pub symbols_few : (statements : List TokenStatement) (no_warn : Bool) (placed : Placed) → place_all statements (nothing_placed no_warn) ≡ Ok placed → count placed ≤ 2 ^ 24
-symbols_few statements no_warn placed is =
-    (kept_by (nothing_placed no_warn) placed (place_all statements (nothing_placed no_warn)) is (statements_walk statements (nothing_placed no_warn) (places_begin no_warn))).fits
-    (omega arith)
+module _ (frames : FramesKeep) where
+  body_walk : (pos : Pos) (first : SpelledToken) (rest : List SpelledToken) (placed : Placed) → PlacesStand placed → Walks placed (place_body pos first rest placed)
+  unfolding place_body
+  body_walk pos first rest placed stands =
+      either (names_symbol first && is_assignment rest) (assignment_walk pos first (drop 1 rest) placed stands)
+      (either (not (is_name first)) (refused UnknownMnemonic)
+      (either (begins_with_dot first.bytes) (directive_walk frames pos first.bytes rest placed stands) (instruction_walk pos (first ∷ rest) placed stands)))
+
+  labelled_walk : (pos : Pos) (tokens : List SpelledToken) (placed : Placed) → PlacesStand placed → Walks placed (place_labelled pos tokens placed)
+  unfolding place_labelled
+  labelled_walk pos [] placed stands = made _ (unmoved placed stands)
+  labelled_walk pos (first ∷ []) placed stands = body_walk pos first [] placed stands
+  labelled_walk pos (first ∷ second ∷ rest) placed stands =
+      either (is_label first second) (walked placed (label_walk pos first placed stands) (λ labels now. labelled_walk pos rest labels now))
+      (body_walk pos first (second ∷ rest) placed stands)
+
+  tokens_walk : (pos : Pos) (tokens : List SpelledToken) (placed : Placed) → PlacesStand placed → Walks placed (place_tokens pos tokens placed)
+  unfolding place_tokens
+  tokens_walk pos tokens placed stands = either (has_wide_label tokens) (refused NumberTooWide) (labelled_walk pos tokens placed stands)
+
+  located_walk : (s : TokenStatement) (notes : List Noted) (before : Placed) (answer : Result Placed PlaceCause) → Walks before answer → Walks before (located s notes answer)
+  located_walk s notes before (Ok more) steps = made more steps.holds
+  located_walk s notes before (Err fault) steps = refused _
+
+  place_walk : (s : TokenStatement) (placed : Placed) → PlacesStand placed → Walks placed (place s placed)
+  unfolding place
+  place_walk s placed stands = located_walk s placed.notes placed _ (tokens_walk (pos_at s.file s.line) s.tokens placed stands)
+
+  pub statements_walk : (statements : List TokenStatement) (placed : Placed) → PlacesStand placed → Walks placed (place_all statements placed)
+  unfolding place_all
+  statements_walk [] placed stands = made _ (unmoved placed stands)
+  statements_walk (s ∷ later) placed stands = walked placed (place_walk s placed stands) (statements_walk later)
+
+  -- placing keeps it so
+  pub places_kept : (statements : List TokenStatement) (before placed : Placed) → place_all statements before ≡ Ok placed → PlacesStand before → PlacesStand placed
+  places_kept statements before placed is stands = (kept_by before placed (place_all statements before) is (statements_walk statements before stands)).stands
+
+  -- there are never more than 2^24 symbols
+  pub symbols_few : (statements : List TokenStatement) (no_warn : Bool) (placed : Placed) → place_all statements (nothing_placed no_warn) ≡ Ok placed → count placed ≤ 2 ^ 24
+  symbols_few statements no_warn placed is =
+      (kept_by (nothing_placed no_warn) placed (place_all statements (nothing_placed no_warn)) is (statements_walk statements (nothing_placed no_warn) (places_begin no_warn))).fits
+      (omega arith)

@@ -1,10 +1,10 @@
 -- Placing only adds to sections, and none of its faults is one of reading a file.
-use Rattle.std.proofs.Common.{◌≡◌, ℕ, Bool, true, false, cond, List, [], ◌∷◌, ◌++◌, length, Option, None, Some, Result, Ok, Err, refl, slice_get}
+use Rattle.std.proofs.Common.{◌≡◌, ℕ, Bool, true, false, cond, List, [], ◌∷◌, ◌++◌, length, Option, None, Some, Result, Ok, Err, refl, sym, subst, slice_get}
 use Rattle.std.specs.Prelude.{◌&&◌, ◌+◌, ◌^◌, nat_lt, not, drop, slice_range, codes, unwrap_or}
 use Rattle.std.specs.List.{list_any, list_all, count_by}
 use Rattle.std.proofs.lemmas.Result.{IfOk-at_ok, IfErr-at_err}
 use Rattle.asm_operands.specs.declared.place_faults.PlaceCause.{PlaceCause}
-use Rattle.asm_operands.specs.declared.place_faults.PlaceCause.TheVariants.{BadExpression, NumberTooWide, ExpressionTooDeep, DivisionByZero, ValueNotKnown, NotASumOfSymbols, ErrorDirective, UnknownMnemonic, UnknownDirective, BadOperand, NoSuchForm, UnknownOperandSize, OutOfRange, BadSection, SymbolAlreadyDefined, BadSymbolUse}
+use Rattle.asm_operands.specs.declared.place_faults.PlaceCause.TheVariants.{BadExpression, NumberTooWide, ExpressionTooDeep, DivisionByZero, ValueNotKnown, NotASumOfSymbols, ErrorDirective, UnknownMnemonic, UnknownDirective, BadOperand, NoSuchForm, UnknownOperandSize, OutOfRange, BadSection, SymbolAlreadyDefined, BadSymbolUse, CfiOutsideProcedure, UnbalancedCfiState}
 use Rattle.asm_base.specs.declared.faults.Note.TheVariants.{Written}
 use Rattle.asm_base.specs.declared.notes.Noted.{Noted}
 use Rattle.asm_base.specs.declared.positions.Pos.{Pos}
@@ -64,6 +64,11 @@ use Rattle.asm_place.specs.Commons.{bss, with_space, with_common, is_said_local,
 use Rattle.asm_words.specs.Spaces.{space_size, space_of, units_of, unit_size, log_of}
 use Rattle.asm_place.specs.Idents.{items_in, comment_bytes, comment_header, place_ident, place_file, one_string, file_name}
 use Rattle.asm_place.specs.Remarks.{place_err, place_error, place_warning}
+use Rattle.asm_place.specs.SyntaxWords.{with_syntax, says_names, place_syntax}
+use Rattle.asm_words.specs.declared.directives.FrameDirective.{FrameDirective}
+use Rattle.asm_frames.specs.Placing.{place_frame}
+use Rattle.asm_words.specs.declared.directives.Syntax.{Syntax}
+use Rattle.asm_words.specs.declared.directives.Syntax.TheVariants.{Att, Intel}
 use Rattle.asm_values.specs.Data.{put_data, place_data, place_strings, with_named, place_zero, place_skip, place_fill}
 use Rattle.asm_items.specs.Alignments.{is_code, place_align}
 use Rattle.asm_items.specs.Orgs.{known_origin, origin_by, place_org}
@@ -74,16 +79,15 @@ use Rattle.asm_expr.specs.Trees.{Tree}
 use Rattle.x86_encode.specs.Encoding.{encoding_of}
 use Rattle.att_operands.specs.declared.faults.OperandCause.{OperandCause}
 use Rattle.att_insns.specs.InsnTexts.{InsnText}
-use Rattle.att_insns.specs.Reading.{insn_of}
 use Rattle.asm_place.specs.declared.codes.InsnForms.{InsnForms}
 use Rattle.asm_place.specs.declared.codes.CodeField.{CodeField}
-use Rattle.asm_place.specs.Coding.{InsnShape, shape_in, forms_of, values_in, of_operands, of_code, fields_of, put_rest, put_code, keeps_place, put_coded, put_by_jump, put_insn, said_suffix, from_own_place, place_insn, place_read, lone_code, place_coded, place_instruction}
+use Rattle.asm_place.specs.Coding.{InsnShape, shape_in, forms_of, values_in, of_operands, of_code, fields_of, put_rest, put_code, keeps_place, put_coded, put_by_jump, put_insn, said_suffix, from_own_place, place_insn, place_read, lone_code, insn_by, place_coded, place_instruction}
 use Rattle.asm_place.specs.Sources.{pos_at, located, place, place_all}
 use Rattle.asm_place.specs.declared.place_faults.FaultAt.{FaultAt}
 use Rattle.asm_place.specs.Faults.{is_file_too_large, is_too_large, statement_fault}
 use Rattle.asm_place.specs.Instructions.{Grows, AreWithin}
 use Rattle.asm_place.proofs.GrowthLemmas.{Adds, IsAdded, adds_nothing, adds_to, adds_section, item_added, bytes_added, field_added, growing_added}
-use Rattle.asm_place.proofs.Walks.{Fine, Steps, made, refused, step, after, grown, still, either, on}
+use Rattle.asm_place.proofs.Walks.{FramesKeep, Fine, Steps, made, refused, known, weaker, step, after, grown, still, either, on}
 use Rattle.asm_uses.specs.Tables.{changed_by, change_named, file_named, naming_of, allowed}
 
 -- something is put into a section
@@ -412,44 +416,20 @@ unfolding place_warning
 warning_steps pos tokens placed =
     after (one_string tokens) (λ text. made (with_notes (record { note = Written text; pos = pos } ∷ []) placed) (still placed))
 
+-- the syntax
+syntax_steps : (syntax : Syntax) (tokens : List SpelledToken) (placed : Placed) → Steps placed (place_syntax syntax tokens placed)
+unfolding place_syntax
+syntax_steps Att [] placed = made _ (still placed)
+syntax_steps Intel [] placed = refused _
+syntax_steps Att (word ∷ []) placed = either (says_names Att word) (made (with_syntax Att placed) (still placed)) (refused _)
+syntax_steps Intel (word ∷ []) placed = either (says_names Intel word) (made (with_syntax Intel placed) (still placed)) (refused _)
+syntax_steps Att (word ∷ more ∷ rest) placed = refused _
+syntax_steps Intel (word ∷ more ∷ rest) placed = refused _
+
 -- directives
 bare_steps : (tokens : List SpelledToken) (placed : Placed) (answer : Result Placed PlaceCause) → Steps placed answer → Steps placed (bare tokens answer)
 bare_steps [] placed answer steps = steps
 bare_steps (token ∷ rest) placed answer steps = refused _
-
-by_steps : (found : Directive) (pos : Pos) (tokens : List SpelledToken) (placed : Placed) → Steps placed (place_by found pos tokens placed)
-unfolding place_by
-by_steps (directive.Data size) pos tokens placed = data_steps pos size tokens placed
-by_steps (directive.Strings ended) pos tokens placed = strings_steps pos ended tokens placed
-by_steps (directive.Leb128 signed) pos tokens placed = leb128_steps pos signed tokens placed
-by_steps directive.Zero pos tokens placed = zero_steps pos tokens placed
-by_steps directive.Skip pos tokens placed = skip_steps pos tokens placed
-by_steps directive.Fill pos tokens placed = fill_steps pos tokens placed
-by_steps (directive.Align by) pos tokens placed = align_steps pos by tokens placed
-by_steps directive.Org pos tokens placed = org_steps pos tokens placed
-by_steps (directive.Enter initial) pos tokens placed = bare_steps tokens placed (Ok (with_current (initial_number initial) placed)) (made _ (still placed))
-by_steps directive.Section pos tokens placed = section_steps pos tokens placed
-by_steps directive.PushSection pos tokens placed = pushed_steps pos tokens placed
-by_steps directive.PopSection pos tokens placed = bare_steps tokens placed (popped placed) (popped_steps placed)
-by_steps directive.Previous pos tokens placed = bare_steps tokens placed (Ok (with_current placed.previous placed)) (made _ (still placed))
-by_steps (directive.Say attribute) pos tokens placed = said_steps pos attribute tokens placed
-by_steps directive.Type pos tokens placed = type_steps pos tokens placed
-by_steps directive.Size pos tokens placed = size_steps pos tokens placed
-by_steps (directive.Assign once) pos tokens placed = set_steps pos once tokens placed
-by_steps directive.Comm pos tokens placed = comm_steps pos tokens placed
-by_steps directive.Lcomm pos tokens placed = lcomm_steps pos tokens placed
-by_steps directive.Ident pos tokens placed = ident_steps pos tokens placed
-by_steps directive.File pos tokens placed = file_steps tokens placed
-by_steps (directive.Error said) pos tokens placed = error_steps said tokens placed
-by_steps directive.Warning pos tokens placed = warning_steps pos tokens placed
-
-found_steps : (found : Option Directive) (pos : Pos) (tokens : List SpelledToken) (placed : Placed) → Steps placed (place_found found pos tokens placed)
-found_steps None pos tokens placed = refused _
-found_steps (Some found) pos tokens placed = by_steps found pos tokens placed
-
-directive_steps : (pos : Pos) (name : List ℕ) (tokens : List SpelledToken) (placed : Placed) → Steps placed (place_directive pos name tokens placed)
-unfolding place_directive
-directive_steps pos name tokens placed = found_steps _ pos tokens placed
 
 -- instructions
 rest_steps : (pos : Pos) (bytes : List ℕ) (placed : Placed) → Steps placed (put_rest pos bytes placed)
@@ -493,62 +473,105 @@ read_steps pos read placed =
     after (of_operands read) (λ text. insn_steps pos (shape_in text) text.immediate.tree text.displacement.tree placed)
 
 coded_steps : (pos : Pos) (code : Option (List ℕ)) (tokens : List SpelledToken) (placed : Placed) → Steps placed (place_coded pos code tokens placed)
-coded_steps pos None tokens placed = read_steps pos (insn_of tokens) placed
+coded_steps pos None tokens placed = read_steps pos (insn_by placed.syntax tokens) placed
 coded_steps pos (Some bytes) tokens placed = bytes_steps pos placed.current bytes placed
 
 instruction_steps : (pos : Pos) (tokens : List SpelledToken) (placed : Placed) → Steps placed (place_instruction pos tokens placed)
 unfolding place_instruction
-instruction_steps pos tokens placed = coded_steps pos (lone_code tokens) tokens placed
+instruction_steps pos tokens placed = coded_steps pos (lone_code placed.syntax tokens) tokens placed
 
--- statements
-body_steps : (pos : Pos) (first : SpelledToken) (rest : List SpelledToken) (placed : Placed) → Steps placed (place_body pos first rest placed)
-unfolding place_body
-body_steps pos first rest placed =
-    either (names_symbol first && is_assignment rest) (assignment_steps pos first (drop 1 rest) placed)
-    (either (not (is_name first)) (refused UnknownMnemonic)
-    (either (begins_with_dot first.bytes) (directive_steps pos first.bytes rest placed) (instruction_steps pos (first ∷ rest) placed)))
+module _ (frames : FramesKeep) where
+  frame_steps : (frame : FrameDirective) (pos : Pos) (tokens : List SpelledToken) (placed : Placed) → Steps placed (place_frame frame pos tokens placed)
+  frame_steps frame pos tokens placed =
+      weaker (known (place_frame frame pos tokens placed) (frames frame pos tokens placed))
+      (λ after only. subst (λ (p : Placed). Adds placed.sections p.sections) (sym only.is) (still placed))
 
-label_steps : (pos : Pos) (token : SpelledToken) (placed : Placed) → Steps placed (place_label pos token placed)
-unfolding place_label
-label_steps pos token placed =
-    after (label_symbol pos token placed.table >>= changed_by (λ map index. defined map index (Label (here placed))))
-    (λ table. dot_steps (is_dot token) placed (with_table placed table) (still placed))
+  by_steps : (found : Directive) (pos : Pos) (tokens : List SpelledToken) (placed : Placed) → Steps placed (place_by found pos tokens placed)
+  unfolding place_by
+  by_steps (directive.Data size) pos tokens placed = data_steps pos size tokens placed
+  by_steps (directive.Strings ended) pos tokens placed = strings_steps pos ended tokens placed
+  by_steps (directive.Leb128 signed) pos tokens placed = leb128_steps pos signed tokens placed
+  by_steps directive.Zero pos tokens placed = zero_steps pos tokens placed
+  by_steps directive.Skip pos tokens placed = skip_steps pos tokens placed
+  by_steps directive.Fill pos tokens placed = fill_steps pos tokens placed
+  by_steps (directive.Align by) pos tokens placed = align_steps pos by tokens placed
+  by_steps directive.Org pos tokens placed = org_steps pos tokens placed
+  by_steps (directive.Enter initial) pos tokens placed = bare_steps tokens placed (Ok (with_current (initial_number initial) placed)) (made _ (still placed))
+  by_steps directive.Section pos tokens placed = section_steps pos tokens placed
+  by_steps directive.PushSection pos tokens placed = pushed_steps pos tokens placed
+  by_steps directive.PopSection pos tokens placed = bare_steps tokens placed (popped placed) (popped_steps placed)
+  by_steps directive.Previous pos tokens placed = bare_steps tokens placed (Ok (with_current placed.previous placed)) (made _ (still placed))
+  by_steps (directive.Say attribute) pos tokens placed = said_steps pos attribute tokens placed
+  by_steps directive.Type pos tokens placed = type_steps pos tokens placed
+  by_steps directive.Size pos tokens placed = size_steps pos tokens placed
+  by_steps (directive.Assign once) pos tokens placed = set_steps pos once tokens placed
+  by_steps directive.Comm pos tokens placed = comm_steps pos tokens placed
+  by_steps directive.Lcomm pos tokens placed = lcomm_steps pos tokens placed
+  by_steps directive.Ident pos tokens placed = ident_steps pos tokens placed
+  by_steps directive.File pos tokens placed = file_steps tokens placed
+  by_steps (directive.Error said) pos tokens placed = error_steps said tokens placed
+  by_steps directive.Warning pos tokens placed = warning_steps pos tokens placed
+  by_steps (directive.Syntax syntax) pos tokens placed = syntax_steps syntax tokens placed
+  by_steps directive.Code64 pos tokens placed = bare_steps tokens placed (Ok placed) (made _ (still placed))
+  by_steps (directive.Frame frame) pos tokens placed = frame_steps frame pos tokens placed
 
-labelled_steps : (pos : Pos) (tokens : List SpelledToken) (placed : Placed) → Steps placed (place_labelled pos tokens placed)
-unfolding place_labelled
-labelled_steps pos [] placed = made _ (still placed)
-labelled_steps pos (first ∷ []) placed = body_steps pos first [] placed
-labelled_steps pos (first ∷ second ∷ rest) placed =
-    either (is_label first second) (grown placed (label_steps pos first placed) (λ labels. labelled_steps pos rest labels))
-    (body_steps pos first (second ∷ rest) placed)
+  found_steps : (found : Option Directive) (pos : Pos) (tokens : List SpelledToken) (placed : Placed) → Steps placed (place_found found pos tokens placed)
+  found_steps None pos tokens placed = refused _
+  found_steps (Some found) pos tokens placed = by_steps found pos tokens placed
 
-tokens_steps : (pos : Pos) (tokens : List SpelledToken) (placed : Placed) → Steps placed (place_tokens pos tokens placed)
-unfolding place_tokens
-tokens_steps pos tokens placed = either (has_wide_label tokens) (refused NumberTooWide) (labelled_steps pos tokens placed)
+  directive_steps : (pos : Pos) (name : List ℕ) (tokens : List SpelledToken) (placed : Placed) → Steps placed (place_directive pos name tokens placed)
+  unfolding place_directive
+  directive_steps pos name tokens placed = found_steps _ pos tokens placed
 
--- the same of statements in their places
-located_steps : (s : TokenStatement) (notes : List Noted) (before : Placed) (answer : Result Placed PlaceCause) → Steps before answer → Steps before (located s notes answer)
-located_steps s notes before (Ok more) steps = made more steps.holds
-located_steps s notes before (Err fault) steps = refused _
+  -- statements
+  body_steps : (pos : Pos) (first : SpelledToken) (rest : List SpelledToken) (placed : Placed) → Steps placed (place_body pos first rest placed)
+  unfolding place_body
+  body_steps pos first rest placed =
+      either (names_symbol first && is_assignment rest) (assignment_steps pos first (drop 1 rest) placed)
+      (either (not (is_name first)) (refused UnknownMnemonic)
+      (either (begins_with_dot first.bytes) (directive_steps pos first.bytes rest placed) (instruction_steps pos (first ∷ rest) placed)))
 
-place_steps : (s : TokenStatement) (placed : Placed) → Steps placed (place s placed)
-unfolding place
-place_steps s placed = located_steps s placed.notes placed _ (tokens_steps (pos_at s.file s.line) s.tokens placed)
+  label_steps : (pos : Pos) (token : SpelledToken) (placed : Placed) → Steps placed (place_label pos token placed)
+  unfolding place_label
+  label_steps pos token placed =
+      after (label_symbol pos token placed.table >>= changed_by (λ map index. defined map index (Label (here placed))))
+      (λ table. dot_steps (is_dot token) placed (with_table placed table) (still placed))
 
-statements_steps : (statements : List TokenStatement) (placed : Placed) → Steps placed (place_all statements placed)
-unfolding place_all
-statements_steps [] placed = made _ (still placed)
-statements_steps (s ∷ later) placed = grown placed (place_steps s placed) (statements_steps later)
+  labelled_steps : (pos : Pos) (tokens : List SpelledToken) (placed : Placed) → Steps placed (place_labelled pos tokens placed)
+  unfolding place_labelled
+  labelled_steps pos [] placed = made _ (still placed)
+  labelled_steps pos (first ∷ []) placed = body_steps pos first [] placed
+  labelled_steps pos (first ∷ second ∷ rest) placed =
+      either (is_label first second) (grown placed (label_steps pos first placed) (λ labels. labelled_steps pos rest labels))
+      (body_steps pos first (second ∷ rest) placed)
 
--- placing only adds to sections
-all_add : (statements : List TokenStatement) (before placed : Placed) → place_all statements before ≡ Ok placed → Adds before.sections placed.sections
-all_add statements before placed is = IfOk-at_ok (λ (made : Placed). Adds before.sections made.sections) is (statements_steps statements before).holds
+  tokens_steps : (pos : Pos) (tokens : List SpelledToken) (placed : Placed) → Steps placed (place_tokens pos tokens placed)
+  unfolding place_tokens
+  tokens_steps pos tokens placed = either (has_wide_label tokens) (refused NumberTooWide) (labelled_steps pos tokens placed)
 
-pub all_grow : (statements : List TokenStatement) (before placed : Placed) → place_all statements before ≡ Ok placed → Grows before.sections placed.sections
-all_grow statements before placed is = (all_add statements before placed is).grows
+  -- the same of statements in their places
+  located_steps : (s : TokenStatement) (notes : List Noted) (before : Placed) (answer : Result Placed PlaceCause) → Steps before answer → Steps before (located s notes answer)
+  located_steps s notes before (Ok more) steps = made more steps.holds
+  located_steps s notes before (Err fault) steps = refused _
 
-pub all_within : (statements : List TokenStatement) (before placed : Placed) → place_all statements before ≡ Ok placed → AreWithin before.sections → AreWithin placed.sections
-all_within statements before placed is = (all_add statements before placed is).within
+  place_steps : (s : TokenStatement) (placed : Placed) → Steps placed (place s placed)
+  unfolding place
+  place_steps s placed = located_steps s placed.notes placed _ (tokens_steps (pos_at s.file s.line) s.tokens placed)
+
+  statements_steps : (statements : List TokenStatement) (placed : Placed) → Steps placed (place_all statements placed)
+  unfolding place_all
+  statements_steps [] placed = made _ (still placed)
+  statements_steps (s ∷ later) placed = grown placed (place_steps s placed) (statements_steps later)
+
+  -- placing only adds to sections
+  all_add : (statements : List TokenStatement) (before placed : Placed) → place_all statements before ≡ Ok placed → Adds before.sections placed.sections
+  all_add statements before placed is = IfOk-at_ok (λ (made : Placed). Adds before.sections made.sections) is (statements_steps statements before).holds
+
+  pub all_grow : (statements : List TokenStatement) (before placed : Placed) → place_all statements before ≡ Ok placed → Grows before.sections placed.sections
+  all_grow statements before placed is = (all_add statements before placed is).grows
+
+  pub all_within : (statements : List TokenStatement) (before placed : Placed) → place_all statements before ≡ Ok placed → AreWithin before.sections → AreWithin placed.sections
+  all_within statements before placed is = (all_add statements before placed is).within
 
 -- no fault of placing is that a file is too large
 not_of_reading : (tokens : List SpelledToken) (fault : PlaceCause) → is_too_large (statement_fault tokens fault) ≡ false
@@ -568,6 +591,8 @@ not_of_reading tokens OutOfRange = refl
 not_of_reading tokens BadSection = refl
 not_of_reading tokens SymbolAlreadyDefined = refl
 not_of_reading tokens BadSymbolUse = refl
+not_of_reading tokens CfiOutsideProcedure = refl
+not_of_reading tokens UnbalancedCfiState = refl
 
 located_fault : (s : TokenStatement) (notes : List Noted) (answer : Result Placed PlaceCause) (stop : FaultAt) → located s notes answer ≡ Err stop → is_file_too_large stop.fault ≡ false
 located_fault s notes (Ok more) stop is = cc

@@ -1,8 +1,13 @@
 -- Steps one after the other: what is known of what they make.
-use Rattle.std.proofs.Common.{Bool, true, false, cond, Result, Ok, Err}
+use Rattle.std.proofs.Common.{Bool, true, false, cond, List, Result, Ok, Err}
 use Rattle.std.specs.Result.{IfOk}
 use Rattle.asm_base.specs.Refusals.{◌>>=◌}
+use Rattle.asm_base.specs.Tokens.{SpelledToken}
+use Rattle.asm_base.specs.declared.positions.Pos.{Pos}
+use Rattle.asm_words.specs.declared.directives.FrameDirective.{FrameDirective}
 use Rattle.asm_values.specs.State.{Placed}
+use Rattle.asm_frames.specs.Placing.{place_frame}
+use Rattle.asm_frames.specs.Keeping.{OnlyNames}
 use Rattle.asm_place.proofs.GrowthLemmas.{Adds, adds_nothing, adds_on}
 
 -- what is known of what a step makes
@@ -18,6 +23,15 @@ made x is = record { holds = is }
 
 pub refused : {A E : Type 0} {P : A → Type 0} (fault : E) → Fine {A = A} P (Err fault)
 refused fault = record { holds = tt }
+
+-- what is known by a law
+pub known : {A E : Type 0} {P : A → Type 0} (result : Result A E) → IfOk result P → Fine P result
+known result is = record { holds = is }
+
+-- and what follows from what is known
+pub weaker : {A E : Type 0} {P Q : A → Type 0} {r : Result A E} → Fine P r → ((x : A) → P x → Q x) → Fine Q r
+weaker {r = Ok x} first more = made x (more x first.holds)
+weaker {r = Err fault} first more = refused fault
 
 -- a step after another
 pub step : {A B E : Type 0} {P : A → Type 0} {Q : B → Type 0} {r : Result A E} {f : A → Result B E}
@@ -41,6 +55,10 @@ grown before {f = f} first later = step first (λ x is. on before x (f x) is (la
 -- the sections stay
 pub still : (placed : Placed) → Adds placed.sections placed.sections
 still placed = adds_nothing placed.sections
+
+-- what the law of frame directives says
+abbrev pub FramesKeep : Type 0
+FramesKeep = (directive : FrameDirective) (pos : Pos) (tokens : List SpelledToken) (placed : Placed) → IfOk (place_frame directive pos tokens placed) (OnlyNames pos placed)
 
 -- two branches, whatever the test says
 pub either : {A E : Type 0} {P : A → Type 0} (test : Bool) {r s : Result A E} → Fine P r → Fine P s → Fine P (cond test r s)

@@ -15,12 +15,12 @@ use Rattle.asm_operands.specs.Operands.{is_name, names_symbol, is_assignment, is
 use Rattle.asm_values.specs.State.{Placed, with_names, known_here}
 use Rattle.att_operands.specs.declared.faults.OperandCause.{OperandCause}
 use Rattle.att_insns.specs.InsnTexts.{InsnText}
-use Rattle.att_insns.specs.Reading.{insn_of}
+use Rattle.asm_words.specs.declared.directives.Syntax.{Syntax}
 use Rattle.x86_encode.specs.Encoding.{encoding_of}
 use Rattle.x86_encode.specs.Filling.{Coding}
 use Rattle.asm_place.specs.declared.codes.InsnForms.{InsnForms}
 use Rattle.asm_place.specs.declared.codes.CodeField.{CodeField}
-use Rattle.asm_place.specs.Coding.{view_in, shape_in, forms_of, values_in, fields_of, lone_code, jump_by}
+use Rattle.asm_place.specs.Coding.{view_in, shape_in, forms_of, values_in, fields_of, lone_code, insn_by, jump_by}
 use Rattle.asm_place.specs.Placing.{place_label}
 use Rattle.asm_place.specs.Instructions.{behind_labels, instruction_written, next_item, next_offset}
 
@@ -32,20 +32,21 @@ text_read (Some bytes) read = None
 text_read None (Ok text) = Some text
 text_read None (Err fault) = None
 
--- the instruction that the tokens write: they begin with a name that no dot begins, are no assignment, and no mnemonic alone that has a row
-unfoldable pub insn_written : List SpelledToken → Option InsnText
-insn_written [] = None
-insn_written (first ∷ rest) =
+-- the instruction that the tokens write in this syntax: they begin with a name that no dot begins, are no assignment, and in AT&T syntax no
+-- mnemonic alone that has a row
+unfoldable pub insn_written : Syntax → List SpelledToken → Option InsnText
+insn_written syntax [] = None
+insn_written syntax (first ∷ rest) =
     if names_symbol first && is_assignment rest then None
-    else (if is_name first && not (begins_with_dot first.bytes) then text_read (lone_code (first ∷ rest)) (insn_of (first ∷ rest)) else None)
+    else (if is_name first && not (begins_with_dot first.bytes) then text_read (lone_code syntax (first ∷ rest)) (insn_by syntax (first ∷ rest)) else None)
 
--- the instruction that the statement is, if it is one with operands or a prefix
-abbrev pub insn_in : TokenStatement → Option InsnText
-insn_in s = insn_written (behind_labels s.tokens)
+-- the instruction that the statement is in this syntax, if it is one with operands or a prefix; in Intel syntax any
+abbrev pub insn_in : Syntax → TokenStatement → Option InsnText
+insn_in syntax s = insn_written syntax (behind_labels s.tokens)
 
--- the tokens write an instruction, without operands or with some
-abbrev pub is_instruction : List SpelledToken → Bool
-is_instruction tokens = is_some (instruction_written tokens) || is_some (insn_written tokens)
+-- the tokens write an instruction in this syntax, without operands or with some
+abbrev pub is_instruction : Syntax → List SpelledToken → Bool
+is_instruction syntax tokens = is_some (instruction_written syntax tokens) || is_some (insn_written syntax tokens)
 
 -- the tokens begin with a name that no dot begins, and are no assignment
 pub record BeginsAsInstruction (first : SpelledToken) (rest : List SpelledToken) : Type 0 where

@@ -49,7 +49,10 @@ use Rattle.att_operands.specs.declared.faults.OperandCause.TheVariants as operan
 use Rattle.att_insns.specs.InsnTexts.{InsnText}
 use Rattle.asm_place.specs.declared.codes.InsnForms.{InsnForms}
 use Rattle.asm_place.specs.declared.codes.CodeField.{CodeField}
-use Rattle.att_insns.specs.Reading.{insn_of}
+use Rattle.att_insns.specs.Reading as att
+use Rattle.intel_insns.specs.Reading as intel
+use Rattle.asm_words.specs.declared.directives.Syntax.{Syntax}
+use Rattle.asm_words.specs.declared.directives.Syntax.TheVariants.{Att, Intel}
 
 -- THE FAULTS OF INSTRUCTIONS
 
@@ -284,17 +287,23 @@ place_text pos text placed = place_insn pos (shape_in text) text.immediate.tree 
 abbrev pub place_read : Pos → Result InsnText OperandCause → Placed → Result Placed PlaceCause
 place_read pos read placed = of_operands read >>= λ text. place_text pos text placed
 
--- the bytes of an instruction that stands alone, if its mnemonic has a row without operands
-abbrev pub lone_code : List SpelledToken → Option (List ℕ)
-lone_code [] = None
-lone_code (name ∷ []) = bare_code name.bytes
-lone_code (name ∷ operand ∷ rest) = None
+-- the bytes of an instruction that stands alone, if its mnemonic has a row without operands; in Intel syntax all are read
+abbrev pub lone_code : Syntax → List SpelledToken → Option (List ℕ)
+lone_code Intel tokens = None
+lone_code Att [] = None
+lone_code Att (name ∷ []) = bare_code name.bytes
+lone_code Att (name ∷ operand ∷ rest) = None
+
+-- the instruction that the tokens are in this syntax
+abbrev pub insn_by : Syntax → List SpelledToken → Result InsnText OperandCause
+insn_by Att tokens = att.insn_of tokens
+insn_by Intel tokens = intel.insn_of tokens
 
 -- the bytes of its row for an instruction without operands; any other is read
 abbrev pub place_coded : Pos → Option (List ℕ) → List SpelledToken → Placed → Result Placed PlaceCause
-place_coded pos None tokens placed = place_read pos (insn_of tokens) placed
+place_coded pos None tokens placed = place_read pos (insn_by placed.syntax tokens) placed
 place_coded pos (Some bytes) tokens placed = put_bytes pos bytes placed
 
--- a statement that is an instruction
+-- a statement that is an instruction, in the syntax that is in force
 unfoldable pub place_instruction : Pos → List SpelledToken → Placed → Result Placed PlaceCause
-place_instruction pos tokens placed = place_coded pos (lone_code tokens) tokens placed
+place_instruction pos tokens placed = place_coded pos (lone_code placed.syntax tokens) tokens placed

@@ -9,6 +9,8 @@ use Rattle.asm_frags.specs.PlainBytes.{field_end, IsBeside, FieldsStand}
 use Rattle.asm_frags.specs.Writing.{LooseItem, LooseSection, ends_in_run, with_bytes}
 use Rattle.x86_lookup.specs.BareInstructions.{Coded, bare_instruction}
 use Rattle.asm_operands.specs.Operands.{is_name, is_label, begins_with_dot}
+use Rattle.asm_words.specs.declared.directives.Syntax.{Syntax}
+use Rattle.asm_words.specs.declared.directives.Syntax.TheVariants.{Att, Intel}
 use Rattle.asm_values.specs.State.{Placed}
 
 -- what stands behind the labels in front
@@ -17,16 +19,18 @@ behind_labels [] = []
 behind_labels (token ∷ []) = token ∷ []
 behind_labels (first ∷ second ∷ rest) = if is_label first second then behind_labels rest else (first ∷ second ∷ rest)
 
--- the instruction without operands and prefix that the tokens write, with its bytes: one name that no dot begins, and nothing behind it
-unfoldable pub instruction_written : List SpelledToken → Option Coded
-instruction_written [] = None
-instruction_written (name ∷ []) =
+-- the instruction without operands and prefix that the tokens write in AT&T syntax, with its bytes: one name that no dot begins, and nothing
+-- behind it. In Intel syntax it is one of those with any operands
+unfoldable pub instruction_written : Syntax → List SpelledToken → Option Coded
+instruction_written Intel tokens = None
+instruction_written Att [] = None
+instruction_written Att (name ∷ []) =
     if is_name name && not (begins_with_dot name.bytes) then bare_instruction name.bytes else None
-instruction_written (name ∷ operand ∷ rest) = None
+instruction_written Att (name ∷ operand ∷ rest) = None
 
--- the instruction without operands and prefix that the statement is, with its bytes, if it is one
-abbrev pub instruction_of : TokenStatement → Option Coded
-instruction_of s = instruction_written (behind_labels s.tokens)
+-- the instruction without operands and prefix that the statement is in this syntax, with its bytes, if it is one
+abbrev pub instruction_of : Syntax → TokenStatement → Option Coded
+instruction_of syntax s = instruction_written syntax (behind_labels s.tokens)
 
 -- how many items stand before plain bytes that are put last, the run that they belong to among them
 abbrev pub run_end : LooseSection → ℕ

@@ -7,6 +7,7 @@ pub mod Commons
 pub mod SpaceWordsIn
 pub mod Idents
 pub mod Remarks
+pub mod SyntaxWords
 pub mod Coding
 pub mod Amounts
 pub mod Placing

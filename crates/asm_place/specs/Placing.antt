@@ -23,7 +23,9 @@ use Rattle.asm_values.specs.Assignments.{place_set, place_assignment}
 use Rattle.asm_place.specs.Commons.{place_comm, place_lcomm}
 use Rattle.asm_place.specs.Idents.{place_ident, place_file}
 use Rattle.asm_place.specs.Remarks.{place_error, place_warning}
+use Rattle.asm_place.specs.SyntaxWords.{place_syntax}
 use Rattle.asm_place.specs.Coding.{place_instruction}
+use Rattle.asm_frames.specs.Placing.{place_frame}
 use Rattle.asm_words.specs.Directives.{directive_of}
 use Rattle.asm_uses.specs.Labels.{label_symbol}
 use Rattle.asm_items.specs.Alignments.{place_align}
@@ -67,6 +69,9 @@ place_by directive.Ident pos tokens placed = place_ident pos tokens placed
 place_by directive.File pos tokens placed = place_file tokens placed
 place_by (directive.Error said) pos tokens placed = place_error said tokens
 place_by directive.Warning pos tokens placed = place_warning pos tokens placed
+place_by (directive.Syntax syntax) pos tokens placed = place_syntax syntax tokens placed
+place_by directive.Code64 pos tokens placed = bare tokens (Ok placed)
+place_by (directive.Frame frame) pos tokens placed = place_frame frame pos tokens placed
 
 -- the directive that was found, or the fault that there is none of the name
 abbrev pub place_found : Option Directive → Pos → List SpelledToken → Placed → Result Placed PlaceCause

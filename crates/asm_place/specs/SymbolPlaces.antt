@@ -5,6 +5,9 @@ use Rattle.asm_frags.specs.Writing.{LooseSection}
 use Rattle.asm_symbols.specs.declared.entries.Meaning.{Meaning}
 use Rattle.asm_symbols.specs.declared.entries.Meaning.TheVariants.{Undefined, Label, Common, Space, Assigned}
 use Rattle.asm_symbols.specs.declared.entries.Symbol.{Symbol}
+use Rattle.cfi_directives.specs.declared.frames.Frame.{Frame}
+use Rattle.cfi_directives.specs.Meant.{stop_of}
+use Rattle.cfi_directives.specs.Procedures.{frames_of}
 use Rattle.asm_values.specs.State.{Placed}
 
 -- the section of this number is there, with at least so many items
@@ -31,11 +34,18 @@ MeaningStands sections last (Assigned form) = AreUpTo last form.terms
 abbrev pub SymbolsStand : List LooseSection → List Symbol → Type 0
 SymbolsStand sections symbols = All (λ symbol. MeaningStands sections (length symbols) symbol.meaning) symbols
 
--- the sections are there that statements put into or come back to, and so are the first three; each symbol that has a place stands in its section, and
--- forms name symbols that are there, or the next one
+-- each place of a procedure stands in its section, behind some of its items
+pub record ProcedureStands (sections : List LooseSection) (frame : Frame) : Type 0 where
+  pub start : HasItems sections frame.section frame.start.item
+  pub stop : HasItems sections frame.section (stop_of frame).item
+  pub ops : All (λ placed. HasItems sections frame.section placed.place.item) frame.ops
+
+-- the sections are there that statements put into or come back to, and so are the first three; each symbol that has a place stands in its section,
+-- forms name symbols that are there, or the next one, and the places of procedures stand in their sections
 pub record PlacesStand (placed : Placed) : Type 0 where
   pub current : HasItems placed.sections placed.current 0
   pub previous : HasItems placed.sections placed.previous 0
   pub stack : All (λ entered. HasItems placed.sections entered.current 0 × HasItems placed.sections entered.previous 0) placed.stack
   pub first : (number : ℕ) → number < 3 → HasItems placed.sections number 0
   pub symbols : SymbolsStand placed.sections placed.table.symbols.symbols
+  pub procedures : All (ProcedureStands placed.sections) (frames_of placed.procedures)

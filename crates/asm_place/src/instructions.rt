@@ -3,8 +3,10 @@
 
 ghost use Rattle.std.specs.Prelude.{◌≡◌, ◌∷◌, [], map, option_map};
 ghost use Rattle.asm_base.specs.Tokens.{spelled};
-ghost use Rattle.att_insns.specs.Reading.{insn_of};
+ghost use Rattle.att_insns.specs.Reading as att;
+ghost use Rattle.intel_insns.specs.Reading as intel;
 ghost use Rattle.att_insns.specs.InsnTexts.{InsnText, IsInsnOf};
+ghost use Rattle.asm_words.specs.declared.directives.Syntax.TheVariants.{Att};
 ghost use Rattle.asm_values.specs.State.{with_names};
 ghost use Rattle.asm_values.specs.PlacedBy.{placed_by, PlacesBy};
 ghost use Rattle.asm_uses.specs.Tables.{naming_of};
@@ -21,7 +23,7 @@ use asm_expr::constant_form;
 use asm_operands::PlaceFault;
 use asm_uses::Naming;
 use asm_values::Assembler;
-use att_insns::read_insn;
+use asm_words::Syntax;
 use att_operands::OperandFault;
 use x86_insn::{Amount, Insn};
 use x86_lookup::bare_code;
@@ -108,24 +110,39 @@ fn place_insn(assembler: &mut Assembler, pos: Pos, insn: &Insn) -> Result<(), Pl
     }
 }
 
-/// Any instruction.
+/// Any instruction in AT&T syntax.
 #[inline(never)]
 #[tactic(auto, using(crate::proofs::AmountTrees::read_placed))]
-fn place_any(assembler: &mut Assembler, pos: Pos, tokens: &[Token]) -> Result<(), PlaceFault>
-    ensures placed { PlacesBy (place_read pos (insn_of (map spelled tokens.now)))
+fn place_att(assembler: &mut Assembler, pos: Pos, tokens: &[Token]) -> Result<(), PlaceFault>
+    ensures placed { PlacesBy (place_read pos (att.insn_of (map spelled tokens.now)))
         assembler.old assembler.new result }
     ensures kept { assembler.new.notes ≡ assembler.old.notes }
 {
-    match read_insn(assembler.alloc, tokens) {
+    match att_insns::read_insn(assembler.alloc, tokens) {
         Ok(insn) => place_insn(assembler, pos, &insn),
         Err(OperandFault::Fault(cause)) => Err(PlaceFault::Fault(operand_fault(cause))),
         Err(OperandFault::NoMemory) => Err(PlaceFault::NoMemory),
     }
 }
 
-/// The bytes of an instruction that stands alone, if its mnemonic has a row without operands.
+/// Any instruction in Intel syntax.
+#[inline(never)]
+#[tactic(auto, using(crate::proofs::AmountTrees::read_placed))]
+fn place_intel(assembler: &mut Assembler, pos: Pos, tokens: &[Token]) -> Result<(), PlaceFault>
+    ensures placed { PlacesBy (place_read pos (intel.insn_of (map spelled tokens.now)))
+        assembler.old assembler.new result }
+    ensures kept { assembler.new.notes ≡ assembler.old.notes }
+{
+    match intel_insns::read_insn(assembler.alloc, tokens) {
+        Ok(insn) => place_insn(assembler, pos, &insn),
+        Err(OperandFault::Fault(cause)) => Err(PlaceFault::Fault(operand_fault(cause))),
+        Err(OperandFault::NoMemory) => Err(PlaceFault::NoMemory),
+    }
+}
+
+/// The bytes of a mnemonic that stands alone in AT&T syntax, if it has a row without operands.
 fn lone_code(tokens: &[Token]) -> Option<&'static [u8]>
-    ensures { option_map (λ bytes. bytes.now) result ≡ lone_code (map spelled tokens.now) }
+    ensures { option_map (λ bytes. bytes.now) result ≡ lone_code Att (map spelled tokens.now) }
 {
     match tokens {
         [name] => bare_code(name.bytes),
@@ -133,7 +150,7 @@ fn lone_code(tokens: &[Token]) -> Option<&'static [u8]>
     }
 }
 
-/// A statement that is an instruction.
+/// A statement that is an instruction, in the syntax that is in force. In Intel syntax all are read.
 #[inline(never)]
 #[tactic(auto, unfolding(crate::specs::Coding::place_instruction))]
 pub(crate) fn place_instruction(
@@ -145,8 +162,11 @@ pub(crate) fn place_instruction(
         assembler.old assembler.new result }
     ensures kept { assembler.new.notes ≡ assembler.old.notes }
 {
-    match lone_code(tokens) {
-        Some(bytes) => assembler.put_bytes(pos, bytes),
-        None => place_any(assembler, pos, tokens),
+    match assembler.syntax {
+        Syntax::Intel => place_intel(assembler, pos, tokens),
+        Syntax::Att => match lone_code(tokens) {
+            Some(bytes) => assembler.put_bytes(pos, bytes),
+            None => place_att(assembler, pos, tokens),
+        },
     }
 }

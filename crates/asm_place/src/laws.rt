@@ -20,16 +20,18 @@ ghost use Rattle.x86_table.specs.Reads.{Reads};
 ghost use Rattle.item_bytes.specs.declared.jumps.Condition.{Condition as TheCondition};
 ghost use Rattle.asm_place.specs.Instructions.{behind_labels, instruction_written, instruction_of, next_item, next_offset, Grows, AreWithin, IsPut, StandsAt};
 
+use asm_frames::frame_directives_keep_all_else;
 use jump_codes::{conditions_are_numbered, jump_codes_read};
 use x86_encode::encodings_are_codes;
 use x86_lookup::bare_codes_read;
 
 /// Placing only adds bytes, fields and items, behind those that are there.
-#[tactic(auto, using(crate::proofs::PlacingLaws::all_grow))]
 pub fn placing_grows()
     ensures { (statements : List TokenStatement) (before placed : Placed)
         → place_all statements before ≡ Ok placed → Grows before.sections placed.sections }
-{}
+{
+    frame_directives_keep_all_else();
+}
 
 /// Fields and items stand within the bytes of their section: so it is at the beginning, and placing
 /// keeps it so.
@@ -38,7 +40,9 @@ pub fn placing_within()
     ensures kept { (statements : List TokenStatement) (before placed : Placed)
         → place_all statements before ≡ Ok placed → AreWithin before.sections
         → AreWithin placed.sections }
-{}
+{
+    frame_directives_keep_all_else();
+}
 
 /// Statements that are placed as they are handed out are placed in order.
 #[tactic(auto, using(crate::proofs::StatementSplits::in_order))]
@@ -55,40 +59,43 @@ pub fn placing_is_not_reading()
         → place_all statements before ≡ Err stop → is_file_too_large stop.fault ≡ false }
 {}
 
-/// Where a statement is an instruction without operands, its bytes are put last in the current section, and nothing else.
+/// Where a statement is an instruction without operands in AT&T syntax, its bytes are put last in the
+/// current section, and nothing else. Any other instruction, and each in Intel syntax, is one of
+/// `encoding_stands` or `jumps_are_put`.
 pub fn instruction_stands()
     ensures { (pos : Pos) (tokens : List SpelledToken) (before placed : Placed) (coded : Coded)
-        → instruction_written (behind_labels tokens) ≡ Some coded
+        → instruction_written before.syntax (behind_labels tokens) ≡ Some coded
         → place_tokens pos tokens before ≡ Ok placed
         → IsPut before.sections placed.sections before.current pos coded.bytes }
 {
     bare_codes_read();
 }
 
-/// The bytes of an instruction without operands stand in what all statements place, where those before it end.
+/// Its bytes stand in what all statements place, where those before it end.
 pub fn instruction_items()
     ensures { (front : List TokenStatement) (s : TokenStatement) (later : List TokenStatement)
         (before placed whole : Placed) (coded : Coded)
         → AreWithin before.sections
         → place_all front before ≡ Ok placed → place_all (front ++ s ∷ later) before ≡ Ok whole
-        → instruction_of s ≡ Some coded
+        → instruction_of placed.syntax s ≡ Some coded
         → StandsAt whole.sections placed.current (next_item placed) (next_offset placed)
         coded.bytes }
 {
+    frame_directives_keep_all_else();
     bare_codes_read();
 }
 
-/// Where a statement is an instruction with operands and no direct jump, the bytes and fields of its
-/// encoding are put last in the current section, and nothing else. What is placed as an instruction is one without operands,
-/// or one with some.
+/// Where a statement is any other instruction, and no direct jump, the bytes and fields of its encoding
+/// are put last in the current section, and nothing else. What is placed as an instruction is one
+/// without operands or any other, in the syntax in force before its labels: these do not change it.
 pub fn encoding_stands()
     ensures told { (pos : Pos) (tokens : List SpelledToken) (first : SpelledToken)
         (rest : List SpelledToken) (before placed : Placed)
         → behind_labels tokens ≡ first ∷ rest → BeginsAsInstruction first rest
         → place_tokens pos tokens before ≡ Ok placed
-        → is_instruction (behind_labels tokens) ≡ true }
+        → is_instruction before.syntax (behind_labels tokens) ≡ true }
     ensures put { (pos : Pos) (tokens : List SpelledToken) (before placed : Placed) (text : InsnText)
-        → insn_written (behind_labels tokens) ≡ Some text → jump_in text ≡ None
+        → insn_written before.syntax (behind_labels tokens) ≡ Some text → jump_in text ≡ None
         → place_tokens pos tokens before ≡ Ok placed → IsInsnPut pos tokens text before placed }
 {
     encodings_are_codes();
@@ -100,9 +107,10 @@ pub fn encoding_items()
         (before placed whole : Placed) (text : InsnText)
         → AreWithin before.sections
         → place_all front before ≡ Ok placed → place_all (front ++ s ∷ later) before ≡ Ok whole
-        → insn_in s ≡ Some text → jump_in text ≡ None
+        → insn_in placed.syntax s ≡ Some text → jump_in text ≡ None
         → InsnStands whole.sections (pos_at s.file s.line) s.tokens text placed }
 {
+    frame_directives_keep_all_else();
     encodings_are_codes();
 }
 
@@ -112,22 +120,24 @@ pub fn encoding_items()
 pub fn jumps_are_put()
     ensures { (pos : Pos) (tokens : List SpelledToken) (before placed : Placed) (text : InsnText)
         (condition : Option TheCondition)
-        → insn_written (behind_labels tokens) ≡ Some text → jump_in text ≡ Some condition
+        → insn_written before.syntax (behind_labels tokens) ≡ Some text
+        → jump_in text ≡ Some condition
         → place_tokens pos tokens before ≡ Ok placed
         → IsJumpPut pos tokens text condition before placed }
 {}
 
 /// The item of a direct jump stands in what all statements place, where those before it end, with
 /// the field of its distance.
-#[tactic(auto, using(crate::proofs::JumpLaws::jump_there))]
 pub fn jump_items()
     ensures { (front : List TokenStatement) (s : TokenStatement) (later : List TokenStatement)
         (before placed whole : Placed) (text : InsnText) (condition : Option TheCondition)
         → AreWithin before.sections
         → place_all front before ≡ Ok placed → place_all (front ++ s ∷ later) before ≡ Ok whole
-        → insn_in s ≡ Some text → jump_in text ≡ Some condition
+        → insn_in placed.syntax s ≡ Some text → jump_in text ≡ Some condition
         → JumpStands whole.sections (pos_at s.file s.line) s.tokens text condition placed }
-{}
+{
+    frame_directives_keep_all_else();
+}
 
 /// The bytes of a direct jump, short or near, read as the jump that is written, over the distance
 /// that they hold.
@@ -142,9 +152,9 @@ pub fn jumps_read()
     conditions_are_numbered();
 }
 
-/// Each symbol that has a place stands in a section that is there, and the forms of assigned symbols
-/// name symbols that are there, or the next one: so it is at the beginning, and placing keeps it so. There are at most
-/// 2^24 symbols. The target of a direct jump names symbols that are there in the end, or the next one.
+/// Each symbol that has a place, and each place of a procedure, stands in a section that is there, and the forms of
+/// assigned symbols name symbols that are there, or the next one: so it is at the beginning, and placing keeps it so. There
+/// are at most 2^24 symbols. The target of a direct jump names symbols that are there in the end, or the next one.
 pub fn places_stand()
     ensures begins { (no_warn : Bool) → PlacesStand (nothing_placed no_warn) }
     ensures kept { (statements : List TokenStatement) (before placed : Placed)
@@ -155,6 +165,8 @@ pub fn places_stand()
     ensures named { (s : TokenStatement) (later : List TokenStatement) (placed whole : Placed)
         (text : InsnText) → PlacesStand placed
         → (jump : IsJump (pos_at s.file s.line) s.tokens text placed)
-        → place_all (s ∷ later) placed ≡ Ok whole → insn_in s ≡ Some text
+        → place_all (s ∷ later) placed ≡ Ok whole → insn_in placed.syntax s ≡ Some text
         → AreUpTo (length whole.table.symbols.symbols) jump.forms.displacement.terms }
-{}
+{
+    frame_directives_keep_all_else();
+}

@@ -14,6 +14,7 @@ mod remarks;
 mod section_changes;
 mod sources;
 mod symbol_words;
+mod syntax_words;
 
 pub use laws::{
     encoding_items, encoding_stands, instruction_items, instruction_stands, jump_items,

@@ -14,7 +14,9 @@ use crate::instructions::place_instruction;
 use crate::remarks::{place_error, place_warning};
 use crate::section_changes::{place_popped, place_pushed, place_section, set_current};
 use crate::symbol_words::{place_said, place_type};
+use crate::syntax_words::place_syntax;
 use asm_base::{Pos, Token};
+use asm_frames::place_frame;
 use asm_items::{place_align, place_leb128, place_org};
 use asm_operands::{
     PlaceCause, PlaceFault, begins_assignment, begins_with_dot, begins_with_label, is_dot, is_name,
@@ -55,6 +57,18 @@ fn has_wide_label(tokens: &[Token]) -> bool
         at += 2;
     }
     false
+}
+
+/// A directive that stands alone, and changes nothing.
+fn place_bare(assembler: &Assembler, tokens: &[Token]) -> Result<(), PlaceFault>
+    ensures { PlacesBy (λ placed. bare (map spelled tokens.now) (Ok placed))
+        assembler.now assembler.now result }
+{
+    if tokens.is_empty() {
+        Ok(())
+    } else {
+        Err(PlaceFault::Fault(PlaceCause::BadOperand))
+    }
 }
 
 /// A directive that stands alone, and lets statements put into the section of this number.
@@ -108,6 +122,9 @@ fn place_by(
         Directive::File => place_file(assembler, tokens),
         Directive::Error { said } => place_error(assembler, said, tokens),
         Directive::Warning => place_warning(assembler, pos, tokens),
+        Directive::Syntax(syntax) => place_syntax(assembler, syntax, tokens),
+        Directive::Code64 => place_bare(assembler, tokens),
+        Directive::Frame(directive) => place_frame(assembler, directive, pos, tokens),
     }
 }
 

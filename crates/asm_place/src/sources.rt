@@ -45,6 +45,8 @@ fn statement_fault(
         PlaceCause::BadSection => StatementFault::BadSection,
         PlaceCause::SymbolAlreadyDefined => StatementFault::SymbolAlreadyDefined,
         PlaceCause::BadSymbolUse => StatementFault::BadSymbolUse,
+        PlaceCause::CfiOutsideProcedure => StatementFault::CfiOutsideProcedure,
+        PlaceCause::UnbalancedCfiState => StatementFault::UnbalancedCfiState,
     })
 }
 

@@ -14,6 +14,8 @@ placed_by assembler = record {
   current = assembler.current;
   previous = assembler.previous;
   stack = assembler.stack.items;
+  syntax = assembler.syntax;
+  procedures = assembler.procedures;
   no_warn = assembler.no_warn;
   notes = assembler.notes;
 }

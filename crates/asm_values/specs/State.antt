@@ -17,23 +17,28 @@ use Rattle.asm_frags.specs.declared.roles.Suffix.{Suffix}
 use Rattle.asm_frags.specs.Writing.{LooseSection, new_item, bytes_put, field_put, item_put, growing_put}
 use Rattle.asm_symbols.specs.declared.entries.Spot.{Spot}
 use Rattle.asm_values.specs.declared.stacks.Entered.{Entered}
+use Rattle.asm_words.specs.declared.directives.Syntax.{Syntax}
+use Rattle.asm_words.specs.declared.directives.Syntax.TheVariants.{Att}
+use Rattle.cfi_directives.specs.Procedures.{Procedures, no_procedures}
 use Rattle.asm_base.specs.Refusals.{◌>>=◌}
 use Rattle.asm_operands.specs.LayerFaults.{of_sections}
 use Rattle.asm_uses.specs.Tables.{Table, no_table, with_trees}
 use Rattle.asm_uses.specs.Places.{spot_at, known_at}
 
 -- the sections, the symbols, the section that statements put into and the one before it, those that `.popsection` comes back to
--- with the last one at the end, and the notes; and whether no warning is to be made
+-- with the last one at the end, the syntax of instructions, the procedures of frame tables, and the notes; and whether no warning is to be made
 pub record Placed : Type 0 where
   pub sections : List LooseSection
   pub table : Table
   pub current : ℕ
   pub previous : ℕ
   pub stack : List Entered
+  pub syntax : Syntax
+  pub procedures : Procedures
   pub no_warn : Bool
   pub notes : List Noted
 
--- statements put into `.text` at first
+-- statements put into `.text` at first, and instructions are in AT&T syntax
 abbrev pub nothing_placed : Bool → Placed
 nothing_placed no_warn = record {
   sections = first_sections;
@@ -41,6 +46,8 @@ nothing_placed no_warn = record {
   current = 0;
   previous = 0;
   stack = [];
+  syntax = Att;
+  procedures = no_procedures;
   no_warn = no_warn;
   notes = [];
 }

@@ -11,6 +11,8 @@ use asm_frags::{FieldRole, FieldSize, Frag, FragFault, Sections, Suffix};
 use asm_operands::{PlaceCause, PlaceFault};
 use asm_symbols::Spot;
 use asm_uses::{SymbolUses, View, here_name, spot_at};
+use asm_words::Syntax;
+use cfi_directives::Directives;
 use item_contents::{Content, Growth};
 use std::alloc::{AllocError, Global};
 
@@ -25,6 +27,10 @@ pub struct Assembler {
     pub previous: u32,
     /// What `.popsection` comes back to, the last at the end.
     pub stack: Vec<Entered>,
+    /// The syntax of instructions from here on.
+    pub syntax: Syntax,
+    /// The procedures that `.cfi_` directives have made.
+    pub procedures: Directives,
     /// No warning is to be made.
     pub no_warn: bool,
     /// The warnings so far.
@@ -38,6 +44,7 @@ pub struct Assembler {
 pub struct Placed {
     pub sections: Sections,
     pub table: SymbolUses,
+    pub procedures: Directives,
     pub notes: Notes,
 }
 
@@ -76,27 +83,32 @@ impl Assembler {
             current: 0,
             previous: 0,
             stack: Vec::new(alloc),
+            syntax: Syntax::Att,
+            procedures: Directives::new(alloc),
             no_warn,
             notes: Notes::new(alloc),
             scratch: Vec::new(alloc),
         })
     }
 
-    /// The sections, the symbols and the notes.
+    /// The sections, the symbols, the procedures and the notes.
     pub fn into_parts(self) -> Placed
         ensures sections { result.sections ≡ self.sections }
         ensures table { result.table ≡ self.table }
+        ensures procedures { result.procedures ≡ self.procedures }
         ensures notes { result.notes ≡ self.notes }
     {
         let Assembler {
             sections,
             table,
+            procedures,
             notes,
             ..
         } = self;
         Placed {
             sections,
             table,
+            procedures,
             notes,
         }
     }

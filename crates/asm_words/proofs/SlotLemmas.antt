@@ -1,5 +1,5 @@
 -- A row is found where its slot leads: each row stands in the slot of its name.
-use Rattle.std.proofs.Common.{◌≡◌, ℕ, zero, suc, ◌+◌, ◌-◌, ◌<◌, ◌≤◌, ◌&&◌, Bool, true, false, cond, ltb, List, [], ◌∷◌, length, map, get_or, find, Option, None, Some, slice_get, refl, sym, ap, ◌∙◌, arith}
+use Rattle.std.proofs.Common.{◌≡◌, ℕ, zero, suc, ◌+◌, ◌-◌, ◌<◌, ◌≤◌, ◌&&◌, Bool, true, false, cond, ltb, min, List, [], ◌∷◌, length, map, get_or, find, Option, None, Some, slice_get, refl, sym, ap, ◌∙◌, arith}
 use Rattle.std.specs.Char.{to_ascii_lowercase}
 use Rattle.std.specs.Str.{str_to_ascii_lowercase}
 use Rattle.std.proofs.lemmas.Bool.{eqb-true, false≢true}
@@ -18,19 +18,25 @@ short_slot (a ∷ b ∷ name) short = absurd (omega arith)
 
 -- and of a longer one
 pub long_slot : (name : List ℕ) → 2 ≤ length name
-    → slot name ≡ slot_of (length name) (to_ascii_lowercase (get_or name 0 0)) (to_ascii_lowercase (get_or name 1 0)) (to_ascii_lowercase (get_or name (length name - 1) 0))
+    → slot name ≡ slot_of (length name) (to_ascii_lowercase (get_or name 1 0)) (to_ascii_lowercase (get_or name (min (length name - 1) 5) 0))
+    (to_ascii_lowercase (get_or name (length name - 1) 0))
 unfolding small_slot
 long_slot [] long = absurd (omega arith)
 long_slot (a ∷ []) long = absurd (omega arith)
 long_slot (a ∷ b ∷ name) long =
     let size : length (map to_ascii_lowercase (a ∷ b ∷ name)) ≡ length (a ∷ b ∷ name) = length-map (a ∷ b ∷ name) to_ascii_lowercase in
-    let last : get_or (map to_ascii_lowercase (a ∷ b ∷ name)) (length (a ∷ b ∷ name) - 1) 0 ≡ to_ascii_lowercase (get_or (a ∷ b ∷ name) (length (a ∷ b ∷ name) - 1) 0) =
-    get_or-map to_ascii_lowercase (a ∷ b ∷ name) (length (a ∷ b ∷ name) - 1) 0 0 (omega arith) in
+    let at : (i : ℕ) → i < length (a ∷ b ∷ name) → get_or (map to_ascii_lowercase (a ∷ b ∷ name)) i 0 ≡ to_ascii_lowercase (get_or (a ∷ b ∷ name) i 0) =
+    λ i inside. get_or-map to_ascii_lowercase (a ∷ b ∷ name) i 0 0 inside in
     let long_too : ltb (length (map to_ascii_lowercase (a ∷ b ∷ name))) 2 ≡ false = grind (arith, size, long) in
-    ap (λ (short : Bool). cond short 0 (slot_of (length (map to_ascii_lowercase (a ∷ b ∷ name))) (to_ascii_lowercase a) (to_ascii_lowercase b)
+    ap (λ (short : Bool). cond short 0 (slot_of (length (map to_ascii_lowercase (a ∷ b ∷ name))) (to_ascii_lowercase b)
+    (get_or (map to_ascii_lowercase (a ∷ b ∷ name)) (min (length (map to_ascii_lowercase (a ∷ b ∷ name)) - 1) 5) 0)
     (get_or (map to_ascii_lowercase (a ∷ b ∷ name)) (length (map to_ascii_lowercase (a ∷ b ∷ name)) - 1) 0))) long_too
-    ∙ (ap (λ n. slot_of n (to_ascii_lowercase a) (to_ascii_lowercase b) (get_or (map to_ascii_lowercase (a ∷ b ∷ name)) (n - 1) 0)) size
-    ∙ ap (λ byte. slot_of (length (a ∷ b ∷ name)) (to_ascii_lowercase a) (to_ascii_lowercase b) byte) last)
+    ∙ (ap (λ n. slot_of n (to_ascii_lowercase b) (get_or (map to_ascii_lowercase (a ∷ b ∷ name)) (min (n - 1) 5) 0)
+    (get_or (map to_ascii_lowercase (a ∷ b ∷ name)) (n - 1) 0)) size
+    ∙ (ap (λ byte. slot_of (length (a ∷ b ∷ name)) (to_ascii_lowercase b) byte (get_or (map to_ascii_lowercase (a ∷ b ∷ name)) (length (a ∷ b ∷ name) - 1) 0))
+    (at (min (length (a ∷ b ∷ name) - 1) 5) (omega arith))
+    ∙ ap (λ byte. slot_of (length (a ∷ b ∷ name)) (to_ascii_lowercase b) (to_ascii_lowercase (get_or (a ∷ b ∷ name) (min (length (a ∷ b ∷ name) - 1) 5) 0)) byte)
+    (at (length (a ∷ b ∷ name) - 1) (omega arith))))
 
 both : (a b : Bool) → (a && b) ≡ true → (a ≡ true) × (b ≡ true)
 both true b is = (refl, is)

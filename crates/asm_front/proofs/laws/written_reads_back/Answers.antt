@@ -1,7 +1,9 @@
 use Rattle.asm_front.proofs.CodesInObject.{reads_back}
+use Rattle.asm_front.proofs.FramedSections.{TableFacts}
 use Rattle.asm_front.proofs.HandedStatements.{handed_makes}
 use Rattle.asm_front.proofs.JumpsInObject.{JumpFacts}
 use Rattle.asm_front.proofs.LaidItems.{AreSettled}
+use Rattle.asm_front.proofs.PlacedItems.{PlaceFacts}
 use Rattle.asm_front.proofs.laws.written_reads_back.Goals as goal
 
 pub returns : goal.returns
@@ -12,8 +14,17 @@ returns c flags contents name source made files is =
       bytes = c.bytes_stand.ensures;
       values = c.values_stand.ensures;
     } in
-    let facts : JumpFacts = record {
+    let table : TableFacts = record { put = c.pieces_are_found.ensures.table; labels = c.labels_stand.ensures } in
+    let placing : PlaceFacts = record {
       begins = c.placing_within.ensures.begins;
+      within = c.placing_within.ensures.kept;
+      grows = c.placing_grows.ensures;
+      bare_put = c.instruction_stands.ensures;
+      bare_stands = c.instruction_items.ensures;
+      code_put = c.encoding_stands.ensures.put;
+      code_stands = c.encoding_items.ensures;
+    } in
+    let jumps : JumpFacts = record {
       placed = c.jump_items.ensures;
       stand = c.items_stand.ensures;
       addresses = c.sizes_add_up.ensures.item;
@@ -27,6 +38,6 @@ returns c flags contents name source made files is =
       few = c.places_stand.ensures.few;
       named = c.places_stand.ensures.named;
     } in
-    reads_back settled c.read_one_way.ensures c.bare_codes_read.ensures.read c.bare_codes_read.ensures.stand c.encodings_are_codes.ensures.fields
-    c.encodings_are_codes.ensures.notes facts flags _ made
+    reads_back settled c.read_one_way.ensures c.bare_codes_read.ensures.read c.encodings_are_codes.ensures.fields
+    c.encodings_are_codes.ensures.notes table placing jumps flags _ made
     (handed_makes c.handed_statements_are_placed.ensures c.placing_in_order.ensures flags contents name source made files is)

@@ -1,0 +1,4 @@
+-- Lemmas, a file for each subject.
+pub mod RegisterLemmas
+pub mod OneLemmas
+pub mod KeepLemmas

@@ -1,0 +1,6 @@
+-- The definitions that the contracts cite, in reading order.
+pub mod Registers
+pub mod Operands
+pub mod Lines
+pub mod Placing
+pub mod Keeping
