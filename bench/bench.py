@@ -79,15 +79,19 @@ def data() -> Iterator[str]:
             yield f"\t{next(sections)}\n"
 
 
+# What leaves out the tables for unwinding.
+NO_TABLES = "-fno-asynchronous-unwind-tables"
+
+
 def compiled(*words: str, text: str | None = None) -> str:
-    """What gcc makes of a source at -O2, without tables for unwinding, which are no directives here."""
-    command = ["gcc", "-O2", "-w", "-S", "-fno-asynchronous-unwind-tables", "-o", "-", *words]
+    """What gcc makes of a source at -O2."""
+    command = ["gcc", "-O2", "-w", "-S", "-o", "-", *words]
     return subprocess.run(command, input=text, capture_output=True, text=True, env=ENVIRONMENT, check=True).stdout
 
 
 def code() -> Iterator[str]:
     """The instructions that gcc makes of `programs.c` at -O2, one a line, without the direct jumps. Their labels `.L1` are undefined symbols `L1`."""
-    lines = [line for line in compiled(str(PROGRAMS)).splitlines(keepends=True) if re.match(r"\t[a-z]", line) and not re.match(r"\tj\w+\t[^*]", line)]
+    lines = [line for line in compiled(NO_TABLES, str(PROGRAMS)).splitlines(keepends=True) if re.match(r"\t[a-z]", line) and not re.match(r"\tj\w+\t[^*]", line)]
     return itertools.cycle(re.sub(r"(?<![\w.])\.L", "L", line) for line in lines)
 
 
@@ -98,14 +102,29 @@ def cut_behind_names(made: str) -> list[str]:
     return [made[begin:end] for begin, end in zip([0, *ends], [*ends, len(made)])]
 
 
-def functions() -> Iterator[str]:
-    """All that gcc makes of `programs.c` at -O2 but unwind tables, over and over, each time with other names."""
-    pieces = cut_behind_names(compiled(str(PROGRAMS)))
+def named_anew(*words: str) -> Iterator[str]:
+    """What gcc makes of `programs.c`, over and over, each time with other names."""
+    pieces = cut_behind_names(compiled(*words, str(PROGRAMS)))
     return (f"_{n}".join(pieces) for n in itertools.count())
 
 
+def functions() -> Iterator[str]:
+    """All that gcc makes of `programs.c` at -O2 but unwind tables, over and over, each time with other names."""
+    return named_anew(NO_TABLES)
+
+
+def frames() -> Iterator[str]:
+    """The same with the unwind tables."""
+    return named_anew()
+
+
+def intel() -> Iterator[str]:
+    """The same as `functions`, in Intel syntax."""
+    return named_anew(NO_TABLES, "-masm=intel")
+
+
 def programs() -> Iterator[str]:
-    """All that gcc makes of the random programs of `c_programs.py` at -O2 but unwind tables, over and over, each time with other names. For other processors
+    """All that gcc makes of the random programs of `c_programs.py` at -O2, over and over, each time with other names. For other processors
     gcc writes `rep bsf`, which is no instruction here."""
     made: list[list[str]] = []
     for n in itertools.count():
@@ -225,11 +244,11 @@ SOURCES_OF_TEXT: list[Callable[[], Iterator[str]]] = [nops, byte_lists, expressi
 SIZES_IN_MIB = [1, 4, 16]
 SIZES_IN_LINES = [10_000, 100_000, 1_000_000]
 SOURCES_OF_LINES: list[tuple[Callable[[], Iterator[str]], list[int]]] = [
-    (code, SIZES_IN_LINES), (functions, SIZES_IN_LINES), (programs, SIZES_IN_LINES), (data, SIZES_IN_LINES), (relocations, SIZES_IN_LINES),
+    (code, SIZES_IN_LINES), (functions, SIZES_IN_LINES), (frames, [100_000]), (intel, [100_000]), (programs, SIZES_IN_LINES), (data, SIZES_IN_LINES), (relocations, SIZES_IN_LINES),
     (distances, [100_000]), (fills, [100_000]), (alignments, [100_000]), (jumps, [400_000]), (cascade, [10_000]), (leb128, [64_000]), (sections, [60_000]),
     (chain, [20_000]), (chain_back, [20_000]), (sums, [10_000]), (calls, [20_000]), (copies, [4]), (zeros, [3]), (space, [16]),
 ]
-SOURCES_OF_GCC = [code, functions, programs]
+SOURCES_OF_GCC = [code, functions, frames, intel, programs]
 
 
 @dataclass

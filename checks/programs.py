@@ -3,8 +3,7 @@
 
     checks/programs.py --ours build/as [--gnu /usr/bin/as] [--count 100] [--seed 1] [--keep DIR]
 
-The programs are those of `bench/c_programs.py` from the seed on. gcc compiles each at -O0 and at -O2, without the tables for unwinding, which are no directives
-here. Both assemblers take what it writes as it is, gcc links each object, and both programs run. Compared are what they print and how they end. Prints a
+The programs are those of `bench/c_programs.py` from the seed on. gcc compiles each at -O0 and at -O2, with the tables for unwinding that it makes by itself. Both assemblers take what it writes as it is, gcc links each object, and both programs run. Compared are what they print and how they end. Prints a
 line for each text that ours refuses, with its message, and for each program that differs, and where they are kept. Ends with 1 where there is one.
 
 Without gcc nothing is compared.
@@ -23,7 +22,7 @@ from compare import ENVIRONMENT, program  # noqa: E402
 sys.path.insert(0, str(pathlib.Path(__file__).resolve().parent.parent / "bench"))
 from c_programs import c_program  # noqa: E402
 
-COMPILE = ["gcc", "-S", "-w", "-g0", "-fno-asynchronous-unwind-tables", "-mtune=nehalem"]
+COMPILE = ["gcc", "-S", "-w", "-g0", "-mtune=nehalem"]
 LEVELS = ["-O0", "-O2"]
 LONGEST = 60  # seconds for each run of any program
 
