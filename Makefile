@@ -9,6 +9,12 @@ MAKEFLAGS += --jobs=$(shell nproc 2>/dev/null || echo 1)
 
 all: build/as build/gcc/as
 
+# How many crates this run proves, which is told as it goes on.
+ifeq ($(COUNTING)$(filter clean check,$(MAKECMDGOALS)),)
+TO_PROVE := $(shell $(MAKE) --no-print-directory -n -s COUNTING=1 build/as 2>/dev/null | grep -c 'rt lib')
+$(shell mkdir -p build && : >build/proved)
+endif
+
 stands_on = $(filter $(CRATES),$(shell sed -n 's/^$(1)://p' crates.txt))
 sources_of = $(shell find crates/$(1) -path '*/out' -prune -o \( -name '*.rt' -o -name '*.antt' \) -print)
 
@@ -16,10 +22,12 @@ sources_of = $(shell find crates/$(1) -path '*/out' -prune -o \( -name '*.rt' -o
 define library
 build/libraries/$(1): crates.txt $(call sources_of,$(1)) $(patsubst %,build/libraries/%,$(call stands_on,$(1)))
 	@mkdir -p build/libraries
-	@cd crates/$(1) && rt lib >../../build/libraries/$(1).log 2>&1 || { cat ../../build/libraries/$(1).log; exit 1; }
-	@mv build/libraries/$(1).log $$@
+	@begun=$$$$(date +%s); cd crates/$(1); \
+	rt lib >../../build/libraries/$(1).log 2>&1 || { cat ../../build/libraries/$(1).log; exit 1; }; \
+	cd ../..; mv build/libraries/$(1).log $$@; echo $(1) >>build/proved; \
+	echo "proved $(1) in $$$$(($$$$(date +%s) - begun)) s; $$$$(($(TO_PROVE) - $$$$(wc -l <build/proved))) left"
 endef
-$(foreach crate,$(filter-out asm_cli asm_rows asm_calls layout_rows,$(CRATES)),$(eval $(call library,$(crate))))
+$(foreach crate,$(filter-out asm_cli asm_rows asm_calls layout_rows frame_rows,$(CRATES)),$(eval $(call library,$(crate))))
 
 # Only a proved program is linked. A word that is no command makes it end at once, with status 2.
 build/as: crates.txt $(call sources_of,asm_cli) $(patsubst %,build/libraries/%,$(call stands_on,asm_cli))
@@ -41,10 +49,11 @@ check:
 	rt ci
 
 # What no clause can say: the built program on files and devices that fail, and its objects linked by gcc, those of random C programs
-# with them. Random expressions beside Python's integers, and the objects of random sources, those with macros too, and the code of random instructions beside
-# those of the machine's GNU as. The rows of the instruction table beside the machine's objdump, and what is made of them: a document,
+# with them, and the frame tables of these. Random expressions beside Python's integers, and the objects of random sources, those with macros too, and the code
+# of random instructions beside those of the machine's GNU as, and beside their Intel forms. The rows of the instruction table beside the machine's objdump, and what is made of them: a document,
 # and the indices and keys by which they are found.
 check-outside: all
+	checks/examples.py build/as
 	checks/outside.sh build/as
 	checks/tables.sh build/as
 	checks/gcc.sh build/gcc
@@ -54,6 +63,8 @@ check-outside: all
 	checks/compare.py --ours build/as
 	checks/macros.py --ours build/as
 	checks/instructions.py --ours build/as
+	checks/intel.py --ours build/as
+	checks/frames.py --ours build/as
 	checks/rows.py
 	tools/instructions.py --check
 	tools/instruction_indices.py --check
@@ -63,11 +74,23 @@ bench: build/as
 	@python3 bench/bench.py $(BENCH_OPTIONS)
 
 install: build/as build/gcc/as
-	install -d $(DESTDIR)$(PREFIX)/bin $(DESTDIR)$(PREFIX)/lib/gcc-as
+	install -d $(DESTDIR)$(PREFIX)/bin $(DESTDIR)$(PREFIX)/share/man/man1 $(DESTDIR)$(PREFIX)/libexec/as/gcc
 	install -m 755 build/as $(DESTDIR)$(PREFIX)/bin/as
-	install -m 755 build/gcc/as $(DESTDIR)$(PREFIX)/lib/gcc-as/as
+	install -m 644 docs/as.1 $(DESTDIR)$(PREFIX)/share/man/man1/as.1
+	install -m 755 build/gcc/as $(DESTDIR)$(PREFIX)/libexec/as/gcc/as
+
+# A tarball of what is installed, with the documents, what it was proved by, and checksums.
+NAME := as-x86-64-$(shell git rev-parse --short HEAD 2>/dev/null || echo unknown)
+dist: build/as build/gcc/as
+	@rm -rf build/$(NAME)
+	@$(MAKE) --no-print-directory install DESTDIR= PREFIX=$(CURDIR)/build/$(NAME) >/dev/null
+	@cp -r README.md docs build/$(NAME)
+	@{ echo "commit $$(git rev-parse HEAD)"; git diff --quiet HEAD || echo "with changes that are in no commit"; \
+	echo "proved by $$(rt version)"; } >build/$(NAME)/PROVED
+	@cd build/$(NAME) && find . -type f ! -name SHA256SUMS | LC_ALL=C sort | xargs sha256sum >SHA256SUMS
+	@cd build && tar -czf $(NAME).tar.gz $(NAME) && sha256sum $(NAME).tar.gz
 
 clean:
 	rm -rf build
 
-.PHONY: all demo check check-outside bench install clean
+.PHONY: all demo check check-outside bench install dist clean
