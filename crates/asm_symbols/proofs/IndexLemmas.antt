@@ -11,7 +11,7 @@ use Rattle.asm_expr.specs.declared.naming.Name.TheVariants as naming
 use Rattle.asm_expr.specs.Names.{same_name}
 use Rattle.asm_symbols.specs.declared.entries.Symbol.{Symbol}
 use Rattle.asm_symbols.specs.SymbolMap.{names, index_of}
-use Rattle.asm_symbols.specs.NameIndex.{IndexedNames, same_label, same_place, label_of, place_behind, place_of, with_place}
+use Rattle.asm_symbols.specs.NameIndex.{IndexedNames, same_label, same_place, label_of, place_behind, is_text, place_of, with_place}
 use Rattle.asm_symbols.proofs.SameNames.{same_bytes, own_bytes, label_from_test, own_label, place_from_test, own_place, same_from_test, own_name}
 
 twice : {X : Type 0} (b : Bool) (x y z : X) → cond b x y ≡ cond b x (cond b z y)
@@ -38,17 +38,15 @@ module _ {K V : Type 0} (eq : K → K → Bool) (same : (a b : K) → eq a b ≡
   lookup-insert (e ∷ es) k q v = inserted_first e es k q v (eq k e.0) refl (lookup-insert es k q v)
 
 -- the place of a name that is put, and of all others
-pub place_of-with_place : (index : IndexedNames) (name other : Name) (place : ℕ)
-    → place_of (with_place index name place) other ≡ cond (same_name other name) (Some place) (place_of index other)
-place_of-with_place index (naming.Plain text) (naming.Plain others) place = lookup-insert bytes_eq same_bytes own_bytes index.texts text others place
-place_of-with_place index (naming.Plain text) (naming.Numeric c d) place = refl
-place_of-with_place index (naming.Plain text) (naming.Place c d p) place = refl
-place_of-with_place index (naming.Numeric a b) (naming.Plain others) place = refl
-place_of-with_place index (naming.Numeric a b) (naming.Numeric c d) place = lookup-insert same_label label_from_test own_label index.labels (label_of a b) (label_of c d) place
-place_of-with_place index (naming.Numeric a b) (naming.Place c d p) place = refl
-place_of-with_place index (naming.Place a b o) (naming.Plain others) place = refl
-place_of-with_place index (naming.Place a b o) (naming.Numeric c d) place = refl
-place_of-with_place index (naming.Place a b o) (naming.Place c d p) place = lookup-insert same_place place_from_test own_place index.places (place_behind a b o) (place_behind c d p) place
+pub place_of-with_place : (index : IndexedNames) (name other : Name) (hash place : ℕ) → is_text other ≡ false
+    → place_of (with_place index name hash place) other ≡ cond (same_name other name) (Some place) (place_of index other)
+place_of-with_place index name (naming.Plain others) hash place plain = cc
+place_of-with_place index (naming.Plain text) (naming.Numeric c d) hash place plain = refl
+place_of-with_place index (naming.Plain text) (naming.Place c d p) hash place plain = refl
+place_of-with_place index (naming.Numeric a b) (naming.Numeric c d) hash place plain = lookup-insert same_label label_from_test own_label index.labels (label_of a b) (label_of c d) place
+place_of-with_place index (naming.Numeric a b) (naming.Place c d p) hash place plain = refl
+place_of-with_place index (naming.Place a b o) (naming.Numeric c d) hash place plain = refl
+place_of-with_place index (naming.Place a b o) (naming.Place c d p) hash place plain = lookup-insert same_place place_from_test own_place index.places (place_behind a b o) (place_behind c d p) place
 
 none_behind : (o : Option ℕ) → option_map (λ i. i + 1) o ≡ None → o ≡ None
 none_behind None is = refl
@@ -97,7 +95,7 @@ found_first false name first ns at is later found = by (index_of name ns) refl f
     by (Some i) there found zero is = let none : i + 1 ≡ zero = cc in absurd (omega arith)
     by (Some i) there found (suc n) is = let one : i + 1 ≡ suc n = cc in let back : n ≡ i = omega arith in rw back (later i there)
 
-slice_get-index_of : (name : Name) (ns : List Name) (at : ℕ) → index_of name ns ≡ Some at → slice_get ns at ≡ Some name
+pub slice_get-index_of : (name : Name) (ns : List Name) (at : ℕ) → index_of name ns ≡ Some at → slice_get ns at ≡ Some name
 slice_get-index_of name [] at is = cc
 slice_get-index_of name (first ∷ ns) at is = found_first (same_name name first) name first ns at refl (slice_get-index_of name ns) is
 

@@ -1,5 +1,6 @@
 pub mod SameNames
 pub mod IndexLemmas
+pub mod ChainLemmas
 pub mod SoundLemmas
 pub mod ChangeLemmas
 pub mod ForwardLemmas

@@ -10,5 +10,6 @@ pub mod LeadsBack
 pub mod Attributes
 pub mod Looking
 pub mod Order
+pub mod TextIndex
 pub mod NameIndex
 pub mod Sound

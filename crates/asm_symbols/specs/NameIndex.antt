@@ -1,16 +1,15 @@
 -- The index of names: where each name stands in a list.
-use Rattle.std.specs.Prelude.{ℕ, ◌==◌, ◌&&◌, Bool, List, [], Option}
+use Rattle.std.specs.Prelude.{ℕ, ◌==◌, ◌&&◌, Bool, true, false, List, [], ◌∷◌, ◌++◌, Option, None}
 use Rattle.std.specs.Map.{lookup}
-use Rattle.std.specs.Str.{bytes_eq}
 use Rattle.indexmap.specs.IndexMap.{insert_entry}
 use Rattle.asm_expr.specs.declared.naming.Name.{Name}
 use Rattle.asm_expr.specs.declared.naming.Name.TheVariants as naming
 use Rattle.asm_symbols.specs.declared.name_index.NumericLabel.{NumericLabel}
 use Rattle.asm_symbols.specs.declared.name_index.SectionPlace.{SectionPlace}
 
--- the indices of texts, of numeric labels and of places
+-- the hashes of all names, and where numeric labels and places stand
 pub record IndexedNames : Type 0 where
-  pub texts : List (List ℕ × ℕ)
+  pub texts : List ℕ
   pub labels : List (NumericLabel × ℕ)
   pub places : List (SectionPlace × ℕ)
 
@@ -34,14 +33,20 @@ label_of number instance = record { number = number; instance = instance }
 abbrev pub place_behind : ℕ → ℕ → ℕ → SectionPlace
 place_behind section item offset = record { section = section; item = item; offset = offset }
 
--- where the name stands
+-- the name is a text
+abbrev pub is_text : Name → Bool
+is_text (naming.Plain text) = true
+is_text (naming.Numeric number instance) = false
+is_text (naming.Place section item offset) = false
+
+-- where the name stands, if it is no text
 abbrev pub place_of : IndexedNames → Name → Option ℕ
-place_of index (naming.Plain text) = lookup (bytes_eq text) index.texts
+place_of index (naming.Plain text) = None
 place_of index (naming.Numeric number instance) = lookup (same_label (label_of number instance)) index.labels
 place_of index (naming.Place section item offset) = lookup (same_place (place_behind section item offset)) index.places
 
--- the name stands here
-abbrev pub with_place : IndexedNames → Name → ℕ → IndexedNames
-with_place index (naming.Plain text) place = record index { texts = insert_entry bytes_eq index.texts text place }
-with_place index (naming.Numeric number instance) place = record index { labels = insert_entry same_label index.labels (label_of number instance) place }
-with_place index (naming.Place section item offset) place = record index { places = insert_entry same_place index.places (place_behind section item offset) place }
+-- the name stands here, behind all others
+abbrev pub with_place : IndexedNames → Name → ℕ → ℕ → IndexedNames
+with_place index (naming.Plain text) hash place = record index { texts = index.texts ++ hash ∷ [] }
+with_place index (naming.Numeric number instance) hash place = record index { texts = index.texts ++ hash ∷ []; labels = insert_entry same_label index.labels (label_of number instance) place }
+with_place index (naming.Place section item offset) hash place = record index { texts = index.texts ++ hash ∷ []; places = insert_entry same_place index.places (place_behind section item offset) place }

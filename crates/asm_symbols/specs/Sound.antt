@@ -12,7 +12,8 @@ use Rattle.asm_symbols.specs.SymbolMap.{names, index_of}
 use Rattle.asm_symbols.specs.Interning.{name_size}
 use Rattle.asm_symbols.specs.Counting.{counted}
 use Rattle.asm_symbols.specs.Assigning.{NoFormLeadsBack}
-use Rattle.asm_symbols.specs.NameIndex.{IndexedNames, place_of}
+use Rattle.asm_symbols.specs.TextIndex.{AreHashed}
+use Rattle.asm_symbols.specs.NameIndex.{IndexedNames, is_text, place_of}
 
 -- no two places have one name
 abbrev pub AreApart : List Name → Type 0
@@ -23,9 +24,10 @@ AreApart ns =
 abbrev pub AreFound : List Name → Type 0
 AreFound ns = (at : ℕ) (name : Name) → slice_get ns at ≡ Some name → index_of name ns ≡ Some at
 
--- the index has the place of each name, and each name stands once
+-- the index has the hash of each text and the place of each other name, and each name stands once
 pub record IsIndexed (index : IndexedNames) (ns : List Name) : Type 0 where
-  pub found : (name : Name) → place_of index name ≡ index_of name ns
+  pub found : (name : Name) → is_text name ≡ false → place_of index name ≡ index_of name ns
+  pub hashed : AreHashed index.texts ns
   pub apart : AreFound ns
 
 -- the bytes of all names are counted, each symbol has a number of 32 bits, and there are at most 2^24 files

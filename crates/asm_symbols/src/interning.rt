@@ -7,6 +7,7 @@ use crate::copies::copied_name;
 use crate::entries::{Meaning, Symbol};
 use crate::faults::{SymCause, SymFault};
 use crate::symbol_map::Symbols;
+use crate::text_index::text_hash;
 use asm_base::NoMemory;
 use asm_expr::{Name, Spelling, SymId, Written};
 use std::alloc::AllocError;
@@ -16,6 +17,9 @@ const MOST_NAMES: usize = 0x100_0000;
 
 /// The most bytes of names.
 const MOST_BYTES: u64 = 0x8000_0000;
+
+/// An odd number whose multiples spread over 32 bits.
+const SPREADING: u32 = 0x9e37_79b1;
 
 /// A symbol of which nothing is known.
 fn undefined(name: Name) -> Symbol
@@ -47,6 +51,7 @@ impl Symbols {
     ghost use Rattle.asm_expr.specs.declared.naming.Name.TheVariants.{Plain, Numeric};
     ghost use Rattle.asm_expr.specs.declared.trees.Written.TheVariants.{Back, Next};
     ghost use Rattle.asm_symbols.specs.SymbolMap.{names, index_of};
+    ghost use Rattle.asm_symbols.specs.TextIndex.{IsHashOf, HasHash};
     ghost use Rattle.asm_symbols.specs.Answering.{GivesFaultFirst, GivesSymbolFaultFirst};
     ghost use Rattle.asm_symbols.specs.Interning.{bytes_with, room_for, is_within_limits, with_name, added, named, interned, number_of, with_file};
     ghost use Rattle.asm_symbols.specs.Counting.{meant_name, next_named};
@@ -70,10 +75,23 @@ impl Symbols {
         }
     }
 
+    /// The hash of a name: that of a text, and else one that spreads names over all chains.
+    fn hash_of(&self, name: &Name) -> u32
+        ensures { HasHash name.now result }
+    {
+        match name {
+            Name::Plain(text) => text_hash(text.as_bytes()),
+            Name::Numeric { .. } | Name::Place { .. } => {
+                (self.symbols.len() as u32).wrapping_mul(SPREADING)
+            }
+        }
+    }
+
     /// A symbol more, of which nothing is known, whatever room there is. `NoMemory` comes too where
     /// the number after its own would not fit in 32 bits, or the bytes of all names not in 64.
-    fn push(&mut self, name: Name) -> Result<SymId, NoMemory>
-        requires { index_of name (names self.old.symbols) ≡ None }
+    fn push_hashed(&mut self, name: Name, hash: u32) -> Result<SymId, NoMemory>
+        requires new { index_of name (names self.old.symbols) ≡ None }
+        requires own { HasHash name hash }
         ensures ok { OnOk result (self.new ≡ with_name self.old name) }
         ensures id { IfOk result (λ id. id ≡ length self.old.symbols) }
         ensures unchanged { OnErr result (self.new ≡ self.old) }
@@ -86,10 +104,33 @@ impl Symbols {
             return Err(AllocError);
         };
         self.symbols.reserve(1)?;
-        self.index.insert(self.alloc, &name, place as u32)?;
+        self.index.insert(self.alloc, &name, hash, place as u32)?;
         self.symbols.push_reserved(undefined(name));
         self.bytes = bytes;
         Ok(SymId::new(place as u32))
+    }
+
+    /// A symbol more of this name, whatever room there is.
+    fn push(&mut self, name: Name) -> Result<SymId, NoMemory>
+        requires { index_of name (names self.old.symbols) ≡ None }
+        ensures ok { OnOk result (self.new ≡ with_name self.old name) }
+        ensures id { IfOk result (λ id. id ≡ length self.old.symbols) }
+        ensures unchanged { OnErr result (self.new ≡ self.old) }
+    {
+        let hash = self.hash_of(&name);
+        self.push_hashed(name, hash)
+    }
+
+    /// A symbol more whose name is this text, whatever room there is.
+    #[inline(never)]
+    fn push_text(&mut self, text: &[u8], hash: u32) -> Result<SymId, NoMemory>
+        requires new { index_of (Plain text.now) (names self.old.symbols) ≡ None }
+        requires own { IsHashOf text.now hash }
+        ensures ok { OnOk result (self.new ≡ with_name self.old (Plain text.now)) }
+        ensures id { IfOk result (λ id. id ≡ length self.old.symbols) }
+        ensures unchanged { OnErr result (self.new ≡ self.old) }
+    {
+        self.push_hashed(Name::Plain(Spelling::new(self.alloc, text)?), hash)
     }
 
     /// A symbol more, of which nothing is known, if there is room for it.
@@ -127,10 +168,11 @@ impl Symbols {
         ensures id { IfOk result (λ id. id ≡ number_of self.old (Plain text.now)) }
         ensures unchanged { OnErr result (self.new ≡ self.old) }
     {
-        if let Some(id) = self.find_text(text) {
-            return Ok(id);
+        let hash = text_hash(text);
+        match self.index.find_hashed(&self.symbols, text, hash) {
+            Some(place) => Ok(SymId::new(place)),
+            None => self.push_text(text, hash),
         }
-        self.push(Name::Plain(Spelling::new(self.alloc, text)?))
     }
 
     /// The symbol of the instance of a numeric label, which is put last if it is not there, whatever

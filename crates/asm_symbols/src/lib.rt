@@ -14,6 +14,7 @@ mod laws;
 mod looking;
 mod name_index;
 mod symbol_map;
+mod text_index;
 
 pub use asm_expr::SymId;
 pub use entries::{Binding, Definition, Kind, Meaning, Spot, Symbol, Visibility};

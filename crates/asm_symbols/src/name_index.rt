@@ -1,9 +1,11 @@
-//! The index of names: where each name stands in a list. A text is looked up by its slice.
+//! The index of names: where each name stands in a list.
 
-use asm_expr::{Name, Spelling};
-use indexmap::{Equivalent, IndexMap};
+use crate::entries::Symbol;
+use crate::text_index::{TextIndex, text_hash};
+use asm_expr::Name;
+use indexmap::IndexMap;
 use std::alloc::{AllocError, Global};
-use std::hash::{Hash, Hasher};
+use std::hash::Hash;
 use std::marker::Model;
 
 /// An instance of a numeric label.
@@ -21,68 +23,10 @@ pub(crate) struct SectionPlace {
     offset: u64,
 }
 
-/// The bytes of a name that is looked up.
-#[derive(Clone, Copy)]
-struct Spelled<'a> {
-    bytes: &'a [u8],
-}
-
-impl<'a> PartialEq for Spelled<'a> {
-    ghost use Rattle.std.specs.Str.{bytes_eq};
-    ghost use Rattle.std.specs.Cmp.Lexicographic.{nat_list_eq_equiv};
-    ghost use Rattle.std.specs.Cmp.{on_per, partial_equiv_from_equiv};
-
-    ghost eq = { λ a b. bytes_eq a.bytes.now b.bytes.now };
-
-    ghost laws = { on_per (λ a. a.bytes.now) (partial_equiv_from_equiv nat_list_eq_equiv) };
-
-    fn eq(&self, other: &Spelled<'a>) -> bool {
-        self.bytes == other.bytes
-    }
-}
-
-impl<'a> Eq for Spelled<'a> {
-    ghost use Rattle.std.specs.Cmp.Lexicographic.{nat_list_eq_equiv};
-    ghost use Rattle.std.specs.Cmp.{on_equiv};
-
-    ghost laws = { on_equiv (λ a. a.bytes.now) nat_list_eq_equiv };
-}
-
-impl<'a> Hash for Spelled<'a> {
-    ghost use Rattle.std.specs.Prelude.{[], ◌∷◌};
-    ghost use Rattle.std.proofs.Common.{ap};
-    ghost use Rattle.std.specs.Cmp.Lexicographic.{bytes_decides};
-
-    ghost hash_input = { λ a. a.bytes.now ∷ [] };
-
-    ghost respects_eq = { λ x y is. ap (λ s. s ∷ []) ((bytes_decides x.bytes.now y.bytes.now).0 is) };
-
-    fn hash<H: Hasher>(&self, state: &mut H) {
-        state.write(self.bytes);
-    }
-}
-
-impl<'a> Equivalent<Spelling> for Spelled<'a> {
-    ghost use Rattle.std.specs.Prelude.{[], ◌∷◌};
-    ghost use Rattle.std.proofs.Common.{ap};
-    ghost use Rattle.std.specs.Str.{bytes_eq};
-    ghost use Rattle.std.specs.Cmp.Lexicographic.{bytes_decides, nat_list_eq_equiv};
-
-    ghost equivalent = { λ q k. bytes_eq q.bytes.now k };
-
-    ghost respects_hash = { λ q k is. ap (λ s. s ∷ []) ((bytes_decides q.bytes.now k).0 is) };
-
-    ghost respects_eq = { λ q x y. nat_list_eq_equiv.congr q.bytes.now x y };
-
-    fn equivalent(&self, key: &Spelling) -> bool {
-        self.bytes == key.as_bytes()
-    }
-}
-
 /// Where each name stands.
 #[derive(Drop)]
 pub(crate) struct NameIndex {
-    texts: IndexMap<Spelling, u32>,
+    texts: TextIndex,
     labels: IndexMap<NumericLabel, u32>,
     places: IndexMap<SectionPlace, u32>,
 }
@@ -93,33 +37,47 @@ impl Model for NameIndex {
     ghost Value = { IndexedNames };
 
     ghost view = { λ index. record {
-      texts = index.texts.entries;
+      texts = index.texts.hashes;
       labels = index.labels.entries;
       places = index.places.entries;
     } };
 }
 
 impl NameIndex {
-    ghost use Rattle.std.specs.Prelude.{◌≡◌, OnOk, OnErr};
+    ghost use Rattle.std.specs.Prelude.{◌≡◌, ◌+◌, ◌^◌, ◌<◌, length, OnOk, OnErr};
     ghost use Rattle.asm_expr.specs.declared.naming.Name.TheVariants.{Plain, Numeric, Place};
+    ghost use Rattle.asm_symbols.specs.SymbolMap.{names, index_of};
+    ghost use Rattle.asm_symbols.specs.TextIndex.{IsHashOf};
     ghost use Rattle.asm_symbols.specs.NameIndex.{no_names, place_of, with_place};
+    ghost use Rattle.asm_symbols.specs.Sound.{IsIndexed};
 
     /// No names.
     pub(crate) fn new(alloc: Global) -> NameIndex
         ensures { result ≡ no_names }
     {
         NameIndex {
-            texts: IndexMap::new(alloc),
+            texts: TextIndex::new(alloc),
             labels: IndexMap::new(alloc),
             places: IndexMap::new(alloc),
         }
     }
 
-    /// Where the text stands.
-    pub(crate) fn find_text(&self, text: &[u8]) -> Option<u32>
-        ensures { result ≡ place_of self.now (Plain text.now) }
+    /// Where the text of this hash stands among the symbols' names.
+    #[inline(always)]
+    pub(crate) fn find_hashed(&self, symbols: &[Symbol], text: &[u8], hash: u32) -> Option<u32>
+        requires indexed { IsIndexed self.now (names symbols.now) }
+        requires own { IsHashOf text.now hash }
+        ensures { result ≡ index_of (Plain text.now) (names symbols.now) }
     {
-        self.texts.get(Spelled { bytes: text }).copied()
+        self.texts.find(symbols, text, hash)
+    }
+
+    /// Where the text stands among the symbols' names.
+    pub(crate) fn find_text(&self, symbols: &[Symbol], text: &[u8]) -> Option<u32>
+        requires { IsIndexed self.now (names symbols.now) }
+        ensures { result ≡ index_of (Plain text.now) (names symbols.now) }
+    {
+        self.find_hashed(symbols, text, text_hash(text))
     }
 
     /// Where the instance of a numeric label stands.
@@ -146,12 +104,13 @@ impl NameIndex {
             .copied()
     }
 
-    /// Where the name stands.
-    pub(crate) fn find(&self, name: &Name) -> Option<u32>
-        ensures { result ≡ place_of self.now name.now }
+    /// Where the name stands among the symbols' names.
+    pub(crate) fn find(&self, symbols: &[Symbol], name: &Name) -> Option<u32>
+        requires { IsIndexed self.now (names symbols.now) }
+        ensures { result ≡ index_of name.now (names symbols.now) }
     {
         match name {
-            Name::Plain(text) => self.find_text(text.as_bytes()),
+            Name::Plain(text) => self.find_text(symbols, text.as_bytes()),
             Name::Numeric { number, instance } => self.find_numeric(*number, *instance),
             Name::Place {
                 section,
@@ -161,20 +120,21 @@ impl NameIndex {
         }
     }
 
-    /// The name stands here from now on.
+    /// The name stands here from now on: behind all others.
     pub(crate) fn insert(
         &mut self,
         alloc: Global,
         name: &Name,
+        hash: u32,
         place: u32,
     ) -> Result<(), AllocError>
-        ensures ok { OnOk result (self.new ≡ with_place self.old name.now place) }
+        requires { length self.old.texts + 1 < 2 ^ 32 }
+        ensures ok { OnOk result (self.new ≡ with_place self.old name.now hash place) }
         ensures err { OnErr result (self.new ≡ self.old) }
     {
+        self.texts.reserve(alloc)?;
         match name {
-            Name::Plain(text) => {
-                self.texts.insert(text.copied(alloc)?, place)?;
-            }
+            Name::Plain(_) => {}
             Name::Numeric { number, instance } => {
                 self.labels.insert(
                     NumericLabel {
@@ -199,6 +159,7 @@ impl NameIndex {
                 )?;
             }
         }
+        self.texts.push(hash);
         Ok(())
     }
 }

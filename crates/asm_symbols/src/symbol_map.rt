@@ -72,7 +72,7 @@ impl Symbols {
         ensures value { result ≡ index_of name.now (names self.now.symbols) }
         ensures within { IfSome result (λ id. id < length self.now.symbols) }
     {
-        match self.index.find(name) {
+        match self.index.find(&self.symbols, name) {
             Some(place) => Some(SymId::new(place)),
             None => None,
         }
@@ -83,7 +83,7 @@ impl Symbols {
         ensures value { result ≡ index_of (Plain text.now) (names self.now.symbols) }
         ensures within { IfSome result (λ id. id < length self.now.symbols) }
     {
-        match self.index.find_text(text) {
+        match self.index.find_text(&self.symbols, text) {
             Some(place) => Some(SymId::new(place)),
             None => None,
         }

@@ -5,7 +5,7 @@ use Rattle.std.proofs.lemmas.Option.{same_Some, slice_get_within}
 use Rattle.asm_expr.specs.Forms.{Form}
 use Rattle.asm_symbols.specs.SymbolMap.{SymbolMap}
 use Rattle.asm_symbols.specs.Assigning.{form_at, IsNamedIn, NoFormLeadsBack}
-use Rattle.asm_symbols.proofs.SoundLemmas.{one_of_more}
+use Rattle.asm_symbols.proofs.ChainLemmas.{one_of_more}
 use Rattle.assigned_forms.specs.declared.expanding.Visit.{Visit}
 use Rattle.assigned_forms.specs.Expanding.{entry_at, awaits, terms_of, Expands, IsAwaited, ArePartly, KeepsForms}
 use Rattle.assigned_forms.proofs.RankLemmas.{rank, rank_small, rank_falls}

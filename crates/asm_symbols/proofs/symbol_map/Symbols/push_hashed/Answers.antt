@@ -1,9 +1,10 @@
 -- The fields hold a symbol more.
 use Rattle.std.proofs.Common.{◌≡◌, ℕ, ◌+◌, ◌^◌, ◌<◌, Bool, true, false, cond, length, None, Some, arith, sum_by}
+use Rattle.std.proofs.lemmas.List.{length-map}
 use Rattle.asm_symbols.specs.SymbolMap.{names}
 use Rattle.asm_symbols.specs.Interning.{name_size}
 use Rattle.asm_symbols.proofs.SoundLemmas.{IsSound-name}
-use Rattle.asm_symbols.proofs.symbol_map.Symbols.push.Goals as goal
+use Rattle.asm_symbols.proofs.symbol_map.Symbols.push_hashed.Goals as goal
 
 fitting : (fits : Bool) (bytes sum : ℕ) → Some bytes ≡ cond fits (Some sum) None → bytes ≡ sum
 fitting true bytes sum is = cc
@@ -11,11 +12,17 @@ fitting false bytes sum is = cc
 
 pub invariant_of-self-2 : goal.invariant_of-self-2
 invariant_of-self-2 c =
-    let new = rw (← c.self.view_is) at c.requires in
+    let new = rw (← c.self.view_is) at c.requires.new in
     let total : c.self.inside.bytes ≡ sum_by name_size (names c.self.inside.symbols.items) + sum_by name_size c.self.inside.files.items = c.self.invariant.within.total in
     let sum = fitting _ c.in-Some.bytes (sum_by name_size (names c.self.inside.symbols.items) + sum_by name_size c.self.inside.files.items + name_size c.args.name) (rw (← c.self.view_is) at c.in-Some.ensures) in
     let own : c.in-Some.bytes ≡ c.self.inside.bytes + name_size c.args.name = omega (arith, sum) in
     let few : length c.self.inside.symbols.items + 1 < 2 ^ 32 = omega (arith, c.if-place.false) in
     let long : c.len-place.result ≡ length c.self.inside.symbols.items = omega arith in
     rw (c.in_ok-insert.ensures.ok, c.push_reserved.ensures.items, c.reserve.ensures.items, c.undefined.ensures, own, long)
-    (IsSound-name c.self.inside.index c.self.inside.symbols.items c.self.inside.files.items c.self.inside.counts.entries c.self.inside.bytes c.args.name c.self.invariant new few)
+    (IsSound-name c.self.inside.index c.self.inside.symbols.items c.self.inside.files.items c.self.inside.counts.entries c.self.inside.bytes c.args.name c.args.hash c.requires.own c.self.invariant new few)
+
+pub insert-requires : goal.insert-requires
+insert-requires c =
+    let long : length (names c.self.inside.symbols.items) ≡ length c.self.inside.symbols.items = simp length-map in
+    let texts : length c.self.inside.index.texts ≡ length (names c.self.inside.symbols.items) = c.self.invariant.indexed.hashed.long in
+    omega (arith, c.if-place.false)
