@@ -1,5 +1,5 @@
 -- The items of a layout have room for their values.
-use Rattle.std.proofs.Common.{◌≡◌, ℕ, zero, suc, ◌+◌, ◌<◌, List, [], ◌∷◌, ◌++◌, Option, Some, None, length, drop, option_map, refl, sym, ap, ◌∙◌, subst, arith, drop-drop}
+use Rattle.std.proofs.Common.{◌≡◌, ℕ, zero, suc, ◌+◌, ◌<◌, ◌≤◌, List, [], ◌∷◌, ◌++◌, Option, Some, None, length, drop, option_map, refl, sym, ap, ◌∙◌, subst, arith, drop-drop}
 use Rattle.std.specs.Prelude.{IfSome, slice_get, slice_index}
 use Rattle.std.specs.Option.{option_and_then}
 use Rattle.std.proofs.lemmas.Option.{none-some, same_Some}
@@ -10,7 +10,7 @@ use Rattle.asm_frags.specs.SectionOf.{SectionOf}
 use Rattle.item_contents.specs.declared.contents.Content.TheVariants.{Growing}
 use Rattle.item_contents.specs.declared.kinds.Growth.{Growth}
 use Rattle.item_contents.specs.declared.kinds.Growth.TheVariants as growth
-use Rattle.item_contents.specs.Contents.{level_size}
+use Rattle.item_contents.specs.Contents.{top_of, level_size}
 use Rattle.level_ranks.specs.Ranks.{IsLayout}
 use Rattle.level_ranks.specs.Rounds.{NeedsWithin}
 use Rattle.asm_levels.specs.declared.distances.Distance.{Distance}
@@ -23,7 +23,7 @@ use Rattle.asm_levels.specs.Sizes.{size_at}
 use Rattle.asm_relax.specs.FieldValues.{held_value}
 use Rattle.asm_relax.specs.ItemRows.{RowsIn, row_count, rows_in, field_distance, grown_row, row_size, row_of, item_rows, end_of, section_rows, rows_from, rows_of, levels_of}
 use Rattle.asm_relax.specs.ItemValues.{HasRoom, HoldTheirDistances, HaveRoom}
-use Rattle.asm_relax.specs.Layout.{laid_from, laid_out_section, laid_out, laid_by}
+use Rattle.asm_relax.specs.Layout.{laid_from, laid_out_section, laid_out, laid_by, AreWithin}
 use Rattle.asm_relax.specs.Settling.{LaidItem, LaidSections, settled_sections}
 use Rattle.asm_relax.specs.SettledRoom.{SettledHaveRoom}
 use Rattle.asm_relax.proofs.LayingLemmas.{next_shift, laid_there, shift_behind as shift_after, first_row, section_long, row_inside, rows_are_all}
@@ -151,6 +151,26 @@ grown_size shifts (growth.Leb128 signed) (Some distance) level address = refl
 grown_size shifts growth.Advance None level address = refl
 grown_size shifts growth.Advance (Some distance) level address = refl
 
+-- no row has a level above its highest, and so it is of this one
+within_there : (levels : List ℕ) (rows : List Row) (index : ℕ) (row : Row) → AreWithin levels rows → slice_get rows index ≡ Some row → slice_index levels index ≤ top row.size
+within_there levels [] index row within there = absurd (none-some row there)
+within_there levels (one ∷ rows) zero row within there =
+    subst (λ (r : Row). slice_index levels 0 ≤ top r.size) (same_Some one row there) within.0
+within_there levels (one ∷ rows) (suc index) row within there =
+    let later = within_there (drop 1 levels) rows index row within.1 there in
+    let same = next_shift levels index in
+    omega (arith, later, same)
+
+-- so what grows has none either
+level_within : (kind : Growth) (found : Option Distance) (level : ℕ) → level ≤ top (grown_row kind found) → level_of kind found level ≤ top_of kind
+unfolding top
+level_within (growth.Jump condition) None level within = omega arith
+level_within (growth.Jump condition) (Some distance) level within = within
+level_within (growth.Leb128 signed) None level within = omega arith
+level_within (growth.Leb128 signed) (Some distance) level within = within
+level_within growth.Advance None level within = omega arith
+level_within growth.Advance (Some distance) level within = within
+
 -- the row behind one that grows is moved by its size more
 stepped : (kind : Growth) (found : Option Distance) (done : List ℕ) (shift : ℕ) (rows : List Row) (levels : List ℕ) (index : ℕ) (row : Row)
     → slice_get rows index ≡ Some row → row.size ≡ grown_row kind found → suc index < length rows
@@ -222,6 +242,8 @@ settled_room hold room within ranked map sections number index at section item k
     (let long = length-map rows (λ (r : Row). top r.size) in omega (arith, inside, long)) in
     record {
       level = level_of kind distance (slice_index levels place);
+      within = level_within kind distance (slice_index levels place)
+          (subst (λ (size : RowSize). slice_index levels place ≤ top size) size (within_there levels rows place row.row few row.there));
       sized = sized;
       room = room_by map sections laid kind shifts (slice_index levels place) field distance refl (hold map levels sections field few low stands)
           (room map levels sections field kind place row.row few low stands row.there size enough);

@@ -1,11 +1,11 @@
 -- The room that the items of a layout have for the values that the object holds in them.
-use Rattle.std.specs.Prelude.{◌≡◌, ℕ, IfSome, Some, slice_get}
+use Rattle.std.specs.Prelude.{◌≡◌, ℕ, ◌≤◌, IfSome, Some, slice_get}
 use Rattle.asm_symbols.specs.SymbolMap.{SymbolMap}
 use Rattle.asm_frags.specs.declared.fields.Field.{Field}
 use Rattle.asm_frags.specs.SectionOf.{SectionOf}
 use Rattle.item_contents.specs.declared.kinds.Growth.{Growth}
 use Rattle.item_contents.specs.declared.contents.Content.TheVariants.{Growing}
-use Rattle.item_contents.specs.Contents.{level_size}
+use Rattle.item_contents.specs.Contents.{top_of, level_size}
 use Rattle.asm_relax.specs.FieldValues.{held_value}
 use Rattle.asm_relax.specs.ItemRows.{rows_of, levels_of}
 use Rattle.asm_relax.specs.ItemValues.{IsInItem, AreLow, HasRoom}
@@ -14,6 +14,7 @@ use Rattle.asm_relax.specs.Settling.{LaidSections, LaidItem, settled_sections}
 -- an item of this size that grows with the value of this field has the size of a level at which there is room for the value, if the field has one
 pub record HasRoomFor (map : SymbolMap) (sections : LaidSections) (kind : Growth) (size : ℕ) (field : Field) : Type 0 where
   pub level : ℕ
+  pub within : level ≤ top_of kind
   pub sized : size ≡ level_size kind level
   pub room : IfSome (held_value map sections field) (HasRoom kind level)
 
