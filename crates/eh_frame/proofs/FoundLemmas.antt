@@ -1,5 +1,5 @@
 -- Each piece is found in the end where it was put.
-use Rattle.std.proofs.Common.{◌≡◌, ℕ, ◌+◌, ◌-◌, ◌≤◌, Bool, true, false, List, [], ◌∷◌, ◌++◌, length, take, drop, replicate, Option, None, Some, inl, inr, refl, sym, ap, subst, ◌∙◌, arith, length-append}
+use Rattle.std.proofs.Common.{◌≡◌, ℕ, ◌+◌, ◌-◌, ◌≤◌, Bool, true, false, List, [], ◌∷◌, ◌++◌, length, take, drop, replicate, if◌then◌else◌, Option, None, Some, inl, inr, refl, sym, ap, subst, ◌∙◌, arith, length-append}
 use Rattle.std.specs.Prelude.{All, IsSomeAnd, slice_range}
 use Rattle.std.specs.List.{slice_get}
 use Rattle.std.proofs.Math.Seq.{take-append_seam, drop-append_seam}
@@ -27,7 +27,7 @@ use Rattle.eh_frame.specs.Pieces.{Piece, from_here, Tables, piece_put, pieces_pu
 use Rattle.eh_frame.specs.Entries.{behind_plain, behind_item, behind_piece, behind_pieces, entry_pieces}
 use Rattle.eh_frame.specs.Placing.{padded_log, entries_put}
 use Rattle.eh_frame.specs.Standing.{Extends, OneExtends, HasEnd}
-use Rattle.eh_frame.specs.Found.{IsWithin, IsReadyAt, IsReady, AreBetween, PlainAt, FieldAt, ItemAt, AdvanceAt, number_field, advance_field, item_at, PieceStands, PiecesStand, EntriesStand}
+use Rattle.eh_frame.specs.Found.{IsWithin, IsReadyAt, IsReady, AreBetween, PlainAt, FieldAt, ItemAt, AdvanceAt, RunAt, NumberAt, number_field, advance_field, item_at, PieceStands, PiecesStand, EntriesStand}
 use Rattle.eh_frame.proofs.ExtendLemmas.{set_there, one_on, pieces_extend, entries_extend}
 use Rattle.eh_frame.proofs.ApartLemmas.{stand_more, stand_last, range_last, range_none}
 use Rattle.eh_frame.proofs.EndLemmas.{run_if, run_reaches, item_reaches}
@@ -98,6 +98,23 @@ item_found held now last item index low more at counted longer extends =
       first = subst (All (λ (other : LooseItem). other.offset ≤ item.offset)) (sym before) (λ k d within. let low = low.items k d within in omega (arith, low, at));
     }
 
+-- the run of plain bytes that are put
+run_found : (in_run : Bool) (pos : Pos) (end : SectionEnd) (held now last : LooseSection) → IsWithin held → HasEnd end held → now.items ≡ (run_if in_run pos held).items
+    → length held.bytes ≤ length now.bytes → Extends now last → RunAt last pos end (if in_run then end.items else end.items + 1)
+run_found true pos end held now last low has items longer extends = inl refl
+run_found false pos end held now last low has items longer extends =
+    inr (
+      refl,
+      subst (λ (bytes : ℕ). ItemAt last end.items (item_at pos (record { items = end.items; bytes = bytes; in_run = end.in_run }) Run)) has.bytes
+          (item_found held now last (item_behind (length held.bytes) (new_item pos Run)) end.items low items refl has.items longer extends),
+    )
+
+-- the same where the section's last item tells whether a run is new
+run_at : (pos : Pos) (end : SectionEnd) (held now last : LooseSection) → IsReadyAt end held → now.items ≡ (run_if (ends_in_run held.items) pos held).items
+    → length held.bytes ≤ length now.bytes → Extends now last → RunAt last pos end (if end.in_run then end.items else end.items + 1)
+run_at pos end held now last ready items longer extends =
+    run_found end.in_run pos end held now last ready.low ready.reaches (items ∙ ap (λ (in_run : Bool). (run_if in_run pos held).items) ready.reaches.in_run) longer extends
+
 -- WHAT ONE PIECE MAKES OF ITS SECTION
 
 run_low : (in_run : Bool) (pos : Pos) (held : LooseSection) → All (λ item. item.offset ≤ length held.bytes) held.items
@@ -153,13 +170,16 @@ plain_puts map section pos bytes end held ready =
           apart = subst (FieldsStand (held.bytes ++ bytes) 0) (sym (run_fields (ends_in_run held.items) pos held)) (stand_more held.bytes bytes 0 held.fields ready.low.apart);
         };
       };
-      found = λ last extends. plain_found held now last bytes (behind_plain (length bytes) end).items end.bytes ready.low refl
-          (run_fields (ends_in_run held.items) pos held) items reached.items ready.reaches.bytes extends;
+      found = λ last extends. (
+        run_at pos end held now last ready refl (let long = length-append held.bytes bytes in omega (arith, long)) extends,
+        plain_found held now last bytes (behind_plain (length bytes) end).items end.bytes ready.low refl
+            (run_fields (ends_in_run held.items) pos held) items reached.items ready.reaches.bytes extends,
+      );
     }
 
 number_puts : (map : SymbolMap) (section : ℕ) (pos : Pos) (form : Form) (end : SectionEnd) (held : LooseSection) → IsReadyAt end held
     → IsReadyAt (behind_plain 4 end) (with_field pos section Four data_role form held)
-    × ((last : LooseSection) → Extends (with_field pos section Four data_role form held) last → FieldAt last (length held.fields) (number_field section pos end form))
+    × ((last : LooseSection) → Extends (with_field pos section Four data_role form held) last → NumberAt last section pos end form)
 number_puts map section pos form end held ready =
     let now : LooseSection = with_field pos section Four data_role form held in
     let reached : HasEnd (behind_plain 4 end) now = run_reaches pos held now (replicate 4 0) 4 end ready.reaches refl refl refl in
@@ -186,7 +206,11 @@ number_puts map section pos form end held ready =
             (stand_more held.bytes (replicate 4 0) 0 held.fields ready.low.apart) (omega arith)
             (record { within = omega (arith, long); zeros = range_last held.bytes (replicate 4 0) }));
       },
-      λ last extends. subst (FieldAt last (length held.fields)) same (field_found held now last made refl items refl (omega (arith, long)) extends),
+      λ last extends. record {
+        run = run_at pos end held now last ready refl (omega (arith, long)) extends;
+        index = length held.fields;
+        field = subst (FieldAt last (length held.fields)) same (field_found held now last made refl items refl (omega (arith, long)) extends);
+      },
     )
 
 advance_puts : (section : ℕ) (pos : Pos) (form : Form) (end : SectionEnd) (held : LooseSection) → IsReadyAt end held
@@ -271,11 +295,11 @@ piece_puts section pos (piece.plain bytes) tables end =
 piece_puts section pos (piece.number distance) tables end =
     changed_puts tables.symbols section pos (piece.number distance) tables.sections end (with_field pos section Four data_role (distance_form tables.symbols distance))
     (λ held ready. let puts = number_puts tables.symbols section pos (distance_form tables.symbols distance) end held ready in
-    record { ready = puts.0; found = λ last extends. (length held.fields, puts.1 last extends) })
+    record { ready = puts.0; found = puts.1 })
 piece_puts section pos (piece.pointer place) tables end =
     changed_puts tables.symbols section pos (piece.pointer place) tables.sections end (with_field pos section Four data_role (distance_form tables.symbols (from_here place)))
     (λ held ready. let puts = number_puts tables.symbols section pos (distance_form tables.symbols (from_here place)) end held ready in
-    record { ready = puts.0; found = λ last extends. (length held.fields, puts.1 last extends) })
+    record { ready = puts.0; found = puts.1 })
 piece_puts section pos (piece.advance distance) tables end =
     changed_puts tables.symbols section pos (piece.advance distance) tables.sections end (with_growing pos section growth.Advance Absent (distance_form tables.symbols distance))
     (λ held ready. let puts = advance_puts section pos (distance_form tables.symbols distance) end held ready in record { ready = puts.0; found = puts.1 })

@@ -28,6 +28,10 @@ use Rattle.eh_frame.specs.Entries.{behind_pieces, end_place, entry_pieces}
 use Rattle.eh_frame.specs.Placing.{padded_log, entries_put, end_of, table_put}
 use Rattle.eh_frame.specs.Labels.{IsLabelAt, PlacesAreLabels, NamesPlace, GetsLabels}
 
+-- a label that is made for a place is one there
+label_at : (at : SectionPlace) (number : ℕ) → IsLabelAt at (label_symbol at number)
+label_at at number = record { spot = spot_of at number; means = refl; place = record { section = refl; item = refl; offset = refl }; unbound = refl }
+
 -- MAPS THAT GET LABELS
 
 abbrev IsNewLabel : Symbol → Type 0
@@ -52,7 +56,7 @@ label_by None map at = record {
   labels = label_symbol at (length map.symbols) ∷ [];
   all = refl;
   each = All-cons IsNewLabel (label_symbol at (length map.symbols)) []
-      (at, refl, (spot_of at (length map.symbols), refl, record { section = refl; item = refl; offset = refl })) (All-nil IsNewLabel);
+      (at, refl, label_at at (length map.symbols)) (All-nil IsNewLabel);
   files = refl;
   counts = refl;
   sizes = refl;
@@ -162,7 +166,7 @@ place_named map at known = by (index_of (place_name at) (names map.symbols)) ref
   where
     by : (found : Option ℕ) → index_of (place_name at) (names map.symbols) ≡ found → NamesPlace (with_label_by found map at) (unwrap_or found (length map.symbols)) at
     by None is = subst (λ (found : Option Symbol). IsSomeAnd found (IsLabelAt at)) (sym (get_last map.symbols (label_symbol at (length map.symbols))))
-        (spot_of at (length map.symbols), refl, record { section = refl; item = refl; offset = refl })
+        (label_at at (length map.symbols))
     by (Some number) is = there (stands_there at map.symbols number is)
       where
         there : StandsAt at map.symbols number → NamesPlace map number at
@@ -170,12 +174,18 @@ place_named map at known = by (index_of (place_name at) (names map.symbols)) ref
             subst (λ (found : Option Symbol). IsSomeAnd found (IsLabelAt at)) (sym stands) (of_one IsKnown map.symbols number symbol known stands at named)
 
 new_known : (label : Symbol) → IsNewLabel label → IsKnown label
-new_known label (place, named, (spot, means, is)) at other =
+new_known label (place, named, is_label) at other =
     let same : naming.Place place.section place.place.item place.place.offset ≡ naming.Place at.section at.place.item at.place.offset = sym named ∙ other in
     let section : place.section ≡ at.section = cc in
     let item : place.place.item ≡ at.place.item = cc in
     let offset : place.place.offset ≡ at.place.offset = cc in
-    (spot, means, record { section = is.section ∙ section; item = is.item ∙ item; offset = is.offset ∙ offset })
+    let is = is_label.place in
+    record {
+      spot = is_label.spot;
+      means = is_label.means;
+      place = record { section = is.section ∙ section; item = is.item ∙ item; offset = is.offset ∙ offset };
+      unbound = is_label.unbound;
+    }
 
 pub places_known : (before after : SymbolMap) → PlacesAreLabels before → GetsLabels before after → PlacesAreLabels after
 places_known before after known gets =

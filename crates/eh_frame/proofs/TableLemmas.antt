@@ -16,11 +16,11 @@ use Rattle.cfi_directives.specs.declared.frames.Frame.{Frame}
 use Rattle.cfi_rows.specs.Entries.{common_bytes}
 use Rattle.eh_frame.specs.declared.ends.SectionEnd.{SectionEnd}
 use Rattle.eh_frame.specs.Pieces as piece
-use Rattle.eh_frame.specs.Pieces.{Tables, tables_of, piece_put}
+use Rattle.eh_frame.specs.Pieces.{Tables, tables_of, piece_put, Takes}
 use Rattle.eh_frame.specs.Entries.{behind_plain, end_place}
 use Rattle.eh_frame.specs.Placing.{run_end, no_end, end_of, table_put, new_table, placed_there, placed_in, placed}
 use Rattle.eh_frame.specs.Standing.{Extends, OneExtends}
-use Rattle.eh_frame.specs.Found.{IsWithin, IsReadyAt, IsReady, PlainAt, EntriesStand, TableStands, IsPlaced}
+use Rattle.eh_frame.specs.Found.{IsWithin, IsReadyAt, IsReady, PlainAt, RunAt, EntriesStand, TableStands, IsPlaced}
 use Rattle.eh_frame.proofs.ExtendLemmas.{extends_same, one_same, entries_extend, table_extends}
 use Rattle.eh_frame.proofs.FoundLemmas.{piece_puts, entries_found, entries_within}
 
@@ -36,9 +36,9 @@ pub end_is : (section : ℕ) (sections : List LooseSection) (end : SectionEnd) �
 unfolding end_of
 end_is section sections end ready run = end_by (slice_get sections section) end ready run
 
-end_bytes : (section : ℕ) (sections : List LooseSection) (held : LooseSection) → slice_get sections section ≡ Some held → (end_of section sections).bytes ≡ length held.bytes
+end_there : (section : ℕ) (sections : List LooseSection) (held : LooseSection) → slice_get sections section ≡ Some held → end_of section sections ≡ run_end held
 unfolding end_of
-end_bytes section sections held is = ap (λ found. (option_map_or run_end found no_end).bytes) is
+end_there section sections held is = ap (λ found. option_map_or run_end found no_end) is
 
 both_made : {X : Type 0} (P Q R : X → Type 0) (o : Option X) → ((x : X) → P x → Q x → R x) → IsSomeAnd o P → IsSomeAnd o Q → IsSomeAnd o R
 both_made P Q R None make p q = absurd p
@@ -53,16 +53,19 @@ table_found section pos frames tables held is low =
     let put : Tables = piece_put section pos (piece.plain common_bytes) tables in
     let puts = piece_puts section pos (piece.plain common_bytes) tables start ready in
     let ended : end_of section put.sections ≡ behind_plain (length common_bytes) start = end_is section put.sections (behind_plain (length common_bytes) start) puts.0 refl in
-    let began : (end_of section tables.sections).bytes ≡ length held.bytes = end_bytes section tables.sections held is in
+    let began : end_of section tables.sections ≡ run_end held = end_there section tables.sections held is in
+    let behind : (end_of section put.sections).items ≡ (behind_plain (length common_bytes) start).items = ap (λ (end : SectionEnd). end.items) ended in
     let all : List LooseSection = (table_put section pos frames tables).sections in
     let extends : OneExtends section put.sections all = entries_extend section (end_place section (end_of section tables.sections)) (end_of section put.sections) frames put in
-    both_made (λ held. PlainAt held (behind_plain (length common_bytes) start).items start.bytes common_bytes)
+    both_made (λ held. RunAt held pos start (behind_plain (length common_bytes) start).items × PlainAt held (behind_plain (length common_bytes) start).items start.bytes common_bytes)
     (λ held. EntriesStand held section (end_place section (end_of section tables.sections)) (end_of section put.sections) frames put × IsWithin held)
     (λ held. TableStands held section pos frames tables × IsWithin held) (slice_get all section)
     (λ last common entries. (
       record {
-        common = subst (λ (items : ℕ). PlainAt last items (end_of section tables.sections).bytes common_bytes) (sym (ap (λ (end : SectionEnd). end.items) ended))
-            (subst (λ (bytes : ℕ). PlainAt last (behind_plain (length common_bytes) start).items bytes common_bytes) (sym began) common);
+        run = subst (λ (items : ℕ). RunAt last pos (end_of section tables.sections) items) (sym behind)
+            (subst (λ (end : SectionEnd). RunAt last pos end (behind_plain (length common_bytes) start).items) (sym began) common.0);
+        common = subst (λ (items : ℕ). PlainAt last items (end_of section tables.sections).bytes common_bytes) (sym behind)
+            (subst (λ (end : SectionEnd). PlainAt last (behind_plain (length common_bytes) start).items end.bytes common_bytes) (sym began) common.1);
         entries = entries.0;
       },
       entries.1,
@@ -128,13 +131,20 @@ each_extends section before after extends number held is = by (number == section
     by false apart =
         (held, extends.others number (λ same. absurd (let none : ⊥ = cc (apart, eq-eqb number section same) in none)) ∙ is, extends_same held)
 
+takes_at : (section : ℕ) (sections : List LooseSection) (held : LooseSection) → slice_get sections section ≡ Some held → takes_zeros_alone held ≡ false → Takes section sections
+takes_at section sections held there filled = record {
+  within = slice_get_within sections section held there;
+  filled = subst (λ (found : Option LooseSection). IsSomeAnd found (λ held. takes_zeros_alone held ≡ false)) (sym there) filled;
+}
+
 module _ (frame : Frame) (frames : List Frame) (tables after : Tables) (low : All IsWithin tables.sections) where
   -- where it takes more than zeros, the section that is there
   found_by : (section : ℕ) (held : LooseSection) (zeros : Bool) → section_number (codes ".eh_frame") tables.sections ≡ Some section
-      → slice_get tables.sections section ≡ Some held
+      → slice_get tables.sections section ≡ Some held → takes_zeros_alone held ≡ zeros
       → (if zeros then Err BadSection else Ok (table_put section frame.pos (frame ∷ frames) tables)) ≡ Ok after → IsPlaced frame frames tables after
-  found_by section held true named there is = absurd (let none : ⊥ = cc in none)
-  found_by section held false named there is =
+  found_by section held true named there zeros is = absurd (let none : ⊥ = cc in none)
+  found_by section held false named there zeros is =
+      let takes : Takes section tables.sections = takes_at section tables.sections held there zeros in
       let made : after ≡ table_put section frame.pos (frame ∷ frames) tables = cc in
       let within : section < length tables.sections = slice_get_within tables.sections section held there in
       let all : List LooseSection = (table_put section frame.pos (frame ∷ frames) tables).sections in
@@ -146,6 +156,7 @@ module _ (frame : Frame) (frames : List Frame) (tables after : Tables) (low : Al
         section = section;
         first = tables;
         begins = inl (named, refl);
+        takes = takes;
         put = made;
         stands = subst (λ (after : Tables). IsSomeAnd (slice_get after.sections section) (λ held. TableStands held section frame.pos (frame ∷ frames) tables)) (sym made) found.0;
         within = subst (λ (after : Tables). All IsWithin after.sections) (sym made) (all_within section tables.sections all low extends found.1);
@@ -156,7 +167,7 @@ module _ (frame : Frame) (frames : List Frame) (tables after : Tables) (low : Al
   in_section : (section : ℕ) (found : Option LooseSection) → section_number (codes ".eh_frame") tables.sections ≡ Some section
       → slice_get tables.sections section ≡ found → placed_there section found frame.pos (frame ∷ frames) tables ≡ Ok after → IsPlaced frame frames tables after
   in_section section None named there is = absurd (let none : ⊥ = cc in none)
-  in_section section (Some held) named there is = found_by section held (takes_zeros_alone held) named there is
+  in_section section (Some held) named there is = found_by section held (takes_zeros_alone held) named there refl is
 
   by_number : (found : Option ℕ) → section_number (codes ".eh_frame") tables.sections ≡ found
       → placed_in found frame.pos (frame ∷ frames) tables ≡ Ok after → IsPlaced frame frames tables after
@@ -175,6 +186,7 @@ module _ (frame : Frame) (frames : List Frame) (tables after : Tables) (low : Al
         section = section;
         first = first;
         begins = inr (named, refl, refl);
+        takes = takes_at (length tables.sections) first.sections new_table (get_last tables.sections new_table) refl;
         put = made;
         stands = subst (λ (after : Tables). IsSomeAnd (slice_get after.sections section) (λ held. TableStands held section frame.pos (frame ∷ frames) first)) (sym made) found.0;
         within = subst (λ (after : Tables). All IsWithin after.sections) (sym made) (all_within section first.sections all low_first extends found.1);

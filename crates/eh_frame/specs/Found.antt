@@ -14,12 +14,12 @@ use Rattle.cfi_directives.specs.declared.frames.Frame.{Frame}
 use Rattle.cfi_directives.specs.declared.places.SectionPlace.{SectionPlace}
 use Rattle.cfi_rows.specs.Entries.{common_bytes}
 use Rattle.item_contents.specs.declared.contents.Content.{Content}
-use Rattle.item_contents.specs.declared.contents.Content.TheVariants.{Align, Growing}
+use Rattle.item_contents.specs.declared.contents.Content.TheVariants.{Run, Align, Growing}
 use Rattle.item_contents.specs.declared.kinds.Growth.TheVariants as growth
 use Rattle.item_contents.specs.ItemParts.{zeros_up_to}
 use Rattle.eh_frame.specs.declared.ends.SectionEnd.{SectionEnd}
 use Rattle.eh_frame.specs.Marks.{distance_form}
-use Rattle.eh_frame.specs.Pieces.{Piece, plain, number, pointer, advance, padding, from_here, Tables, tables_of, piece_put, pieces_put}
+use Rattle.eh_frame.specs.Pieces.{Piece, plain, number, pointer, advance, padding, from_here, Tables, tables_of, piece_put, pieces_put, Takes}
 use Rattle.eh_frame.specs.Entries.{behind_plain, behind_piece, behind_pieces, end_place, entry_pieces}
 use Rattle.eh_frame.specs.Placing.{padded_log, end_of, table_put, new_table}
 use Rattle.eh_frame.specs.Standing.{Extends, HasEnd}
@@ -99,11 +99,22 @@ pub record AdvanceAt (held : LooseSection) (section : ℕ) (pos : Pos) (end : Se
   pub field : slice_get held.fields index ≡ Some (advance_field section pos end form)
   pub item : ItemAt held end.items (item_at pos end (Growing (record { kind = growth.Advance; field = index })))
 
+-- plain bytes behind this end stand in a run that ends behind so many items: the last one, or one that begins with them
+abbrev pub RunAt : LooseSection → Pos → SectionEnd → ℕ → Type 0
+RunAt held pos end count = (count ≡ end.items) ⊎ ((count ≡ end.items + 1) × ItemAt held end.items (item_at pos end Run))
+
+-- the field of a distance stands behind this end
+pub record NumberAt (held : LooseSection) (section : ℕ) (pos : Pos) (end : SectionEnd) (form : Form) : Type 0 where
+  pub run : RunAt held pos end (behind_plain 4 end).items
+  pub index : ℕ
+  pub field : FieldAt held index (number_field section pos end form)
+
 -- the piece stands behind this end
 abbrev pub PieceStands : LooseSection → ℕ → Pos → SymbolMap → SectionEnd → Piece → Type 0
-PieceStands held section pos map end (plain bytes) = PlainAt held (behind_plain (length bytes) end).items end.bytes bytes
-PieceStands held section pos map end (number distance) = (index : ℕ) × FieldAt held index (number_field section pos end (distance_form map distance))
-PieceStands held section pos map end (pointer place) = (index : ℕ) × FieldAt held index (number_field section pos end (distance_form map (from_here place)))
+PieceStands held section pos map end (plain bytes) =
+    RunAt held pos end (behind_plain (length bytes) end).items × PlainAt held (behind_plain (length bytes) end).items end.bytes bytes
+PieceStands held section pos map end (number distance) = NumberAt held section pos end (distance_form map distance)
+PieceStands held section pos map end (pointer place) = NumberAt held section pos end (distance_form map (from_here place))
 PieceStands held section pos map end (advance distance) = AdvanceAt held section pos end (distance_form map distance)
 PieceStands held section pos map end (padding log) = ItemAt held end.items (item_at pos end (Align (zeros_up_to log)))
 
@@ -124,6 +135,7 @@ EntriesStand held section common end (frame ∷ frames) tables =
 
 -- the common entry stands behind what the section had, and the entries of procedures behind it
 pub record TableStands (held : LooseSection) (section : ℕ) (pos : Pos) (frames : List Frame) (tables : Tables) : Type 0 where
+  pub run : RunAt held pos (end_of section tables.sections) (end_of section (piece_put section pos (plain common_bytes) tables).sections).items
   pub common : PlainAt held (end_of section (piece_put section pos (plain common_bytes) tables).sections).items (end_of section tables.sections).bytes common_bytes
   pub entries : EntriesStand held section (end_place section (end_of section tables.sections))
       (end_of section (piece_put section pos (plain common_bytes) tables).sections) frames (piece_put section pos (plain common_bytes) tables)
@@ -135,6 +147,7 @@ pub record IsPlaced (frame : Frame) (frames : List Frame) (tables after : Tables
   pub begins : ((section_number (codes ".eh_frame") tables.sections ≡ Some section) × (first ≡ tables))
       ⊎ ((section_number (codes ".eh_frame") tables.sections ≡ None) × (section ≡ length tables.sections)
       × (first ≡ tables_of tables.symbols (tables.sections ++ new_table ∷ [])))
+  pub takes : Takes section first.sections
   pub put : after ≡ table_put section frame.pos (frame ∷ frames) first
   pub stands : IsSomeAnd (slice_get after.sections section) (λ held. TableStands held section frame.pos (frame ∷ frames) first)
   pub within : All IsWithin after.sections

@@ -1,5 +1,5 @@
 -- The labels of places.
-use Rattle.std.specs.Prelude.{◌≡◌, ℕ, List, ◌++◌, All, IsSomeAnd, slice_get}
+use Rattle.std.specs.Prelude.{◌≡◌, ℕ, List, ◌++◌, All, IsSomeAnd, None, slice_get}
 use Rattle.asm_symbols.specs.declared.entries.Meaning.TheVariants.{Label}
 use Rattle.asm_symbols.specs.declared.entries.Spot.{Spot}
 use Rattle.asm_symbols.specs.declared.entries.Symbol.{Symbol}
@@ -13,9 +13,12 @@ pub record IsSpot (at : SectionPlace) (spot : Spot) : Type 0 where
   pub item : spot.item ≡ at.place.item
   pub offset : spot.offset ≡ at.place.offset
 
--- the symbol is a label at the place
-abbrev pub IsLabelAt : SectionPlace → Symbol → Type 0
-IsLabelAt at symbol = (spot : Spot) × (symbol.meaning ≡ Label spot) × IsSpot at spot
+-- the symbol is a label at the place, and is local
+pub record IsLabelAt (at : SectionPlace) (symbol : Symbol) : Type 0 where
+  pub spot : Spot
+  pub means : symbol.meaning ≡ Label spot
+  pub place : IsSpot at spot
+  pub unbound : symbol.binding ≡ None
 
 -- each symbol that has the name of a place is a label there
 abbrev pub PlacesAreLabels : SymbolMap → Type 0
