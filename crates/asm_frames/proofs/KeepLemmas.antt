@@ -1,5 +1,5 @@
 -- What a `.cfi_` directive changes: the procedures, and of the symbols what naming its expressions does.
-use Rattle.std.proofs.Common.{◌≡◌, ℕ, Bool, true, false, cond, List, [], ◌∷◌, Result, Ok, Err, refl, sym, subst, length}
+use Rattle.std.proofs.Common.{◌≡◌, ℕ, Bool, true, false, cond, List, [], ◌∷◌, map, Result, Ok, Err, refl, sym, ap, ◌∙◌, subst, length}
 use Rattle.std.specs.Prelude.{◌&&◌, ◌||◌, nat_le, codes}
 use Rattle.std.specs.Result.{IfOk}
 use Rattle.std.specs.Str.{bytes_eq}
@@ -18,7 +18,7 @@ use Rattle.asm_symbols.specs.Interning.{is_within_limits}
 use Rattle.asm_uses.specs.declared.tables.Naming.{Naming}
 use Rattle.asm_uses.specs.Tables.{Table, with_trees, naming_of, allowed}
 use Rattle.asm_values.specs.KnownOperands.{KnownOperands, known_operands}
-use Rattle.asm_values.specs.State.{Placed, with_names, known_here}
+use Rattle.asm_values.specs.State.{Placed, with_names, here, known_here}
 use Rattle.asm_values.proofs.NameLemmas.{none_allowed, none_nothing, nothing_named}
 use Rattle.asm_words.specs.declared.directives.FrameDirective.{FrameDirective}
 use Rattle.asm_words.specs.declared.directives.FrameDirective.TheVariants as frame
@@ -29,16 +29,17 @@ use Rattle.cfi_directives.specs.declared.lines.CfiLine.TheVariants.{StartProc, E
 use Rattle.cfi_directives.specs.declared.lines.RowDirective.TheVariants as row
 use Rattle.cfi_directives.specs.declared.registers.DwarfRegister.{DwarfRegister}
 use Rattle.cfi_directives.specs.Procedures.{Procedures}
+use Rattle.cfi_directives.specs.Taking.{taken, taken_from}
 use Rattle.asm_frames.specs.declared.words.OffsetWord.{OffsetWord}
 use Rattle.asm_frames.specs.declared.words.OffsetWord.TheVariants as offset
 use Rattle.asm_frames.specs.declared.words.RuleWord.{RuleWord}
 use Rattle.asm_frames.specs.declared.words.RuleWord.TheVariants as rule
 use Rattle.asm_frames.specs.declared.words.SlotWord.{SlotWord}
 use Rattle.asm_frames.specs.declared.words.SlotWord.TheVariants as slot
-use Rattle.asm_frames.specs.Keeping.{OnlyNames}
+use Rattle.asm_frames.specs.Keeping.{line_here, OnlyNames}
 use Rattle.asm_frames.specs.Lines.{signed, slot_row, offset_row, rule_row}
 use Rattle.asm_frames.specs.Operands.{register_in, next_register, one_register, two_registers}
-use Rattle.asm_frames.specs.Placing.{with_procedures, taken_here, refused_by, end_taking, take_named, taken_over, take_line, take_rule, place_bare, place_sections, place_offset, place_slot, place_cfa_register, place_register, place_each, place_some, place_rules, place_frame}
+use Rattle.asm_frames.specs.Placing.{frame_place, with_procedures, taken_here, refused_by, end_taking, take_named, taken_over, take_line, take_rule, place_bare, place_sections, place_offset, place_slot, place_cfa_register, place_register, place_each, place_some, place_rules, place_frame}
 
 -- what holds of all that a step makes
 record Leaves {A E : Type 0} (P : A → Type 0) (result : Result A E) : Type 0 where
@@ -64,23 +65,31 @@ same_table naming table next is = by (naming.meant && (nat_le (length table.symb
     by true same = cc
     by false same = cc
 
+-- a directive that is taken in front of others
+taken_more : (placed : Placed) (line : CfiLine) (lines : List CfiLine) (procedures next last : Procedures) → taken line (frame_place (here placed)) procedures ≡ Ok next
+    → taken_from next (map (line_here placed) lines) ≡ Ok last → taken_from procedures (map (line_here placed) (line ∷ lines)) ≡ Ok last
+taken_more placed line lines procedures next last is later =
+    ap (λ (taken : Result Procedures CfiCause). taken >>= λ next. taken_from next (map (line_here placed) lines)) is ∙ later
+
 -- what a motive needs to hold of what is placed
 module _ (P : Placed → Type 0) (pos : Pos) (placed : Placed)
-    (holds : (trees : List Tree) (procedures : Procedures)
+    (holds : (trees : List Tree) (lines : List CfiLine) (procedures : Procedures) → taken_from placed.procedures (map (line_here placed) lines) ≡ Ok procedures
     → allowed (naming_of trees placed.table) (with_names pos trees placed).table ≡ Ok (with_names pos trees placed).table
     → P (with_procedures (with_names pos trees placed) procedures)) where
   -- a directive without expressions
-  unnamed : (procedures : Procedures) → P (with_procedures placed procedures)
+  unnamed : (lines : List CfiLine) (procedures : Procedures) → taken_from placed.procedures (map (line_here placed) lines) ≡ Ok procedures → P (with_procedures placed procedures)
   unfolding with_trees
-  unnamed procedures = holds [] procedures (subst (λ (naming : Naming). allowed naming placed.table ≡ Ok placed.table) (sym (nothing_named [] placed.table none_nothing)) (none_allowed placed.table))
+  unnamed lines procedures is =
+      holds [] lines procedures is
+      (subst (λ (naming : Naming). allowed naming placed.table ≡ Ok placed.table) (sym (nothing_named [] placed.table none_nothing)) (none_allowed placed.table))
 
   line_keeps : (line : CfiLine) → Leaves P (take_line line placed)
   unfolding take_line
-  line_keeps line = by (taken_here line placed)
+  line_keeps line = by (taken_here line placed) refl
     where
-      by : (taken : Result Procedures CfiCause) → Leaves P (taken_over placed taken)
-      by (Ok procedures) = made _ (unnamed procedures)
-      by (Err cause) = refused _
+      by : (made : Result Procedures CfiCause) → taken_here line placed ≡ made → Leaves P (taken_over placed made)
+      by (Ok procedures) is = made _ (unnamed (line ∷ []) procedures (taken_more placed line [] placed.procedures procedures procedures is refl))
+      by (Err cause) is = refused _
 
   bare_keeps : (line : CfiLine) (tokens : List SpelledToken) → Leaves P (place_bare line tokens placed)
   bare_keeps line [] = line_keeps line
@@ -91,14 +100,14 @@ module _ (P : Placed → Type 0) (pos : Pos) (placed : Placed)
   sections_keep (token ∷ []) = by (is_name token && bytes_eq token.bytes (codes ".eh_frame"))
     where
       by : (test : Bool) → Leaves P (cond test (Ok placed) (Err BadOperand))
-      by true = made _ (unnamed placed.procedures)
+      by true = made _ (unnamed [] placed.procedures refl)
       by false = refused _
   sections_keep (token ∷ more ∷ rest) = refused _
 
   -- a directive with expressions
   named_keeps : (trees : List Tree) (line : CfiLine) → Leaves P (take_named (naming_of trees placed.table) line (with_names pos trees placed))
   unfolding take_named
-  named_keeps trees line = by (taken_here line named) (allowed naming named.table) refl
+  named_keeps trees line = by (taken_here line named) refl (allowed naming named.table) refl
     where
       named : Placed
       named = with_names pos trees placed
@@ -111,12 +120,14 @@ module _ (P : Placed → Type 0) (pos : Pos) (placed : Placed)
       named_refused CfiOutsideProcedure names = after names (λ table. refused _)
       named_refused UnbalancedCfiState names = after names (λ table. refused _)
 
-      by : (taken : Result Procedures CfiCause) (names : Result Table PlaceCause) → allowed naming named.table ≡ names → Leaves P (end_taking named names taken)
-      by (Ok procedures) (Ok table) is =
+      by : (made : Result Procedures CfiCause) → taken_here line named ≡ made → (names : Result Table PlaceCause) → allowed naming named.table ≡ names
+          → Leaves P (end_taking named names made)
+      by (Ok procedures) took (Ok table) is =
           made _ (subst (λ (next : Table). P (record named { table = next; procedures = procedures })) (sym (same_table naming named.table table is))
-          (holds trees procedures (subst (λ (next : Table). allowed naming named.table ≡ Ok next) (same_table naming named.table table is) is)))
-      by (Ok procedures) (Err fault) is = refused _
-      by (Err cause) names is = named_refused cause names
+          (holds trees (line ∷ []) procedures (taken_more placed line [] placed.procedures procedures procedures took refl)
+          (subst (λ (next : Table). allowed naming named.table ≡ Ok next) (same_table naming named.table table is) is)))
+      by (Ok procedures) took (Err fault) is = refused _
+      by (Err cause) took names is = named_refused cause names
 
   known_keeps : (operands : List (List SpelledToken)) (line : ℕ → CfiLine)
       → Leaves P (known_operands pos placed 1 operands >>= λ given. take_named given.naming (line given.values.first) given.placed)
@@ -162,22 +173,30 @@ module _ (P : Placed → Type 0) (pos : Pos) (placed : Placed)
   unfolding place_register
   register_keeps tokens = after (two_registers (known_here placed) (operands_of tokens)) (λ pair. line_keeps (Row (row.Register pair.0 pair.1)))
 
-  rules_taken : (word : RuleWord) (registers : List DwarfRegister) (procedures : Procedures) → Leaves P (all_steps (take_rule word) registers (with_procedures placed procedures))
+  rules_taken : (word : RuleWord) (registers : List DwarfRegister) (procedures : Procedures)
+      → ((lines : List CfiLine) (last : Procedures) → taken_from procedures (map (line_here placed) lines) ≡ Ok last → P (with_procedures placed last))
+      → Leaves P (all_steps (take_rule word) registers (with_procedures placed procedures))
   unfolding all_steps take_line
-  rules_taken word [] procedures = made _ (unnamed procedures)
-  rules_taken word (register ∷ registers) procedures =
-      by (taken_here (Row (rule_row word register)) (with_procedures placed procedures)) (rules_taken word registers)
+  rules_taken word [] procedures keeps = made _ (keeps [] procedures refl)
+  rules_taken word (register ∷ registers) procedures keeps =
+      by (taken_here line (with_procedures placed procedures)) refl (rules_taken word registers)
     where
-      by : (taken : Result Procedures CfiCause) → ((next : Procedures) → Leaves P (all_steps (take_rule word) registers (with_procedures placed next)))
-          → Leaves P (taken_over (with_procedures placed procedures) taken >>= all_steps (take_rule word) registers)
-      by (Ok next) later = later next
-      by (Err cause) later = refused _
+      line : CfiLine
+      line = Row (rule_row word register)
+
+      by : (made : Result Procedures CfiCause) → taken_here line (with_procedures placed procedures) ≡ made
+          → ((next : Procedures)
+          → ((lines : List CfiLine) (last : Procedures) → taken_from next (map (line_here placed) lines) ≡ Ok last → P (with_procedures placed last))
+          → Leaves P (all_steps (take_rule word) registers (with_procedures placed next)))
+          → Leaves P (taken_over (with_procedures placed procedures) made >>= all_steps (take_rule word) registers)
+      by (Ok next) is later = later next (λ lines last more. keeps (line ∷ lines) last (taken_more placed line lines procedures next last is more))
+      by (Err cause) is later = refused _
 
   some_keep : (word : RuleWord) (operands : List (List SpelledToken)) → Leaves P (place_some word operands placed)
   unfolding place_each
   some_keep word [] = refused _
   some_keep word (operand ∷ operands) =
-      after (each (register_in (known_here placed)) (operand ∷ operands)) (λ registers. rules_taken word registers placed.procedures)
+      after (each (register_in (known_here placed)) (operand ∷ operands)) (λ registers. rules_taken word registers placed.procedures unnamed)
 
   rules_keep : (word : RuleWord) (tokens : List SpelledToken) → Leaves P (place_rules word tokens placed)
   unfolding place_rules
@@ -211,4 +230,5 @@ pub only_names : (directive : FrameDirective) (pos : Pos) (tokens : List Spelled
     → IfOk (place_frame directive pos tokens placed) (OnlyNames pos placed)
 only_names directive pos tokens placed =
     frame_keeps (OnlyNames pos placed) pos placed
-    (λ trees procedures names. record { trees = trees; procedures = procedures; names = names; is = refl }) directive tokens
+    (λ trees lines procedures taken names. record { trees = trees; lines = lines; procedures = procedures; names = names; taken = taken; is = refl })
+    directive tokens

@@ -17,7 +17,7 @@ use Rattle.eh_frame.specs.Placing.{placed}
 use Rattle.eh_frame.specs.StandingPlaces.{HoldsItems, FrameStands, LabelStands, GetsStanding}
 use Rattle.asm_values.specs.State.{Placed}
 use Rattle.asm_place.specs.Instructions.{with_more, Grows, AreWithin}
-use Rattle.asm_place.specs.SymbolPlaces.{HasItems, MeaningStands, SymbolsStand, ProcedureStands, PlacesStand}
+use Rattle.asm_place.specs.SymbolPlaces.{HasItems, MeaningStands, SymbolStands, SymbolsStand, ProcedureStands, PlacesStand}
 use Rattle.asm_front.specs.Ending.{framed}
 use Rattle.asm_front.proofs.FramedSections.{TableFacts, tables_within}
 use Rattle.asm_front.proofs.JumpFields.{StandUpTo}
@@ -78,8 +78,8 @@ symbols_framed before after map labelled grows stand gets =
     let last = length map.symbols in
     subst (StandUpTo last after) (sym gets.all)
     (All-append (λ (symbol : Symbol). MeaningStands after last symbol.meaning) map.symbols gets.labels
-    (All-weaker (λ (symbol : Symbol). MeaningStands before last symbol.meaning) (λ (symbol : Symbol). MeaningStands after last symbol.meaning)
-    (λ symbol was. meaning_grows before after last grows symbol.meaning was) map.symbols stand)
+    (All-weaker (SymbolStands before last) (λ (symbol : Symbol). MeaningStands after last symbol.meaning)
+    (λ symbol was. meaning_grows before after last grows symbol.meaning was.0) map.symbols stand)
     (All-weaker (LabelStands after) (λ (symbol : Symbol). MeaningStands after last symbol.meaning) (label_means after last) gets.labels gets.each))
 
 -- a label has no form

@@ -36,11 +36,10 @@ use Rattle.asm_values.specs.State.{Placed, with_table, with_names, here, known_h
 use Rattle.asm_values.specs.DataItems.{put_by, put_forms, is_cut, cut_notes}
 use Rattle.asm_operands.specs.Results.{all_steps, if_some}
 use Rattle.asm_place.specs.SectionChanges.{with_current, popped}
-use Rattle.asm_operands.specs.NamedTrees.{plain_of, NamedTree, named_tree}
+use Rattle.asm_operands.specs.NamedTrees.{NamedTree}
 use Rattle.asm_uses.specs.Attributes.{kind_said, sized, define_space}
 use Rattle.asm_place.specs.SymbolWords.{place_said, place_type}
 use Rattle.asm_values.specs.Sizes.{size_words, place_size, words_naming, with_words, words_symbol, end_words}
-use Rattle.asm_words.specs.SymbolKinds.{named_kind}
 use Rattle.asm_values.specs.Assignments.{assign_words, place_set, place_assignment}
 use Rattle.asm_place.specs.Commons.{bss, with_space, with_common, is_said_local, place_space, place_comm, place_lcomm, SpaceWords, with_own, space_words}
 use Rattle.asm_words.specs.Spaces.{space_size, space_of, units_of, unit_size, log_of}
@@ -61,9 +60,10 @@ use Rattle.std.proofs.Common.{◌<◌, arith}
 use Rattle.asm_uses.specs.Tables.{with_name, with_tree}
 use Rattle.asm_words.specs.declared.directives.InitialSection.{InitialSection}
 use Rattle.asm_words.specs.declared.directives.InitialSection.TheVariants as initially
-use Rattle.asm_place.specs.SymbolPlaces.{AreUpTo, SymbolsStand, PlacesStand}
+use Rattle.asm_place.specs.SymbolPlaces.{AreUpTo, IsGiven, SymbolsStand, PlacesStand}
+use Rattle.asm_place.proofs.GivenNames.{names_given, kind_given, tree_given}
 use Rattle.asm_place.proofs.NamedSymbols.{form_up}
-use Rattle.asm_place.proofs.PlacingLaws.{entered_adds}
+use Rattle.asm_place.proofs.SectionSteps.{entered_adds}
 use Rattle.asm_place.proofs.SymbolTables.{Allows, named_both, allows_on, with_name_stand, tree_stand, change_stand, named_change_stand, assigned_stand, kind_stand, say_all_stand, sized_stand, allowed_stand, define_space_stand, end_stand, file_stand}
 use Rattle.asm_place.proofs.KnownWalks.{AreAsked, given_walk, known_walk}
 use Rattle.asm_place.proofs.FramePlaces.{frame_walk}
@@ -191,29 +191,30 @@ said_walk : (pos : Pos) (attribute : SymbolAttribute) (tokens : List SpelledToke
 unfolding place_said
 said_walk pos attribute [] placed stands = refused _
 said_walk pos attribute (token ∷ rest) placed stands =
-    after (each plain_of (operands_of (token ∷ rest)))
-    (λ names. step (say_all_stand placed.sections pos attribute names placed.table)
+    step (names_given (operands_of (token ∷ rest)))
+    (λ names given. step (say_all_stand placed.sections pos attribute names given placed.table)
     (λ table kept. dot_walk (list_any is_dot (token ∷ rest)) placed (with_table placed table) (table_stays placed table kept stands)))
 
 type_walk : (pos : Pos) (tokens : List SpelledToken) (placed : Placed) → PlacesStand placed → Walks placed (place_type pos tokens placed)
 unfolding place_type
 type_walk pos tokens placed stands =
-    after (named_kind (operands_of tokens))
-    (λ words. step (named_change_stand placed.sections pos (kind_said words.kind) words.name placed.table (kind_stand placed.sections words.kind))
+    step (kind_given (operands_of tokens))
+    (λ words given. step (named_change_stand placed.sections pos (kind_said words.kind) words.name given placed.table
+    (λ map index named. kind_stand placed.sections words.kind map index))
     (λ table kept. dot_walk (begins_with_place tokens) placed (with_table placed table) (table_stays placed table kept stands)))
 
-words_gain : (pos : Pos) (words : NamedTree) (placed : Placed) → PlacesStand placed → Gains placed (with_words pos words placed)
-words_gain pos words placed stands =
+words_gain : (pos : Pos) (words : NamedTree) → IsGiven words.name → (placed : Placed) → PlacesStand placed → Gains placed (with_words pos words placed)
+words_gain pos words given placed stands =
     let one = with_name pos words.name placed.table in
     table_gains placed (with_tree pos words.tree one)
-    (named_both placed.sections placed.table.symbols one.symbols (with_tree pos words.tree one).symbols (with_name_stand placed.sections pos words.name placed.table)
+    (named_both placed.sections placed.table.symbols one.symbols (with_tree pos words.tree one).symbols (with_name_stand placed.sections pos words.name given placed.table)
     (tree_stand placed.sections pos words.tree one)) stands
 
-size_words_walk : (pos : Pos) (words : NamedTree) (placed : Placed) → PlacesStand placed → Walks placed (size_words pos words placed)
+size_words_walk : (pos : Pos) (words : NamedTree) → IsGiven words.name → (placed : Placed) → PlacesStand placed → Walks placed (size_words pos words placed)
 unfolding size_words
-size_words_walk pos words placed stands =
+size_words_walk pos words given placed stands =
     let named = with_words pos words placed in
-    let names = words_gain pos words placed stands in
+    let names = words_gain pos words given placed stands in
     closed placed named _ names
     (after (form_in (known_here named) words.tree)
     (λ form. let new = sized pos form (named.table, words_symbol words placed) in
@@ -225,7 +226,7 @@ size_words_walk pos words placed stands =
 size_walk : (pos : Pos) (tokens : List SpelledToken) (placed : Placed) → PlacesStand placed → Walks placed (place_size pos tokens placed)
 unfolding place_size
 size_walk pos tokens placed stands =
-    after (named_tree (operands_of tokens)) (λ words. walked placed (size_words_walk pos words placed stands)
+    step (tree_given (operands_of tokens)) (λ words given. walked placed (size_words_walk pos words given placed stands)
     (λ sized now. dot_walk (begins_with_place tokens) sized sized (unmoved sized now)))
 
 -- the form of an expression names symbols that are there, or the next one
@@ -237,11 +238,12 @@ form_stands sections map spot tree stand = by (form_in (known_at map spot) tree)
     by (Ok form) is = made form (form_up sections map spot tree form stand is)
     by (Err fault) is = refused fault
 
-assign_walk : (pos : Pos) (once : Bool) (words : NamedTree) (placed : Placed) → PlacesStand placed → Walks placed (assign_words pos once words placed)
+assign_walk : (pos : Pos) (once : Bool) (words : NamedTree) → IsGiven words.name → (placed : Placed) → PlacesStand placed
+    → Walks placed (assign_words pos once words placed)
 unfolding assign_words
-assign_walk pos once words placed stands =
+assign_walk pos once words given placed stands =
     let named = with_words pos words placed in
-    let names = words_gain pos words placed stands in
+    let names = words_gain pos words given placed stands in
     closed placed named _ names
     (step (form_stands named.sections named.table.symbols (here named) words.tree names.stands.symbols)
     (λ form few. table_close (count placed) named (changed_by (λ map index. assigned map index form once) (named.table, words_symbol words placed) >>= end_words pos (words_naming words placed) form named)
@@ -254,12 +256,12 @@ assign_walk pos once words placed stands =
 
 set_walk : (pos : Pos) (once : Bool) (tokens : List SpelledToken) (placed : Placed) → PlacesStand placed → Walks placed (place_set pos once tokens placed)
 unfolding place_set
-set_walk pos once tokens placed stands = after (named_tree (operands_of tokens)) (λ words. assign_walk pos once words placed stands)
+set_walk pos once tokens placed stands = step (tree_given (operands_of tokens)) (λ words given. assign_walk pos once words given placed stands)
 
 pub assignment_walk : (pos : Pos) (token : SpelledToken) (tokens : List SpelledToken) (placed : Placed) → PlacesStand placed → Walks placed (place_assignment pos token tokens placed)
 unfolding place_assignment
 assignment_walk pos token tokens placed stands =
-    after (symbol_name token) (λ name. after (expression_of tokens) (λ tree. assign_walk pos false (record { name = naming.Plain name; tree = tree }) placed stands))
+    after (symbol_name token) (λ name. after (expression_of tokens) (λ tree. assign_walk pos false (record { name = naming.Plain name; tree = tree }) tt placed stands))
 
 -- space for symbols
 with_space_walk : (pos : Pos) (naming : Naming) (symbol size log : ℕ) (placed : Placed) → PlacesStand placed
@@ -292,7 +294,7 @@ unfolding space_words
 space_words_walk pos placed most tokens stands =
     after (needed name_of (operands_of tokens))
     (λ name. let owned = with_own pos (naming.Plain name.0) placed in
-    let own = table_gains placed owned.table (with_name_stand placed.sections pos (naming.Plain name.0) placed.table) stands in
+    let own = table_gains placed owned.table (with_name_stand placed.sections pos (naming.Plain name.0) tt placed.table) stands in
     step (known_walk pos owned most name.1 own.stands)
     (λ given asked.
     let first = own.more in
@@ -409,7 +411,7 @@ module _ (frames : FramesKeep) where
   by_walk directive.Warning pos tokens placed stands = warning_walk pos tokens placed stands
   by_walk (directive.Syntax syntax) pos tokens placed stands = syntax_walk syntax tokens placed stands
   by_walk directive.Code64 pos tokens placed stands = bare_walk tokens placed (Ok placed) (made _ (unmoved placed stands))
-  by_walk (directive.Frame frame) pos tokens placed stands = frame_walk frame pos tokens placed stands
+  by_walk (directive.Frame frame) pos tokens placed stands = frame_walk frames frame pos tokens placed stands
 
   found_walk : (found : Option Directive) (pos : Pos) (tokens : List SpelledToken) (placed : Placed) → PlacesStand placed → Walks placed (place_found found pos tokens placed)
   found_walk None pos tokens placed stands = refused _

@@ -8,6 +8,10 @@ pub mod GrowthLemmas
 pub mod BareLemmas
 pub mod LabelLemmas
 pub mod Walks
+pub mod TakenPlaces
+pub mod ProcedureSteps
+pub mod SectionSteps
+pub mod DirectiveSteps
 pub mod PlacingLaws
 pub mod StatementSplits
 pub mod InstructionLaws
@@ -16,6 +20,7 @@ pub mod CodingFields
 pub mod CodeLaws
 pub mod JumpLaws
 pub mod NamedSymbols
+pub mod GivenNames
 pub mod SymbolTables
 pub mod PlaceSteps
 pub mod KnownWalks

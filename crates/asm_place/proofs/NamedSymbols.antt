@@ -31,7 +31,7 @@ use Rattle.asm_symbols.specs.Counting.{meant_name}
 use Rattle.asm_symbols.specs.Interning.{number_of}
 use Rattle.asm_symbols.specs.Looking.{form_told, meaning_told, told}
 use Rattle.asm_uses.specs.Places.{here_name, known_at}
-use Rattle.asm_place.specs.SymbolPlaces.{AreUpTo, MeaningStands, SymbolsStand}
+use Rattle.asm_place.specs.SymbolPlaces.{AreUpTo, MeaningStands, SymbolStands, SymbolsStand}
 use Rattle.asm_place.proofs.GrowthLemmas.{All-there}
 use Rattle.asm_place.proofs.StatementSplits.{err-ok, same_Ok}
 
@@ -197,7 +197,7 @@ told_up sections map' index made stand is = by (slice_get map'.symbols index) re
     by None there is = absurd cc
     by (Some symbol) there is =
         told_up_by sections (length map'.symbols) symbol.meaning made
-        (All-there (λ (one : Symbol). MeaningStands sections (length map'.symbols) one.meaning) map'.symbols index symbol there stand) is
+        (All-there (SymbolStands sections (length map'.symbols)) map'.symbols index symbol there stand).0 is
 
 -- at a place no symbol is known behind the next one
 pub knows_up : (sections : List LooseSection) (map' : SymbolMap) (spot : Spot) → SymbolsStand sections map'.symbols → KnowsUpTo (length map'.symbols) (known_at map' spot)

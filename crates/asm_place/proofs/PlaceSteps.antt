@@ -39,16 +39,15 @@ use Rattle.std.proofs.Common.{◌-◌, ◌≤◌, arith, length-append}
 use Rattle.std.proofs.lemmas.List.Elements.{All-push, All-take, All-weaker}
 use Rattle.asm_symbols.specs.declared.entries.Meaning.{Meaning}
 use Rattle.asm_symbols.specs.declared.entries.Meaning.TheVariants as meaning
-use Rattle.asm_symbols.specs.declared.entries.Symbol.{Symbol}
 use Rattle.asm_uses.specs.Tables.{Table, with_trees}
 use Rattle.asm_place.specs.Instructions.{with_more}
 use Rattle.cfi_directives.specs.declared.frames.Frame.{Frame}
 use Rattle.cfi_directives.specs.declared.frames.PlacedOp.{PlacedOp}
 use Rattle.cfi_directives.specs.Meant.{stop_of}
 use Rattle.cfi_directives.specs.Procedures.{frames_of}
-use Rattle.asm_place.specs.SymbolPlaces.{HasItems, MeaningStands, ProcedureStands, PlacesStand}
+use Rattle.asm_place.specs.SymbolPlaces.{HasItems, MeaningStands, SymbolStands, ProcedureStands, PlacesStand}
 use Rattle.asm_place.proofs.GrowthLemmas.{All-there, continued_on}
-use Rattle.asm_place.proofs.PlacingLaws.{there_adds, entered_adds}
+use Rattle.asm_place.proofs.SectionSteps.{there_adds, entered_adds}
 use Rattle.asm_place.proofs.SymbolTables.{Names, Tables, Allows, trees_stand, allowed_stand}
 
 -- WHAT IS KEPT
@@ -180,9 +179,8 @@ sections_stay placed sections grows stands = record {
         (λ entered was. (items_grow placed.sections sections entered.current 0 grows was.0, items_grow placed.sections sections entered.previous 0 grows was.1))
         placed.stack stands.stack;
     first = λ number few. items_grow placed.sections sections number 0 grows (stands.first number few);
-    symbols = All-weaker (λ (symbol : Symbol). MeaningStands placed.sections (count placed) symbol.meaning)
-        (λ (symbol : Symbol). MeaningStands sections (count placed) symbol.meaning)
-        (λ symbol was. meaning_grows placed.sections sections (count placed) grows symbol.meaning was) placed.table.symbols.symbols stands.symbols;
+    symbols = All-weaker (SymbolStands placed.sections (count placed)) (SymbolStands sections (count placed))
+        (λ symbol was. (meaning_grows placed.sections sections (count placed) grows symbol.meaning was.0, was.1)) placed.table.symbols.symbols stands.symbols;
     procedures = procedures_grow placed.sections sections grows (frames_of placed.procedures) stands.procedures;
   };
   fits = λ few. few;

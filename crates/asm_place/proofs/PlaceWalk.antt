@@ -33,10 +33,9 @@ use Rattle.asm_uses.specs.declared.tables.Naming.{Naming}
 use Rattle.asm_uses.specs.Tables.{naming_of}
 use Rattle.std.proofs.Common.{zero, suc, ◌<◌, arith}
 use Rattle.std.proofs.lemmas.List.Elements.{All-nil}
-use Rattle.asm_symbols.specs.declared.entries.Symbol.{Symbol}
 use Rattle.asm_frags.specs.Sections.{first_sections}
 use Rattle.asm_values.specs.State.{nothing_placed}
-use Rattle.asm_place.specs.SymbolPlaces.{HasItems, MeaningStands, ProcedureStands, PlacesStand}
+use Rattle.asm_place.specs.SymbolPlaces.{HasItems, SymbolStands, ProcedureStands, PlacesStand}
 use Rattle.asm_place.proofs.SymbolTables.{onto, label_stand, change_stand, defined_stand}
 use Rattle.asm_place.proofs.PlaceSteps.{count, Stays, Closes, Walks, closes_on, closed, walked, unmoved, EntryStands, table_stays, names_gain, spot_stands, table_close, bytes_walk, field_walk, growing_walk}
 use Rattle.asm_place.proofs.DirectivePlaces.{here_stand, dot_walk, assignment_walk, directive_walk}
@@ -105,7 +104,7 @@ label_walk : (pos : Pos) (token : SpelledToken) (placed : Placed) → PlacesStan
 unfolding place_label
 label_walk pos token placed stands =
     step (step (label_stand placed.sections pos token placed.table)
-    (λ pair kept. onto placed.sections placed.table pair.0 (λ t. t) kept
+    (λ pair kept. onto placed.sections placed.table pair.0 (λ t. t) kept.0
     (change_stand placed.sections (λ map index. defined map index (Label (here placed))) pair
     (defined_stand placed.sections (Label (here placed)) (λ last. spot_stands placed.sections placed.current stands.current) pair.0.symbols pair.1))))
     (λ table kept. dot_walk (is_dot token) placed (with_table placed table) (table_stays placed table kept stands))
@@ -135,7 +134,7 @@ places_begin no_warn = record {
   previous = first_there no_warn 0 (omega arith);
   stack = All-nil (EntryStands (nothing_placed no_warn).sections);
   first = first_there no_warn;
-  symbols = All-nil (λ (symbol : Symbol). MeaningStands (nothing_placed no_warn).sections 0 symbol.meaning);
+  symbols = All-nil (SymbolStands (nothing_placed no_warn).sections 0);
   procedures = All-nil (ProcedureStands (nothing_placed no_warn).sections);
 }
 

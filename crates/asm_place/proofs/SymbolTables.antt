@@ -2,6 +2,7 @@
 use Rattle.std.proofs.Common.{◌≡◌, ℕ, zero, suc, inl, inr, Bool, true, false, cond, ◌+◌, ◌≤◌, ◌++◌, length, List, [], ◌∷◌, Option, None, Some, Result, Ok, Err, All, refl, sym, ap, ◌∙◌, subst, arith, length-append}
 use Rattle.std.specs.Prelude.{◌^◌, ◌&&◌, ◌||◌, nat_le, nat_lt, slice_get, is_some}
 use Rattle.std.proofs.lemmas.Bool.{and_parts, or_cases, ltb-true, leb-true}
+use Rattle.std.proofs.lemmas.Option.{same_Some}
 use Rattle.std.proofs.lemmas.List.Elements.{All-nil, All-cons, All-head, All-tail, All-push, All-weaker}
 use Rattle.asm_expr.specs.declared.naming.Name.TheVariants as naming
 use Rattle.asm_base.specs.Tokens.{SpelledToken}
@@ -44,7 +45,8 @@ use Rattle.asm_uses.specs.Tables.{Table, with_map, found_in, symbol_of, next_sym
 use Rattle.asm_uses.specs.declared.tables.Naming.{Naming}
 use Rattle.asm_words.specs.declared.directives.SymbolAttribute.{SymbolAttribute}
 use Rattle.asm_words.specs.declared.directives.SymbolAttribute.TheVariants.{Bind, See}
-use Rattle.asm_place.specs.SymbolPlaces.{AreUpTo, MeaningStands, SymbolsStand}
+use Rattle.asm_place.specs.SymbolPlaces.{AreUpTo, IsGiven, MeaningStands, NameStands, SymbolStands, SymbolsStand}
+use Rattle.asm_place.proofs.GivenNames.{GivenAt, meant_given, given_stands, found_given, form_takes}
 use Rattle.asm_place.proofs.NamedSymbols.{up_to_more}
 use Rattle.asm_place.proofs.Walks.{Fine, made, refused, step, after, either}
 
@@ -53,10 +55,15 @@ of_fine : {A : Type 0} {P : A → Type 0} (answer : Result A SymCause) → Fine 
 of_fine (Ok x) fine = made x fine.holds
 of_fine (Err fault) fine = refused _
 
+-- what is put last is there
+put_last : (symbols : List Symbol) (last : Symbol) → slice_get (symbols ++ last ∷ []) (length symbols) ≡ Some last
+put_last [] last = refl
+put_last (symbol ∷ symbols) last = put_last symbols last
+
 module _ (sections : List LooseSection) where
-  -- a symbol that has a place stands in its section, and a form names no symbol above this one
+  -- a symbol that has a place stands in its section, a form names no symbol above this one, and a label alone has the name of a place, its own
   abbrev pub Stands : ℕ → Symbol → Type 0
-  Stands last symbol = MeaningStands sections last symbol.meaning
+  Stands last symbol = SymbolStands sections last symbol
 
   -- no symbol goes, and all stand so where they did
   pub record Names (before after : SymbolMap) : Type 0 where
@@ -110,86 +117,115 @@ module _ (sections : List LooseSection) where
   changed_long change (symbol ∷ rest) zero = refl
   changed_long change (symbol ∷ rest) (suc index) = ap suc (changed_long change rest index)
 
-  changed_all : (last : ℕ) (change : Symbol → Symbol) → ((symbol : Symbol) → Stands last symbol → Stands last (change symbol)) → (symbols : List Symbol) (index : ℕ)
+  changed_all : (last : ℕ) (change : Symbol → Symbol) (symbols : List Symbol) (index : ℕ)
+      → ((symbol : Symbol) → slice_get symbols index ≡ Some symbol → Stands last symbol → Stands last (change symbol))
       → All (Stands last) symbols → All (Stands last) (changed change symbols index)
   unfolding changed
-  changed_all last change stands [] index all = All-nil (Stands last)
-  changed_all last change stands (symbol ∷ rest) zero all =
-      All-cons (Stands last) (change symbol) rest (stands symbol (All-head (Stands last) symbol rest all)) (All-tail (Stands last) symbol rest all)
-  changed_all last change stands (symbol ∷ rest) (suc index) all =
-      All-cons (Stands last) symbol (changed change rest index) (All-head (Stands last) symbol rest all) (changed_all last change stands rest index (All-tail (Stands last) symbol rest all))
+  changed_all last change [] index stands all = All-nil (Stands last)
+  changed_all last change (symbol ∷ rest) zero stands all =
+      All-cons (Stands last) (change symbol) rest (stands symbol refl (All-head (Stands last) symbol rest all)) (All-tail (Stands last) symbol rest all)
+  changed_all last change (symbol ∷ rest) (suc index) stands all =
+      All-cons (Stands last) symbol (changed change rest index) (All-head (Stands last) symbol rest all)
+      (changed_all last change rest index stands (All-tail (Stands last) symbol rest all))
 
-  -- a change of one symbol, by which it stands as before
-  changed_stand : (change : Symbol → Symbol) (map : SymbolMap) (index : ℕ) (after : SymbolMap) → after.symbols ≡ changed change map.symbols index
-      → ((symbol : Symbol) → Stands (length map.symbols) symbol → Stands (length map.symbols) (change symbol)) → Maps map after
-  changed_stand change map index after is stands =
+  -- a change of the symbol that is there, by which it stands as before
+  one_stands : (change : Symbol → Symbol) (map : SymbolMap) (index : ℕ) (after : SymbolMap) → after.symbols ≡ changed change map.symbols index
+      → ((symbol : Symbol) → slice_get map.symbols index ≡ Some symbol → Stands (length map.symbols) symbol → Stands (length map.symbols) (change symbol))
+      → Maps map after
+  one_stands change map index after is stands =
       let long : length after.symbols ≡ length map.symbols = ap (λ (all : List Symbol). length all) is ∙ changed_long change map.symbols index in
       record {
         more = omega (arith, long);
         kept = λ all.
             subst (λ (last : ℕ). All (Stands last) after.symbols) (sym long)
-            (subst (All (Stands (length map.symbols))) (sym is) (changed_all (length map.symbols) change stands map.symbols index all));
+            (subst (All (Stands (length map.symbols))) (sym is) (changed_all (length map.symbols) change map.symbols index stands all));
         fits = λ few. omega (arith, long, few);
       }
 
-  more_stand : (map : SymbolMap) (name : Name) → Names map (with_name map name)
-  more_stand map name =
+  -- a change by which any symbol stands as before
+  changed_stand : (change : Symbol → Symbol) (map : SymbolMap) (index : ℕ) (after : SymbolMap) → after.symbols ≡ changed change map.symbols index
+      → ((symbol : Symbol) → Stands (length map.symbols) symbol → Stands (length map.symbols) (change symbol)) → Maps map after
+  changed_stand change map index after is stands = one_stands change map index after is (λ symbol there. stands symbol)
+
+  -- one symbol more, which stands
+  pushed_stand : (symbols : List Symbol) (one : Symbol) → Stands (length symbols + 1) one → SymbolsStand sections symbols → SymbolsStand sections (symbols ++ one ∷ [])
+  pushed_stand symbols one stands all =
+      let long : length (symbols ++ one ∷ []) ≡ length symbols + 1 = length-append symbols (one ∷ []) in
+      subst (λ (last : ℕ). All (Stands last) (symbols ++ one ∷ [])) (sym long)
+      (All-push (Stands (length symbols + 1)) symbols one
+      (All-weaker (Stands (length symbols)) (Stands (length symbols + 1))
+      (λ symbol stood. (stands_more (length symbols) (length symbols + 1) (omega arith) symbol.meaning stood.0, stood.1)) symbols all) stands)
+
+  more_stand : (map : SymbolMap) (name : Name) → IsGiven name → Names map (with_name map name)
+  more_stand map name given =
       let long : length (map.symbols ++ undefined name ∷ []) ≡ length map.symbols + 1 = length-append map.symbols (undefined name ∷ []) in
       record {
         more = omega (arith, long);
-        kept = λ all. subst (λ (last : ℕ). All (Stands last) (map.symbols ++ undefined name ∷ [])) (sym long)
-            (All-push (Stands (length map.symbols + 1)) map.symbols (undefined name)
-            (All-weaker (Stands (length map.symbols)) (Stands (length map.symbols + 1))
-            (λ symbol stood. stands_more (length map.symbols) (length map.symbols + 1) (omega arith) symbol.meaning stood) map.symbols all) tt);
+        kept = pushed_stand map.symbols (undefined name) (tt, given);
       }
 
   -- names
-  interned_stand : (map : SymbolMap) (name : Name) → Names map (interned map name)
+  interned_stand : (map : SymbolMap) (name : Name) → IsGiven name → Names map (interned map name)
   unfolding interned
-  interned_stand map name = by (is_some (index_of name (names map.symbols)))
+  interned_stand map name given = by (is_some (index_of name (names map.symbols)))
     where
       by : (test : Bool) → Names map (cond test map (with_name map name))
       by true = named_so map
-      by false = more_stand map name
+      by false = more_stand map name given
 
-  added_stand : (test : Bool) (map : SymbolMap) (name : Name) (index : ℕ) → has_room map name ≡ test
-      → Fine (λ (pair : SymbolMap × ℕ). Maps map pair.0) (cond test (Ok (with_name map name, index)) (Err BadSymbolUse))
-  added_stand true map name index room =
-      let new = more_stand map name in
+  -- where there is room for a name, there are at most 2^24 symbols with it
+  room_fits : (map : SymbolMap) (name : Name) → has_room map name ≡ true → length map.symbols + 1 ≤ 2 ^ 24
+  room_fits map name room =
       let test = (and_parts (nat_lt (length map.symbols + length map.files) (2 ^ 24)) (nat_le (names_size map + name_size name) (2 ^ 31)) room).0 in
       let few = ltb-true (length map.symbols + length map.files) (2 ^ 24) test in
+      omega (arith, few)
+
+  -- the symbol that is put last has the name
+  last_given : (map : SymbolMap) (name : Name) → IsGiven name → GivenAt (with_name map name) (length map.symbols)
+  last_given map name given symbol there =
+      subst (λ (s : Symbol). IsGiven s.name) (same_Some (undefined name) symbol (sym (put_last map.symbols (undefined name)) ∙ there)) given
+
+  added_stand : (test : Bool) (map : SymbolMap) (name : Name) → IsGiven name → has_room map name ≡ test
+      → Fine (λ (pair : SymbolMap × ℕ). Maps map pair.0 × GivenAt pair.0 pair.1) (cond test (Ok (with_name map name, length map.symbols)) (Err BadSymbolUse))
+  added_stand true map name given room =
+      let new = more_stand map name given in
+      let few = room_fits map name room in
       let long : length (map.symbols ++ undefined name ∷ []) ≡ length map.symbols + 1 = length-append map.symbols (undefined name ∷ []) in
-      made _ (record { more = new.more; kept = new.kept; fits = λ before. omega (arith, few, long) })
-  added_stand false map name index room = refused _
+      made _ ((record { more = new.more; kept = new.kept; fits = λ before. omega (arith, few, long) }, last_given map name given))
+  added_stand false map name given room = refused _
 
-  named_stand : (map : SymbolMap) (name : Name) → Fine (λ (pair : SymbolMap × ℕ). Maps map pair.0) (named map name)
+  named_stand : (map : SymbolMap) (name : Name) → IsGiven name → Fine (λ (pair : SymbolMap × ℕ). Maps map pair.0 × GivenAt pair.0 pair.1) (named map name)
   unfolding named
-  named_stand map name = by (index_of name (names map.symbols)) refl
+  named_stand map name given = by (index_of name (names map.symbols)) refl
     where
-      by : (found : Option ℕ) → index_of name (names map.symbols) ≡ found → Fine (λ (pair : SymbolMap × ℕ). Maps map pair.0) (named map name)
-      by (Some index) is = rw is (made (map, index) (same map))
-      by None is = rw is (added_stand (has_room map name) map name (length map.symbols) refl)
+      by : (found : Option ℕ) → index_of name (names map.symbols) ≡ found
+          → Fine (λ (pair : SymbolMap × ℕ). Maps map pair.0 × GivenAt pair.0 pair.1) (named map name)
+      by (Some index) is = rw is (made (map, index) (same map, found_given name given map.symbols index is))
+      by None is = rw is (added_stand (has_room map name) map name given refl)
 
-  found_stand : (pos : Pos) (table : Table) (found : Result (SymbolMap × ℕ) SymCause) → Fine (λ (pair : SymbolMap × ℕ). Maps table.symbols pair.0) found
-      → Fine (λ (pair : Table × ℕ). Tables table pair.0) (found_in pos table found)
+  found_stand : (pos : Pos) (table : Table) (found : Result (SymbolMap × ℕ) SymCause)
+      → Fine (λ (pair : SymbolMap × ℕ). Maps table.symbols pair.0 × GivenAt pair.0 pair.1) found
+      → Fine (λ (pair : Table × ℕ). Tables table pair.0 × GivenAt pair.0.symbols pair.1) (found_in pos table found)
   found_stand pos table found fine = step (of_fine found fine) (λ pair kept. made _ kept)
 
-  pub symbol_stand : (pos : Pos) (name : Name) (table : Table) → Fine (λ (pair : Table × ℕ). Tables table pair.0) (symbol_of pos name table)
+  pub symbol_stand : (pos : Pos) (name : Name) → IsGiven name → (table : Table)
+      → Fine (λ (pair : Table × ℕ). Tables table pair.0 × GivenAt pair.0.symbols pair.1) (symbol_of pos name table)
   unfolding symbol_of
-  symbol_stand pos name table = found_stand pos table (named table.symbols name) (named_stand table.symbols name)
+  symbol_stand pos name given table = found_stand pos table (named table.symbols name) (named_stand table.symbols name given)
 
-  next_stand : (pos : Pos) (number : ℕ) (table : Table) → Fine (λ (pair : Table × ℕ). Tables table pair.0) (next_symbol pos number table)
+  next_stand : (pos : Pos) (number : ℕ) (table : Table) → Fine (λ (pair : Table × ℕ). Tables table pair.0 × GivenAt pair.0.symbols pair.1) (next_symbol pos number table)
   unfolding next_symbol next_named
-  next_stand pos number table = found_stand pos table (next_named table.symbols number) (named_stand table.symbols _)
+  next_stand pos number table = found_stand pos table (next_named table.symbols number) (named_stand table.symbols _ tt)
 
-  pub label_stand : (pos : Pos) (spelled : SpelledToken) (table : Table) → Fine (λ (pair : Table × ℕ). Tables table pair.0) (label_symbol pos spelled table)
+  pub label_stand : (pos : Pos) (spelled : SpelledToken) (table : Table)
+      → Fine (λ (pair : Table × ℕ). Tables table pair.0 × GivenAt pair.0.symbols pair.1) (label_symbol pos spelled table)
   unfolding label_symbol
   label_stand pos spelled table = by spelled.kind
     where
-      named_by : Fine (λ (pair : Table × ℕ). Tables table pair.0) (named_symbol pos spelled table)
-      named_by = after (symbol_name spelled) (λ name. symbol_stand pos (naming.Plain name) table)
+      named_by : Fine (λ (pair : Table × ℕ). Tables table pair.0 × GivenAt pair.0.symbols pair.1) (named_symbol pos spelled table)
+      named_by = after (symbol_name spelled) (λ name. symbol_stand pos (naming.Plain name) tt table)
 
-      by : (kind : TokenKind) → Fine (λ (pair : Table × ℕ). Tables table pair.0) (label_by kind pos spelled table)
+      by : (kind : TokenKind) → Fine (λ (pair : Table × ℕ). Tables table pair.0 × GivenAt pair.0.symbols pair.1) (label_by kind pos spelled table)
       by token.Digits = after (in_statement (numeral 10 spelled.bytes)) (λ number. next_stand pos number table)
       by token.Name = named_by
       by token.Character = named_by
@@ -198,14 +234,14 @@ module _ (sections : List LooseSection) where
       by token.Other = named_by
 
   -- names of a statement
-  pub with_name_stand : (pos : Pos) (name : Name) (table : Table) → Names table.symbols (table_with_name pos name table).symbols
+  pub with_name_stand : (pos : Pos) (name : Name) → IsGiven name → (table : Table) → Names table.symbols (table_with_name pos name table).symbols
   unfolding table_with_name
-  with_name_stand pos name table = interned_stand table.symbols name
+  with_name_stand pos name given table = interned_stand table.symbols name given
 
   pub tree_stand : (pos : Pos) (tree : Tree) (table : Table) → Names table.symbols (with_tree pos tree table).symbols
   unfolding with_tree
   tree_stand pos (expr.number value) table = named_so table.symbols
-  tree_stand pos (expr.name written) table = with_name_stand pos (meant_name table.symbols.counts written) table
+  tree_stand pos (expr.name written) table = with_name_stand pos (meant_name table.symbols.counts written) (meant_given table.symbols.counts written) table
   tree_stand pos expr.here table = named_so table.symbols
   tree_stand pos (expr.unary op operand) table = tree_stand pos operand table
   tree_stand pos (expr.binary op left right) table =
@@ -228,68 +264,77 @@ module _ (sections : List LooseSection) where
       → Fine (Tables found.0) (changed_by change found)
   change_stand change found fine = step (of_fine (change found.0.symbols found.1) fine) (λ map kept. made _ kept)
 
-  pub named_change_stand : (pos : Pos) (change : SymbolMap → ℕ → Result SymbolMap SymCause) (name : Name) (table : Table)
-      → ((map : SymbolMap) (index : ℕ) → Fine (Maps map) (change map index)) → Fine (Tables table) (change_named pos change name table)
-  named_change_stand pos change name table fine =
-      step (symbol_stand pos name table) (λ pair kept. onto table pair.0 (λ t. t) kept (change_stand change pair (fine pair.0.symbols pair.1)))
+  pub named_change_stand : (pos : Pos) (change : SymbolMap → ℕ → Result SymbolMap SymCause) (name : Name) → IsGiven name → (table : Table)
+      → ((map : SymbolMap) (index : ℕ) → GivenAt map index → Fine (Maps map) (change map index)) → Fine (Tables table) (change_named pos change name table)
+  named_change_stand pos change name given table fine =
+      step (symbol_stand pos name given table) (λ pair kept. onto table pair.0 (λ t. t) kept.0 (change_stand change pair (fine pair.0.symbols pair.1 kept.1)))
 
   -- the place of a definition stands in its section
   abbrev pub DefinitionStands : Definition → Type 0
   DefinitionStands what = (last : ℕ) → MeaningStands sections last (meant what)
 
-  redefined_stand : (now : Meaning) (what : Definition) → DefinitionStands what → Fine (λ made. (last : ℕ) → MeaningStands sections last made) (redefined now what)
-  redefined_stand meaning.Undefined what stands = made (meant what) stands
-  redefined_stand (meaning.Label spot) what stands = refused _
-  redefined_stand (meaning.Space spot) what stands = refused _
-  redefined_stand (meaning.Common size align) what stands = refused _
-  redefined_stand (meaning.Assigned form) (definition.Label spot) stands = refused _
-  redefined_stand (meaning.Assigned form) (definition.Common size align) stands = refused _
-  redefined_stand (meaning.Assigned form) (definition.Space spot) stands = refused _
+  -- what a definition makes of a symbol stands, and so does its name if it did
+  abbrev RedefinedStands : Name → Option Binding → Meaning → Meaning → Type 0
+  RedefinedStands name binding now new = NameStands name binding now → (last : ℕ) → MeaningStands sections last new × NameStands name binding new
+
+  redefined_stand : (name : Name) (binding : Option Binding) (now : Meaning) (what : Definition) → DefinitionStands what → Fine (RedefinedStands name binding now) (redefined now what)
+  redefined_stand name binding meaning.Undefined what stands = made (meant what) (λ given last. (stands last, given_stands name binding (meant what) given))
+  redefined_stand name binding (meaning.Label spot) what stands = refused _
+  redefined_stand name binding (meaning.Space spot) what stands = refused _
+  redefined_stand name binding (meaning.Common size align) what stands = refused _
+  redefined_stand name binding (meaning.Assigned form) (definition.Label spot) stands = refused _
+  redefined_stand name binding (meaning.Assigned form) (definition.Common size align) stands = refused _
+  redefined_stand name binding (meaning.Assigned form) (definition.Space spot) stands = refused _
 
   pub defined_stand : (what : Definition) → DefinitionStands what → (map : SymbolMap) (index : ℕ) → Fine (Maps map) (defined map index what)
   unfolding defined
-  defined_stand what stands map index = by (slice_get map.symbols index)
+  defined_stand what stands map index = by (slice_get map.symbols index) refl
     where
-      by : (found : Option Symbol) → Fine (Maps map) (defined_by found map index what)
-      by None = refused _
-      by (Some symbol) =
-          step (redefined_stand symbol.meaning what stands)
-          (λ now there. made _ (changed_stand (with_meaning now) map index (with_defined map index symbol.name what now) refl (λ one stood. there (length map.symbols))))
+      by : (found : Option Symbol) → slice_get map.symbols index ≡ found → Fine (Maps map) (defined_by found map index what)
+      by None is = refused _
+      by (Some symbol) is =
+          step (redefined_stand symbol.name symbol.binding symbol.meaning what stands)
+          (λ now new. made _ (one_stands (with_meaning now) map index (with_defined map index symbol.name what now) refl
+          (λ one there stood. subst (λ (s : Symbol). NameStands s.name s.binding s.meaning → MeaningStands sections (length map.symbols) now × NameStands s.name s.binding now)
+          (same_Some symbol one (sym is ∙ there)) (λ named. new named (length map.symbols)) stood.1)))
 
   pub assigned_stand : (form : Form) (once : Bool) (map : SymbolMap) (index : ℕ) → AreUpTo (length map.symbols) form.terms
       → Fine (Maps map) (assigned map index form once)
   unfolding assigned
-  assigned_stand form once map index named = by (form_fault_at map index once) (leads_back map.symbols form index)
+  assigned_stand form once map index named = by (form_fault_at map index once) (leads_back map.symbols form index) refl
     where
-      by : (fault : Option SymCause) (back : Bool) → Fine (Maps map) (assigned_by fault back (with_form map index form))
-      by (Some fault) back = refused _
-      by None true = refused _
-      by None false = made _ (changed_stand (with_meaning (meaning.Assigned form)) map index (with_form map index form) refl (λ one stood. named))
+      by : (fault : Option SymCause) (back : Bool) → form_fault_at map index once ≡ fault → Fine (Maps map) (assigned_by fault back (with_form map index form))
+      by (Some fault) back is = refused _
+      by None true is = refused _
+      by None false is = made _ (one_stands (with_meaning (meaning.Assigned form)) map index (with_form map index form) refl
+          (λ one there stood. (named, form_takes map index once one there is stood.1)))
 
   pub kind_stand : (kind : Kind) (map : SymbolMap) (index : ℕ) → Fine (Maps map) (kind_said kind map index)
   kind_stand kind map index = made _ (changed_stand (with_kind kind) map index _ refl (λ one stood. stood))
 
-  bound_stand : (binding : Binding) (map : SymbolMap) (index : ℕ) → Fine (Maps map) (bound map index binding)
+  bound_stand : (binding : Binding) (map : SymbolMap) (index : ℕ) → GivenAt map index → Fine (Maps map) (bound map index binding)
   unfolding bound
-  bound_stand binding map index = by (slice_get map.symbols index)
+  bound_stand binding map index given = by (slice_get map.symbols index)
     where
       by : (found : Option Symbol) → Fine (Maps map) (bound_by found map index binding)
       by None = refused _
       by (Some symbol) =
           after (bound_as symbol.meaning symbol.binding binding)
-          (λ now. made _ (changed_stand (with_binding now) map index _ refl (λ one stood. stood)))
+          (λ now. made _ (one_stands (with_binding now) map index _ refl
+          (λ one there stood. (stood.0, given_stands one.name (Some now) one.meaning (given one there)))))
 
-  said_stand : (attribute : SymbolAttribute) (map : SymbolMap) (index : ℕ) → Fine (Maps map) (said attribute map index)
-  said_stand (Bind binding) map index = bound_stand binding map index
-  said_stand (See visibility) map index =
+  said_stand : (attribute : SymbolAttribute) (map : SymbolMap) (index : ℕ) → GivenAt map index → Fine (Maps map) (said attribute map index)
+  said_stand (Bind binding) map index given = bound_stand binding map index given
+  said_stand (See visibility) map index given =
       made _ (changed_stand (with_visibility visibility) map index _ refl (λ one stood. stood))
 
-  pub say_all_stand : (pos : Pos) (attribute : SymbolAttribute) (names : List Name) (table : Table) → Fine (Tables table) (say_all pos attribute names table)
+  pub say_all_stand : (pos : Pos) (attribute : SymbolAttribute) (names : List Name) → All IsGiven names → (table : Table)
+      → Fine (Tables table) (say_all pos attribute names table)
   unfolding say_all all_steps
-  say_all_stand pos attribute [] table = made table (same table.symbols)
-  say_all_stand pos attribute (name ∷ names) table =
-      step (named_change_stand pos (said attribute) name table (said_stand attribute))
-      (λ next kept. onto table next (λ t. t) kept (say_all_stand pos attribute names next))
+  say_all_stand pos attribute [] given table = made table (same table.symbols)
+  say_all_stand pos attribute (name ∷ names) given table =
+      step (named_change_stand pos (said attribute) name (All-head IsGiven name names given) table (said_stand attribute))
+      (λ next kept. onto table next (λ t. t) kept (say_all_stand pos attribute names (All-tail IsGiven name names given) next))
 
   next_size_stand : (size : Form) (map : SymbolMap) (index : ℕ) → Maps map (with_next_size size map index)
   next_size_stand size map index = changed_stand (with_size size (map.sizes + 1)) map index (with_next_size size map index) refl (λ one stood. stood)
@@ -349,19 +394,71 @@ module _ (sections : List LooseSection) where
           both map (with_next_size (constant_form size) map symbol) (as_space size map symbol) (next_size_stand (constant_form size) map symbol)
           (changed_stand (with_kind (space_kind map symbol)) (with_next_size (constant_form size) map symbol) symbol (as_space size map symbol) refl (λ one stood. stood))
 
+  -- the map has this name last, and the index is its symbol's
+  record IsPushed (map : SymbolMap) (name : Name) (after : SymbolMap) (index : ℕ) : Type 0 where
+    map_is : after ≡ with_name map name
+    at : index ≡ length map.symbols
+    few : length map.symbols + 1 ≤ 2 ^ 24
+
+  push_by : (test : Bool) (map : SymbolMap) (name : Name) → has_room map name ≡ test
+      → Fine (λ (pair : SymbolMap × ℕ). IsPushed map name pair.0 pair.1) (cond test (Ok (with_name map name, length map.symbols)) (Err BadSymbolUse))
+  push_by true map name room = made _ (record { map_is = refl; at = refl; few = room_fits map name room })
+  push_by false map name room = refused _
+
+  name_pushed : (map : SymbolMap) (name : Name) → index_of name (names map.symbols) ≡ None → Fine (λ (pair : SymbolMap × ℕ). IsPushed map name pair.0 pair.1) (named map name)
+  unfolding named
+  name_pushed map name is = rw is (push_by (has_room map name) map name refl)
+
+  changed_last : (change : Symbol → Symbol) (symbols : List Symbol) (last : Symbol) → changed change (symbols ++ last ∷ []) (length symbols) ≡ symbols ++ change last ∷ []
+  unfolding changed
+  changed_last change [] last = refl
+  changed_last change (symbol ∷ symbols) last = ap (λ rest. symbol ∷ rest) (changed_last change symbols last)
+
+  -- the place itself becomes a label of its own name
+  label_pushed : (map : SymbolMap) (spot : Spot) → DefinitionStands (definition.Label spot) → length map.symbols + 1 ≤ 2 ^ 24
+      → Maps map (with_defined (with_name map (here_name spot)) (length map.symbols) (here_name spot) (definition.Label spot) (meaning.Label spot))
+  label_pushed map spot stands few =
+      let last = undefined (here_name spot) in
+      let label = with_meaning (meaning.Label spot) last in
+      let is = changed_last (with_meaning (meaning.Label spot)) map.symbols last in
+      let long : length (changed (with_meaning (meaning.Label spot)) (map.symbols ++ last ∷ []) (length map.symbols)) ≡ length map.symbols + 1 =
+      ap (λ (all : List Symbol). length all) is ∙ length-append map.symbols (label ∷ []) in
+      record {
+        more = omega (arith, long);
+        kept = λ all. subst (SymbolsStand sections) (sym is) (pushed_stand map.symbols label (stands (length map.symbols + 1), inr (refl, refl)) all);
+        fits = λ before. omega (arith, few, long);
+      }
+
+  place_defined : (map after : SymbolMap) (index : ℕ) (spot : Spot) → DefinitionStands (definition.Label spot) → IsPushed map (here_name spot) after index
+      → Fine (Maps map) (defined after index (definition.Label spot))
+  unfolding defined
+  place_defined map after index spot stands is =
+      rw is.map_is (rw is.at (rw (put_last map.symbols (undefined (here_name spot))) (made _ (label_pushed map spot stands is.few))))
+
+  place_named : (pos : Pos) (name : Name) (table : Table) → index_of name (names table.symbols.symbols) ≡ None
+      → Fine (λ (found : Table × ℕ). IsPushed table.symbols name found.0.symbols found.1) (symbol_of pos name table)
+  unfolding symbol_of
+  place_named pos name table is = step (of_fine (named table.symbols name) (name_pushed table.symbols name is)) (λ pair pushed. made _ pushed)
+
+  place_stand : (pos : Pos) (spot : Spot) (table : Table) → DefinitionStands (definition.Label spot) → index_of (here_name spot) (names table.symbols.symbols) ≡ None
+      → Fine (Tables table) (change_named pos (λ map index. defined map index (definition.Label spot)) (here_name spot) table)
+  place_stand pos spot table stands is =
+      step (place_named pos (here_name spot) table is)
+      (λ found pushed. step (of_fine (defined found.0.symbols found.1 (definition.Label spot)) (place_defined table.symbols found.0.symbols found.1 spot stands pushed))
+      (λ map kept. made _ kept))
+
   pub end_stand : (pos : Pos) (naming : Naming) (spot : Spot) (keeps : Bool) (table : Table) → DefinitionStands (definition.Label spot)
       → Fine (Allows naming.before table) (end_naming pos naming spot keeps table)
   unfolding name_here
   end_stand pos naming spot keeps table stands = step (allowed_stand naming table) (λ next allows. allows_behind naming.before table next allows (here keeps next))
     where
-      here_found : (found : Option ℕ) (next : Table) → Fine (Tables next) (here_by pos spot found next)
-      here_found (Some index) next = made next (same next.symbols)
-      here_found None next = named_change_stand pos (λ map index. defined map index (definition.Label spot)) (here_name spot) next
-          (defined_stand (definition.Label spot) stands)
+      here_found : (found : Option ℕ) (next : Table) → index_of (here_name spot) (names next.symbols.symbols) ≡ found → Fine (Tables next) (here_by pos spot found next)
+      here_found (Some index) next is = made next (same next.symbols)
+      here_found None next is = place_stand pos spot next stands is
 
       here : (keeps : Bool) (next : Table) → Fine (Tables next) (name_here pos spot keeps next)
       here false next = made next (same next.symbols)
-      here true next = here_found (index_of (here_name spot) (names next.symbols.symbols)) next
+      here true next = here_found (index_of (here_name spot) (names next.symbols.symbols)) next refl
 
   pub file_stand : (name : Name) (table : Table) → Fine (Tables table) (file_named name table)
   unfolding with_file

@@ -16,3 +16,4 @@ pub mod Instructions
 pub mod CodePlaces
 pub mod JumpPlaces
 pub mod SymbolPlaces
+pub mod ProcedurePlaces

@@ -1,10 +1,14 @@
 -- Symbols that have a place, the sections in which they stand, and the symbols that forms name.
-use Rattle.std.specs.Prelude.{◌≡◌, ℕ, ◌≤◌, ◌<◌, List, [], ◌∷◌, All, Some, length, slice_get}
+use Rattle.std.specs.Prelude.{◌≡◌, ℕ, ◌≤◌, ◌<◌, ◌⊎◌, List, [], ◌∷◌, All, Option, None, Some, length, slice_get}
 use Rattle.asm_expr.specs.declared.forms.Term.{Term}
+use Rattle.asm_expr.specs.declared.naming.Name.{Name}
+use Rattle.asm_expr.specs.declared.naming.Name.TheVariants as naming
 use Rattle.asm_frags.specs.Writing.{LooseSection}
+use Rattle.asm_symbols.specs.declared.entries.Binding.{Binding}
 use Rattle.asm_symbols.specs.declared.entries.Meaning.{Meaning}
 use Rattle.asm_symbols.specs.declared.entries.Meaning.TheVariants.{Undefined, Label, Common, Space, Assigned}
 use Rattle.asm_symbols.specs.declared.entries.Symbol.{Symbol}
+use Rattle.asm_uses.specs.Places.{here_name}
 use Rattle.cfi_directives.specs.declared.frames.Frame.{Frame}
 use Rattle.cfi_directives.specs.Meant.{stop_of}
 use Rattle.cfi_directives.specs.Procedures.{frames_of}
@@ -30,9 +34,27 @@ MeaningStands sections last (Common size align) = Unit {0}
 MeaningStands sections last (Space spot) = HasItems sections spot.section spot.item
 MeaningStands sections last (Assigned form) = AreUpTo last form.terms
 
--- each symbol that has a place stands so, and forms name symbols that are there, or the next one
+-- a name that statements give: a text, or a numeric label
+abbrev pub IsGiven : Name → Type 0
+IsGiven (naming.Plain text) = Unit {0}
+IsGiven (naming.Numeric number instance) = Unit {0}
+IsGiven (naming.Place section item offset) = ⊥
+
+-- what is bound so, and is this, has a name that statements give; only a label may have the name of a place, which is its own, and is local then
+abbrev pub NameStands : Name → Option Binding → Meaning → Type 0
+NameStands name binding Undefined = IsGiven name
+NameStands name binding (Label spot) = IsGiven name ⊎ ((name ≡ here_name spot) × (binding ≡ None))
+NameStands name binding (Common size align) = IsGiven name
+NameStands name binding (Space spot) = IsGiven name
+NameStands name binding (Assigned form) = IsGiven name
+
+-- what the symbol is stands so, and so does its name
+abbrev pub SymbolStands : List LooseSection → ℕ → Symbol → Type 0
+SymbolStands sections last symbol = MeaningStands sections last symbol.meaning × NameStands symbol.name symbol.binding symbol.meaning
+
+-- each symbol that has a place stands so, forms name symbols that are there, or the next one, and a symbol with the name of a place is a local label there
 abbrev pub SymbolsStand : List LooseSection → List Symbol → Type 0
-SymbolsStand sections symbols = All (λ symbol. MeaningStands sections (length symbols) symbol.meaning) symbols
+SymbolsStand sections symbols = All (SymbolStands sections (length symbols)) symbols
 
 -- each place of a procedure stands in its section, behind some of its items
 pub record ProcedureStands (sections : List LooseSection) (frame : Frame) : Type 0 where
@@ -41,7 +63,8 @@ pub record ProcedureStands (sections : List LooseSection) (frame : Frame) : Type
   pub ops : All (λ placed. HasItems sections frame.section placed.place.item) frame.ops
 
 -- the sections are there that statements put into or come back to, and so are the first three; each symbol that has a place stands in its section,
--- forms name symbols that are there, or the next one, and the places of procedures stand in their sections
+-- forms name symbols that are there, or the next one, a symbol with the name of a place is a local label there, and the places of procedures stand in their
+-- sections
 pub record PlacesStand (placed : Placed) : Type 0 where
   pub current : HasItems placed.sections placed.current 0
   pub previous : HasItems placed.sections placed.previous 0

@@ -14,6 +14,7 @@ ghost use Rattle.asm_place.specs.Faults.{is_file_too_large};
 ghost use Rattle.att_insns.specs.InsnTexts.{InsnText};
 ghost use Rattle.asm_place.specs.CodePlaces.{insn_written, insn_in, is_instruction, BeginsAsInstruction, IsInsnPut, InsnStands, jump_in};
 ghost use Rattle.asm_place.specs.SymbolPlaces.{AreUpTo, PlacesStand};
+ghost use Rattle.asm_place.specs.ProcedurePlaces.{StandInOrder};
 ghost use Rattle.asm_place.specs.JumpPlaces.{IsJump, IsJumpPut, JumpStands, jump_written};
 ghost use Rattle.item_bytes.specs.Jumps.{jump_bytes, jump_distance};
 ghost use Rattle.x86_table.specs.Reads.{Reads};
@@ -21,6 +22,7 @@ ghost use Rattle.item_bytes.specs.declared.jumps.Condition.{Condition as TheCond
 ghost use Rattle.asm_place.specs.Instructions.{behind_labels, instruction_written, instruction_of, next_item, next_offset, Grows, AreWithin, IsPut, StandsAt};
 
 use asm_frames::frame_directives_keep_all_else;
+use cfi_directives::{places_never_fall, procedures_are_sound};
 use jump_codes::{conditions_are_numbered, jump_codes_read};
 use x86_encode::encodings_are_codes;
 use x86_lookup::bare_codes_read;
@@ -153,8 +155,10 @@ pub fn jumps_read()
 }
 
 /// Each symbol that has a place, and each place of a procedure, stands in a section that is there, and the forms of
-/// assigned symbols name symbols that are there, or the next one: so it is at the beginning, and placing keeps it so. There
-/// are at most 2^24 symbols. The target of a direct jump names symbols that are there in the end, or the next one.
+/// assigned symbols name symbols that are there, or the next one. A symbol is named by a text or a numeric label, but for
+/// the label of a place that a form keeps as `.`, which has the name of that place. So it is at the beginning, and placing
+/// keeps it so. There are at most 2^24 symbols. The target of a direct jump names symbols that are there in the end, or the
+/// next one.
 pub fn places_stand()
     ensures begins { (no_warn : Bool) → PlacesStand (nothing_placed no_warn) }
     ensures kept { (statements : List TokenStatement) (before placed : Placed)
@@ -169,4 +173,18 @@ pub fn places_stand()
         → AreUpTo (length whole.table.symbols.symbols) jump.forms.displacement.terms }
 {
     frame_directives_keep_all_else();
+}
+
+/// Of the procedures of frame tables that all statements place, those that have ended are whole, and the
+/// open one is sound; their places never fall, and each of them stands inside the section of its
+/// procedure.
+pub fn procedures_stand_in_order()
+    ensures { (statements : List TokenStatement) (no_warn : Bool) (placed : Placed)
+        → place_all statements (nothing_placed no_warn) ≡ Ok placed
+        → StandInOrder placed.sections placed.procedures }
+{
+    frame_directives_keep_all_else();
+    places_stand();
+    procedures_are_sound();
+    places_never_fall();
 }

@@ -1,0 +1,129 @@
+-- What is put into sections, and which are entered: sections are only added to.
+use Rattle.std.proofs.Common.{◌≡◌, ℕ, Bool, true, false, cond, List, [], ◌∷◌, ◌++◌, length, Option, None, Some, Result, Ok, Err, refl, slice_get}
+use Rattle.std.specs.Prelude.{◌&&◌, ◌^◌, nat_lt, not}
+use Rattle.std.specs.List.{list_all}
+use Rattle.asm_operands.specs.declared.place_faults.PlaceCause.TheVariants.{BadSection}
+use Rattle.asm_base.specs.declared.positions.Pos.{Pos}
+use Rattle.asm_base.specs.Tokens.{SpelledToken}
+use Rattle.asm_expr.specs.Forms.{Form}
+use Rattle.item_contents.specs.declared.contents.Content.{Content}
+use Rattle.asm_frags.specs.declared.faults.FragCause.{FragCause}
+use Rattle.asm_frags.specs.declared.fields.FieldSize.{FieldSize}
+use Rattle.asm_frags.specs.declared.faults.FragCause.TheVariants as frag
+use Rattle.asm_frags.specs.SectionOf.{new_section, is_alike, section_number}
+use Rattle.item_contents.specs.Zeros.{is_zero}
+use Rattle.item_contents.specs.Contents.{is_known_zeros}
+use Rattle.asm_frags.specs.declared.roles.FieldRole.{FieldRole}
+use Rattle.asm_frags.specs.declared.roles.Suffix.{Suffix}
+use Rattle.item_contents.specs.declared.kinds.Growth.{Growth}
+use Rattle.asm_frags.specs.Writing.{LooseSection, new_item, takes_zeros_alone, with_item, with_bytes, with_field, with_growing, bytes_put, field_put, item_put, growing_put}
+use Rattle.asm_frags.specs.Sections.{section_flags, entered_there, entered_by, with_section_or_fault, put_into_there}
+use Rattle.asm_place.specs.declared.section_changes.Header.{Header}
+use Rattle.asm_values.specs.declared.stacks.Entered.{Entered}
+use Rattle.asm_operands.specs.LayerFaults.{of_sections}
+use Rattle.asm_operands.specs.Operands.{operands_of}
+use Rattle.asm_values.specs.State.{Placed, with_table, with_names, known_here, put_section, put_bytes_into, put_field_into, put_growing_into, push_into}
+use Rattle.asm_words.specs.SectionWords.{SectionWords, section_words}
+use Rattle.asm_place.specs.SectionChanges.{with_current, option_trees, numbered, entered_as, enter_words, place_section, entered_now, place_pushed, back_to, popped, entry_size_in, header_by}
+use Rattle.asm_place.proofs.GrowthLemmas.{Adds, IsAdded, adds_nothing, adds_to, adds_section, item_added, bytes_added, field_added, growing_added}
+use Rattle.asm_uses.specs.Tables.{naming_of, allowed}
+use Rattle.asm_place.proofs.Walks.{Fine, made, refused, step, after, either}
+use Rattle.asm_place.proofs.ProcedureSteps.{Steps, leads_by, still, grown}
+
+-- something is put into a section
+module _ (put : LooseSection → Result LooseSection FragCause) (puts : (section : LooseSection) → Fine (IsAdded section) (put section)) where
+  put_adds : (sections : List LooseSection) (number : ℕ) (section : LooseSection) (new : Result LooseSection FragCause) → slice_get sections number ≡ Some section
+      → Fine (IsAdded section) new → Fine (Adds sections) (of_sections (with_section_or_fault sections number new))
+  put_adds sections number section (Ok new) there added = made _ (adds_to sections number section new there added.holds)
+  put_adds sections number section (Err fault) there added = refused _
+
+  pub there_adds : (sections : List LooseSection) (number : ℕ) (found : Option LooseSection) → slice_get sections number ≡ found
+      → Fine (Adds sections) (of_sections (put_into_there put sections number found))
+  there_adds sections number None there = refused _
+  there_adds sections number (Some section) there = put_adds sections number section (put section) there (puts section)
+
+  put_steps : (number : ℕ) (placed : Placed) → Steps placed (put_section put number placed)
+  put_steps number placed =
+      step (there_adds placed.sections number (slice_get placed.sections number) refl)
+      (λ sections adds. made (record placed { sections = sections }) (leads_by placed.sections sections placed.procedures adds))
+
+pub bytes_steps : (pos : Pos) (number : ℕ) (bytes : List ℕ) (placed : Placed) → Steps placed (put_bytes_into pos number bytes placed)
+unfolding put_bytes_into
+bytes_steps pos number bytes placed =
+    put_steps (bytes_put pos bytes)
+    (λ section. either (takes_zeros_alone section && not (list_all is_zero bytes)) (refused _) (made (with_bytes pos bytes section) (bytes_added pos bytes section)))
+    number placed
+
+pub field_steps : (pos : Pos) (number : ℕ) (size : FieldSize) (role : FieldRole) (form : Form) (placed : Placed) → Steps placed (put_field_into pos number size role form placed)
+unfolding put_field_into
+field_steps pos number size role form placed =
+    put_steps (field_put pos number size role form)
+    (λ section. either (takes_zeros_alone section) (refused _)
+    (made (with_field pos number size role form section) (field_added pos number size role form section))) number placed
+
+pub push_steps : (pos : Pos) (number : ℕ) (item : Content) (placed : Placed) → Steps placed (push_into pos number item placed)
+unfolding push_into
+push_steps pos number item placed =
+    put_steps (item_put (new_item pos item))
+    (λ section. either (takes_zeros_alone section && not (is_known_zeros item)) (refused _)
+    (made (with_item (new_item pos item) section) (item_added (new_item pos item) section))) number placed
+
+pub growing_steps : (pos : Pos) (number : ℕ) (kind : Growth) (suffix : Suffix) (form : Form) (placed : Placed)
+    → Steps placed (put_growing_into pos number kind suffix form placed)
+unfolding put_growing_into
+growing_steps pos number kind suffix form placed =
+    put_steps (growing_put pos number kind suffix form)
+    (λ section. either (takes_zeros_alone section) (refused _)
+    (made (with_growing pos number kind suffix form section) (growing_added pos number kind suffix form section))) number placed
+
+-- a section that is entered
+new_adds : (sections : List LooseSection) (name : List ℕ) (header : Header) (test : Bool) → let new = new_section name (section_flags header.flags) header.kind header.entry_size in
+    Fine (λ pair. Adds sections pair.0) (numbered (cond test (Ok (length sections, sections ++ new ∷ [])) (Err frag.BadSection)))
+new_adds sections name header true = made _ (adds_section sections (new_section name (section_flags header.flags) header.kind header.entry_size) refl refl)
+new_adds sections name header false = refused _
+
+alike_adds : (sections : List LooseSection) (number : ℕ) (test : Bool)
+    → Fine (λ pair. Adds sections pair.0) (numbered (cond test (Ok (number, sections)) (Err frag.BadSection)))
+alike_adds sections number true = made _ (adds_nothing sections)
+alike_adds sections number false = refused _
+
+known_adds : (sections : List LooseSection) (number : ℕ) (found : Option LooseSection) (header : Header)
+    → Fine (λ pair. Adds sections pair.0) (numbered (entered_there sections number found (section_flags header.flags) header.kind header.entry_size))
+known_adds sections number None header = refused _
+known_adds sections number (Some section) header = alike_adds sections number (is_alike section (section_flags header.flags) header.kind header.entry_size)
+
+by_adds : (sections : List LooseSection) (number : Option ℕ) (name : List ℕ) (header : Header)
+    → Fine (λ pair. Adds sections pair.0) (numbered (entered_by sections number name (section_flags header.flags) header.kind header.entry_size))
+by_adds sections None name header = new_adds sections name header (nat_lt (length sections) 30003)
+by_adds sections (Some number) name header = known_adds sections number (slice_get sections number) header
+
+pub entered_adds : (sections : List LooseSection) (name : List ℕ) (header : Header) → Fine (λ pair. Adds sections pair.0) (entered_as sections name header)
+unfolding entered_as
+entered_adds sections name header = either (nat_lt (2 ^ 16) (length name)) (refused BadSection) (by_adds sections (section_number name sections) name header)
+
+enter_steps : (pos : Pos) (words : SectionWords) (placed : Placed) → Steps placed (enter_words pos words placed)
+unfolding enter_words
+enter_steps pos words placed =
+    let trees = option_trees words.entry_size in
+    let named = with_names pos trees placed in
+    after (entry_size_in (known_here named) words.entry_size)
+    (λ size. after (header_by placed.sections words size) (λ header. step (entered_adds placed.sections words.name header)
+    (λ pair adds. after (allowed (naming_of trees placed.table) named.table)
+    (λ table. made (with_table (with_current pair.1 (record named { sections = pair.0 })) table) (leads_by placed.sections pair.0 placed.procedures adds)))))
+
+pub section_steps : (pos : Pos) (tokens : List SpelledToken) (placed : Placed) → Steps placed (place_section pos tokens placed)
+unfolding place_section
+section_steps pos tokens placed = after (section_words (operands_of tokens)) (λ words. enter_steps pos words placed)
+
+pub pushed_steps : (pos : Pos) (tokens : List SpelledToken) (placed : Placed) → Steps placed (place_pushed pos tokens placed)
+unfolding place_pushed
+pushed_steps pos tokens placed =
+    grown placed (section_steps pos tokens placed) (λ entered. made (record entered { stack = entered.stack ++ entered_now placed ∷ [] }) (still entered))
+
+back_steps : (entered : Option Entered) (placed : Placed) → Steps placed (back_to entered placed)
+back_steps None placed = refused _
+back_steps (Some entered) placed = made _ (still placed)
+
+pub popped_steps : (placed : Placed) → Steps placed (popped placed)
+unfolding popped
+popped_steps placed = back_steps _ placed
