@@ -14,7 +14,6 @@ use Rattle.asm_frags.specs.PlainBytes.{field_end, IsBeside, FieldsStand}
 use Rattle.asm_frags.specs.SectionOf.{SectionOf}
 use Rattle.asm_frags.specs.Substituting.{substituted_field}
 use Rattle.asm_frags.specs.Writing.{LooseSection}
-use Rattle.asm_expr.specs.Forms.{Form}
 use Rattle.assigned_forms.specs.Expanding.{expanded}
 use Rattle.asm_relax.specs.Settling.{LaidItem, LaidSections, layout_of}
 use Rattle.elf_file.specs.Places.{PieceAt}
@@ -26,7 +25,7 @@ use Rattle.asm_place.proofs.CodeParts.{slice_long, apart_inside, apart_before}
 use Rattle.asm_front.specs.ReadsBack.{file_place, final_value}
 use Rattle.asm_front.proofs.CodeValues.{low_length}
 use Rattle.asm_front.proofs.HeldFields.{field_held}
-use Rattle.asm_front.proofs.LaidItems.{AreSettled, kept_section, section_kept, laid_stays, laid_sized, first_kept, others_kept, beside_kept}
+use Rattle.frame_laws.proofs.LaidItems.{AreSettled, kept_section, section_kept, laid_stays, laid_sized, first_kept, others_kept, beside_kept, stand_kept}
 
 -- a piece, and one that begins where it ends, are one
 pieces_join : (bytes one other : List ℕ) (at : ℕ) → PieceAt bytes at one → PieceAt bytes (at + length one) other → PieceAt bytes at (one ++ other)
@@ -55,13 +54,6 @@ middle front bytes more at long =
 get_behind : {X : Type 0} (xs : List X) (x : X) (ys : List X) → slice_get (xs ++ (x ∷ ys)) (length xs) ≡ Some x
 get_behind [] x ys = refl
 get_behind (y ∷ xs) x ys = get_behind xs x ys
-
--- fields keep their places, over the same bytes
-stand_kept : (substitute : Form → Form) (bytes : List ℕ) (from : ℕ) (fields : List Field) → FieldsStand bytes from fields
-    → FieldsStand bytes from (map (substituted_field substitute) fields)
-stand_kept substitute bytes from [] stand = tt
-stand_kept substitute bytes from (field ∷ fields) stand =
-    (stand.0, record { within = stand.1.within; zeros = stand.1.zeros }, stand_kept substitute bytes (field_end field) fields stand.2)
 
 module _ (settled : AreSettled) (symbols : SymbolMap) (sections : List LooseSection) (laid : LaidSections) (n item offset : ℕ) (pos : Pos) (code : List ℕ) (all : List FieldInCode)
     (is : layout_of symbols sections ≡ Ok laid) (stands : CodeStandsAt sections n item offset pos code all)

@@ -26,7 +26,8 @@ use Rattle.asm_front.proofs.CodeReads.{code_reads}
 use Rattle.asm_front.proofs.FramedSections.{TableFacts, is_framed, code_stays}
 use Rattle.asm_front.proofs.PlacedItems.{PlaceFacts, code_items}
 use Rattle.asm_front.proofs.JumpsInObject.{JumpFacts, jumps_read_back}
-use Rattle.asm_front.proofs.LaidItems.{AreSettled, section_kept}
+use Rattle.frame_laws.proofs.LaidItems.{AreSettled, section_kept}
+use Rattle.asm_front.proofs.FramesInObject.{FrameFacts, frames_read_back}
 use Rattle.asm_front.proofs.ObjectReads.{Makes, bare_read_back, assembly_is}
 
 -- what stands in the image begins what stands from its place on in the object
@@ -70,11 +71,11 @@ codes_read_back settled one_way fills notes table facts flags handed made e befo
     }
 
 -- each instruction that is handed out reads back
-pub reads_back : AreSettled → ReadsOneWay → BareCodesRead → EncodingsFill → EncodingsNote → TableFacts → PlaceFacts → JumpFacts → (flags : Flags) (handed : List TokenStatement)
-    (made : NotedObject) → Makes flags handed made
-    → ReadsBack flags handed made.object
-reads_back settled one_way read fills notes table facts jumps flags handed made e = record {
+pub reads_back : AreSettled → ReadsOneWay → BareCodesRead → EncodingsFill → EncodingsNote → TableFacts → PlaceFacts → JumpFacts → FrameFacts → (flags : Flags)
+    (handed : List TokenStatement) (made : NotedObject) → Makes flags handed made → ReadsBack flags handed made.object
+reads_back settled one_way read fills notes table facts jumps frames flags handed made e = record {
   bare = bare_read_back settled one_way read table facts flags handed made e;
   coded = codes_read_back settled one_way fills notes table facts flags handed made e;
   jumps = jumps_read_back settled one_way table facts jumps flags handed made e;
+  frames = frames_read_back settled table facts jumps frames flags handed made e;
 }

@@ -28,7 +28,7 @@ use Rattle.asm_place.proofs.CodeParts.{apart_before}
 use Rattle.asm_place.proofs.GrowthLemmas.{get_append}
 use Rattle.asm_place.proofs.InstructionLaws.{run_items}
 use Rattle.asm_front.specs.Ending.{framed}
-use Rattle.asm_front.proofs.JumpFields.{inside}
+use Rattle.frame_laws.proofs.LaidItems.{inside}
 
 -- what is known of frame tables: all that was in the sections stays, and the places of their labels stand
 pub record TableFacts : Type 0 where

@@ -1,5 +1,5 @@
 -- Symbols stand in the sections with the frame table, and those that it brings are labels.
-use Rattle.std.proofs.Common.{◌≡◌, ℕ, zero, suc, ◌+◌, ◌<◌, List, [], ◌∷◌, ◌++◌, All, Some, Ok, length, sym, ap, ◌∙◌, subst, arith, append-nil, length-append}
+use Rattle.std.proofs.Common.{◌≡◌, ℕ, zero, suc, ◌<◌, List, [], ◌∷◌, ◌++◌, All, Some, Ok, length, sym, ap, ◌∙◌, subst, arith, append-nil, length-append}
 use Rattle.std.proofs.lemmas.List.Elements.{All-nil, All-head, All-tail, All-append, All-weaker}
 use Rattle.std.proofs.lemmas.Option.{none-some}
 use Rattle.asm_expr.specs.Forms.{Form}
@@ -24,10 +24,10 @@ use Rattle.asm_front.proofs.JumpFields.{StandUpTo}
 
 -- THE PLACES OF PROCEDURES
 
-holds_items : (sections : List LooseSection) (number items : ℕ) → HasItems sections number items → HoldsItems sections number items
+pub holds_items : (sections : List LooseSection) (number items : ℕ) → HasItems sections number items → HoldsItems sections number items
 holds_items sections number items has = record { held = has.section; there = has.there; enough = has.enough }
 
-frame_stands : (sections : List LooseSection) (frame : Frame) → ProcedureStands sections frame → FrameStands sections frame
+pub frame_stands : (sections : List LooseSection) (frame : Frame) → ProcedureStands sections frame → FrameStands sections frame
 frame_stands sections frame stands = record {
   start = holds_items sections frame.section frame.start.item stands.start;
   stop = holds_items sections frame.section _ stands.stop;

@@ -18,7 +18,7 @@ use Rattle.asm_relax.specs.RangeChecks.{large_section, section_back, misfit, fie
 use Rattle.asm_relax.specs.Settling.{LaidItem, LooseSections, LaidSections, planned, unless, settled_sections, layout_of}
 use Rattle.asm_front.specs.ReadsBack.{final_value}
 use Rattle.asm_front.proofs.CodeValues.{holds_zero}
-use Rattle.asm_front.proofs.LaidItems.{unless_is}
+use Rattle.frame_laws.proofs.LaidItems.{unless_is}
 
 -- no fault is answered
 unless_none : {A E : Type 0} (fault : Option E) (made answer : A) → unless fault made ≡ Ok answer → fault ≡ None

@@ -1,9 +1,8 @@
 -- The field of a jump stands in its item, and all symbols stand in the sections.
-use Rattle.std.proofs.Common.{◌≡◌, ℕ, zero, suc, ◌+◌, ◌-◌, ◌^◌, ◌<◌, Bool, true, false, cond, List, [], ◌∷◌, All, Option, Some, None, map, length, refl, ap, ◌∙◌, subst, arith}
+use Rattle.std.proofs.Common.{◌≡◌, ℕ, ◌+◌, ◌-◌, ◌^◌, ◌<◌, Bool, true, false, cond, List, [], ◌∷◌, All, Option, Some, None, map, length, refl, ap, ◌∙◌, subst, arith}
 use Rattle.std.specs.Prelude.{◌==◌, slice_get, option_map}
 use Rattle.std.specs.Option.{option_map_or}
 use Rattle.std.proofs.lemmas.List.{length-map}
-use Rattle.std.proofs.lemmas.List.Elements.{All-head, All-tail}
 use Rattle.std.proofs.lemmas.Option.{none-some, same_Some, slice_get-map}
 use Rattle.asm_base.specs.declared.positions.Pos.{Pos}
 use Rattle.asm_expr.specs.declared.forms.Term.{Term}
@@ -26,18 +25,7 @@ use Rattle.asm_relax.specs.Settling.{planned}
 use Rattle.asm_place.specs.Coding.{from_own_place}
 use Rattle.asm_place.specs.JumpPlaces.{JumpStandsAt}
 use Rattle.asm_place.specs.SymbolPlaces.{HasItems, MeaningStands}
-
--- what holds of all holds of the one that is there
-pub all_there : {X : Type 0} (P : X → Type 0) (xs : List X) (index : ℕ) (x : X) → slice_get xs index ≡ Some x → All P xs → P x
-all_there P [] index x there all = absurd (none-some x there)
-all_there P (y ∷ xs) zero x there all = subst P (same_Some y x there) (All-head P y xs all)
-all_there P (y ∷ xs) (suc index) x there all = all_there P xs index x there (All-tail P y xs all)
-
--- where there is an item of this index, there are more than that
-pub inside : {X : Type 0} (xs : List X) (index : ℕ) (x : X) → slice_get xs index ≡ Some x → index < length xs
-inside [] index x there = absurd (none-some x there)
-inside (y ∷ xs) zero x there = omega arith
-inside (y ∷ xs) (suc index) x there = let later = inside xs index x there in omega (arith, later)
+use Rattle.frame_laws.proofs.LaidItems.{all_there, inside}
 
 -- THE CONSTANT
 

@@ -1,9 +1,9 @@
 -- Direct jumps stand in the object, and read as the jumps that were written.
-use Rattle.std.proofs.Common.{◌≡◌, ℕ, zero, suc, ◌+◌, ◌-◌, ◌^◌, ◌<◌, ◌≤◌, inl, inr, not, nat_lt, nat_le, Bool, true, false, List, [], ◌∷◌, ◌++◌, Option, Some, None, Ok, map, drop, length, refl, sym, ap, ◌∙◌, subst, arith}
-use Rattle.std.specs.Prelude.{◌==◌, slice_get, slice_index, option_map, unwrap_or, IfSome}
+use Rattle.std.proofs.Common.{◌≡◌, ℕ, zero, suc, ◌+◌, ◌-◌, ◌^◌, ◌<◌, ◌≤◌, inl, inr, not, nat_lt, nat_le, Bool, true, false, List, ◌∷◌, ◌++◌, Option, Some, None, Ok, drop, length, refl, sym, ap, ◌∙◌, subst, arith}
+use Rattle.std.specs.Prelude.{◌==◌, slice_get, option_map, unwrap_or, IfSome}
 use Rattle.std.specs.Option.{option_map_or}
 use Rattle.std.proofs.lemmas.Bool.{or_cases, ltb-true, leb-true}
-use Rattle.std.proofs.lemmas.Option.{none-some, same_Some, slice_get-map}
+use Rattle.std.proofs.lemmas.Option.{same_Some, slice_get-map}
 use Rattle.asm_base.specs.declared.positions.Pos.{Pos}
 use Rattle.asm_base.specs.Refusals.{◌>>=◌}
 use Rattle.asm_lines.specs.NextStatements.{TokenStatement}
@@ -29,7 +29,6 @@ use Rattle.assigned_forms.specs.Expanding.{expanded}
 use Rattle.asm_relax.specs.FieldValues.{held_value}
 use Rattle.asm_relax.specs.ItemRows.{rows_of, levels_of}
 use Rattle.asm_relax.specs.ItemValues.{AreLow, IsInItem, HasRoom}
-use Rattle.asm_relax.specs.Layout.{laid_from}
 use Rattle.asm_relax.specs.Placing.{placed_from, shift_of}
 use Rattle.asm_relax.specs.SettledRoom.{HasRoomFor, SettledHaveRoom}
 use Rattle.asm_relax.specs.Settling.{LaidItem, LaidSections, planned, settled_sections, layout_of}
@@ -60,7 +59,7 @@ use Rattle.asm_front.proofs.HeldFields.{field_held}
 use Rattle.asm_front.proofs.JumpFields.{stands_in_item, jump_constant}
 use Rattle.asm_front.proofs.LowLayouts.{layout_low}
 use Rattle.asm_front.proofs.OwnPlaces.{names_own_place}
-use Rattle.asm_front.proofs.LaidItems.{AreSettled, layout_is, kept_section, section_kept, laid_stays, laid_sized, first_kept}
+use Rattle.frame_laws.proofs.LaidItems.{AreSettled, layout_is, kept_section, section_kept, laid_stays, laid_sized, first_kept, item_kept}
 use Rattle.asm_front.proofs.ObjectReads.{Makes, reads_code, assembly_is, none_over}
 use Rattle.asm_front.proofs.SmallForms.{held_small, final_small}
 
@@ -89,15 +88,6 @@ pub record JumpFacts : Type 0 where
       → AreUpTo (length whole.table.symbols.symbols) jump.forms.displacement.terms
 
 -- THE ITEM
-
--- an item that is laid out keeps all but its address and its size
-item_kept : (items : List LooseItem) (shifts : List ℕ) (index : ℕ) (item : LooseItem) → slice_get items index ≡ Some item
-    → (address : ℕ) × (size : ℕ) × (slice_get (laid_from shifts (map laid_item items)) index ≡ Some (item_laid_at address size (laid_item item)))
-item_kept [] shifts index item there = absurd (none-some item there)
-item_kept (one ∷ items) shifts zero item there =
-    let same : one ≡ item = same_Some one item there in
-    ((laid_item one).offset + slice_index shifts 0, slice_index shifts 1 - slice_index shifts 0, rw same refl)
-item_kept (one ∷ items) shifts (suc index) item there = item_kept items (drop 1 shifts) index item there
 
 module _ (settled : AreSettled) (facts : JumpFacts) (symbols : SymbolMap) (sections : List LooseSection) (laid : LaidSections) (n item offset : ℕ) (pos : Pos)
     (condition : Option Condition) (field : Field) (is : layout_of symbols sections ≡ Ok laid) (stands : JumpStandsAt sections n item offset pos condition field)

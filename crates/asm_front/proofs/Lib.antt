@@ -1,5 +1,4 @@
 -- The proofs of this crate.
-pub mod LaidItems
 pub mod ObjectReads
 pub mod FaultLaws
 pub mod ToldFiles
@@ -21,5 +20,7 @@ pub mod FramedSections
 pub mod PlacedItems
 pub mod FramedSymbols
 pub mod JumpsInObject
+pub mod SmallSections
+pub mod FramesInObject
 pub mod CodesInObject
 pub mod HandedStatements

@@ -39,7 +39,7 @@ none_found (section ∷ sections) none = by (is_over section) refl (none_found s
     by true is later told = absurd cc
     by false is later told = All-cons IsSmall section sections (record { size = ltb-false (2 ^ 30) (whole_size section) is }) (later told)
 
-all_small : (sections : LaidSections) → first_over sections ≡ None → All IsSmall sections
+pub all_small : (sections : LaidSections) → first_over sections ≡ None → All IsSmall sections
 all_small sections none = by (find is_over sections) refl none
   where
     by : (found : Option (SectionOf LaidItem)) → find is_over sections ≡ found → option_map last_place found ≡ None → All IsSmall sections

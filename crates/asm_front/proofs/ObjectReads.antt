@@ -37,7 +37,7 @@ use Rattle.asm_front.specs.declared.ending.NotedObject.{NotedObject}
 use Rattle.asm_front.specs.ReadsBack.{ReadsAt, file_place, BareReadBack}
 use Rattle.asm_front.proofs.FramedSections.{TableFacts, is_framed, bytes_stay}
 use Rattle.asm_front.proofs.PlacedItems.{PlaceFacts, bare_items}
-use Rattle.asm_front.proofs.LaidItems.{AreSettled, kept_section, section_kept, laid_stays, laid_sized, first_kept, others_kept, beside_kept}
+use Rattle.frame_laws.proofs.LaidItems.{AreSettled, kept_section, section_kept, laid_stays, laid_sized, first_kept, others_kept, beside_kept}
 
 -- plain bytes that stand in a section stand in the object at their place
 pub object_stands : AreSettled → (symbols : SymbolMap) (sections : List LooseSection) (laid : LaidSections) (n item offset : ℕ) (bytes : List ℕ) → layout_of symbols sections ≡ Ok laid

@@ -19,7 +19,8 @@ use Rattle.assigned_forms.specs.Expanding.{form_or_symbol, replacement, plus_ter
 use Rattle.asm_relax.specs.ItemValues.{NamesOwnPlace}
 use Rattle.asm_place.specs.Coding.{from_own_place}
 use Rattle.asm_place.specs.SymbolPlaces.{AreUpTo, MeaningStands}
-use Rattle.asm_front.proofs.JumpFields.{all_there, StandUpTo}
+use Rattle.frame_laws.proofs.LaidItems.{all_there}
+use Rattle.asm_front.proofs.JumpFields.{StandUpTo}
 
 -- A SUM WITH A FACTOR
 

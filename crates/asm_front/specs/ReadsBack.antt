@@ -1,4 +1,4 @@
--- The bytes of an object at the place of each instruction, read as instructions.
+-- The bytes of an object, read back: the instructions at their places, and the frame table.
 use Rattle.std.specs.Prelude.{ℕ, ◌+◌, ◌≡◌, ◌==◌, Bool, false, List, ◌∷◌, ◌++◌, drop, length, Option, None, Some, unwrap_or, Result, Ok, Err, slice_get}
 use Rattle.std.specs.Option.{option_map_or}
 use Rattle.asm_base.specs.Inputs.{Contents}
@@ -20,7 +20,10 @@ use Rattle.x86_encode.specs.Codes.{meant}
 use Rattle.x86_encode.specs.Filling.{Coding, filled, valued, ReadsAs}
 use Rattle.att_insns.specs.InsnTexts.{InsnText}
 use Rattle.x86_lookup.specs.BareInstructions.{Coded}
+use Rattle.cfi_directives.specs.declared.frames.Frame.{Frame}
+use Rattle.cfi_directives.specs.Procedures.{frames_of}
 use Rattle.eh_frame.specs.Pieces.{Tables}
+use Rattle.frame_laws.specs.TableReads.{TableReads}
 use Rattle.asm_values.specs.State.{Placed, nothing_placed}
 use Rattle.asm_place.specs.Coding.{view_in, shape_in, values_in, displacement_field, immediate_field}
 use Rattle.asm_place.specs.CodePlaces.{FieldInCode, ValueForms, insn_in, jump_in, IsCoded, field_in}
@@ -158,11 +161,22 @@ JumpsReadBack flags handed object =
     → insn_in placed.syntax s ≡ Some text → jump_in text ≡ Some condition → has_no_bits laid placed.current ≡ false
     → JumpReadsBack object tables.symbols laid s text placed
 
--- each instruction that is handed out reads back in the object, where its section has bytes in the file
+-- FRAME TABLES
+
+-- where there are procedures, the CIE stands in `.eh_frame` in the object, and behind it the FDE of each, which at each distance from the procedure's beginning
+-- gives the row that its directives mean, and none from its end on
+abbrev pub FramesReadBack : Flags → List TokenStatement → List ℕ → Type 0
+FramesReadBack flags handed object =
+    (frame : Frame) (frames : List Frame) (whole : Placed) (tables : Tables) (laid : LaidSections) → place_all handed (nothing_placed flags.no_warn) ≡ Ok whole
+    → frames_of whole.procedures ≡ frame ∷ frames → framed whole ≡ Ok tables → layout_of tables.symbols tables.sections ≡ Ok laid
+    → TableReads object tables.symbols laid (frame ∷ frames)
+
+-- each instruction that is handed out reads back in the object, where its section has bytes in the file, and so does the frame table of all procedures
 pub record ReadsBack (flags : Flags) (handed : List TokenStatement) (object : List ℕ) : Type 0 where
   pub bare : BareReadBack flags handed object
   pub coded : CodesReadBack flags handed object
   pub jumps : JumpsReadBack flags handed object
+  pub frames : FramesReadBack flags handed object
 
 -- ANSWERS
 

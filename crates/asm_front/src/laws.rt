@@ -18,11 +18,12 @@ use crate::placers::SourcePlacer;
 use asm_macro::handed_statements_are_placed;
 use asm_place::{
     encoding_items, encoding_stands, instruction_items, instruction_stands, jump_items, jumps_read,
-    places_stand, placing_grows, placing_in_order, placing_within,
+    places_stand, placing_grows, placing_in_order, placing_within, procedures_stand_in_order,
 };
 use asm_relax::{settled_by_the_ranking, settled_is_placed, settled_items_have_room, sizes_add_up};
 use eh_frame::{labels_stand, pieces_are_found};
 use elf_object::{bytes_stand, items_stand, values_stand};
+use frame_laws::frame_tables_read;
 use item_bytes::jump_reads_back;
 use x86_encode::encodings_are_codes;
 use x86_lookup::bare_codes_read;
@@ -44,7 +45,8 @@ pub fn told_files_are_known()
 
 /// Each instruction that the expansion of a source hands out stands in the object, where the statements before it end, as bytes that
 /// read as it, with the values that its fields have there, and as no other instruction. A direct jump, short or near,
-/// reads as the jump to its target.
+/// reads as the jump to its target. The frame table of the procedures stands in the object: at each place of a procedure its
+/// entry gives, by its bytes, the row that the procedure's directives mean there.
 pub fn written_reads_back()
     ensures { (flags : Flags) (contents : Contents) (name source : List ℕ) (made : NotedObject)
         (files : List (List ℕ)) → assembly_of flags contents name source ≡ assembled made files
@@ -74,4 +76,6 @@ pub fn written_reads_back()
     jump_items();
     jumps_read();
     jump_reads_back();
+    procedures_stand_in_order();
+    frame_tables_read();
 }

@@ -8,7 +8,8 @@ use Rattle.asm_front.specs.ReadsBack.{ReadsBack}
 use Rattle.asm_run.specs.Words.{Invocation}
 use Rattle.asm_run.specs.Outcome.{Outcome, usage, missing, refused, object, flags_by, file_outcome}
 
--- in an object the place of each instruction in a section with bytes in the file reads as the instruction that was handed out, and as no other
+-- in an object the place of each instruction in a section with bytes in the file reads as the instruction that was handed out, and as no other, and the
+-- frame table as the rows that directives mean
 abbrev pub OutcomeReadsBack : Flags → List TokenStatement → Outcome → Type 0
 OutcomeReadsBack flags handed usage = Unit {0}
 OutcomeReadsBack flags handed missing = Unit {0}

@@ -186,7 +186,8 @@ pub fn run<I: Inputs, O: Output, C: Console>(
         → command_of (map string_bytes words.now.items) ≡ None
         → (result ≡ Status.Usage) ⊎ (result ≡ Status.NoMemory) }
 
-    // In the object that the words stand for, each instruction's place reads as the instruction that was handed out, and as no other.
+    // In the object that the words stand for, each instruction's place reads as the instruction that was handed out, and as no other,
+    // and the frame table as the rows that directives mean.
     ensures reads_back { CommandReadsBack (command_of (map string_bytes words.now.items))
         (I.contents ins.old) }
 

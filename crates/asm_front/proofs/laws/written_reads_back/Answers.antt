@@ -1,8 +1,9 @@
 use Rattle.asm_front.proofs.CodesInObject.{reads_back}
 use Rattle.asm_front.proofs.FramedSections.{TableFacts}
+use Rattle.asm_front.proofs.FramesInObject.{FrameFacts}
 use Rattle.asm_front.proofs.HandedStatements.{handed_makes}
 use Rattle.asm_front.proofs.JumpsInObject.{JumpFacts}
-use Rattle.asm_front.proofs.LaidItems.{AreSettled}
+use Rattle.frame_laws.proofs.LaidItems.{AreSettled}
 use Rattle.asm_front.proofs.PlacedItems.{PlaceFacts}
 use Rattle.asm_front.proofs.laws.written_reads_back.Goals as goal
 
@@ -38,6 +39,7 @@ returns c flags contents name source made files is =
       few = c.places_stand.ensures.few;
       named = c.places_stand.ensures.named;
     } in
+    let frames : FrameFacts = record { read = c.frame_tables_read.ensures; ordered = c.procedures_stand_in_order.ensures } in
     reads_back settled c.read_one_way.ensures c.bare_codes_read.ensures.read c.encodings_are_codes.ensures.fields
-    c.encodings_are_codes.ensures.notes table placing jumps flags _ made
+    c.encodings_are_codes.ensures.notes table placing jumps frames flags _ made
     (handed_makes c.handed_statements_are_placed.ensures c.placing_in_order.ensures flags contents name source made files is)

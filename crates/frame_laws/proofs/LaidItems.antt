@@ -1,12 +1,12 @@
 -- What a layout keeps of a section: the offsets of its items, and where its fields stand.
-use Rattle.std.proofs.Common.{◌≡◌, ℕ, zero, suc, ◌+◌, ◌-◌, List, [], ◌∷◌, Option, Some, None, Ok, refl, sym, ap, subst, ◌∙◌}
+use Rattle.std.proofs.Common.{◌≡◌, ℕ, zero, suc, ◌+◌, ◌-◌, ◌<◌, List, [], ◌∷◌, Option, Some, None, Ok, length, refl, sym, ap, subst, ◌∙◌, arith}
 use Rattle.std.proofs.lemmas.List.Elements.{All-nil, All-cons, All-head, All-tail}
 use Rattle.std.specs.Prelude.{map, option_map, take, drop, slice_get, slice_index, All}
 use Rattle.std.proofs.lemmas.Option.{none-some, same_Some, slice_get-map, slice_get_within, get_or_from_slice_get}
 use Rattle.asm_expr.specs.Forms.{Form}
 use Rattle.asm_symbols.specs.SymbolMap.{SymbolMap}
 use Rattle.asm_frags.specs.declared.fields.Field.{Field}
-use Rattle.asm_frags.specs.PlainBytes.{IsBeside}
+use Rattle.asm_frags.specs.PlainBytes.{field_end, IsBeside, FieldsStand}
 use Rattle.asm_frags.specs.Writing.{LooseItem, LooseSection}
 use Rattle.asm_frags.specs.SectionOf.{SectionOf}
 use Rattle.asm_frags.specs.Addresses.{item_laid_at}
@@ -19,6 +19,18 @@ use Rattle.asm_relax.specs.Placing.{placed_section}
 use Rattle.assigned_forms.specs.Expanding.{expanded}
 use Rattle.elf_object.specs.Places.{BytesStand, ValuesStand}
 use Rattle.asm_relax.specs.Settling.{LaidItem, LooseSections, LaidSections, planned, unless, settled_sections, layout_of}
+
+-- what holds of all holds of the one that is there
+pub all_there : {X : Type 0} (P : X → Type 0) (xs : List X) (index : ℕ) (x : X) → slice_get xs index ≡ Some x → All P xs → P x
+all_there P [] index x there all = absurd (none-some x there)
+all_there P (y ∷ xs) zero x there all = subst P (same_Some y x there) (All-head P y xs all)
+all_there P (y ∷ xs) (suc index) x there all = all_there P xs index x there (All-tail P y xs all)
+
+-- where there is an item of this index, there are more than that
+pub inside : {X : Type 0} (xs : List X) (index : ℕ) (x : X) → slice_get xs index ≡ Some x → index < length xs
+inside [] index x there = absurd (none-some x there)
+inside (y ∷ xs) zero x there = omega arith
+inside (y ∷ xs) (suc index) x there = let later = inside xs index x there in omega (arith, later)
 
 -- what an answer without a fault holds
 pub unless_is : {A E : Type 0} (fault : Option E) (made answer : A) → unless fault made ≡ Ok answer → answer ≡ made
@@ -120,3 +132,19 @@ beside_kept substitute from to [] all = All-nil (IsBeside from to)
 beside_kept substitute from to (field ∷ fields) all =
     All-cons (IsBeside from to) (substituted_field substitute field) (map (substituted_field substitute) fields) (All-head (IsBeside from to) field fields all)
     (beside_kept substitute from to fields (All-tail (IsBeside from to) field fields all))
+
+-- over the same bytes
+pub stand_kept : (substitute : Form → Form) (bytes : List ℕ) (from : ℕ) (fields : List Field) → FieldsStand bytes from fields
+    → FieldsStand bytes from (map (substituted_field substitute) fields)
+stand_kept substitute bytes from [] stand = tt
+stand_kept substitute bytes from (field ∷ fields) stand =
+    (stand.0, record { within = stand.1.within; zeros = stand.1.zeros }, stand_kept substitute bytes (field_end field) fields stand.2)
+
+-- an item that is laid out keeps all but its address and its size
+pub item_kept : (items : List LooseItem) (shifts : List ℕ) (index : ℕ) (item : LooseItem) → slice_get items index ≡ Some item
+    → (address : ℕ) × (size : ℕ) × (slice_get (laid_from shifts (map laid_item items)) index ≡ Some (item_laid_at address size (laid_item item)))
+item_kept [] shifts index item there = absurd (none-some item there)
+item_kept (one ∷ items) shifts zero item there =
+    let same : one ≡ item = same_Some one item there in
+    ((laid_item one).offset + slice_index shifts 0, slice_index shifts 1 - slice_index shifts 0, rw same refl)
+item_kept (one ∷ items) shifts (suc index) item there = item_kept items (drop 1 shifts) index item there

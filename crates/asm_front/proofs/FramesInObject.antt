@@ -1,0 +1,137 @@
+-- The frame table of the procedures that statements place reads in their object.
+use Rattle.std.proofs.Common.{◌≡◌, ℕ, inl, inr, Bool, List, ◌∷◌, ◌++◌, All, Option, None, Some, Ok, Result, map, length, option_to_list, refl, sym, ap, ◌∙◌, subst, append-nil}
+use Rattle.std.specs.Prelude.{option_map}
+use Rattle.std.proofs.lemmas.List.Elements.{All-weaker}
+use Rattle.asm_base.specs.declared.notes.Noted.{Noted}
+use Rattle.asm_base.specs.declared.positions.Pos.{Pos}
+use Rattle.asm_expr.specs.declared.naming.Name.TheVariants as naming
+use Rattle.asm_lines.specs.NextStatements.{TokenStatement}
+use Rattle.asm_symbols.specs.declared.entries.Meaning.{Meaning}
+use Rattle.asm_symbols.specs.declared.entries.Meaning.TheVariants as meaning
+use Rattle.asm_symbols.specs.declared.entries.Meaning.TheVariants.{Label, Space}
+use Rattle.asm_symbols.specs.declared.entries.Symbol.{Symbol}
+use Rattle.asm_frags.specs.Writing.{LooseSection}
+use Rattle.asm_relax.specs.Placing.{placed_section}
+use Rattle.asm_relax.specs.Settling.{LaidSections, planned}
+use Rattle.elf_object.specs.Image.{image_of}
+use Rattle.asm_values.specs.State.{Placed, nothing_placed}
+use Rattle.asm_place.specs.declared.place_faults.FaultAt.{FaultAt}
+use Rattle.asm_place.specs.ProcedurePlaces.{StandInOrder}
+use Rattle.asm_place.specs.Sources.{place_all}
+use Rattle.asm_place.specs.SymbolPlaces.{IsGiven, MeaningStands, NameStands, SymbolStands, ProcedureStands, PlacesStand}
+use Rattle.cfi_directives.specs.declared.frames.Frame.{Frame}
+use Rattle.cfi_directives.specs.declared.places.SectionPlace.{SectionPlace}
+use Rattle.cfi_directives.specs.Procedures.{frames_of}
+use Rattle.eh_frame.specs.Labels.{IsLabelAt}
+use Rattle.eh_frame.specs.Marks.{place_name}
+use Rattle.eh_frame.specs.Pieces.{tables_of}
+use Rattle.eh_frame.specs.Placing.{placed}
+use Rattle.frame_laws.specs.PlacedTables.{IsCovered, SymbolHolds, AreReady}
+use Rattle.frame_laws.specs.TableReads.{TableReads, FrameTablesRead}
+use Rattle.frame_laws.proofs.LaidItems.{AreSettled, layout_is}
+use Rattle.asm_front.specs.Ending.{Flags, unclosed, first_line, framed, framed_end, unless_open, finished, first_over}
+use Rattle.asm_front.specs.declared.ending.NotedObject.{NotedObject}
+use Rattle.asm_front.specs.ReadsBack.{FramesReadBack}
+use Rattle.asm_front.proofs.FramedSections.{TableFacts, is_framed, tables_within}
+use Rattle.asm_front.proofs.FramedSymbols.{frame_stands, holds_items}
+use Rattle.asm_front.proofs.JumpsInObject.{JumpFacts}
+use Rattle.asm_front.proofs.LowLayouts.{all_small, layout_low}
+use Rattle.asm_front.proofs.ObjectReads.{Makes, assembly_is, none_over}
+use Rattle.asm_front.proofs.PlacedItems.{PlaceFacts}
+use Rattle.asm_front.proofs.SmallSections.{sections_small}
+
+-- what is known of frame tables in objects, and of the procedures that statements place
+pub record FrameFacts : Type 0 where
+  pub read : FrameTablesRead
+  pub ordered : (statements : List TokenStatement) (no_warn : Bool) (whole : Placed) → place_all statements (nothing_placed no_warn) ≡ Ok whole
+      → StandInOrder whole.sections whole.procedures
+
+-- THE PROCEDURES
+
+no_place : (place : Option Pos) (notes : List Noted) (answer : Result NotedObject FaultAt) (made : NotedObject) → unless_open place notes answer ≡ Ok made → place ≡ None
+no_place None notes answer made e = refl
+no_place (Some pos) notes answer made e = absurd cc
+
+none_begun : (begun : Option Frame) → option_map (λ (frame : Frame). frame.pos) begun ≡ None → begun ≡ None
+none_begun None is = refl
+none_begun (Some frame) is = absurd cc
+
+-- all procedures of an object have ended
+all_closed : (fatal : Bool) (whole : Placed) (made : NotedObject) → finished fatal whole.sections whole.table whole.procedures whole.notes ≡ Ok made
+    → frames_of whole.procedures ≡ whole.procedures.closed
+unfolding finished
+all_closed fatal whole made e =
+    let none = no_place (unclosed whole.procedures) whole.notes (framed_end fatal whole.table (first_line (frames_of whole.procedures)) whole.notes (framed whole)) made e in
+    ap (λ (begun : Option Frame). whole.procedures.closed ++ option_to_list begun) (none_begun whole.procedures.begun none) ∙ append-nil whole.procedures.closed
+
+-- each of them covers places of its section
+frames_covered : (whole : Placed) → PlacesStand whole → StandInOrder whole.sections whole.procedures → frames_of whole.procedures ≡ whole.procedures.closed
+    → All (IsCovered whole.sections) whole.procedures.closed
+frames_covered whole stands ordered closed = λ k default within. (
+    let inside = ordered.closed k default within in
+    record {
+      whole = ordered.sound.closed k default within;
+      order = ordered.order.closed k default within;
+      stands = frame_stands whole.sections _ (subst (All (ProcedureStands whole.sections)) closed stands.procedures k default within);
+      stop = record { held = inside.held; there = inside.there; items = inside.stop.enough; bytes = inside.stop.within };
+    })
+
+-- THE SYMBOLS
+
+-- a symbol that has the name of a place is a label there
+place_label : (symbol : Symbol) (meant : Meaning) → symbol.meaning ≡ meant → NameStands symbol.name symbol.binding meant → (at : SectionPlace)
+    → symbol.name ≡ place_name at → IsLabelAt at symbol
+place_label symbol meaning.Undefined means given at is = absurd (subst IsGiven is given)
+place_label symbol (meaning.Label spot) means (inl given) at is = absurd (subst IsGiven is given)
+place_label symbol (meaning.Label spot) means (inr (named, unbound)) at is =
+    let same : naming.Place spot.section spot.item spot.offset ≡ naming.Place at.section at.place.item at.place.offset = sym named ∙ is in
+    let section : spot.section ≡ at.section = cc in
+    let item : spot.item ≡ at.place.item = cc in
+    let offset : spot.offset ≡ at.place.offset = cc in
+    record { spot = spot; means = means; place = record { section = section; item = item; offset = offset }; unbound = unbound }
+place_label symbol (meaning.Common size align) means given at is = absurd (subst IsGiven is given)
+place_label symbol (meaning.Space spot) means given at is = absurd (subst IsGiven is given)
+place_label symbol (meaning.Assigned form) means given at is = absurd (subst IsGiven is given)
+
+means_hold : (sections : List LooseSection) (last : ℕ) (symbol : Symbol) → MeaningStands sections last symbol.meaning → SymbolHolds sections symbol
+means_hold sections last symbol stands spot (inl means) = holds_items sections spot.section spot.item (subst (MeaningStands sections last) means stands)
+means_hold sections last symbol stands spot (inr means) = holds_items sections spot.section spot.item (subst (MeaningStands sections last) means stands)
+
+-- what was placed is ready for a frame table
+placed_ready : TableFacts → PlaceFacts → JumpFacts → (statements : List TokenStatement) (no_warn : Bool) (whole : Placed)
+    → place_all statements (nothing_placed no_warn) ≡ Ok whole → AreReady (tables_of whole.table.symbols whole.sections)
+placed_ready table placing facts statements no_warn whole is =
+    let stands = facts.places statements (nothing_placed no_warn) whole is (facts.starts no_warn) in
+    let last = length whole.table.symbols.symbols in
+    record {
+      within = tables_within whole.sections (placing.within statements (nothing_placed no_warn) whole is (placing.begins no_warn));
+      few = facts.few statements no_warn whole is;
+      named = All-weaker (SymbolStands whole.sections last) (λ (symbol : Symbol). (at : SectionPlace) → symbol.name ≡ place_name at → IsLabelAt at symbol)
+          (λ symbol both. place_label symbol symbol.meaning refl both.1)
+          whole.table.symbols.symbols stands.symbols;
+      stand = All-weaker (SymbolStands whole.sections last) (SymbolHolds whole.sections) (λ symbol both. means_hold whole.sections last symbol both.0) whole.table.symbols.symbols stands.symbols;
+    }
+
+-- THE TABLE
+
+-- the frame table of an object reads as the directives of its procedures mean
+pub frames_read_back : AreSettled → TableFacts → PlaceFacts → JumpFacts → FrameFacts → (flags : Flags) (handed : List TokenStatement) (made : NotedObject)
+    → Makes flags handed made → FramesReadBack flags handed made.object
+frames_read_back settled table placing facts frames_facts flags handed made e frame frames whole tables laid all are framed_is is =
+    let no_warn = flags.no_warn in
+    let stands = facts.places handed (nothing_placed no_warn) whole all (facts.starts no_warn) in
+    let ordered = frames_facts.ordered handed no_warn whole all in
+    let closed = all_closed flags.fatal_warnings whole made (e whole all) in
+    let covered = subst (All (IsCovered whole.sections)) (sym closed ∙ are) (frames_covered whole stands ordered closed) in
+    let ready = placed_ready table placing facts handed no_warn whole all in
+    let with_table : placed (frame ∷ frames) (tables_of whole.table.symbols whole.sections) ≡ Ok tables =
+    sym (ap (λ (all : List Frame). placed all (tables_of whole.table.symbols whole.sections)) are) ∙ framed_is in
+    let same : made.object ≡ image_of tables.symbols laid = assembly_is flags handed made handed whole tables laid refl all framed_is is e in
+    let none = none_over flags handed made handed whole tables laid refl all framed_is is e in
+    let laid_is = layout_is tables.symbols tables.sections laid is in
+    let small = sections_small facts.addresses laid
+    (subst (λ (all : LaidSections). map placed_section all ≡ all) (sym laid_is) (settled.placed tables.symbols (planned tables.symbols tables.sections))) (all_small laid none) in
+    let within = (is_framed table whole tables (placing.within handed (nothing_placed no_warn) whole all (placing.begins no_warn)) framed_is).within in
+    let low = layout_low facts.ranked tables.symbols tables.sections within (sym (ap first_over laid_is) ∙ none) in
+    subst (λ (file : List ℕ). TableReads file tables.symbols laid (frame ∷ frames)) (sym same)
+    (frames_facts.read frame frames (tables_of whole.table.symbols whole.sections) tables laid ready covered with_table is (record { small = small; rows = low }))

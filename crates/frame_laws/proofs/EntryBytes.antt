@@ -1,0 +1,66 @@
+-- The pieces of an entry stand in the file one behind the other.
+use Rattle.std.proofs.Common.{◌≡◌, ◌+◌, List, [], ◌∷◌, length, sym, subst, arith, length-append}
+use Rattle.asm_base.specs.declared.positions.Pos.{Pos}
+use Rattle.elf_file.specs.Places.{PieceAt}
+use Rattle.eh_frame.specs.declared.ends.SectionEnd.{SectionEnd}
+use Rattle.eh_frame.specs.Entries.{behind_piece, behind_pieces}
+use Rattle.eh_frame.specs.Found.{PiecesStand}
+use Rattle.eh_frame.specs.Labels.{PlacesAreLabels}
+use Rattle.eh_frame.specs.Pieces.{Piece, Tables, piece_put, pieces_put}
+use Rattle.eh_frame.specs.Reading.{Made, piece_bytes, pieces_bytes, AreMade}
+use Rattle.frame_laws.specs.TableReads.{place_address}
+use Rattle.frame_laws.proofs.MarkSymbols.{NamesStay}
+use Rattle.frame_laws.proofs.Parts.{stands_both, stands_behind}
+use Rattle.frame_laws.proofs.TableSections.{PieceFacts, TableSection, image, base, at_end}
+use Rattle.frame_laws.proofs.PieceBytes.{Fits, StandsTo, piece_stays, piece_made}
+
+module _ (facts : PieceFacts) (t : TableSection) where
+  -- what the layout makes of pieces behind an end, where they stand in the file, and how far the end moves
+  pub record AllMade (pieces : List Piece) (end : SectionEnd) : Type 0 where
+    pub mades : List Made
+    pub are_made : AreMade (place_address t.laid) (at_end facts t end) pieces mades
+    pub stands : PieceAt (image facts t) (base facts t + at_end facts t end) (pieces_bytes pieces mades)
+    pub reach : at_end facts t (behind_pieces pieces end) ≡ at_end facts t end + length (pieces_bytes pieces mades)
+
+  -- what is asked of all pieces
+  abbrev pub AllFit : List Piece → Type 0
+  AllFit [] = Unit {0}
+  AllFit (piece ∷ pieces) = Fits facts t piece × AllFit pieces
+
+  pub pieces_made : (tables : Tables) (pos : Pos) (end : SectionEnd) (pieces : List Piece) → PieceAt (image facts t) (base facts t + at_end facts t end) []
+      → StandsTo facts t end → PlacesAreLabels tables.symbols → NamesStay (pieces_put t.number pos pieces tables).symbols t.symbols → AllFit pieces
+      → PiecesStand t.held t.number pos end tables pieces → AllMade pieces end
+  pieces_made tables pos end [] here enough known stays fit stand = record {
+    mades = [];
+    are_made = tt;
+    stands = here;
+    reach = omega arith;
+  }
+  pieces_made tables pos end (piece ∷ pieces) here enough known stays fit stand =
+      let next = piece_put t.number pos piece tables in
+      let all = pieces_put t.number pos pieces next in
+      let one = piece_made facts t tables pos end piece enough.items known
+      (λ symbol at there. stays symbol at (facts.labels.stays next.symbols all.symbols symbol at (facts.labels.pieces t.number pos pieces next) there)) fit.0 stand.0 in
+      let behind = behind_piece piece end in
+      let place : base facts t + at_end facts t behind ≡ base facts t + at_end facts t end + length (piece_bytes piece one.made) =
+      (let reach = one.reach in omega (arith, reach)) in
+      let there = subst (λ at. PieceAt (image facts t) at []) (sym place) (stands_behind (image facts t) (piece_bytes piece one.made) (base facts t + at_end facts t end) one.stands) in
+      let more = pieces_made next pos behind pieces there (piece_stays facts t tables.symbols pos end piece enough stand.0)
+      (facts.labels.known tables.symbols next.symbols known (facts.labels.pieces t.number pos (piece ∷ []) tables)) stays fit.1 stand.1 in
+      let reach = one.reach in
+      let later = more.reach in
+      let long = length-append (piece_bytes piece one.made) (pieces_bytes pieces more.mades) in
+      record {
+        mades = one.made ∷ more.mades;
+        are_made = (one.is_made, subst (λ here. AreMade (place_address t.laid) here pieces more.mades) reach more.are_made);
+        stands = stands_both (image facts t) (piece_bytes piece one.made) (pieces_bytes pieces more.mades) (base facts t + at_end facts t end) one.stands
+            (subst (λ at. PieceAt (image facts t) at (pieces_bytes pieces more.mades)) place more.stands);
+        reach = omega (arith, reach, later, long);
+      }
+
+  -- the section has the items and plain bytes up to the end behind pieces
+  pub pieces_stay : (tables : Tables) (pos : Pos) (end : SectionEnd) (pieces : List Piece) → StandsTo facts t end → PiecesStand t.held t.number pos end tables pieces
+      → StandsTo facts t (behind_pieces pieces end)
+  pieces_stay tables pos end [] stands stand = stands
+  pieces_stay tables pos end (piece ∷ pieces) stands stand =
+      pieces_stay (piece_put t.number pos piece tables) pos (behind_piece piece end) pieces (piece_stays facts t tables.symbols pos end piece stands stand.0) stand.1

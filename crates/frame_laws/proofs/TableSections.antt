@@ -1,0 +1,87 @@
+-- The section of a frame table in a layout, and what is known of it.
+use Rattle.std.proofs.Common.{◌≡◌, ℕ, ◌≤◌, false, List, All, Ok, Some, length, map, ◌∙◌}
+use Rattle.std.specs.Prelude.{slice_get}
+use Rattle.std.proofs.lemmas.List.{length-map}
+use Rattle.asm_expr.specs.Forms.{wrapped}
+use Rattle.asm_symbols.specs.SymbolMap.{SymbolMap}
+use Rattle.asm_frags.specs.Fields.{own_place}
+use Rattle.asm_frags.specs.SectionOf.{SectionOf}
+use Rattle.asm_frags.specs.Substituting.{laid_item}
+use Rattle.asm_frags.specs.Writing.{LooseSection, takes_zeros_alone}
+use Rattle.item_contents.specs.declared.contents.Content.{Content}
+use Rattle.item_contents.specs.Contents.{MayHave, bytes_of}
+use Rattle.asm_relax.specs.Final.{address_of}
+use Rattle.asm_relax.specs.ItemRows.{rows_of, levels_of}
+use Rattle.asm_relax.specs.ItemValues.{AreLow}
+use Rattle.asm_relax.specs.SettledRoom.{SettledHaveRoom}
+use Rattle.asm_relax.specs.Settling.{LaidItem, LaidSections, planned, layout_of}
+use Rattle.elf_object.specs.Image.{image_of}
+use Rattle.elf_object.specs.Places.{section_offset, moved}
+use Rattle.cfi_directives.specs.declared.places.SectionPlace.{SectionPlace}
+use Rattle.eh_frame.specs.declared.ends.SectionEnd.{SectionEnd}
+use Rattle.eh_frame.specs.Found.{IsWithin}
+use Rattle.eh_frame.specs.StandingPlaces.{HoldsItems}
+use Rattle.frame_distances.specs.HeldDistances.{DistancesAreHeld, FormsAreExpanded, PlacesAreApart}
+use Rattle.frame_laws.specs.PlacedTables.{SymbolHolds, IsSmall}
+use Rattle.frame_laws.specs.TableReads.{place_address}
+use Rattle.frame_laws.proofs.LaidItems.{section_kept}
+use Rattle.frame_laws.proofs.LaidMarks.{laid_long}
+use Rattle.frame_laws.proofs.MarkSymbols.{LabelFacts}
+use Rattle.frame_laws.proofs.SectionInFile as section_in_file
+use Rattle.frame_laws.proofs.SectionInFile.{FileFacts}
+
+-- what is known of all pieces of frame tables
+pub record PieceFacts : Type 0 where
+  pub file : FileFacts
+  pub labels : LabelFacts
+  pub held : DistancesAreHeld
+  pub expanded : FormsAreExpanded
+  pub apart : PlacesAreApart
+  pub room : SettledHaveRoom
+  pub sized : (content : Content) (size value : ℕ) → MayHave content size → length (bytes_of content size value) ≡ size
+
+-- a section of a layout
+pub record TableSection : Type 0 where
+  pub symbols : SymbolMap
+  pub sections : List LooseSection
+  pub laid : LaidSections
+  pub number : ℕ
+  pub held : LooseSection
+  pub is : layout_of symbols sections ≡ Ok laid
+  pub found : slice_get sections number ≡ Some held
+  pub takes : takes_zeros_alone held ≡ false
+  pub low : IsWithin held
+  pub few : length symbols.symbols ≤ own_place
+  pub small : (kept : SectionOf LaidItem) → slice_get laid number ≡ Some kept → IsSmall kept
+  pub stand : All (SymbolHolds sections) symbols.symbols
+  pub rows : AreLow symbols (levels_of (rows_of symbols (planned symbols sections))) (planned symbols sections)
+  pub told : (at : SectionPlace) → HoldsItems sections at.section at.place.item
+      → address_of laid at.section at.place.item at.place.offset ≡ wrapped (place_address laid at)
+
+module _ (facts : PieceFacts) (t : TableSection) where
+  -- the bytes of the object file
+  abbrev pub image : List ℕ
+  image = image_of t.symbols t.laid
+
+  -- where the section begins in it
+  abbrev pub base : ℕ
+  base = section_offset t.symbols t.laid t.number
+
+  -- the section as it is laid out
+  abbrev pub kept : SectionOf LaidItem
+  kept = section_in_file.kept facts.file t.symbols t.sections t.laid t.number t.held t.is t.found t.takes t.low
+
+  -- where an end of the section stands in the layout
+  abbrev pub at_end : SectionEnd → ℕ
+  at_end end = moved kept.items end.items end.bytes
+
+  -- its items are as many as before
+  pub kept_long : length kept.items ≡ length t.held.items
+  kept_long = laid_long own_shifts (map laid_item t.held.items) ∙ length-map t.held.items laid_item
+    where
+      own_shifts : List ℕ
+      own_shifts = (section_kept t.symbols t.sections t.laid t.number t.held t.is t.found).0
+
+  -- it is not too large
+  pub kept_small : IsSmall kept
+  kept_small = t.small kept (section_in_file.kept_there facts.file t.symbols t.sections t.laid t.number t.held t.is t.found t.takes t.low)
