@@ -24,6 +24,7 @@ from rows import TOP  # noqa: E402
 from instruction_table import TableError, read_names, read_table  # noqa: E402
 
 LABEL, SHOWN_LINE = re.compile(r"^[0-9a-f]+ <i(\d+)>:$"), re.compile(r"^ *[0-9a-f]+:\t(.*?)\s*(#.*)?$")
+ABSOLUTE = re.compile(r"\bds:(0x[0-9a-f]+)")
 SYNTAX = {"intel": ".intel_syntax noprefix; ", "att": ""}
 
 # What objdump writes in another way than it is read, by a pattern of the text.
@@ -46,7 +47,8 @@ def taken(command: str, lines: dict[int, str], syntax: str, folder: pathlib.Path
 
 
 def shown(folder: pathlib.Path) -> dict[int, str]:
-    """The instructions of `x.o` in Intel syntax, as objdump shows them: those that are one behind their label."""
+    """The instructions of `x.o` in Intel syntax, as objdump shows them: those that are one behind their label. An address alone stands in brackets, in place
+    of the `ds:` of objdump."""
     ran = subprocess.run(["objdump", "-d", "-M", "intel", "--no-show-raw-insn", "x.o"], cwd=folder, capture_output=True, env=ENVIRONMENT, text=True, check=True)
     texts: dict[int, list[str]] = {}
     number = None
@@ -58,7 +60,7 @@ def shown(folder: pathlib.Path) -> dict[int, str]:
             texts.setdefault(number, []).append(text[1])
         elif not line.strip():
             number = None
-    return {number: own[0].replace("ds:", "") for number, own in texts.items() if len(own) == 1}
+    return {number: ABSOLUTE.sub(r"[\1]", own[0]) for number, own in texts.items() if len(own) == 1}
 
 
 def main() -> int:

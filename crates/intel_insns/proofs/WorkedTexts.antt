@@ -18,8 +18,10 @@ use Rattle.att_operands.specs.Addresses.{scale_by}
 use Rattle.att_operands.specs.Values.{suffix_by, names_by, numbers_by, before_name, without_suffix, value_at}
 use Rattle.intel_operands.specs.Words.{is_word, bits_of}
 use Rattle.intel_operands.specs.Parts.{part_ends, part_in, address_of}
+use Rattle.intel_operands.specs.OtherRegisters.{is_other_register}
 use Rattle.intel_operands.specs.Sums.{is_loose, is_register, kept, with_token}
-use Rattle.intel_operands.specs.OperandTexts.{value_of, has_register, is_symbol, has_symbol, lone_register, segment_of, has_bracket, closes_bracket, bracketed, sized, outline_of, operand_of as text_operand, is_no_comma, operand_at}
+use Rattle.intel_operands.specs.Symbols.{is_symbol, has_symbol, is_numeric, are_numbers, names_place}
+use Rattle.intel_operands.specs.OperandTexts.{value_of, has_register, lone_register, segment_of, has_bracket, closes_bracket, bracketed, sized, outline_of, operand_of as text_operand, is_no_comma, operand_at}
 use Rattle.att_insns.specs.Sizes.{takes_all}
 use Rattle.intel_insns.specs.Rules.{from_unsized}
 use Rattle.intel_insns.specs.Sizes.{takes_sized, size_left}
@@ -28,7 +30,7 @@ use Rattle.intel_insns.specs.Reading.{with_all, insn_of}
 use Rattle.intel_insns.specs.WorkedInsns.{WorkedPlain, WorkedBranches, WorkedRules, WorkedRefusals, WorkedInsns}
 
 plain_worked : WorkedPlain
-unfolding is_long_operator token_kind token_length tokens_from is_blank is_name_start is_name_byte is_operator_byte comment_length quoted_length is_plain piece_kind piece_length pieces_from digit_of number_after low_byte escape_length control_byte escaped_byte string_value_from prefix_by operator_byte operator_bytes operator_by level_of character_code digits_leaf leaf_of numeral spelled_number whole operand_of reading reading_more reading_of read_at read_more height register_names register_of mark_by ends_by scale_by suffix_by names_by numbers_by before_name without_suffix value_at is_word bits_of part_ends part_in address_of is_loose is_register kept with_token value_of has_register is_symbol has_symbol lone_register segment_of has_bracket closes_bracket bracketed sized outline_of text_operand is_no_comma operand_at the_rows the_intel_names takes_all from_unsized takes_sized size_left mnemonic_of head_of with_all insn_of
+unfolding is_long_operator token_kind token_length tokens_from is_blank is_name_start is_name_byte is_operator_byte comment_length quoted_length is_plain piece_kind piece_length pieces_from digit_of number_after low_byte escape_length control_byte escaped_byte string_value_from prefix_by operator_byte operator_bytes operator_by level_of character_code digits_leaf leaf_of numeral spelled_number whole operand_of reading reading_more reading_of read_at read_more height register_names register_of mark_by ends_by scale_by suffix_by names_by numbers_by before_name without_suffix value_at is_word bits_of part_ends part_in address_of is_loose is_register kept with_token value_of has_register is_other_register is_symbol has_symbol is_numeric are_numbers names_place lone_register segment_of has_bracket closes_bracket bracketed sized outline_of text_operand is_no_comma operand_at the_rows the_intel_names takes_all from_unsized takes_sized size_left mnemonic_of head_of with_all insn_of
 plain_worked = record {
   none = refl;
   upper = refl;
@@ -45,7 +47,7 @@ plain_worked = record {
 }
 
 branches_worked : WorkedBranches
-unfolding is_long_operator token_kind token_length tokens_from is_blank is_name_start is_name_byte is_operator_byte comment_length quoted_length is_plain piece_kind piece_length pieces_from digit_of number_after low_byte escape_length control_byte escaped_byte string_value_from prefix_by operator_byte operator_bytes operator_by level_of character_code digits_leaf leaf_of numeral spelled_number whole operand_of reading reading_more reading_of read_at read_more height register_names register_of mark_by ends_by scale_by suffix_by names_by numbers_by before_name without_suffix value_at is_word bits_of part_ends part_in address_of is_loose is_register kept with_token value_of has_register is_symbol has_symbol lone_register segment_of has_bracket closes_bracket bracketed sized outline_of text_operand is_no_comma operand_at the_rows the_intel_names takes_all from_unsized takes_sized size_left mnemonic_of head_of with_all insn_of
+unfolding is_long_operator token_kind token_length tokens_from is_blank is_name_start is_name_byte is_operator_byte comment_length quoted_length is_plain piece_kind piece_length pieces_from digit_of number_after low_byte escape_length control_byte escaped_byte string_value_from prefix_by operator_byte operator_bytes operator_by level_of character_code digits_leaf leaf_of numeral spelled_number whole operand_of reading reading_more reading_of read_at read_more height register_names register_of mark_by ends_by scale_by suffix_by names_by numbers_by before_name without_suffix value_at is_word bits_of part_ends part_in address_of is_loose is_register kept with_token value_of has_register is_other_register is_symbol has_symbol is_numeric are_numbers names_place lone_register segment_of has_bracket closes_bracket bracketed sized outline_of text_operand is_no_comma operand_at the_rows the_intel_names takes_all from_unsized takes_sized size_left mnemonic_of head_of with_all insn_of
 branches_worked = record {
   jump = refl;
   jumped = refl;
@@ -60,7 +62,7 @@ branches_worked = record {
 }
 
 rules_worked : WorkedRules
-unfolding is_long_operator token_kind token_length tokens_from is_blank is_name_start is_name_byte is_operator_byte comment_length quoted_length is_plain piece_kind piece_length pieces_from digit_of number_after low_byte escape_length control_byte escaped_byte string_value_from prefix_by operator_byte operator_bytes operator_by level_of character_code digits_leaf leaf_of numeral spelled_number whole operand_of reading reading_more reading_of read_at read_more height register_names register_of mark_by ends_by scale_by suffix_by names_by numbers_by before_name without_suffix value_at is_word bits_of part_ends part_in address_of is_loose is_register kept with_token value_of has_register is_symbol has_symbol lone_register segment_of has_bracket closes_bracket bracketed sized outline_of text_operand is_no_comma operand_at the_rows the_intel_names takes_all from_unsized takes_sized size_left mnemonic_of head_of with_all insn_of
+unfolding is_long_operator token_kind token_length tokens_from is_blank is_name_start is_name_byte is_operator_byte comment_length quoted_length is_plain piece_kind piece_length pieces_from digit_of number_after low_byte escape_length control_byte escaped_byte string_value_from prefix_by operator_byte operator_bytes operator_by level_of character_code digits_leaf leaf_of numeral spelled_number whole operand_of reading reading_more reading_of read_at read_more height register_names register_of mark_by ends_by scale_by suffix_by names_by numbers_by before_name without_suffix value_at is_word bits_of part_ends part_in address_of is_loose is_register kept with_token value_of has_register is_other_register is_symbol has_symbol is_numeric are_numbers names_place lone_register segment_of has_bracket closes_bracket bracketed sized outline_of text_operand is_no_comma operand_at the_rows the_intel_names takes_all from_unsized takes_sized size_left mnemonic_of head_of with_all insn_of
 rules_worked = record {
   accumulator = refl;
   accumulator_last = refl;
@@ -77,7 +79,7 @@ rules_worked = record {
 }
 
 refusals_worked : WorkedRefusals
-unfolding is_long_operator token_kind token_length tokens_from is_blank is_name_start is_name_byte is_operator_byte comment_length quoted_length is_plain piece_kind piece_length pieces_from digit_of number_after low_byte escape_length control_byte escaped_byte string_value_from prefix_by operator_byte operator_bytes operator_by level_of character_code digits_leaf leaf_of numeral spelled_number whole operand_of reading reading_more reading_of read_at read_more height register_names register_of mark_by ends_by scale_by suffix_by names_by numbers_by before_name without_suffix value_at is_word bits_of part_ends part_in address_of is_loose is_register kept with_token value_of has_register is_symbol has_symbol lone_register segment_of has_bracket closes_bracket bracketed sized outline_of text_operand is_no_comma operand_at the_rows the_intel_names takes_all from_unsized takes_sized size_left mnemonic_of head_of with_all insn_of
+unfolding is_long_operator token_kind token_length tokens_from is_blank is_name_start is_name_byte is_operator_byte comment_length quoted_length is_plain piece_kind piece_length pieces_from digit_of number_after low_byte escape_length control_byte escaped_byte string_value_from prefix_by operator_byte operator_bytes operator_by level_of character_code digits_leaf leaf_of numeral spelled_number whole operand_of reading reading_more reading_of read_at read_more height register_names register_of mark_by ends_by scale_by suffix_by names_by numbers_by before_name without_suffix value_at is_word bits_of part_ends part_in address_of is_loose is_register kept with_token value_of has_register is_other_register is_symbol has_symbol is_numeric are_numbers names_place lone_register segment_of has_bracket closes_bracket bracketed sized outline_of text_operand is_no_comma operand_at the_rows the_intel_names takes_all from_unsized takes_sized size_left mnemonic_of head_of with_all insn_of
 refusals_worked = record {
   unknown = refl;
   no_size = refl;

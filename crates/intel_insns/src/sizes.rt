@@ -41,6 +41,7 @@ fn holds_at(bits: u8, slot: Slot, pattern: Pattern) -> bool
 }
 
 /// Whether the row takes such operands, and memory of so many bits.
+#[inline(always)]
 #[tactic(auto, unfolding(crate::specs::Sizes::takes_sized))]
 fn takes_sized(row: &Row, slots: Slots, bits: u8) -> bool
     ensures { result ≡ takes_sized bits slots.0 slots.1 slots.2 row.now }
@@ -51,6 +52,7 @@ fn takes_sized(row: &Row, slots: Slots, bits: u8) -> bool
 }
 
 /// The first of the rows that takes such operands.
+#[inline(always)]
 pub(crate) fn first_taking(rows: &'static [Row], slots: Slots, bits: u8) -> Option<&'static Row>
     ensures { let due = find (takes_sized bits slots.0 slots.1 slots.2) rows.now in
         option_map (λ row. row.now) result ≡ due }

@@ -10,7 +10,8 @@ use Rattle.att_operands.specs.declared.faults.OperandCause.TheVariants.{BadOpera
 use Rattle.att_operands.specs.Values.{ValueText, ReadText, value_at, stated}
 use Rattle.att_operands.specs.Failing.{ValueFails}
 use Rattle.att_operands.specs.WholeValues.{ValuesAreRead, ValuesAreWritten, RefusedValuesFail, FailingValuesAreRefused}
-use Rattle.intel_operands.specs.OperandTexts.{SizedText, Outline, lone, held, bare, stands, moved, ending, value_of, has_symbol, as_immediate, as_memory, as_bare, with_value, outlined, outline_of, operand_of, up_to_comma, ended, operand_at}
+use Rattle.intel_operands.specs.Symbols.{has_symbol, names_place}
+use Rattle.intel_operands.specs.OperandTexts.{SizedText, Outline, lone, held, bare, stands, moved, ending, value_of, as_immediate, as_memory, bare_operand, as_bare, with_value, outlined, outline_of, operand_of, up_to_comma, ended, operand_at}
 use Rattle.intel_operands.specs.Spells.{HasNoComma}
 use Rattle.intel_operands.specs.Failing.{HoldsFault, of_offset, of_value, of_displacement, ExpressionFails, SpellsNothing, HasFault, expression, bad_operand, front_of, HasFaultExactly}
 use Rattle.intel_operands.proofs.TextLemmas.{err_is, front_of_tokens}
@@ -26,7 +27,7 @@ value_fails law text own fails = ap (ending text) (law text own fails)
 
 held_fails : FailingValuesAreRefused → (branch : Bool) (outline : Outline) (own : ExprCause) → HoldsFault outline own → with_value branch outline ≡ Err (stated own)
 held_fails law branch _ _ (of_offset text own fails) = ap as_immediate (value_fails law text own fails)
-held_fails law branch _ _ (of_value text own fails) = ap (as_bare branch (has_symbol text)) (value_fails law text own fails)
+held_fails law branch _ _ (of_value text own fails) = ap (as_bare branch (names_place text) (has_symbol text)) (value_fails law text own fails)
 held_fails law branch _ _ (of_displacement bits address text own fails) = ap (as_memory bits address) (value_fails law text own fails)
 
 expression_fails : FailingValuesAreRefused → (branch : Bool) (text : List SpelledToken) (own : ExprCause) → ExpressionFails text own → operand_of branch text ≡ Err (stated own)
@@ -69,9 +70,17 @@ immediate_by law text fault (Err own) reads is =
     let same : own ≡ fault = err_is is in
     lifted (ValueFails text) (HoldsFault (held text)) fault (λ c fails. of_offset text c fails) (value_refused law text fault (rw same at reads))
 
-bare_by : RefusedValuesFail → (branch : Bool) (text : List SpelledToken) (fault : OperandCause) (read : Result ValueText OperandCause) → value_of text ≡ read → as_bare branch (has_symbol text) read ≡ Err fault
+bare_refused : (branch : Bool) (text : List SpelledToken) (fault : OperandCause) (value : ValueText) (place symbol : Bool) → bare_operand branch place symbol value ≡ Err fault
     → Refused (HoldsFault (bare text)) fault
-bare_by law branch text fault (Ok value) reads is = cc
+bare_refused true text fault value place symbol is = cc
+bare_refused false text fault value true symbol is = cc
+bare_refused false text fault value false true is = bad (HoldsFault (bare text)) fault is
+bare_refused false text fault value false false is = cc
+
+bare_by : RefusedValuesFail → (branch : Bool) (text : List SpelledToken) (fault : OperandCause) (read : Result ValueText OperandCause) → value_of text ≡ read
+    → as_bare branch (names_place text) (has_symbol text) read ≡ Err fault
+    → Refused (HoldsFault (bare text)) fault
+bare_by law branch text fault (Ok value) reads is = bare_refused branch text fault value (names_place text) (has_symbol text) is
 bare_by law branch text fault (Err own) reads is =
     let same : own ≡ fault = err_is is in
     lifted (ValueFails text) (HoldsFault (bare text)) fault (λ c fails. of_value text c fails) (value_refused law text fault (rw same at reads))

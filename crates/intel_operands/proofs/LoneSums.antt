@@ -1,5 +1,5 @@
 -- Usual sums are read so.
-use Rattle.std.proofs.Common.{◌≡◌, ℕ, ◌==◌, ◌||◌, not, is_some, true, false, List, [], ◌∷◌, Option, Some, None, Ok, length, map, slice_get, refl, ap, arith}
+use Rattle.std.proofs.Common.{◌≡◌, ℕ, ◌==◌, ◌||◌, not, Bool, true, false, List, [], ◌∷◌, Option, Some, None, Ok, length, map, slice_get, refl, ap, arith}
 use Rattle.std.proofs.lemmas.Bool.{eqb-true}
 use Rattle.asm_base.specs.declared.tokens.Token.{Token}
 use Rattle.asm_base.specs.declared.tokens.TokenKind.{TokenKind}
@@ -14,7 +14,7 @@ use Rattle.intel_operands.specs.declared.parts.Part.TheVariants.{Plain}
 use Rattle.intel_operands.specs.declared.parts.Parts.TheVariants.{Nothing, One}
 use Rattle.intel_operands.specs.declared.lone_sums.LoneSum.{LoneSum}
 use Rattle.intel_operands.specs.Parts.{part_ends, address_of}
-use Rattle.intel_operands.specs.Sums.{no_sum, sum_of, is_loose, is_register, depth_behind, adds}
+use Rattle.intel_operands.specs.Sums.{no_sum, sum_of, is_loose, is_register_of, is_register, depth_behind, adds}
 use Rattle.intel_operands.specs.OperandTexts.{but_last, summed_by, summed}
 use Rattle.intel_operands.specs.Spells.{alone, WritesSum, done, register_next, other}
 use Rattle.intel_operands.specs.LoneSums.{is_calm_of, is_calm, is_calm_by, IsLoneSum, left_in, IsFoundIn}
@@ -32,13 +32,13 @@ minus_bytes [] is = cc
 minus_bytes (byte ∷ []) is = ap (λ (b : ℕ). b ∷ []) (eqb-true byte 45 is)
 minus_bytes (first ∷ second ∷ rest) is = cc
 
-unknown : (found : Option NamedRegister) → not (is_some found) ≡ true → found ≡ None
-unknown None is = refl
-unknown (Some named) is = cc
+refused : (b : Bool) → not b ≡ true → b ≡ false
+refused false is = refl
+refused true is = cc
 
 stays_by : (kind : TokenKind) (bytes : List ℕ) (start : ℕ) → is_calm_of kind bytes ≡ true → Stays (record { kind = kind; bytes = bytes; start = start })
 unfolding mark_by is_register is_loose
-stays_by kind.Name bytes start is = let none = unknown (register_of bytes) is in record { no_bracket = refl; no_plus = refl; right = rw none refl; level = refl }
+stays_by kind.Name bytes start is = let none = refused (is_register_of kind.Name bytes) is in record { no_bracket = refl; no_plus = refl; right = rw none refl; level = refl }
 stays_by kind.Digits bytes start is = record { no_bracket = refl; no_plus = refl; right = refl; level = refl }
 stays_by kind.Character bytes start is = cc
 stays_by kind.String bytes start is = cc

@@ -18,7 +18,7 @@ use Rattle.intel_operands.specs.declared.parts.Parts.TheVariants.{Nothing}
 use Rattle.intel_operands.specs.Words.{is_word, bits_by, bits_in, offset_words}
 use Rattle.intel_operands.specs.Parts.{address_of}
 use Rattle.intel_operands.specs.Sums.{SumSoFar, no_sum, sum_of, is_whole}
-use Rattle.intel_operands.specs.OperandTexts.{Outline, lone, held, bare, moved, register_in, segment_in, lone_register, segment_of, has_register, has_bracket, closes_bracket, but_last, is_nested, is_memory, summed_at, summed_by, summed, bracketed, placed, segmented, sized, memory_of, bare_of, held_of, other_of, outline_by, outline_of}
+use Rattle.intel_operands.specs.OperandTexts.{Outline, lone, held, bare, moved, register_in, segment_in, lone_register, segment_of, has_register, has_bracket, closes_bracket, but_last, is_nested, is_memory, summed_at, summed_by, summed, bracketed, is_placed, placed, segmented, sized, memory_of, bare_of, held_of, other_of, outline_by, outline_of}
 use Rattle.intel_operands.specs.Spells.{PlacesMemory, displacement, bracket, SegmentsMemory, plain, behind_segment, SizesMemory, unsaid, said, IsOutline, alone, offset, place, nested, value}
 use Rattle.intel_operands.proofs.TextLemmas.{some_is, closed, without_last, Closed, closing_apart}
 use Rattle.intel_operands.proofs.SumTexts.{sum_reads, sum_written}
@@ -27,7 +27,7 @@ use Rattle.intel_operands.proofs.SumTexts.{sum_reads, sum_written}
 
 places_reads : (bits : ℕ) (segment : Option Segment) (outline : Outline) (text : List SpelledToken) → PlacesMemory bits segment outline text → placed bits segment text ≡ Some outline
 unfolding bracketed
-places_reads _ _ _ _ (displacement bits segment text none apart) = rw (none, apart) refl
+places_reads _ _ _ _ (displacement bits segment text none apart placed_there) = rw (none, apart, placed_there) refl
 places_reads _ _ _ text (bracket bits segment address parts closing left before _ has writes is closes split) =
     let ends = closed before text closing closes split in
     let inside = without_last before text closing split in
@@ -121,14 +121,19 @@ bracketed_by bits segment outline text true has closes is =
     sum_by_result bits segment outline text ending (sum_of (Ok no_sum) ending.before) has refl
     (ap (λ (ts : List SpelledToken). summed bits (mark_at text 0) segment (sum_of (Ok no_sum) ts)) (sym (without_last ending.before text ending.closing ending.stands)) ∙ is)
 
+unbracketed_at : (bits : ℕ) (segment : Option Segment) (outline : Outline) (text : List SpelledToken) (b : Bool) → has_bracket text ≡ false → has_register text ≡ false
+    → is_placed segment text ≡ b → cond b (Some (moved bits (in_segment segment base.Absent index.Absent) text)) None ≡ Some outline → PlacesMemory bits segment outline text
+unbracketed_at bits segment outline text false none apart stands is = cc
+unbracketed_at bits segment outline text true none apart stands is =
+    subst (λ (o : Outline). PlacesMemory bits segment o text) (some_is is) (displacement bits segment text none apart stands)
+
 unbracketed_by : (bits : ℕ) (segment : Option Segment) (outline : Outline) (text : List SpelledToken) (b : Bool) → has_bracket text ≡ false → has_register text ≡ b
-    → cond b None (Some (moved bits (in_segment segment base.Absent index.Absent) text)) ≡ Some outline → PlacesMemory bits segment outline text
+    → cond b None (cond (is_placed segment text) (Some (moved bits (in_segment segment base.Absent index.Absent) text)) None) ≡ Some outline → PlacesMemory bits segment outline text
 unbracketed_by bits segment outline text true none apart is = cc
-unbracketed_by bits segment outline text false none apart is =
-    subst (λ (o : Outline). PlacesMemory bits segment o text) (some_is is) (displacement bits segment text none apart)
+unbracketed_by bits segment outline text false none apart is = unbracketed_at bits segment outline text (is_placed segment text) none apart refl is
 
 placed_by : (bits : ℕ) (segment : Option Segment) (outline : Outline) (text : List SpelledToken) (b : Bool) → has_bracket text ≡ b
-    → cond b (bracketed bits segment text) (cond (has_register text) None (Some (moved bits (in_segment segment base.Absent index.Absent) text))) ≡ Some outline
+    → cond b (bracketed bits segment text) (cond (has_register text) None (cond (is_placed segment text) (Some (moved bits (in_segment segment base.Absent index.Absent) text)) None)) ≡ Some outline
     → PlacesMemory bits segment outline text
 unfolding bracketed
 placed_by bits segment outline text true has is = bracketed_by bits segment outline text (closes_bracket text) has refl is

@@ -8,8 +8,9 @@ use Rattle.att_operands.specs.declared.faults.OperandCause.TheVariants.{BadOpera
 use Rattle.att_operands.specs.Values.{ValueText, ReadText, value_at}
 use Rattle.att_operands.specs.Spells.{WritesValue}
 use Rattle.att_operands.specs.WholeValues.{ValuesAreWritten}
-use Rattle.intel_operands.specs.OperandTexts.{SizedText, Outline, lone, held, bare, stands, moved, ending, value_of, has_symbol, as_immediate, as_memory, as_bare, with_value, outlined, outline_of, operand_of, up_to_comma, part, ReadPart, ended, operand_at}
-use Rattle.intel_operands.specs.Spells.{HoldsValue, of_register, of_offset, of_value, of_address, of_displacement, SpellsOperand, HasNoComma, IsSpelledIn}
+use Rattle.intel_operands.specs.Symbols.{has_symbol, names_place}
+use Rattle.intel_operands.specs.OperandTexts.{SizedText, Outline, lone, held, bare, stands, moved, ending, value_of, as_immediate, as_memory, bare_operand, as_bare, with_value, outlined, outline_of, operand_of, up_to_comma, part, ReadPart, ended, operand_at}
+use Rattle.intel_operands.specs.Spells.{HoldsValue, of_register, of_offset, of_target, of_symbol, of_number, of_address, of_displacement, SpellsOperand, HasNoComma, IsSpelledIn}
 use Rattle.intel_operands.proofs.TextLemmas.{ok_is, front_of_tokens}
 use Rattle.intel_operands.proofs.OutlineTexts.{outline_written}
 
@@ -34,11 +35,17 @@ immediate_by law branch text operand (Err fault) reads is = cc
 immediate_by law branch text operand (Ok value) reads is =
     subst (HoldsValue branch (held text)) (ok_is is) (of_offset branch value text (value_written law text value reads))
 
+bare_held : (branch : Bool) (text : List SpelledToken) (operand : SizedText) (value : ValueText) (place symbol : Bool) → names_place text ≡ place → has_symbol text ≡ symbol → WritesValue value text
+    → bare_operand branch place symbol value ≡ Ok operand → HoldsValue branch (bare text) operand
+bare_held true text operand value place symbol places names writes is = subst (HoldsValue true (bare text)) (ok_is is) (of_target value text writes)
+bare_held false text operand value true symbol places names writes is = subst (HoldsValue false (bare text)) (ok_is is) (of_symbol value text places writes)
+bare_held false text operand value false true places names writes is = cc
+bare_held false text operand value false false places names writes is = subst (HoldsValue false (bare text)) (ok_is is) (of_number value text places names writes)
+
 bare_by : ValuesAreWritten → (branch : Bool) (text : List SpelledToken) (operand : SizedText) (read : Result ValueText OperandCause) → value_of text ≡ read
-    → as_bare branch (has_symbol text) read ≡ Ok operand → HoldsValue branch (bare text) operand
+    → as_bare branch (names_place text) (has_symbol text) read ≡ Ok operand → HoldsValue branch (bare text) operand
 bare_by law branch text operand (Err fault) reads is = cc
-bare_by law branch text operand (Ok value) reads is =
-    subst (HoldsValue branch (bare text)) (ok_is is) (of_value branch value text (value_written law text value reads))
+bare_by law branch text operand (Ok value) reads is = bare_held branch text operand value (names_place text) (has_symbol text) refl refl (value_written law text value reads) is
 
 memory_by : ValuesAreWritten → (branch : Bool) (bits : ℕ) (address : Address) (text : List SpelledToken) (operand : SizedText) (read : Result ValueText OperandCause) → value_of text ≡ read
     → as_memory bits address read ≡ Ok operand → HoldsValue branch (moved bits address text) operand

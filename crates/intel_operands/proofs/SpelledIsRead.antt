@@ -1,13 +1,14 @@
 -- An operand that is spelled is read.
-use Rattle.std.proofs.Common.{◌≡◌, ℕ, ◌+◌, nat_lt, Bool, true, cond, List, [], ◌∷◌, ◌++◌, Ok, Err, length, take, drop, refl, sym, ap, ◌∙◌}
+use Rattle.std.proofs.Common.{◌≡◌, ℕ, ◌+◌, nat_lt, Bool, true, false, cond, List, [], ◌∷◌, ◌++◌, Ok, Err, length, take, drop, refl, sym, ap, ◌∙◌}
 use Rattle.std.proofs.lemmas.Bool.{eq-eqb}
 use Rattle.asm_base.specs.Tokens.{SpelledToken}
 use Rattle.att_operands.specs.declared.faults.OperandCause.TheVariants.{BadOperand}
 use Rattle.att_operands.specs.Values.{ValueText}
 use Rattle.att_operands.specs.Spells.{WritesValue}
 use Rattle.att_operands.specs.WholeValues.{ValuesAreRead}
-use Rattle.intel_operands.specs.OperandTexts.{SizedText, Outline, ending, value_of, has_symbol, as_immediate, as_memory, as_bare, with_value, outlined, outline_of, operand_of, up_to_comma, ended, operand_at}
-use Rattle.intel_operands.specs.Spells.{HoldsValue, of_register, of_offset, of_value, of_address, of_displacement, SpellsOperand, ends, IsReadWhole}
+use Rattle.intel_operands.specs.Symbols.{has_symbol, names_place}
+use Rattle.intel_operands.specs.OperandTexts.{SizedText, Outline, ending, value_of, as_immediate, as_memory, as_bare, with_value, outlined, outline_of, operand_of, up_to_comma, ended, operand_at}
+use Rattle.intel_operands.specs.Spells.{HoldsValue, of_register, of_offset, of_target, of_symbol, of_number, of_address, of_displacement, SpellsOperand, ends, IsReadWhole}
 use Rattle.intel_operands.proofs.TextLemmas.{ok_is, all_before, taken}
 use Rattle.intel_operands.proofs.OutlineTexts.{outline_reads}
 
@@ -22,7 +23,12 @@ value_reads law value text writes =
 pub value_held : ValuesAreRead → (branch : Bool) (outline : Outline) (operand : SizedText) → HoldsValue branch outline operand → with_value branch outline ≡ Ok operand
 value_held law _ _ _ (of_register branch reg) = refl
 value_held law _ _ _ (of_offset branch value text writes) = ap as_immediate (value_reads law value text writes)
-value_held law _ _ _ (of_value branch value text writes) = ap (as_bare branch (has_symbol text)) (value_reads law value text writes)
+value_held law _ _ _ (of_target value text writes) = ap (as_bare true (names_place text) (has_symbol text)) (value_reads law value text writes)
+value_held law _ _ _ (of_symbol value text places writes) =
+    ap (λ (place : Bool). as_bare false place (has_symbol text) (value_of text)) places ∙ ap (as_bare false true (has_symbol text)) (value_reads law value text writes)
+value_held law _ _ _ (of_number value text places none writes) =
+    ap (λ (place : Bool). as_bare false place (has_symbol text) (value_of text)) places ∙ ap (λ (symbol : Bool). as_bare false false symbol (value_of text)) none
+    ∙ ap (as_bare false false false) (value_reads law value text writes)
 value_held law _ _ _ (of_address branch bits address) = refl
 value_held law _ _ _ (of_displacement branch bits address value text writes) = ap (as_memory bits address) (value_reads law value text writes)
 

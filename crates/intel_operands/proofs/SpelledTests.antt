@@ -1,7 +1,7 @@
 -- Tests of tokens, of the program's and as they are spelled.
-use Rattle.std.proofs.Common.{◌≡◌, ℕ, zero, suc, drop, ◌-◌, ◌||◌, ◌+◌, Bool, cond, List, [], ◌∷◌, length, map, take, refl, sym, ap, ◌∙◌}
+use Rattle.std.proofs.Common.{◌≡◌, ℕ, zero, suc, drop, ◌-◌, ◌||◌, ◌&&◌, ◌+◌, Bool, cond, List, [], ◌∷◌, length, map, take, refl, sym, ap, ◌∙◌}
 use Rattle.std.proofs.lemmas.List.{length-map, drop-map}
-use Rattle.std.specs.List.{list_any, prefix_len}
+use Rattle.std.specs.List.{list_any, list_all, prefix_len}
 use Rattle.asm_base.specs.declared.tokens.Token.{Token}
 use Rattle.asm_base.specs.Tokens.{SpelledToken, spelled}
 use Rattle.intel_operands.specs.OperandTexts.{but_last, up_to_comma}
@@ -10,6 +10,11 @@ use Rattle.intel_operands.specs.OperandTexts.{but_last, up_to_comma}
 pub any_spelled : (p : SpelledToken → Bool) (tokens : List Token) (b : Bool) → b ≡ list_any (λ token. p (spelled token)) tokens → b ≡ list_any p (map spelled tokens)
 any_spelled p [] b is = is
 any_spelled p (token ∷ tokens) b is = is ∙ ap (λ (rest : Bool). p (spelled token) || rest) (any_spelled p tokens (list_any (λ t. p (spelled t)) tokens) refl)
+
+-- a test that all tokens pass
+pub all_spelled : (p : SpelledToken → Bool) (tokens : List Token) (b : Bool) → b ≡ list_all (λ token. p (spelled token)) tokens → b ≡ list_all p (map spelled tokens)
+all_spelled p [] b is = is
+all_spelled p (token ∷ tokens) b is = is ∙ ap (λ (rest : Bool). p (spelled token) && rest) (all_spelled p tokens (list_all (λ t. p (spelled t)) tokens) refl)
 
 -- how many tokens in front pass a test
 pub front_spelled : (p : SpelledToken → Bool) (tokens : List Token) (n : ℕ) → n ≡ prefix_len (λ token. p (spelled token)) tokens → n ≡ prefix_len p (map spelled tokens)

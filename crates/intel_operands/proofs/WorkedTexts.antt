@@ -17,11 +17,13 @@ use Rattle.att_operands.specs.Values.{suffix_by, names_by, numbers_by, before_na
 use Rattle.intel_operands.specs.Words.{is_word, bits_of}
 use Rattle.intel_operands.specs.Parts.{part_ends, part_in, address_of}
 use Rattle.intel_operands.specs.Sums.{is_loose, is_register, kept, with_token}
-use Rattle.intel_operands.specs.OperandTexts.{value_of, has_register, is_symbol, has_symbol, lone_register, segment_of, has_bracket, closes_bracket, bracketed, sized, outline_of, operand_of as text_operand, is_no_comma, operand_at}
+use Rattle.intel_operands.specs.OperandTexts.{value_of, has_register, lone_register, segment_of, has_bracket, closes_bracket, bracketed, sized, outline_of, operand_of as text_operand, is_no_comma, operand_at}
+use Rattle.intel_operands.specs.OtherRegisters.{is_other_register}
+use Rattle.intel_operands.specs.Symbols.{is_symbol, has_symbol, is_numeric, are_numbers, names_place}
 use Rattle.intel_operands.specs.WorkedOperands.{WorkedSums, WorkedPlain, WorkedRefusals, WorkedOperands}
 
 sums_worked : WorkedSums
-unfolding is_long_operator token_kind token_length tokens_from is_blank is_name_start is_name_byte is_operator_byte comment_length quoted_length is_plain piece_kind piece_length pieces_from digit_of number_after low_byte escape_length control_byte escaped_byte string_value_from prefix_by operator_byte operator_bytes operator_by level_of character_code digits_leaf leaf_of numeral spelled_number whole operand_of reading reading_more reading_of read_at read_more height register_names register_of mark_by ends_by scale_by suffix_by names_by numbers_by before_name without_suffix value_at is_word bits_of part_ends part_in address_of is_loose is_register kept with_token value_of has_register is_symbol has_symbol lone_register segment_of has_bracket closes_bracket bracketed sized outline_of text_operand is_no_comma operand_at
+unfolding is_long_operator token_kind token_length tokens_from is_blank is_name_start is_name_byte is_operator_byte comment_length quoted_length is_plain piece_kind piece_length pieces_from digit_of number_after low_byte escape_length control_byte escaped_byte string_value_from prefix_by operator_byte operator_bytes operator_by level_of character_code digits_leaf leaf_of numeral spelled_number whole operand_of reading reading_more reading_of read_at read_more height register_names register_of mark_by ends_by scale_by suffix_by names_by numbers_by before_name without_suffix value_at is_word bits_of part_ends part_in address_of is_loose is_register kept with_token value_of has_register is_other_register is_symbol has_symbol is_numeric are_numbers names_place lone_register segment_of has_bracket closes_bracket bracketed sized outline_of text_operand is_no_comma operand_at
 sums_worked = record {
   scaled = refl;
   stack_last = refl;
@@ -42,11 +44,13 @@ sums_worked = record {
 }
 
 plain_worked : WorkedPlain
-unfolding is_long_operator token_kind token_length tokens_from is_blank is_name_start is_name_byte is_operator_byte comment_length quoted_length is_plain piece_kind piece_length pieces_from digit_of number_after low_byte escape_length control_byte escaped_byte string_value_from prefix_by operator_byte operator_bytes operator_by level_of character_code digits_leaf leaf_of numeral spelled_number whole operand_of reading reading_more reading_of read_at read_more height register_names register_of mark_by ends_by scale_by suffix_by names_by numbers_by before_name without_suffix value_at is_word bits_of part_ends part_in address_of is_loose is_register kept with_token value_of has_register is_symbol has_symbol lone_register segment_of has_bracket closes_bracket bracketed sized outline_of text_operand is_no_comma operand_at
+unfolding is_long_operator token_kind token_length tokens_from is_blank is_name_start is_name_byte is_operator_byte comment_length quoted_length is_plain piece_kind piece_length pieces_from digit_of number_after low_byte escape_length control_byte escaped_byte string_value_from prefix_by operator_byte operator_bytes operator_by level_of character_code digits_leaf leaf_of numeral spelled_number whole operand_of reading reading_more reading_of read_at read_more height register_names register_of mark_by ends_by scale_by suffix_by names_by numbers_by before_name without_suffix value_at is_word bits_of part_ends part_in address_of is_loose is_register kept with_token value_of has_register is_other_register is_symbol has_symbol is_numeric are_numbers names_place lone_register segment_of has_bracket closes_bracket bracketed sized outline_of text_operand is_no_comma operand_at
 plain_worked = record {
   long = refl;
   negative = refl;
   symbol = refl;
+  moved_symbol = refl;
+  suffixed_symbol = refl;
   sized_symbol = refl;
   address = refl;
   flat = refl;
@@ -59,7 +63,7 @@ plain_worked = record {
 }
 
 refusals_worked : WorkedRefusals
-unfolding is_long_operator token_kind token_length tokens_from is_blank is_name_start is_name_byte is_operator_byte comment_length quoted_length is_plain piece_kind piece_length pieces_from digit_of number_after low_byte escape_length control_byte escaped_byte string_value_from prefix_by operator_byte operator_bytes operator_by level_of character_code digits_leaf leaf_of numeral spelled_number whole operand_of reading reading_more reading_of read_at read_more height register_names register_of mark_by ends_by scale_by suffix_by names_by numbers_by before_name without_suffix value_at is_word bits_of part_ends part_in address_of is_loose is_register kept with_token value_of has_register is_symbol has_symbol lone_register segment_of has_bracket closes_bracket bracketed sized outline_of text_operand is_no_comma operand_at
+unfolding is_long_operator token_kind token_length tokens_from is_blank is_name_start is_name_byte is_operator_byte comment_length quoted_length is_plain piece_kind piece_length pieces_from digit_of number_after low_byte escape_length control_byte escaped_byte string_value_from prefix_by operator_byte operator_bytes operator_by level_of character_code digits_leaf leaf_of numeral spelled_number whole operand_of reading reading_more reading_of read_at read_more height register_names register_of mark_by ends_by scale_by suffix_by names_by numbers_by before_name without_suffix value_at is_word bits_of part_ends part_in address_of is_loose is_register kept with_token value_of has_register is_other_register is_symbol has_symbol is_numeric are_numbers names_place lone_register segment_of has_bracket closes_bracket bracketed sized outline_of text_operand is_no_comma operand_at
 refusals_worked = record {
   third = refl;
   wrong_scale = refl;
@@ -81,6 +85,12 @@ refusals_worked = record {
   led = refl;
   due = refl;
   wide = refl;
+  control = refl;
+  segment_name = refl;
+  control_in_sum = refl;
+  product = refl;
+  difference = refl;
+  sized_number = refl;
 }
 
 pub worked : WorkedOperands

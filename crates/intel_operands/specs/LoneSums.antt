@@ -1,21 +1,20 @@
 -- Usual sums: one register in the brackets, without a scale, and one or two tokens before or behind it.
-use Rattle.std.specs.Prelude.{◌≡◌, ℕ, ◌-◌, ◌≤◌, ◌==◌, not, is_some, Bool, true, false, List, map, take, drop, length, Option, Some, None, Ok}
+use Rattle.std.specs.Prelude.{◌≡◌, ℕ, ◌-◌, ◌≤◌, ◌==◌, not, Bool, true, false, List, map, take, drop, length, Option, Some, None, Ok}
 use Rattle.asm_base.specs.declared.tokens.Token.{Token}
 use Rattle.asm_base.specs.declared.tokens.TokenKind.{TokenKind}
 use Rattle.asm_base.specs.declared.tokens.TokenKind.TheVariants.{Name, Digits, Character, String, Operator, Other}
 use Rattle.asm_base.specs.Tokens.{SpelledToken, spelled}
 use Rattle.att_operands.specs.declared.registers.NamedRegister.{NamedRegister}
-use Rattle.att_operands.specs.Registers.{register_of}
 use Rattle.att_operands.specs.Marks.{mark_byte}
 use Rattle.intel_operands.specs.declared.parts.Part.TheVariants.{Plain}
 use Rattle.intel_operands.specs.declared.parts.Parts.TheVariants.{One}
 use Rattle.intel_operands.specs.declared.lone_sums.LoneSum.{LoneSum}
-use Rattle.intel_operands.specs.Sums.{no_sum, sum_of}
+use Rattle.intel_operands.specs.Sums.{is_register_of, no_sum, sum_of}
 use Rattle.intel_operands.specs.OperandTexts.{but_last}
 
 -- a number, a name that is no register, or `-`: it stays in the text of a sum
 abbrev pub is_calm_of : TokenKind → List ℕ → Bool
-is_calm_of Name bytes = not (is_some (register_of bytes))
+is_calm_of Name bytes = not (is_register_of Name bytes)
 is_calm_of Digits bytes = true
 is_calm_of Character bytes = false
 is_calm_of String bytes = false

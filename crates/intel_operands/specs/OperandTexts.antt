@@ -2,9 +2,6 @@
 use Rattle.std.specs.Prelude.{◌≡◌, ℕ, ◌+◌, ◌-◌, ◌==◌, ◌&&◌, ◌||◌, not, nat_lt, Bool, true, false, List, [], ◌∷◌, take, drop, length, Option, Some, None, Result, Ok, Err, slice_get, is_some, if◌then◌else◌}
 use Rattle.std.specs.List.{list_any, prefix_len}
 use Rattle.asm_base.specs.Tokens.{SpelledToken}
-use Rattle.asm_base.specs.declared.tokens.TokenKind.{TokenKind}
-use Rattle.asm_base.specs.declared.tokens.TokenKind.TheVariants.{Name, Digits, Character, String, Operator, Other}
-use Rattle.expr_texts.specs.Leaves.{is_numeric_label}
 use Rattle.x86_insn.specs.declared.registers.Reg.{Reg}
 use Rattle.x86_insn.specs.declared.insns.Segment.{Segment}
 use Rattle.x86_insn.specs.declared.insns.Base.TheVariants as base
@@ -24,6 +21,7 @@ use Rattle.intel_operands.specs.declared.operands.FoundOperand.{FoundOperand}
 use Rattle.intel_operands.specs.Words.{bits_in, offset_words}
 use Rattle.intel_operands.specs.Parts.{address_of}
 use Rattle.intel_operands.specs.Sums.{SumSoFar, no_sum, sum_of, is_whole, is_register}
+use Rattle.intel_operands.specs.Symbols.{has_symbol, names_place}
 
 -- an operand as its text, and how many bits of memory it says, or 0
 pub record SizedText : Type 0 where
@@ -52,23 +50,6 @@ value_of text = ending text (value_at text 0)
 -- one of the tokens names a register
 unfoldable pub has_register : List SpelledToken → Bool
 has_register text = list_any is_register text
-
--- the token is a symbol, a numeric label or the place
-abbrev pub is_symbol_of : TokenKind → List ℕ → Bool
-is_symbol_of Name bytes = true
-is_symbol_of Digits bytes = is_numeric_label bytes
-is_symbol_of Character bytes = false
-is_symbol_of String bytes = true
-is_symbol_of Operator bytes = false
-is_symbol_of Other bytes = false
-
--- the same of a token
-unfoldable pub is_symbol : SpelledToken → Bool
-is_symbol token = is_symbol_of token.kind token.bytes
-
--- one of the tokens is a symbol
-unfoldable pub has_symbol : List SpelledToken → Bool
-has_symbol text = list_any is_symbol text
 
 -- WHAT STANDS ROUND IT
 
@@ -162,11 +143,17 @@ unfoldable pub bracketed : ℕ → Option Segment → List SpelledToken → Opti
 bracketed bits segment text =
     if closes_bracket text then summed bits (mark_at text 0) segment (sum_of (Ok no_sum) (but_last text)) else None
 
+-- a value without brackets may be memory: in a segment any, elsewhere a symbol to which numbers may be added
+abbrev pub is_placed : Option Segment → List SpelledToken → Bool
+is_placed None text = names_place text
+is_placed (Some segment) text = true
+
 -- memory behind its size and its segment
 abbrev pub placed : ℕ → Option Segment → List SpelledToken → Option Outline
 placed bits segment text =
     if has_bracket text then bracketed bits segment text
-    else (if has_register text then None else Some (moved bits (in_segment segment base.Absent index.Absent) text))
+    else (if has_register text then None
+    else (if is_placed segment text then Some (moved bits (in_segment segment base.Absent index.Absent) text) else None))
 
 -- memory behind its size, in a segment if it is written
 abbrev pub segmented : ℕ → List SpelledToken → Option Segment → Option Outline
@@ -216,22 +203,24 @@ abbrev pub as_memory : ℕ → Address → Result ValueText OperandCause → Res
 as_memory bits address (Ok text) = Ok (in_memory bits address text)
 as_memory bits address (Err fault) = Err fault
 
--- the operand of a value that stands alone: the target of a branch; else memory, if a symbol stands in it, or an immediate
-abbrev pub bare_operand : Bool → Bool → ValueText → SizedText
-bare_operand true symbol text = unsized (target text)
-bare_operand false true text = in_memory 0 (in_segment None base.Absent index.Absent) text
-bare_operand false false text = unsized (immediate text)
+-- the operand of a value that stands alone: the target of a branch; else memory, if it is a symbol to which numbers may be added, and an immediate, if no symbol
+-- stands in it
+abbrev pub bare_operand : Bool → Bool → Bool → ValueText → Result SizedText OperandCause
+bare_operand branch place symbol text =
+    if branch then Ok (unsized (target text))
+    else (if place then Ok (in_memory 0 (in_segment None base.Absent index.Absent) text)
+    else (if symbol then Err BadOperand else Ok (unsized (immediate text))))
 
 -- the same of a value that was read
-abbrev pub as_bare : Bool → Bool → Result ValueText OperandCause → Result SizedText OperandCause
-as_bare branch symbol (Ok text) = Ok (bare_operand branch symbol text)
-as_bare branch symbol (Err fault) = Err fault
+abbrev pub as_bare : Bool → Bool → Bool → Result ValueText OperandCause → Result SizedText OperandCause
+as_bare branch place symbol (Ok text) = bare_operand branch place symbol text
+as_bare branch place symbol (Err fault) = Err fault
 
 -- the operand with its value, of a branch or of another instruction
 abbrev pub with_value : Bool → Outline → Result SizedText OperandCause
 with_value branch (lone reg) = Ok (unsized (register reg))
 with_value branch (held text) = as_immediate (value_of text)
-with_value branch (bare text) = as_bare branch (has_symbol text) (value_of text)
+with_value branch (bare text) = as_bare branch (names_place text) (has_symbol text) (value_of text)
 with_value branch (stands bits address) = Ok (in_memory bits address no_displacement)
 with_value branch (moved bits address text) = as_memory bits address (value_of text)
 

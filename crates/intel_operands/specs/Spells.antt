@@ -13,7 +13,7 @@ use Rattle.att_operands.specs.Registers.{register_of}
 use Rattle.att_operands.specs.Marks.{mark_by, mark_at, ends_by}
 use Rattle.att_operands.specs.Addresses.{scale_by}
 use Rattle.att_operands.specs.Values.{ValueText}
-use Rattle.att_operands.specs.OperandTexts.{register, immediate, no_displacement}
+use Rattle.att_operands.specs.OperandTexts.{register, immediate, target, no_displacement}
 use Rattle.att_operands.specs.Spells.{IsMark, WritesValue, in_segment}
 use Rattle.intel_operands.specs.declared.parts.Part.{Part}
 use Rattle.intel_operands.specs.declared.parts.Part.TheVariants.{Plain, Scaled}
@@ -22,7 +22,8 @@ use Rattle.intel_operands.specs.declared.parts.Parts.TheVariants.{Nothing}
 use Rattle.intel_operands.specs.Words.{is_word, bits_by, bits_in, offset_words}
 use Rattle.intel_operands.specs.Parts.{part_ends, part_in, with_part, address_of}
 use Rattle.intel_operands.specs.Sums.{plus_at, is_loose, is_register, depth_behind, adds}
-use Rattle.intel_operands.specs.OperandTexts.{SizedText, unsized, in_memory, Outline, lone, held, bare, stands, moved, has_register, has_symbol, has_bracket, segment_of, lone_register, is_memory, is_nested, summed_at, bare_operand, is_no_comma, ReadPart, part, operand_at}
+use Rattle.intel_operands.specs.Symbols.{has_symbol, names_place}
+use Rattle.intel_operands.specs.OperandTexts.{SizedText, unsized, in_memory, Outline, lone, held, bare, stands, moved, has_register, has_bracket, segment_of, lone_register, is_memory, is_nested, summed_at, is_placed, is_no_comma, ReadPart, part, operand_at}
 
 -- The text writes a part of an address: a register, or a register times a scale.
 pub data WritesPart : (part : Part) (text : List SpelledToken) → Type 0 where
@@ -56,8 +57,8 @@ pub data WritesSum : (opened : Bool) (depth : ℕ) (from to : Parts) (left text 
 
 -- The text stands round the value of memory, behind the size and the segment.
 pub data PlacesMemory : (bits : ℕ) (segment : Option Segment) (outline : Outline) (text : List SpelledToken) → Type 0 where
-  -- a displacement alone, without a register
-  displacement : (bits : ℕ) (segment : Option Segment) (text : List SpelledToken) → has_bracket text ≡ false → has_register text ≡ false
+  -- a displacement alone, without a register; outside of segments a symbol stands in it, to which numbers may be added
+  displacement : (bits : ℕ) (segment : Option Segment) (text : List SpelledToken) → has_bracket text ≡ false → has_register text ≡ false → is_placed segment text ≡ true
       → PlacesMemory bits segment (moved bits (in_segment segment base.Absent index.Absent) text) text
   -- a sum in brackets, and an expression before the bracket
   bracket : (bits : ℕ) (segment : Option Segment) (address : Address) (parts : Parts) (closing : SpelledToken) (left before text : List SpelledToken)
@@ -104,8 +105,14 @@ pub data HoldsValue : (branch : Bool) (outline : Outline) (operand : SizedText) 
   of_register : (branch : Bool) (reg : Reg) → HoldsValue branch (lone reg) (unsized (register reg))
   -- an immediate
   of_offset : (branch : Bool) (value : ValueText) (text : List SpelledToken) → WritesValue value text → HoldsValue branch (held text) (unsized (immediate value))
-  -- a value alone
-  of_value : (branch : Bool) (value : ValueText) (text : List SpelledToken) → WritesValue value text → HoldsValue branch (bare text) (bare_operand branch (has_symbol text) value)
+  -- the target of a branch
+  of_target : (value : ValueText) (text : List SpelledToken) → WritesValue value text → HoldsValue true (bare text) (unsized (target value))
+  -- a symbol, to which numbers may be added: memory
+  of_symbol : (value : ValueText) (text : List SpelledToken) → names_place text ≡ true → WritesValue value text
+      → HoldsValue false (bare text) (in_memory 0 (in_segment None base.Absent index.Absent) value)
+  -- a value without a symbol: an immediate
+  of_number : (value : ValueText) (text : List SpelledToken) → names_place text ≡ false → has_symbol text ≡ false → WritesValue value text
+      → HoldsValue false (bare text) (unsized (immediate value))
   -- memory without a displacement
   of_address : (branch : Bool) (bits : ℕ) (address : Address) → HoldsValue branch (stands bits address) (in_memory bits address no_displacement)
   -- memory with a displacement

@@ -8,6 +8,7 @@ use Rattle.att_operands.specs.declared.faults.OperandCause.{OperandCause}
 use Rattle.att_operands.specs.declared.faults.OperandCause.TheVariants.{BadOperand}
 use Rattle.att_operands.specs.Marks.{mark_by}
 use Rattle.att_operands.specs.Registers.{register_of}
+use Rattle.intel_operands.specs.OtherRegisters.{is_other_register}
 use Rattle.intel_operands.specs.declared.parts.Parts.{Parts}
 use Rattle.intel_operands.specs.declared.parts.Parts.TheVariants.{Nothing}
 use Rattle.intel_operands.specs.declared.parts.FoundPart.{FoundPart}
@@ -42,9 +43,9 @@ is_loose_mark (first ∷ second ∷ third ∷ others) = false
 unfoldable pub is_loose : SpelledToken → Bool
 is_loose token = is_loose_mark (mark_of token)
 
--- a name is that of a register
+-- a name is that of a register, of one that is no operand here too
 abbrev pub is_register_of : TokenKind → List ℕ → Bool
-is_register_of Name bytes = is_some (register_of bytes)
+is_register_of Name bytes = is_some (register_of bytes) || is_other_register bytes
 is_register_of Digits bytes = false
 is_register_of Character bytes = false
 is_register_of String bytes = false

@@ -64,6 +64,8 @@ pub record WorkedPlain : Type 0 where
   pub long : Begins false (codes "R10D, eax") (unsized (register (record { class = class.Long; number = 10 }))) 1
   pub negative : Begins false (codes "-1") (unsized (immediate (valued (unary Minus (number 1)) None))) 2
   pub symbol : Begins false (codes "x") (at_place 0 base.Absent index.Absent x_alone) 1
+  pub moved_symbol : Begins false (codes "x-8") (at_place 0 base.Absent index.Absent (valued (binary Sub (name (Plain (codes "x"))) (number 8)) None)) 3
+  pub suffixed_symbol : Begins false (codes "8+x@TPOFF") (at_place 0 base.Absent index.Absent (valued (binary Add (number 8) (name (Plain (codes "x")))) (Some TpOff))) 5
   pub sized_symbol : Begins false (codes "DWORD PTR x") (at_place 32 base.Absent index.Absent x_alone) 3
   pub address : Begins false (codes "OFFSET x") (unsized (immediate x_alone)) 2
   pub flat : Begins false (codes "offset flat:x+4") (unsized (immediate (valued (binary Add (name (Plain (codes "x"))) (number 4)) None))) 6
@@ -96,6 +98,12 @@ pub record WorkedRefusals : Type 0 where
   pub led : Refuses false (codes "+8[rax]") BadExpression
   pub due : Refuses false (codes "OFFSET") BadExpression
   pub wide : Refuses false (codes "18446744073709551616") NumberTooWide
+  pub control : Refuses false (codes "CR0") BadOperand
+  pub segment_name : Refuses true (codes "ds") BadOperand
+  pub control_in_sum : Refuses false (codes "[rax+cr8]") BadOperand
+  pub product : Refuses false (codes "N*8") BadOperand
+  pub difference : Refuses false (codes ".-x") BadOperand
+  pub sized_number : Refuses false (codes "DWORD PTR 8") BadOperand
 
 -- the operands of these statements
 pub record WorkedOperands : Type 0 where

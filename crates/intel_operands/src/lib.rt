@@ -5,9 +5,11 @@
 mod laws;
 mod lone_sums;
 mod operands;
+mod other_registers;
 mod outlines;
 mod parts;
 mod sums;
+mod symbols;
 mod usual;
 mod values;
 mod words;

@@ -5,10 +5,10 @@ ghost use Rattle.std.specs.Prelude.{◌≡◌, map, length, slice_get, IfSome};
 ghost use Rattle.asm_base.specs.Tokens.{spelled};
 ghost use Rattle.intel_operands.specs.LoneSums.{is_calm, is_calm_by, IsFoundIn};
 
-use crate::sums::mark_of;
+use crate::sums::{is_register, mark_of};
 use crate::words::token_at;
 use asm_base::{Token, TokenKind};
-use att_operands::{NamedRegister, mark_at, register_by, register_named};
+use att_operands::{NamedRegister, mark_at, register_by};
 
 /// The register of a sum, and where the text begins and ends that is left without it.
 #[derive(Clone, Copy)]
@@ -19,12 +19,12 @@ pub(crate) struct LoneSum {
 }
 
 /// Whether the token is a number, a name that is no register, or `-`.
-#[tactic(auto, unfolding(crate::specs::LoneSums::is_calm, att_operands::specs::Marks::mark_by))]
+#[tactic(auto, unfolding(crate::specs::LoneSums::is_calm, crate::specs::Sums::is_register, att_operands::specs::Marks::mark_by))]
 fn is_calm(token: &Token) -> bool
     ensures { result ≡ is_calm (spelled token.now) }
 {
     match token.kind {
-        TokenKind::Name => register_named(token.bytes).is_none(),
+        TokenKind::Name => !is_register(token),
         TokenKind::Digits => true,
         TokenKind::Operator => mark_of(token) == b'-',
         _ => false,
@@ -43,6 +43,7 @@ fn is_calm_at(text: &[Token], at: usize) -> bool
 }
 
 /// `[register]`
+#[inline(always)]
 #[tactic(auto, using(crate::proofs::LoneSums::alone_is))]
 fn alone(text: &[Token]) -> Option<LoneSum>
     requires { length text.now ≡ 3 }
@@ -62,6 +63,7 @@ fn alone(text: &[Token]) -> Option<LoneSum>
 }
 
 /// `x[register]`
+#[inline(always)]
 #[tactic(auto, using(crate::proofs::LoneSums::one_before_is))]
 fn one_before(text: &[Token]) -> Option<LoneSum>
     requires { length text.now ≡ 4 }
@@ -84,6 +86,7 @@ fn one_before(text: &[Token]) -> Option<LoneSum>
 }
 
 /// `-8[register]`
+#[inline(always)]
 #[tactic(auto, using(crate::proofs::LoneSums::two_before_is))]
 fn two_before(text: &[Token]) -> Option<LoneSum>
     requires { length text.now ≡ 5 }
@@ -106,6 +109,7 @@ fn two_before(text: &[Token]) -> Option<LoneSum>
 }
 
 /// `[register-8]`
+#[inline(always)]
 #[tactic(auto, using(crate::proofs::LoneSums::two_behind_is))]
 fn two_behind(text: &[Token]) -> Option<LoneSum>
     requires { length text.now ≡ 5 }
@@ -131,6 +135,7 @@ fn two_behind(text: &[Token]) -> Option<LoneSum>
 }
 
 /// The register of a sum of three to five tokens, its `]` with them.
+#[inline(always)]
 pub(crate) fn lone_sum(text: &[Token]) -> Option<LoneSum>
     ensures { IfSome result (λ found. IsFoundIn text.now found) }
 {

@@ -1,14 +1,20 @@
 //! The operands of an instruction: registers, immediates, memory and branch targets.
 
-ghost use Rattle.std.specs.Prelude.{◌≡◌, ◌+◌, ◌<◌, ◌≤◌, nat_lt, length, map, drop, take, Some, IfOk};
+ghost use Rattle.std.specs.Prelude.{◌≡◌, ◌+◌, ◌<◌, ◌≤◌, nat_lt, length, map, drop, take, Some, None, IfOk};
 ghost use Rattle.std.specs.List.{prefix_len};
 ghost use Rattle.asm_base.specs.Tokens.{spelled};
+ghost use Rattle.x86_insn.specs.declared.insns.Base.TheVariants as base;
+ghost use Rattle.x86_insn.specs.declared.insns.Index.TheVariants as index;
 ghost use Rattle.att_operands.specs.Values.{GivesSo, ValueText, IsValueOf};
-ghost use Rattle.intel_operands.specs.OperandTexts.{bare_operand, bare_of, held_of, other_of, outline_of, outlined, operand_of, is_no_comma, up_to_comma, operand_at, IsSized, IsPartRead};
+ghost use Rattle.att_operands.specs.OperandTexts.{OperandText, memory, IsOperandOf};
+ghost use Rattle.att_operands.specs.Spells.{in_segment};
+ghost use Rattle.intel_operands.specs.Symbols.{has_symbol, names_place};
+ghost use Rattle.intel_operands.specs.OperandTexts.{unsized, bare_operand, bare_of, held_of, other_of, outline_of, outlined, operand_of, is_no_comma, up_to_comma, operand_at, IsSized, IsPartRead};
 
 use crate::outlines::{is_memory, lone_register, memory_of, refused, says_size, sized_by};
 use crate::sums::mark_of;
-use crate::values::{has_register, has_symbol, value_of};
+use crate::symbols::{has_symbol, names_place};
+use crate::values::{has_register, value_of};
 use crate::words::{bits_in, offset_words};
 use asm_base::Token;
 use att_operands::{OperandFault, ReadOperand};
@@ -33,6 +39,7 @@ pub struct FoundOperand<'a> {
 }
 
 /// The immediate behind words that say that it is an address.
+#[inline(never)]
 fn held_operand<'a>(
     alloc: Global,
     text: &[Token<'a>],
@@ -52,27 +59,53 @@ fn held_operand<'a>(
     }
 }
 
-/// The operand of a value that stands alone.
-fn bare_by<'a>(value: Value<'a>, is_branch: bool, symbol: bool) -> SizedOperand<'a>
-    ensures { (text : ValueText) → IsValueOf value.entry text
-        → IsSized result (bare_operand is_branch symbol text) }
+/// An operand that says no size.
+#[inline(always)]
+fn unsized_by<'a>(operand: ReadOperand<'a>) -> SizedOperand<'a>
+    ensures { (text : OperandText) → IsOperandOf operand.entry text
+        → IsSized result (unsized text) }
 {
-    let operand = if is_branch {
-        ReadOperand::Target(value)
-    } else if symbol {
-        let address = Address {
-            segment: None,
-            base: Base::Absent,
-            index: Index::Absent,
-        };
-        ReadOperand::Memory(address, value)
-    } else {
-        ReadOperand::Immediate(value)
-    };
     SizedOperand { operand, bits: 0 }
 }
 
+/// Memory that is a value alone.
+#[inline(always)]
+fn bare_memory<'a>(value: Value<'a>) -> ReadOperand<'a>
+    ensures { (text : ValueText) → IsValueOf value.entry text
+        → IsOperandOf result (memory (in_segment None base.Absent index.Absent) text) }
+{
+    let address = Address {
+        segment: None,
+        base: Base::Absent,
+        index: Index::Absent,
+    };
+    ReadOperand::Memory(address, value)
+}
+
+/// The operand of a value that stands alone.
+#[inline(always)]
+fn bare_by<'a>(
+    value: Value<'a>,
+    is_branch: bool,
+    text: &[Token<'a>],
+) -> Result<SizedOperand<'a>, OperandFault>
+    ensures { let own = map spelled text.now in (due : ValueText) → IsValueOf value.entry due
+        → GivesSo IsSized result (bare_operand is_branch (names_place own) (has_symbol own) due) }
+{
+    if is_branch {
+        return Ok(unsized_by(ReadOperand::Target(value)));
+    }
+    if names_place(text) {
+        return Ok(unsized_by(bare_memory(value)));
+    }
+    if has_symbol(text) {
+        return refused();
+    }
+    Ok(unsized_by(ReadOperand::Immediate(value)))
+}
+
 /// A value without a mark.
+#[inline(always)]
 fn bare_operand<'a>(
     alloc: Global,
     text: &[Token<'a>],
@@ -84,12 +117,13 @@ fn bare_operand<'a>(
         return refused();
     }
     match value_of(alloc, text) {
-        Ok(value) => Ok(bare_by(value, is_branch, has_symbol(text))),
+        Ok(value) => bare_by(value, is_branch, text),
         Err(refusal) => Err(refusal),
     }
 }
 
 /// An operand that is no register.
+#[inline(always)]
 fn other_operand<'a>(
     alloc: Global,
     text: &[Token<'a>],
@@ -113,6 +147,7 @@ fn other_operand<'a>(
 }
 
 /// The operand that the text is, of a branch or of another instruction.
+#[inline(always)]
 #[tactic(auto, unfolding(crate::specs::OperandTexts::operand_of, crate::specs::OperandTexts::outline_of))]
 fn operand_of<'a>(
     alloc: Global,
@@ -171,6 +206,7 @@ fn text_at<'t, 'a>(tokens: &'t [Token<'a>], at: usize) -> &'t [Token<'a>]
 }
 
 /// The operand at this place, behind which a comma or nothing stands.
+#[inline(always)]
 #[tactic(auto, unfolding(crate::specs::OperandTexts::operand_at))]
 pub fn read_operand<'a>(
     alloc: Global,

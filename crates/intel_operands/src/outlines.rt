@@ -11,12 +11,13 @@ ghost use Rattle.intel_operands.specs.Words.{bits_in};
 ghost use Rattle.att_operands.specs.Marks.{mark_by, mark_at};
 ghost use Rattle.intel_operands.specs.Parts.{address_of};
 ghost use Rattle.intel_operands.specs.Sums.{no_sum, sum_of, sum_by};
-ghost use Rattle.intel_operands.specs.OperandTexts.{lone_register, segment_of, has_bracket, closes_bracket, but_last, is_nested, is_memory, displacement_in, summed_at, summed_by, summed, bracketed, placed, segmented, sized, memory_of, value_of, as_memory, outlined, IsSized};
+ghost use Rattle.intel_operands.specs.OperandTexts.{lone_register, segment_of, has_bracket, closes_bracket, but_last, is_nested, is_memory, displacement_in, summed_at, summed_by, summed, bracketed, is_placed, placed, segmented, sized, memory_of, value_of, as_memory, outlined, IsSized};
 
 use crate::lone_sums::lone_sum;
 use crate::operands::SizedOperand;
 use crate::parts::{Part, Parts, address_of};
 use crate::sums::{ReadSum, is_whole, mark_of, read_sum};
+use crate::symbols::names_place;
 use crate::values::{has_register, value_of};
 use crate::words::bits_in;
 use asm_base::Token;
@@ -49,6 +50,7 @@ pub(crate) fn lone_register(text: &[Token]) -> Option<Reg>
 }
 
 /// The segment in front, behind which a `:` stands.
+#[inline(always)]
 #[tactic(auto, unfolding(crate::specs::OperandTexts::segment_of))]
 fn segment_of(text: &[Token]) -> Option<Segment>
     ensures value { result ≡ segment_of (map spelled text.now) }
@@ -112,6 +114,7 @@ fn is_nested(text: &[Token]) -> bool
 }
 
 /// Whether the text, which says so many bits, says that it is memory.
+#[inline(always)]
 pub(crate) fn is_memory(text: &[Token], bits: u8) -> bool
     requires { bits ≡ bits_in (map spelled text.now) }
     ensures { result ≡ is_memory (map spelled text.now) }
@@ -120,6 +123,7 @@ pub(crate) fn is_memory(text: &[Token], bits: u8) -> bool
 }
 
 /// Whether the text, which says so many bits, says them in front, and no bracket stands there.
+#[inline(always)]
 pub(crate) fn says_size(text: &[Token], bits: u8) -> bool
     requires { bits ≡ bits_in (map spelled text.now) }
     ensures memory { IsTrue result → is_memory (map spelled text.now) ≡ true }
@@ -140,6 +144,7 @@ fn displacement_in<'t, 'a>(mark: u8, text: &'t [Token<'a>]) -> &'t [Token<'a>]
 }
 
 /// Memory at this address, with a displacement.
+#[inline(always)]
 fn moved<'a>(
     alloc: Global,
     text: &[Token<'a>],
@@ -158,6 +163,7 @@ fn moved<'a>(
 }
 
 /// Memory at this address, with what is left of a sum that begins with the mark.
+#[inline(always)]
 fn summed_at<'a>(
     alloc: Global,
     text: &[Token<'a>],
@@ -178,6 +184,7 @@ fn summed_at<'a>(
 }
 
 /// Memory at the address that the parts make, with what is left of a sum that begins with the mark.
+#[inline(always)]
 fn summed_by<'a>(
     alloc: Global,
     text: &[Token<'a>],
@@ -196,6 +203,7 @@ fn summed_by<'a>(
 }
 
 /// Memory as a sum that was read, which begins with the mark.
+#[inline(always)]
 fn summed<'a>(
     alloc: Global,
     sum: &ReadSum<'a>,
@@ -233,6 +241,7 @@ fn summed_any<'a>(
 }
 
 /// The same, with a short way for usual sums.
+#[inline(always)]
 #[tactic(auto, using(crate::proofs::LoneSums::lone_summed))]
 fn summed_text<'a>(
     alloc: Global,
@@ -256,6 +265,7 @@ fn summed_text<'a>(
 }
 
 /// Memory in brackets.
+#[inline(always)]
 #[tactic(auto, unfolding(crate::specs::OperandTexts::bracketed))]
 fn bracketed<'a>(
     alloc: Global,
@@ -273,7 +283,19 @@ fn bracketed<'a>(
     }
 }
 
+/// Whether a value without brackets may be memory: in a segment any, elsewhere a symbol to which
+/// numbers may be added.
+fn is_placed(segment: Option<Segment>, text: &[Token]) -> bool
+    ensures { result ≡ is_placed segment (map spelled text.now) }
+{
+    match segment {
+        Some(_) => true,
+        None => names_place(text),
+    }
+}
+
 /// Memory behind its size and its segment.
+#[inline(always)]
 fn placed<'a>(
     alloc: Global,
     text: &[Token<'a>],
@@ -289,6 +311,9 @@ fn placed<'a>(
     if has_register(text) {
         return refused();
     }
+    if !is_placed(segment, text) {
+        return refused();
+    }
     let address = Address {
         segment,
         base: Base::Absent,
@@ -298,6 +323,7 @@ fn placed<'a>(
 }
 
 /// Memory behind its size.
+#[inline(always)]
 fn segmented<'a>(
     alloc: Global,
     text: &[Token<'a>],
@@ -313,6 +339,7 @@ fn segmented<'a>(
 }
 
 /// Memory, with a size if it is written: so many bits.
+#[inline(always)]
 #[tactic(auto, unfolding(crate::specs::OperandTexts::sized))]
 pub(crate) fn sized_by<'a>(
     alloc: Global,
@@ -332,6 +359,7 @@ pub(crate) fn sized_by<'a>(
 }
 
 /// The same, where the size was not looked at.
+#[inline(never)]
 fn sized<'a>(alloc: Global, text: &[Token<'a>]) -> Result<SizedOperand<'a>, OperandFault>
     ensures { (branch : Bool) → GivesSo IsSized result
         (outlined branch (sized (map spelled text.now))) }
@@ -340,6 +368,7 @@ fn sized<'a>(alloc: Global, text: &[Token<'a>]) -> Result<SizedOperand<'a>, Oper
 }
 
 /// Memory, which further brackets may stand round.
+#[inline(never)]
 pub(crate) fn memory_of<'a>(
     alloc: Global,
     text: &[Token<'a>],

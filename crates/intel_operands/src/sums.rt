@@ -7,6 +7,7 @@ ghost use Rattle.att_operands.specs.Marks.{mark_by};
 ghost use Rattle.intel_operands.specs.Parts.{part_in};
 ghost use Rattle.intel_operands.specs.Sums.{no_sum, plus_at, is_loose, is_register, depth_behind, kept, added, adds, with_token, stepped, sum_of, is_whole, sum_by};
 
+use crate::other_registers::is_other_register;
 use crate::parts::{FoundPart, Parts, part_in, with_part};
 use asm_base::{Token, TokenKind};
 use att_operands::{OperandCause, OperandFault, mark_at, register_named};
@@ -28,6 +29,7 @@ pub(crate) struct ReadSum<'a> {
 }
 
 /// A sum of which nothing was read.
+#[inline(always)]
 fn no_sum<'a>(alloc: Global) -> ReadSum<'a>
     ensures { sum_by result ≡ no_sum }
 {
@@ -56,8 +58,9 @@ pub(crate) fn mark_of(token: &Token) -> u8
 }
 
 /// Whether the token is a comparison, `&&` or `||`.
+#[inline(always)]
 #[tactic(auto, unfolding(crate::specs::Sums::is_loose))]
-fn is_loose(token: &Token) -> bool
+pub(crate) fn is_loose(token: &Token) -> bool
     ensures { result ≡ is_loose (spelled token.now) }
 {
     if token.kind != TokenKind::Operator {
@@ -70,13 +73,15 @@ fn is_loose(token: &Token) -> bool
     }
 }
 
-/// Whether the token names a register.
+/// Whether the token names a register, or one that is no operand here.
 #[tactic(auto, unfolding(crate::specs::Sums::is_register))]
 pub(crate) fn is_register(token: &Token) -> bool
     ensures { result ≡ is_register (spelled token.now) }
 {
     match token.kind {
-        TokenKind::Name => register_named(token.bytes).is_some(),
+        TokenKind::Name => {
+            register_named(token.bytes).is_some() || is_other_register(token.bytes)
+        }
         _ => false,
     }
 }
@@ -98,6 +103,7 @@ fn depth_behind(depth: usize, mark: u8) -> Option<usize>
 
 /// Whether the token does not stay in the text: it is a register, or binds less tightly than `+`
 /// outside of parentheses.
+#[inline(always)]
 fn is_wrong(token: &Token, depth: usize) -> bool
     ensures { result ≡ is_register (spelled token.now)
         || ((depth == 0) && is_loose (spelled token.now)) }
@@ -106,6 +112,7 @@ fn is_wrong(token: &Token, depth: usize) -> bool
 }
 
 /// The token stays in the text, if it may.
+#[inline(always)]
 #[tactic(auto, unfolding(crate::specs::Sums::kept))]
 fn keep<'a>(sum: &mut ReadSum<'a>, token: &Token<'a>) -> Result<(), OperandFault>
     requires { sum.old.depth + 1 < 2 ^ 64 }
@@ -138,6 +145,7 @@ fn plus_at<'a>(token: &Token<'a>) -> Token<'a>
 }
 
 /// A summand begins behind the token: a part of the address, or else the `+` stays in the text.
+#[inline(always)]
 fn add<'a>(
     sum: &mut ReadSum<'a>,
     token: &Token<'a>,
@@ -170,6 +178,7 @@ fn adds(opened: bool, mark: u8) -> bool
 }
 
 /// A token more, in front of these others.
+#[inline(always)]
 #[tactic(auto, unfolding(crate::specs::Sums::with_token))]
 fn take<'a>(
     sum: &mut ReadSum<'a>,
@@ -189,6 +198,7 @@ fn take<'a>(
 }
 
 /// The same, where the token may belong to a part that was found.
+#[inline(always)]
 fn step<'a>(
     sum: &mut ReadSum<'a>,
     token: &Token<'a>,
@@ -208,6 +218,7 @@ fn step<'a>(
 }
 
 /// The sum that the tokens are.
+#[inline(always)]
 pub(crate) fn read_sum<'a>(alloc: Global, text: &[Token<'a>]) -> Result<ReadSum<'a>, OperandFault>
     ensures { GivesBy sum_by result (sum_of (Ok no_sum) (map spelled text.now)) }
 {

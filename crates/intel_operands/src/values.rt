@@ -5,15 +5,16 @@ ghost use Rattle.std.specs.List.{list_any};
 ghost use Rattle.asm_base.specs.Tokens.{spelled};
 ghost use Rattle.intel_operands.specs.Sums.{is_register};
 ghost use Rattle.att_operands.specs.Values.{GivesSo, IsValueOf};
-ghost use Rattle.intel_operands.specs.OperandTexts.{value_of, has_register, is_symbol, has_symbol};
+ghost use Rattle.intel_operands.specs.OperandTexts.{value_of, has_register};
 
 use crate::sums::is_register;
-use asm_base::{Token, TokenKind};
-use att_operands::{OperandCause, OperandFault, ReadValue, is_numeric_label, value_at};
+use asm_base::Token;
+use att_operands::{OperandCause, OperandFault, ReadValue, value_at};
 use std::alloc::Global;
 use x86_insn::Value;
 
 /// The value that is the whole text.
+#[inline(always)]
 #[tactic(auto, unfolding(crate::specs::OperandTexts::value_of))]
 pub(crate) fn value_of<'a>(alloc: Global, text: &[Token<'a>]) -> Result<Value<'a>, OperandFault>
     ensures { GivesSo IsValueOf result (value_of (map spelled text.now)) }
@@ -42,31 +43,4 @@ pub(crate) fn has_register(text: &[Token]) -> bool
     ensures { result ≡ has_register (map spelled text.now) }
 {
     any_register(text)
-}
-
-/// Whether the token is a symbol, a numeric label or the place.
-#[tactic(auto, unfolding(crate::specs::OperandTexts::is_symbol))]
-fn is_symbol(token: &Token) -> bool
-    ensures { result ≡ is_symbol (spelled token.now) }
-{
-    match token.kind {
-        TokenKind::Name => true,
-        TokenKind::String => true,
-        TokenKind::Digits => is_numeric_label(token.bytes),
-        _ => false,
-    }
-}
-
-/// Whether one of the tokens is a symbol.
-fn any_symbol(text: &[Token]) -> bool
-    ensures { result ≡ list_any (λ token. is_symbol (spelled token)) text.now }
-{
-    text.iter().any(|token| is_symbol(token))
-}
-
-/// Whether one of the tokens of a text is a symbol.
-pub(crate) fn has_symbol(text: &[Token]) -> bool
-    ensures { result ≡ has_symbol (map spelled text.now) }
-{
-    any_symbol(text)
 }

@@ -52,6 +52,7 @@ fn is_pointer(text: &[Token], at: usize) -> bool
 }
 
 /// How many bits the words in front say, of which the second is `PTR`, and 0 where they say none.
+#[inline(always)]
 pub(crate) fn bits_in(text: &[Token]) -> u8
     ensures value { result ≡ bits_in (map spelled text.now) }
     ensures within { 0 < result → 2 ≤ length text.now }
@@ -91,6 +92,7 @@ fn is_flat(text: &[Token], at: usize) -> bool
 }
 
 /// So many tokens in front say that a value is an address.
+#[inline(always)]
 pub(crate) fn offset_words(text: &[Token]) -> usize
     ensures value { result ≡ offset_words (map spelled text.now) }
     ensures within { result ≤ length text.now }

@@ -1,8 +1,8 @@
 -- A test of the program's tokens is one of what they spell.
-use Rattle.intel_operands.specs.OperandTexts.{is_symbol}
-use Rattle.intel_operands.specs.OperandTexts.{has_symbol}
+use Rattle.intel_operands.specs.Symbols.{is_symbol}
+use Rattle.intel_operands.specs.Symbols.{has_symbol}
 use Rattle.intel_operands.proofs.SpelledTests.{any_spelled}
-use Rattle.intel_operands.proofs.values.has_symbol.Goals as goal
+use Rattle.intel_operands.proofs.symbols.has_symbol.Goals as goal
 
 pub returns : goal.returns
 unfolding has_symbol
