@@ -5,7 +5,9 @@ DESTDIR ?=
 CRATES := $(shell sed -n 's/^\([a-z0-9_]*\):.*/\1/p' crates.txt)
 
 # As many crates are proved side by side as there are processors, each behind those that it stands on.
+ifeq ($(MAKELEVEL),0)
 MAKEFLAGS += --jobs=$(shell nproc 2>/dev/null || echo 1)
+endif
 
 all: build/as build/gcc/as
 
@@ -13,6 +15,7 @@ all: build/as build/gcc/as
 ifeq ($(COUNTING)$(filter clean check,$(MAKECMDGOALS)),)
 TO_PROVE := $(shell $(MAKE) --no-print-directory -n -s COUNTING=1 build/as 2>/dev/null | grep -c 'rt lib')
 $(shell mkdir -p build && : >build/proved)
+$(if $(filter-out 0,$(TO_PROVE)),$(info $(TO_PROVE) crates are to be proved, then the program))
 endif
 
 stands_on = $(filter $(CRATES),$(shell sed -n 's/^$(1)://p' crates.txt))
@@ -27,15 +30,17 @@ build/libraries/$(1): crates.txt $(call sources_of,$(1)) $(patsubst %,build/libr
 	cd ../..; mv build/libraries/$(1).log $$@; echo $(1) >>build/proved; \
 	echo "proved $(1) in $$$$(($$$$(date +%s) - begun)) s; $$$$(($(TO_PROVE) - $$$$(wc -l <build/proved))) left"
 endef
-$(foreach crate,$(filter-out asm_cli asm_rows asm_calls layout_rows frame_rows,$(CRATES)),$(eval $(call library,$(crate))))
+PROGRAMS := asm_cli asm_rows asm_calls layout_rows frame_rows
+$(foreach crate,$(filter-out $(PROGRAMS),$(CRATES)),$(eval $(call library,$(crate))))
 
 # Only a proved program is linked. A word that is no command makes it end at once, with status 2.
 build/as: crates.txt $(call sources_of,asm_cli) $(patsubst %,build/libraries/%,$(call stands_on,asm_cli))
 	@mkdir -p build
 	@rm -f crates/asm_cli/out/asm_cli
-	@cd crates/asm_cli && rt run -- --build >../../build/log 2>&1; test -x out/asm_cli || { cat ../../build/log; exit 1; }
-	@cp crates/asm_cli/out/asm_cli $@
-	@echo built $@
+	@begun=$$(date +%s); cd crates/asm_cli; \
+	rt run -- --build >../../build/log 2>&1; test -x out/asm_cli || { cat ../../build/log; exit 1; }; \
+	cd ../..; cp crates/asm_cli/out/asm_cli $@; \
+	echo "proved and built $@ in $$(($$(date +%s) - begun)) s"
 
 # For `gcc -Bbuild/gcc/`: gcc calls its assembler by the name `as`.
 build/gcc/as: tools/gcc/as
@@ -48,10 +53,12 @@ demo: build/as
 check:
 	rt ci
 
-# What no clause can say: the built program on files and devices that fail, and its objects linked by gcc, those of random C programs
-# with them, and the frame tables of these. Random expressions beside Python's integers, and the objects of random sources, those with macros too, and the code
-# of random instructions beside those of the machine's GNU as, and beside their Intel forms. The rows of the instruction table beside the machine's objdump, and what is made of them: a document,
-# and the indices and keys by which they are found.
+# What no clause can say: the built program on files and devices that fail, and its objects linked by gcc, those of
+# random C programs with them, and the frame tables of these. Random expressions beside Python's integers, and the
+# objects of random sources, those with macros too, and the code of random instructions beside those of the
+# machine's GNU as, and beside their Intel forms. The rows of the instruction table beside the machine's objdump,
+# and what is made of them: a document, and the indices and keys by which they are found. The examples of README and
+# docs/USING.md.
 check-outside: all
 	checks/examples.py build/as
 	checks/outside.sh build/as
