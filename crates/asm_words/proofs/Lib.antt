@@ -1,4 +1,5 @@
 -- The proofs of this crate.
+pub mod SameBytes
 pub mod SlotLemmas
 pub mod TokenLists
 pub mod NameParts

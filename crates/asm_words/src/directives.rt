@@ -2,6 +2,7 @@
 
 ghost use Rattle.std.specs.Prelude.{◌≡◌, find, option_map, IsTrue};
 ghost use Rattle.std.specs.List.{list_all};
+ghost use Rattle.std.specs.Str.{bytes_eq};
 ghost use Rattle.asm_words.specs.Directives as spec;
 ghost use Rattle.asm_words.specs.Slots.{row_in};
 
@@ -228,13 +229,32 @@ fn directives() -> &'static [DirectiveRow]
     &DIRECTIVES
 }
 
+/// Whether the bytes are equal. Most names have four to eight, of which the first four and the last
+/// four are looked at.
+#[inline(always)]
+#[tactic(auto, using(crate::proofs::SameBytes::ends_say))]
+fn are_same(one: &[u8], other: &[u8]) -> bool
+    ensures { result ≡ bytes_eq one.now other.now }
+{
+    if one.len() != other.len() || 8 < one.len() {
+        return one == other;
+    }
+    match (one.first_chunk::<4>(), other.first_chunk::<4>()) {
+        (Some(front), Some(here)) => match (one.last_chunk::<4>(), other.last_chunk::<4>()) {
+            (Some(back), Some(there)) => front == here && back == there,
+            _ => one == other,
+        },
+        _ => one == other,
+    }
+}
+
 /// Whether the row has the name: what stands before the spaces.
 #[tactic(auto, using(std::proofs::lemmas::List::take_min))]
 fn is_directive(name: &[u8], row: &DirectiveRow) -> bool
     ensures { result ≡ spec.is_directive name.now row.now }
 {
     let padded = row.name.as_slice();
-    &padded[..row.length.min(padded.len())] == name
+    are_same(&padded[..row.length.min(padded.len())], name)
 }
 
 /// The number of the row that the slot of the name leads to, or 255.
