@@ -3,7 +3,7 @@
 use crate::knowing::{definition_told, value_told};
 use asm_base::{NoMemory, Notes, Pos, Refusal, Token};
 use asm_lines::Placer;
-use asm_place::{FaultAt, StatementPlacer};
+use asm_place::{BoxedFault, FaultAt, StatementPlacer};
 use asm_values::Placed;
 use macro_words::{KnowingPlacer, MacroCause};
 use std::alloc::{AllocError, Global};
@@ -12,7 +12,7 @@ use std::marker::Model;
 /// A fault of a statement that was handed out: none says that a file is too large.
 #[derive(Drop)]
 pub(crate) struct StatementRefusal {
-    fault: FaultAt,
+    fault: BoxedFault,
 }
 
 impl Model for StatementRefusal {
@@ -36,7 +36,7 @@ impl StatementRefusal {
         ensures value { result ≡ self }
         ensures apart { is_file_too_large result.fault ≡ false }
     {
-        self.fault
+        self.fault.into_fault()
     }
 }
 

@@ -197,9 +197,9 @@ fn put_coded(
         immediate: known(&forms.immediate),
         displacement: known(&forms.displacement),
     };
-    match encode(insn, &values) {
-        Ok(made) => put_fields(assembler, pos, insn, forms, &made),
-        Err(cause) => Err(PlaceFault::Fault(code_fault(cause))),
+    match &encode(insn, &values) {
+        Ok(made) => put_fields(assembler, pos, insn, forms, made),
+        Err(cause) => Err(PlaceFault::Fault(code_fault(*cause))),
     }
 }
 
@@ -221,6 +221,7 @@ fn put_jump(
 }
 
 /// An instruction of these forms: an item of a direct jump, the bytes and the fields of any other.
+#[inline(always)]
 #[tactic(auto, unfolding(crate::specs::Coding::put_insn))]
 pub(crate) fn put_insn(
     assembler: &mut Assembler,

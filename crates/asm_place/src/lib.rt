@@ -21,5 +21,5 @@ pub use laws::{
     jumps_are_put, jumps_read, places_stand, placing_grows, placing_in_order,
     placing_is_not_reading, placing_within, procedures_stand_in_order,
 };
-pub use place_faults::FaultAt;
+pub use place_faults::{BoxedFault, FaultAt};
 pub use sources::StatementPlacer;

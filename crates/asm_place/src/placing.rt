@@ -4,6 +4,7 @@ ghost use Rattle.std.specs.Prelude.{◌≡◌, ◌∷◌, map, Ok};
 ghost use Rattle.asm_base.specs.Tokens.{spelled};
 ghost use Rattle.asm_place.specs.Placing.{initial_number, is_too_wide, has_wide_label, bare, place_by, place_directive, place_body, place_label, place_unlabelled, place_labelled, place_tokens};
 ghost use Rattle.asm_base.specs.Refusals.{Gives};
+ghost use Rattle.asm_operands.specs.Operands.{begins_with_label};
 ghost use Rattle.asm_values.specs.Answers.{KeepsNotes};
 ghost use Rattle.asm_place.specs.SectionChanges.{with_current};
 ghost use Rattle.asm_values.specs.PlacedBy.{placed_by, PlacesBy};
@@ -19,8 +20,8 @@ use asm_base::{Pos, Token};
 use asm_frames::place_frame;
 use asm_items::{place_align, place_leb128, place_org};
 use asm_operands::{
-    PlaceCause, PlaceFault, begins_assignment, begins_with_dot, begins_with_label, is_dot, is_name,
-    is_number, names_symbol,
+    PlaceCause, PlaceFault, begins_assignment, begins_with_dot, begins_with_label, is_dot, is_mark,
+    is_name, is_number, names_symbol,
 };
 use asm_symbols::Definition;
 use asm_values::Assembler;
@@ -162,7 +163,8 @@ fn place_body(
         assembler.old assembler.new result }
     ensures kept { KeepsNotes result assembler.old.notes assembler.new.notes }
 {
-    if names_symbol(first) && begins_assignment(rest) {
+    // Few statements have an equals sign there, so that it is seen sooner.
+    if begins_assignment(rest) && names_symbol(first) {
         assembler.place_assignment(pos, first, &rest[1..])
     } else if !is_name(first) {
         Err(PlaceFault::Fault(PlaceCause::UnknownMnemonic))
@@ -231,6 +233,17 @@ fn place_with_labels(
     place_labelled(assembler, pos, tokens)
 }
 
+/// Whether a label stands in front: most statements have no colon where one would.
+#[inline(always)]
+fn begins_labelled(tokens: &[Token]) -> bool
+    ensures { result ≡ begins_with_label (map spelled tokens.now) }
+{
+    match tokens {
+        [_, second, ..] if is_mark(second, b':') => begins_with_label(tokens),
+        _ => false,
+    }
+}
+
 /// A statement. Most have no label.
 #[inline(always)]
 pub(crate) fn place_tokens(
@@ -242,7 +255,7 @@ pub(crate) fn place_tokens(
         assembler.old assembler.new result }
     ensures kept { KeepsNotes result assembler.old.notes assembler.new.notes }
 {
-    if begins_with_label(tokens) {
+    if begins_labelled(tokens) {
         return place_with_labels(assembler, pos, tokens);
     }
     place_unlabelled(assembler, pos, tokens)

@@ -5,7 +5,7 @@ ghost use Rattle.asm_base.specs.Tokens.{spelled};
 ghost use Rattle.asm_place.specs.Faults.{statement_fault};
 ghost use Rattle.asm_place.specs.Sources.{IsRefusalAt};
 
-use crate::place_faults::FaultAt;
+use crate::place_faults::{BoxedFault, FaultAt};
 use crate::placing::place_tokens;
 use crate::remarks::last_string;
 use asm_base::{Fault, Notes, Pos, Refusal, SaidText, StatementFault, Token};
@@ -72,7 +72,7 @@ fn refused(
     pos: Pos,
     tokens: &[Token],
     refusal: PlaceFault,
-) -> Refusal<FaultAt>
+) -> Refusal<BoxedFault>
     ensures { IsRefusalAt (record { file = pos.file; line = pos.line; tokens = map spelled tokens.now })
         assembler.old.notes refusal result }
 {
@@ -83,7 +83,10 @@ fn refused(
             Ok(fault) => {
                 let notes = mem::replace(&mut assembler.notes, Notes::new(assembler.alloc));
                 let fault = Fault::Statement(fault);
-                Refusal::Fault(FaultAt { fault, pos, notes })
+                match BoxedFault::new(assembler.alloc, FaultAt { fault, pos, notes }) {
+                    Ok(boxed) => Refusal::Fault(boxed),
+                    Err(_) => Refusal::NoMemory,
+                }
             }
         },
     }
@@ -117,13 +120,13 @@ impl StatementPlacer {
 impl Placer for StatementPlacer {
     ghost use Rattle.asm_place.specs.Sources.{place};
 
-    type Fault = FaultAt;
+    type Fault = BoxedFault;
 
     ghost placed = { λ before statement. place statement before };
 
     #[tactic(auto, unfolding(crate::specs::Sources::place))]
     #[inline(always)]
-    fn place(&mut self, pos: Pos, tokens: &[Token]) -> Result<(), Refusal<FaultAt>> {
+    fn place(&mut self, pos: Pos, tokens: &[Token]) -> Result<(), Refusal<BoxedFault>> {
         match place_tokens(&mut self.assembler, pos, tokens) {
             Ok(()) => Ok(()),
             Err(refusal) => Err(refused(&mut self.assembler, pos, tokens, refusal)),
