@@ -21,11 +21,12 @@ endif
 stands_on = $(filter $(CRATES),$(shell sed -n 's/^$(1)://p' crates.txt))
 sources_of = $(shell find crates/$(1) -path '*/out' -prune -o \( -name '*.rt' -o -name '*.antt' \) -print)
 
-# The library of a crate, proved; the log stays where a proof fails.
+# The library of a crate, proved; the log stays where a proof fails. One rt at a time works on a crate or below it, so
+# those that stand on asm_base take turns: the time that is told is that of the proof.
 define library
 build/libraries/$(1): crates.txt $(call sources_of,$(1)) $(patsubst %,build/libraries/%,$(call stands_on,$(1)))
 	@mkdir -p build/libraries
-	@begun=$$$$(date +%s); cd crates/$(1); \
+	@exec 9>build/turn; $(if $(filter asm_base,$(call stands_on,$(1))),flock 9;) begun=$$$$(date +%s); cd crates/$(1); \
 	rt lib >../../build/libraries/$(1).log 2>&1 || { cat ../../build/libraries/$(1).log; exit 1; }; \
 	cd ../..; mv build/libraries/$(1).log $$@; echo $(1) >>build/proved; \
 	echo "proved $(1) in $$$$(($$$$(date +%s) - begun)) s; $$$$(($(TO_PROVE) - $$$$(wc -l <build/proved))) left"
