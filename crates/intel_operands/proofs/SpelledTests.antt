@@ -39,3 +39,8 @@ text_spelled tokens text at n count is =
     ap (λ (ts : List Token). map spelled ts) is ∙ take_spelled n (drop at tokens)
     ∙ ap (λ (m : ℕ). take m (map spelled (drop at tokens))) count
     ∙ ap (λ (ts : List SpelledToken). take (up_to_comma ts) ts) (sym (drop-map spelled at tokens))
+
+-- one token at a place
+pub one_spelled : (tokens text : List Token) (at : ℕ) → text ≡ take 1 (drop at tokens) → map spelled text ≡ take 1 (drop at (map spelled tokens))
+one_spelled tokens text at is =
+    ap (λ (ts : List Token). map spelled ts) is ∙ take_spelled 1 (drop at tokens) ∙ ap (λ (ts : List SpelledToken). take 1 ts) (sym (drop-map spelled at tokens))

@@ -1,6 +1,6 @@
 //! The operands of an instruction: registers, immediates, memory and branch targets.
 
-ghost use Rattle.std.specs.Prelude.{◌≡◌, ◌+◌, ◌<◌, ◌≤◌, nat_lt, length, map, drop, take, Some, None, IfOk};
+ghost use Rattle.std.specs.Prelude.{◌≡◌, ◌+◌, ◌<◌, ◌≤◌, nat_lt, length, map, drop, take, Some, None, Ok, IfOk};
 ghost use Rattle.std.specs.List.{prefix_len};
 ghost use Rattle.asm_base.specs.Tokens.{spelled};
 ghost use Rattle.x86_insn.specs.declared.insns.Base.TheVariants as base;
@@ -8,12 +8,12 @@ ghost use Rattle.x86_insn.specs.declared.insns.Index.TheVariants as index;
 ghost use Rattle.att_operands.specs.Values.{GivesSo, ValueText, IsValueOf};
 ghost use Rattle.att_operands.specs.OperandTexts.{OperandText, memory, IsOperandOf};
 ghost use Rattle.att_operands.specs.Spells.{in_segment};
-ghost use Rattle.intel_operands.specs.Symbols.{has_symbol, names_place};
+ghost use Rattle.intel_operands.specs.Symbols.{is_symbol, has_symbol, names_place};
 ghost use Rattle.intel_operands.specs.OperandTexts.{unsized, bare_operand, bare_of, held_of, other_of, outline_of, outlined, operand_of, is_no_comma, up_to_comma, operand_at, IsSized, IsPartRead};
 
 use crate::outlines::{is_memory, lone_register, memory_of, refused, says_size, sized_by};
 use crate::sums::mark_of;
-use crate::symbols::{has_symbol, names_place};
+use crate::symbols::{has_symbol, is_symbol, names_place};
 use crate::values::{has_register, value_of};
 use crate::words::{bits_in, offset_words};
 use asm_base::Token;
@@ -102,6 +102,22 @@ fn bare_by<'a>(
         return refused();
     }
     Ok(unsized_by(ReadOperand::Immediate(value)))
+}
+
+/// The operand of a value of one token.
+#[inline(always)]
+pub(crate) fn word_by<'a>(value: Value<'a>, is_branch: bool, token: &Token<'a>) -> SizedOperand<'a>
+    ensures { let symbol = is_symbol (spelled token.now) in (due : ValueText)
+        → IsValueOf value.entry due
+        → GivesSo IsSized (Ok result) (bare_operand is_branch symbol symbol due) }
+{
+    if is_branch {
+        return unsized_by(ReadOperand::Target(value));
+    }
+    if is_symbol(token) {
+        return unsized_by(bare_memory(value));
+    }
+    unsized_by(ReadOperand::Immediate(value))
 }
 
 /// A value without a mark.

@@ -69,7 +69,7 @@ pub(crate) fn bits_in(text: &[Token]) -> u8
 /// Whether the token at this place is `OFFSET`.
 #[inline(always)]
 #[tactic(auto, unfolding(crate::specs::Words::is_word))]
-fn is_offset(text: &[Token], at: usize) -> bool
+pub(crate) fn is_offset(text: &[Token], at: usize) -> bool
     ensures value { result ≡ is_word (codes "offset") (slice_get (map spelled text.now) at) }
     ensures within { IsTrue result → at + 1 ≤ length text.now }
 {
