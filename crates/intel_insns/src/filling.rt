@@ -12,7 +12,9 @@ ghost use Rattle.intel_insns.specs.Reading.{Fills, Puts, operands_at, with_all};
 use asm_base::Token;
 use att_insns::is_absent;
 use att_operands::{OperandCause, OperandFault, ReadOperand};
-use intel_operands::{FoundOperand, ends_at, read_operand, whole_register, whole_value};
+use intel_operands::{
+    FoundOperand, ends_at, read_operand, whole_memory, whole_register, whole_value,
+};
 use std::alloc::Global;
 use x86_insn::{Insn, Reg, Slot};
 
@@ -156,6 +158,39 @@ fn put_value<'a>(
     }
 }
 
+/// The same, with a short way for memory.
+#[inline(never)]
+fn put_memory<'a>(
+    alloc: Global,
+    tokens: &[Token<'a>],
+    at: usize,
+    is_branch: bool,
+    insn: &mut Insn<'a>,
+    bits: u8,
+) -> Result<OperandEnd, OperandFault>
+    requires { at ≤ length tokens.now }
+    ensures value { (due : FilledText) → IsFilled insn.old bits due
+        → Puts insn.new result due (operand_at is_branch (map spelled tokens.now) at) }
+    ensures within { IfOk result (λ put. put.next ≤ length tokens.now) }
+{
+    match whole_memory(alloc, tokens, at) {
+        Some(
+            FoundOperand {
+                operand,
+                bits: more,
+                next,
+            },
+        ) => {
+            put(insn, operand);
+            Ok(OperandEnd {
+                bits: bits_with(more, bits),
+                next,
+            })
+        }
+        None => put_any(alloc, tokens, at, is_branch, insn, bits),
+    }
+}
+
 /// The same, with a short way for registers.
 #[inline(always)]
 fn put_operand<'a>(
@@ -179,7 +214,7 @@ fn put_operand<'a>(
         None => if ends_at(tokens, at + 1) {
             put_value(alloc, tokens, at, is_branch, insn, bits)
         } else {
-            put_any(alloc, tokens, at, is_branch, insn, bits)
+            put_memory(alloc, tokens, at, is_branch, insn, bits)
         },
     }
 }

@@ -8,4 +8,5 @@ pub mod SpelledIsRead
 pub mod ReadIsSpelled
 pub mod Faults
 pub mod UsualOperands
+pub mod UsualMemory
 pub mod WorkedTexts

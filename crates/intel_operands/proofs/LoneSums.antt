@@ -15,15 +15,16 @@ use Rattle.intel_operands.specs.declared.parts.Parts.TheVariants.{Nothing, One}
 use Rattle.intel_operands.specs.declared.lone_sums.LoneSum.{LoneSum}
 use Rattle.intel_operands.specs.Parts.{part_ends, address_of}
 use Rattle.intel_operands.specs.Sums.{no_sum, sum_of, is_loose, is_register_of, is_register, depth_behind, adds}
-use Rattle.intel_operands.specs.OperandTexts.{but_last, summed_by, summed}
+use Rattle.intel_operands.specs.OperandTexts.{is_no_comma, but_last, summed_by, summed}
 use Rattle.intel_operands.specs.Spells.{alone, WritesSum, done, register_next, other}
 use Rattle.intel_operands.specs.LoneSums.{is_calm_of, is_calm, is_calm_by, IsLoneSum, left_in, IsFoundIn}
 use Rattle.intel_operands.proofs.SumTexts.{sum_reads}
 
 -- a token that stays where it is
-record Stays (token : SpelledToken) : Type 0 where
-  no_bracket : (mark_by (Some token) == 91) ≡ false
+pub record Stays (token : SpelledToken) : Type 0 where
+  pub no_bracket : (mark_by (Some token) == 91) ≡ false
   no_plus : (mark_by (Some token) == 43) ≡ false
+  pub no_comma : is_no_comma token ≡ true
   right : (is_register token || is_loose token) ≡ false
   level : depth_behind 0 (mark_by (Some token)) ≡ Some 0
 
@@ -37,21 +38,21 @@ refused false is = refl
 refused true is = cc
 
 stays_by : (kind : TokenKind) (bytes : List ℕ) (start : ℕ) → is_calm_of kind bytes ≡ true → Stays (record { kind = kind; bytes = bytes; start = start })
-unfolding mark_by is_register is_loose
-stays_by kind.Name bytes start is = let none = refused (is_register_of kind.Name bytes) is in record { no_bracket = refl; no_plus = refl; right = rw none refl; level = refl }
-stays_by kind.Digits bytes start is = record { no_bracket = refl; no_plus = refl; right = refl; level = refl }
+unfolding mark_by is_register is_loose is_no_comma
+stays_by kind.Name bytes start is = let none = refused (is_register_of kind.Name bytes) is in record { no_bracket = refl; no_plus = refl; no_comma = refl; right = rw none refl; level = refl }
+stays_by kind.Digits bytes start is = record { no_bracket = refl; no_plus = refl; no_comma = refl; right = refl; level = refl }
 stays_by kind.Character bytes start is = cc
 stays_by kind.String bytes start is = cc
 stays_by kind.Operator bytes start is =
     let minus = minus_bytes bytes is in
-    record { no_bracket = rw minus refl; no_plus = rw minus refl; right = rw minus refl; level = rw minus refl }
+    record { no_bracket = rw minus refl; no_plus = rw minus refl; no_comma = rw minus refl; right = rw minus refl; level = rw minus refl }
 stays_by kind.Other bytes start is = cc
 
-stays : (token : SpelledToken) → is_calm token ≡ true → Stays token
+pub stays : (token : SpelledToken) → is_calm token ≡ true → Stays token
 unfolding is_calm
 stays token is = stays_by token.kind token.bytes token.start is
 
-nothing_ends : part_ends None ≡ true
+pub nothing_ends : part_ends None ≡ true
 unfolding part_ends
 nothing_ends = refl
 
@@ -63,7 +64,7 @@ minus_stays : (token : SpelledToken) → mark_by (Some token) ≡ 45 → is_calm
 minus_stays token is calm = stays token calm
 
 -- a register behind a bracket, with these tokens behind it
-bracketed : (opening word : SpelledToken) (named : NamedRegister) (left behind : List SpelledToken) → mark_by (Some opening) ≡ 91 → register_of word.bytes ≡ Some named
+pub bracketed : (opening word : SpelledToken) (named : NamedRegister) (left behind : List SpelledToken) → mark_by (Some opening) ≡ 91 → register_of word.bytes ≡ Some named
     → part_ends (slice_get behind 0) ≡ true → WritesSum true 0 (One (Plain named)) (One (Plain named)) left behind
     → WritesSum false 0 Nothing (One (Plain named)) left (opening ∷ word ∷ behind)
 bracketed opening word named left behind opens names ended rest =
@@ -71,7 +72,7 @@ bracketed opening word named left behind opens names ended rest =
     register_next false opening (Plain named) Nothing (One (Plain named)) left (word ∷ []) behind (opening ∷ word ∷ behind) signs (alone named word names) ended rest refl
 
 -- a token before the bracket
-before : (token : SpelledToken) (named : NamedRegister) (left behind : List SpelledToken) → is_calm token ≡ true → WritesSum false 0 Nothing (One (Plain named)) left behind
+pub before : (token : SpelledToken) (named : NamedRegister) (left behind : List SpelledToken) → is_calm token ≡ true → WritesSum false 0 Nothing (One (Plain named)) left behind
     → WritesSum false 0 Nothing (One (Plain named)) (token ∷ left) (token ∷ behind)
 before token named left behind calm rest =
     let own = stays token calm in

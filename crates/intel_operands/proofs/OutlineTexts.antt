@@ -181,12 +181,12 @@ segments_written : (bits : ℕ) (outline : Outline) (text : List SpelledToken) �
 segments_written bits outline text is = segmented_by bits outline text (segment_of text) refl is
 
 -- a size stands in front
-record SizeFront (text : List SpelledToken) : Type 0 where
-  size : SpelledToken
-  pointer : SpelledToken
-  rest : List SpelledToken
-  points : is_word (codes "ptr") (Some pointer) ≡ true
-  splits : text ≡ size ∷ pointer ∷ rest
+pub record SizeFront (text : List SpelledToken) : Type 0 where
+  pub size : SpelledToken
+  pub pointer : SpelledToken
+  pub rest : List SpelledToken
+  pub points : is_word (codes "ptr") (Some pointer) ≡ true
+  pub splits : text ≡ size ∷ pointer ∷ rest
 
 size_by : (text : List SpelledToken) (b : Bool) → is_word (codes "ptr") (slice_get text 1) ≡ b → nat_lt 0 (cond b (bits_by (slice_get text 0)) 0) ≡ true → SizeFront text
 unfolding is_word
@@ -195,10 +195,10 @@ size_by [] true points is = cc
 size_by (size ∷ []) true points is = cc
 size_by (size ∷ pointer ∷ rest) true points is = record { size = size; pointer = pointer; rest = rest; points = points; splits = refl }
 
-size_front : (text : List SpelledToken) → nat_lt 0 (bits_in text) ≡ true → SizeFront text
+pub size_front : (text : List SpelledToken) → nat_lt 0 (bits_in text) ≡ true → SizeFront text
 size_front text is = size_by text (is_word (codes "ptr") (slice_get text 1)) refl is
 
-nothing_said : (n : ℕ) → nat_lt 0 n ≡ false → n ≡ 0
+pub nothing_said : (n : ℕ) → nat_lt 0 n ≡ false → n ≡ 0
 nothing_said n is = let most = ltb-false 0 n is in omega arith
 
 said_written : (outline : Outline) (size pointer : SpelledToken) (rest : List SpelledToken) → is_word (codes "ptr") (Some pointer) ≡ true → nat_lt 0 (bits_in (size ∷ pointer ∷ rest)) ≡ true

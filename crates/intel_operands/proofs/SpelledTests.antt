@@ -21,7 +21,7 @@ pub front_spelled : (p : SpelledToken → Bool) (tokens : List Token) (n : ℕ) 
 front_spelled p [] n is = is
 front_spelled p (token ∷ tokens) n is = is ∙ ap (λ (rest : ℕ). cond (p (spelled token)) (1 + rest) 0) (front_spelled p tokens (prefix_len (λ t. p (spelled t)) tokens) refl)
 
-take_spelled : (n : ℕ) (tokens : List Token) → map spelled (take n tokens) ≡ take n (map spelled tokens)
+pub take_spelled : (n : ℕ) (tokens : List Token) → map spelled (take n tokens) ≡ take n (map spelled tokens)
 take_spelled zero tokens = refl
 take_spelled (suc n) [] = refl
 take_spelled (suc n) (token ∷ tokens) = ap (λ (ts : List SpelledToken). spelled token ∷ ts) (take_spelled n tokens)

@@ -34,20 +34,23 @@ behind_is [] (suc at) = refl
 behind_is (first ∷ tokens) zero = refl
 behind_is (first ∷ tokens) (suc at) = behind_is tokens at
 
+-- an operand up to a comma or the end
+pub text_reads : (branch : Bool) (tokens : List SpelledToken) (at : ℕ) (text behind : List SpelledToken) → drop at tokens ≡ text ++ behind → HasNoComma text → ends behind ≡ true
+    → operand_at branch tokens at ≡ ended (at + length text) (operand_of branch text)
+unfolding operand_at
+text_reads branch tokens at text behind stands apart finished =
+    let count : up_to_comma (drop at tokens) ≡ length text = ap up_to_comma stands ∙ all_before text behind apart finished in
+    let front : take (up_to_comma (drop at tokens)) (drop at tokens) ≡ text =
+    ap (λ (n : ℕ). take n (drop at tokens)) count ∙ ap (take (length text)) stands ∙ taken text behind in
+    ap (λ (n : ℕ). ended (at + n) (operand_of branch (take (up_to_comma (drop at tokens)) (drop at tokens)))) count
+    ∙ ap (λ (ts : List SpelledToken). ended (at + length text) (operand_of branch ts)) front
+
 -- an operand of one token
 one_token : (branch : Bool) (tokens : List SpelledToken) (at : ℕ) (token : SpelledToken) → slice_get tokens at ≡ Some token → is_no_comma token ≡ true → ends_at tokens (at + 1) ≡ true
     → operand_at branch tokens at ≡ ended (at + 1) (operand_of branch (token ∷ []))
-unfolding operand_at
 one_token branch tokens at token there own ended_here =
-    let behind = drop (at + 1) tokens in
-    let stands : drop at tokens ≡ (token ∷ []) ++ behind = front_is tokens at token there in
     let apart : HasNoComma (token ∷ []) = rw own refl in
-    let finished : ends behind ≡ true = ap ends_by (behind_is tokens (at + 1)) ∙ ended_here in
-    let count : up_to_comma (drop at tokens) ≡ 1 = ap up_to_comma stands ∙ all_before (token ∷ []) behind apart finished in
-    let front : take (up_to_comma (drop at tokens)) (drop at tokens) ≡ token ∷ [] =
-    ap (λ (n : ℕ). take n (drop at tokens)) count ∙ ap (take 1) stands ∙ taken (token ∷ []) behind in
-    ap (λ (n : ℕ). ended (at + n) (operand_of branch (take (up_to_comma (drop at tokens)) (drop at tokens)))) count
-    ∙ ap (λ (ts : List SpelledToken). ended (at + 1) (operand_of branch ts)) front
+    text_reads branch tokens at (token ∷ []) (drop (at + 1) tokens) (front_is tokens at token there) apart (ap ends_by (behind_is tokens (at + 1)) ∙ ended_here)
 
 lone_of : (branch : Bool) (token : SpelledToken) (reg : Reg) → NamesRegister token reg → operand_of branch (token ∷ []) ≡ Ok (unsized (register reg))
 unfolding operand_of
@@ -129,7 +132,7 @@ word_of branch token is shown =
     ∙ ap (λ (b : Bool). as_bare branch (is_symbol token) b (value_of (token ∷ []))) (holds_by token (is_symbol token) refl)
 
 -- an operand that ends at this place
-found_so : (sized : SizedOperand) (next : ℕ) (read : Result SizedText OperandCause) → GivesSo IsSized (Ok sized) read
+pub found_so : (sized : SizedOperand) (next : ℕ) (read : Result SizedText OperandCause) → GivesSo IsSized (Ok sized) read
     → GivesSo IsPartRead (Ok (record { operand = sized.operand; bits = sized.bits; next = next })) (ended next read)
 found_so sized next (Ok due) is = record { operand = is.operand; bits = is.bits; next = refl }
 found_so sized next (Err cause) is = absurd is

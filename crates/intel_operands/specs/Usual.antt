@@ -1,14 +1,22 @@
 -- The usual operands, by their parts.
-use Rattle.std.specs.Prelude.{◌≡◌, ℕ, ◌+◌, ◌==◌, true, false, List, Some, None, slice_get, codes}
+use Rattle.std.specs.Prelude.{◌≡◌, ℕ, ◌+◌, ◌==◌, nat_lt, Bool, true, false, List, take, Some, None, Ok, slice_get, codes, if◌then◌else◌}
 use Rattle.asm_base.specs.Tokens.{SpelledToken}
 use Rattle.x86_insn.specs.declared.registers.Reg.{Reg}
 use Rattle.att_operands.specs.declared.registers.NamedRegister.TheVariants as named
 use Rattle.att_operands.specs.Registers.{register_of}
-use Rattle.att_operands.specs.Marks.{mark_by, ends_at}
+use Rattle.att_operands.specs.Marks.{mark_by, mark_at, ends_at}
+use Rattle.x86_insn.specs.declared.insns.Base.{Base}
+use Rattle.x86_insn.specs.declared.insns.Index.TheVariants as index
+use Rattle.att_operands.specs.Addresses.{register_by, base_by}
+use Rattle.att_operands.specs.Values.{GivesSo}
+use Rattle.att_operands.specs.Spells.{in_segment}
+use Rattle.intel_operands.specs.declared.operands.SizedOperand.{SizedOperand}
+use Rattle.intel_operands.specs.declared.operands.FoundOperand.{FoundOperand}
 use Rattle.intel_operands.specs.Words.{is_word}
 use Rattle.intel_operands.specs.OtherRegisters.{is_other_register}
 use Rattle.intel_operands.specs.Sums.{is_register}
-use Rattle.intel_operands.specs.OperandTexts.{is_no_comma}
+use Rattle.intel_operands.specs.LoneSums.{is_calm_by}
+use Rattle.intel_operands.specs.OperandTexts.{summed_at, outlined, is_no_comma, IsSized}
 
 -- the token is the name of the register, and no comma
 pub record NamesRegister (token : SpelledToken) (reg : Reg) : Type 0 where
@@ -33,3 +41,38 @@ pub record IsWordAt (tokens : List SpelledToken) (at : ℕ) (token : SpelledToke
   pub alone : IsLoneWord token
   pub shown : is_word (codes "offset") (Some token) ≡ false
   pub ended : ends_at tokens (at + 1) ≡ true
+
+-- A bracket opens behind so many tokens, which stay in the text of a sum.
+pub data OpensBehind : (text : List SpelledToken) (before : ℕ) → Type 0 where
+  bare_bracket : (text : List SpelledToken) → mark_at text 0 ≡ 91 → OpensBehind text 0
+  one_before : (text : List SpelledToken) → is_calm_by (slice_get text 0) ≡ true → mark_at text 1 ≡ 91 → OpensBehind text 1
+  two_before : (text : List SpelledToken) → is_calm_by (slice_get text 0) ≡ true → is_calm_by (slice_get text 1) ≡ true → mark_at text 2 ≡ 91 → OpensBehind text 2
+
+-- the base alone stands behind this place, and a `]` behind it, where an operand ends
+pub record ClosesAt (text : List SpelledToken) (at : ℕ) (base : Base) : Type 0 where
+  pub word : mark_at text (at + 1) ≡ 0
+  pub names : base_by (register_by (slice_get text (at + 1))) ≡ Some base
+  pub closes : mark_at text (at + 2) ≡ 93
+  pub ended : ends_at text (at + 3) ≡ true
+
+-- the operand as it was found, without its place
+abbrev pub sized_of : FoundOperand → SizedOperand
+sized_of found = record { operand = found.operand; bits = found.bits }
+
+-- memory of so many bits at a base stands in front of the text
+pub record ShowsMemory (text : List SpelledToken) (bits : ℕ) (found : FoundOperand) : Type 0 where
+  pub before : ℕ
+  pub base : Base
+  pub opens : OpensBehind text before
+  pub apart : (mark_at text 1 == 58) ≡ false
+  pub closes : ClosesAt text before base
+  pub next : found.next ≡ before + 3
+  pub reads : (branch : Bool) → GivesSo IsSized (Ok (sized_of found)) (outlined branch (Some (summed_at bits 0 (in_segment None base index.Absent) (take before text))))
+
+-- so many tokens say that memory has so many bits
+abbrev pub said_words : ℕ → ℕ
+said_words bits = if nat_lt 0 bits then 2 else 0
+
+-- the two words in front, if they say a size, are no marks
+abbrev pub SaysPlainly : ℕ → List SpelledToken → Type 0
+SaysPlainly bits text = nat_lt 0 bits ≡ true → (mark_at text 0 ≡ 0) × (mark_at text 1 ≡ 0)

@@ -18,4 +18,4 @@ pub use laws::{
     faults_of_an_operand, one_operand, read_is_spelled, spelled_is_read, worked_operands,
 };
 pub use operands::{FoundOperand, SizedOperand, read_operand};
-pub use usual::{ends_at, whole_register, whole_value};
+pub use usual::{ends_at, whole_memory, whole_register, whole_value};

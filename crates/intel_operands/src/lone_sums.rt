@@ -33,7 +33,7 @@ fn is_calm(token: &Token) -> bool
 
 /// Whether such a token stands at this place.
 #[inline(always)]
-fn is_calm_at(text: &[Token], at: usize) -> bool
+pub(crate) fn is_calm_at(text: &[Token], at: usize) -> bool
     ensures { result ≡ is_calm_by (slice_get (map spelled text.now) at) }
 {
     match token_at(text, at) {

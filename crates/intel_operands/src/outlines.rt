@@ -164,7 +164,7 @@ fn moved<'a>(
 
 /// Memory at this address, with what is left of a sum that begins with the mark.
 #[inline(always)]
-fn summed_at<'a>(
+pub(crate) fn summed_at<'a>(
     alloc: Global,
     text: &[Token<'a>],
     mark: u8,

@@ -6,18 +6,20 @@ ghost use Rattle.asm_base.specs.Tokens.{spelled};
 ghost use Rattle.att_operands.specs.OperandTexts.{register};
 ghost use Rattle.att_operands.specs.Marks.{ends_at};
 ghost use Rattle.att_operands.specs.Values.{GivesSo, IsValueOf};
-ghost use Rattle.intel_operands.specs.Usual.{NamesRegister, NamesNone, IsLoneWord, IsWordAt};
+ghost use Rattle.intel_operands.specs.Usual.{NamesRegister, NamesNone, IsLoneWord, IsWordAt, OpensBehind, ClosesAt, ShowsMemory, said_words, SaysPlainly};
 ghost use Rattle.intel_operands.specs.OperandTexts.{unsized, part, value_of, operand_at, IsPartRead};
 
-use crate::operands::{FoundOperand, word_by};
+use crate::lone_sums::is_calm_at;
+use crate::operands::{FoundOperand, SizedOperand, word_by};
 use crate::other_registers::is_other_register;
+use crate::outlines::summed_at;
 use crate::sums::mark_of;
 use crate::values::value_of;
-use crate::words::{is_offset, token_at};
+use crate::words::{bits_in, is_offset, token_at};
 use asm_base::{Token, TokenKind};
-use att_operands::{NamedRegister, register_named};
+use att_operands::{NamedRegister, base_by, mark_at, register_by, register_named};
 use std::alloc::Global;
-use x86_insn::{Reg, Value};
+use x86_insn::{Address, Base, Index, Reg, Value};
 
 /// The register that the token names.
 #[inline(always)]
@@ -174,6 +176,147 @@ pub fn whole_value<'a>(
             }
             None => None,
         },
+        None => None,
+    }
+}
+
+/// How many tokens stand before the bracket, if they stay in the text of a sum: two at most.
+#[inline(always)]
+#[tactic(auto, using(crate::proofs::UsualMemory::behind_none, crate::proofs::UsualMemory::behind_one, crate::proofs::UsualMemory::behind_two))]
+fn before_bracket(text: &[Token]) -> Option<usize>
+    ensures { IfSome result (λ before. OpensBehind (map spelled text.now) before) }
+{
+    if mark_at(text, 0) == b'[' {
+        return Some(0);
+    }
+    if !is_calm_at(text, 0) {
+        return None;
+    }
+    if mark_at(text, 1) == b'[' {
+        return Some(1);
+    }
+    if !is_calm_at(text, 1) {
+        return None;
+    }
+    if mark_at(text, 2) == b'[' {
+        Some(2)
+    } else {
+        None
+    }
+}
+
+/// The base that stands alone in the brackets that open at this place, behind which an operand ends.
+#[inline(always)]
+fn base_at(text: &[Token], at: usize) -> Option<Base>
+    requires { at < 3 }
+    ensures value { IfSome result (λ base. ClosesAt (map spelled text.now) at base) }
+    ensures within { IsSome result → at + 3 ≤ length text.now }
+{
+    if mark_at(text, at + 2) != b']' {
+        return None;
+    }
+    if mark_at(text, at + 1) != 0 {
+        return None;
+    }
+    if !ends_at(text, at + 3) {
+        return None;
+    }
+    base_by(register_by(text, at + 1))
+}
+
+/// Memory of so many bits at a base in front of the text.
+#[inline(always)]
+fn front_memory<'a>(alloc: Global, text: &[Token<'a>], bits: u8) -> Option<FoundOperand<'a>>
+    ensures value { IfSome result (λ found. ShowsMemory (map spelled text.now) bits found) }
+    ensures within { IfSome result (λ found. found.next ≤ length text.now) }
+{
+    if mark_at(text, 1) == b':' {
+        return None;
+    }
+    let before = before_bracket(text)?;
+    let base = base_at(text, before)?;
+    let address = Address {
+        segment: None,
+        base,
+        index: Index::Absent,
+    };
+    match summed_at(alloc, &text[..before], 0, bits, address) {
+        Ok(SizedOperand { operand, bits }) => Some(FoundOperand {
+            operand,
+            bits,
+            next: before + 3,
+        }),
+        Err(_) => None,
+    }
+}
+
+/// The tokens from this place on.
+#[inline(always)]
+fn from_place<'t, 'a>(tokens: &'t [Token<'a>], at: usize) -> &'t [Token<'a>]
+    requires { at ≤ length tokens.now }
+    ensures value { result.now ≡ drop at tokens.now }
+    ensures size { at + length result.now ≡ length tokens.now }
+{
+    &tokens[at..]
+}
+
+/// How many words say the size of memory of so many bits.
+#[inline(always)]
+fn said_words(bits: u8) -> usize
+    ensures { result ≡ said_words bits }
+{
+    if bits > 0 { 2 } else { 0 }
+}
+
+/// Whether the two words in front, if they say a size, are no marks.
+#[inline(always)]
+fn says_plainly(text: &[Token], bits: u8) -> bool
+    ensures { IsTrue result → SaysPlainly bits (map spelled text.now) }
+{
+    bits == 0 || (mark_at(text, 0) == 0 && mark_at(text, 1) == 0)
+}
+
+/// The memory at a base that is the whole operand in front of the tokens.
+#[inline(always)]
+fn whole_in_front<'a>(alloc: Global, tokens: &[Token<'a>]) -> Option<FoundOperand<'a>>
+    ensures value { IfSome result (λ found. (branch : Bool)
+        → GivesSo IsPartRead (Ok found) (operand_at branch (map spelled tokens.now) 0)) }
+    ensures within { IfSome result (λ found. found.next ≤ length tokens.now) }
+{
+    if is_offset(tokens, 0) {
+        return None;
+    }
+    let bits = bits_in(tokens);
+    if !says_plainly(tokens, bits) {
+        return None;
+    }
+    let said = said_words(bits);
+    let text = from_place(tokens, said);
+    match front_memory(alloc, text, bits) {
+        Some(FoundOperand { operand, bits, next }) => Some(FoundOperand {
+            operand,
+            bits,
+            next: said + next,
+        }),
+        None => None,
+    }
+}
+
+/// The memory at a base that is the whole operand at this place.
+#[inline(always)]
+pub fn whole_memory<'a>(alloc: Global, tokens: &[Token<'a>], at: usize) -> Option<FoundOperand<'a>>
+    requires { at ≤ length tokens.now }
+    ensures value { IfSome result (λ found. (branch : Bool)
+        → GivesSo IsPartRead (Ok found) (operand_at branch (map spelled tokens.now) at)) }
+    ensures within { IfSome result (λ found. found.next ≤ length tokens.now) }
+{
+    let behind = from_place(tokens, at);
+    match whole_in_front(alloc, behind) {
+        Some(FoundOperand { operand, bits, next }) => Some(FoundOperand {
+            operand,
+            bits,
+            next: at + next,
+        }),
         None => None,
     }
 }
