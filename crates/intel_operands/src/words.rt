@@ -1,6 +1,7 @@
 //! The words of operands: the sizes of memory, and `OFFSET`.
 
 ghost use Rattle.std.specs.Prelude.{◌≡◌, ◌+◌, ◌<◌, ◌≤◌, codes, length, map, option_map, slice_get, IsSome, IsTrue};
+ghost use Rattle.std.specs.Str.{str_eq_ignore_ascii_case};
 ghost use Rattle.asm_base.specs.Tokens.{spelled};
 ghost use Rattle.intel_operands.specs.Words.{is_word, bits_of, bits_in, offset_words};
 
@@ -38,6 +39,42 @@ fn bits_of(word: &[u8]) -> u8
     }
 }
 
+/// How many bits memory has by a word in capitals, as compilers write it. Where this gives 0, it
+/// says nothing.
+#[inline(always)]
+#[tactic(auto, unfolding(crate::specs::Words::bits_of))]
+fn capital_bits(word: &[u8]) -> u8
+    ensures { 0 < result → result ≡ bits_of word.now }
+{
+    match word {
+        [b'Q', b'W', b'O', b'R', b'D'] => 64,
+        [b'D', b'W', b'O', b'R', b'D'] => 32,
+        [b'B', b'Y', b'T', b'E'] => 8,
+        [b'W', b'O', b'R', b'D'] => 16,
+        _ => 0,
+    }
+}
+
+/// How many bits memory has by a word, with a short way for words in capitals.
+#[inline(always)]
+fn bits_by(word: &[u8]) -> u8
+    ensures { result ≡ bits_of word.now }
+{
+    let bits = capital_bits(word);
+    if bits > 0 { bits } else { bits_of(word) }
+}
+
+/// Whether the word is `PTR`, which most are in capitals.
+#[inline(always)]
+fn says_pointer(word: &[u8]) -> bool
+    ensures { result ≡ str_eq_ignore_ascii_case word.now (codes "ptr") }
+{
+    match word {
+        [b'P', b'T', b'R'] => true,
+        _ => word.eq_ignore_ascii_case(b"ptr".as_slice()),
+    }
+}
+
 /// Whether the token at this place is `PTR`.
 #[inline(always)]
 #[tactic(auto, unfolding(crate::specs::Words::is_word))]
@@ -46,7 +83,7 @@ fn is_pointer(text: &[Token], at: usize) -> bool
     ensures within { IsTrue result → at < length text.now }
 {
     match token_at(text, at) {
-        Some(token) => token.bytes.eq_ignore_ascii_case(b"ptr".as_slice()),
+        Some(token) => says_pointer(token.bytes),
         None => false,
     }
 }
@@ -61,7 +98,7 @@ pub(crate) fn bits_in(text: &[Token]) -> u8
         return 0;
     }
     match token_at(text, 0) {
-        Some(token) => bits_of(token.bytes),
+        Some(token) => bits_by(token.bytes),
         None => 0,
     }
 }
