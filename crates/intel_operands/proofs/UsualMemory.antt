@@ -70,17 +70,40 @@ parted _ _ base (bare_bracket [] opens) is = absurd (no_mark is.closes)
 parted _ _ base (bare_bracket (a ∷ []) opens) is = absurd (no_mark is.closes)
 parted _ _ base (bare_bracket (a ∷ b ∷ []) opens) is = absurd (no_mark is.closes)
 parted _ _ base (bare_bracket (a ∷ b ∷ c ∷ rest) opens) is = record {
-  front = []; opening = a; word = b; closing = c; behind = rest; splits = refl; size = refl; held = refl; calm = refl; opens = opens;
-  unmarked = is.word; names = is.names; closes = is.closes; ended = is.ended;
+  front = [];
+  opening = a;
+  word = b;
+  closing = c;
+  behind = rest;
+  splits = refl;
+  size = refl;
+  held = refl;
+  calm = refl;
+  opens = opens;
+  unmarked = is.word;
+  names = is.names;
+  closes = is.closes;
+  ended = is.ended;
 }
 parted _ _ base (one_before [] calm opens) is = absurd (no_mark is.closes)
 parted _ _ base (one_before (a ∷ []) calm opens) is = absurd (no_mark is.closes)
 parted _ _ base (one_before (a ∷ b ∷ []) calm opens) is = absurd (no_mark is.closes)
 parted _ _ base (one_before (a ∷ b ∷ c ∷ []) calm opens) is = absurd (no_mark is.closes)
 parted _ _ base (one_before (x ∷ a ∷ b ∷ c ∷ rest) calm opens) is = record {
-  front = x ∷ []; opening = a; word = b; closing = c; behind = rest; splits = refl; size = refl; held = refl;
-  calm = and_from (is_calm x) true calm refl; opens = opens;
-  unmarked = is.word; names = is.names; closes = is.closes; ended = is.ended;
+  front = x ∷ [];
+  opening = a;
+  word = b;
+  closing = c;
+  behind = rest;
+  splits = refl;
+  size = refl;
+  held = refl;
+  calm = and_from (is_calm x) true calm refl;
+  opens = opens;
+  unmarked = is.word;
+  names = is.names;
+  closes = is.closes;
+  ended = is.ended;
 }
 parted _ _ base (two_before [] calm also opens) is = absurd (no_mark is.closes)
 parted _ _ base (two_before (a ∷ []) calm also opens) is = absurd (no_mark is.closes)
@@ -88,9 +111,20 @@ parted _ _ base (two_before (a ∷ b ∷ []) calm also opens) is = absurd (no_ma
 parted _ _ base (two_before (a ∷ b ∷ c ∷ []) calm also opens) is = absurd (no_mark is.closes)
 parted _ _ base (two_before (a ∷ b ∷ c ∷ d ∷ []) calm also opens) is = absurd (no_mark is.closes)
 parted _ _ base (two_before (x ∷ y ∷ a ∷ b ∷ c ∷ rest) calm also opens) is = record {
-  front = x ∷ y ∷ []; opening = a; word = b; closing = c; behind = rest; splits = refl; size = refl; held = refl;
-  calm = and_from (is_calm x) (is_calm y && true) calm (and_from (is_calm y) true also refl); opens = opens;
-  unmarked = is.word; names = is.names; closes = is.closes; ended = is.ended;
+  front = x ∷ y ∷ [];
+  opening = a;
+  word = b;
+  closing = c;
+  behind = rest;
+  splits = refl;
+  size = refl;
+  held = refl;
+  calm = and_from (is_calm x) (is_calm y && true) calm (and_from (is_calm y) true also refl);
+  opens = opens;
+  unmarked = is.word;
+  names = is.names;
+  closes = is.closes;
+  ended = is.ended;
 }
 
 -- the register that is the base
@@ -360,7 +394,12 @@ pub shows : (tokens : List Token) (bits before : ℕ) (base : Base) (found : Fou
     → ((branch : Bool) → GivesSo IsSized (Ok (sized_of found)) (outlined branch (Some (summed_at bits 0 (in_segment None base index.Absent) (map spelled (take before tokens))))))
     → ShowsMemory (map spelled tokens) bits found
 shows tokens bits count base found opens apart closes next reads = record {
-  before = count; base = base; opens = opens; apart = other_mark (mark_at (map spelled tokens) 1) 58 apart; closes = closes; next = next;
+  before = count;
+  base = base;
+  opens = opens;
+  apart = other_mark (mark_at (map spelled tokens) 1) 58 apart;
+  closes = closes;
+  next = next;
   reads = λ branch.
       subst (λ (ts : List SpelledToken). GivesSo IsSized (Ok (sized_of found)) (outlined branch (Some (summed_at bits 0 (in_segment None base index.Absent) ts)))) (take_spelled count tokens) (reads branch);
 }

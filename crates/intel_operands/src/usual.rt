@@ -293,7 +293,13 @@ fn whole_in_front<'a>(alloc: Global, tokens: &[Token<'a>]) -> Option<FoundOperan
     let said = said_words(bits);
     let text = from_place(tokens, said);
     match front_memory(alloc, text, bits) {
-        Some(FoundOperand { operand, bits, next }) => Some(FoundOperand {
+        Some(
+            FoundOperand {
+                operand,
+                bits,
+                next,
+            },
+        ) => Some(FoundOperand {
             operand,
             bits,
             next: said + next,
@@ -312,7 +318,13 @@ pub fn whole_memory<'a>(alloc: Global, tokens: &[Token<'a>], at: usize) -> Optio
 {
     let behind = from_place(tokens, at);
     match whole_in_front(alloc, behind) {
-        Some(FoundOperand { operand, bits, next }) => Some(FoundOperand {
+        Some(
+            FoundOperand {
+                operand,
+                bits,
+                next,
+            },
+        ) => Some(FoundOperand {
             operand,
             bits,
             next: at + next,
