@@ -25,8 +25,8 @@ pub record Stays (token : SpelledToken) : Type 0 where
   pub no_bracket : (mark_by (Some token) == 91) ≡ false
   no_plus : (mark_by (Some token) == 43) ≡ false
   pub no_comma : is_no_comma token ≡ true
-  right : (is_register token || is_loose token) ≡ false
-  level : depth_behind 0 (mark_by (Some token)) ≡ Some 0
+  pub right : (is_register token || is_loose token) ≡ false
+  pub level : depth_behind 0 (mark_by (Some token)) ≡ Some 0
 
 minus_bytes : (bytes : List ℕ) → (mark_byte bytes == 45) ≡ true → bytes ≡ 45 ∷ []
 minus_bytes [] is = cc
@@ -72,7 +72,7 @@ bracketed opening word named left behind opens names ended rest =
     register_next false opening (Plain named) Nothing (One (Plain named)) left (word ∷ []) behind (opening ∷ word ∷ behind) signs (alone named word names) ended rest refl
 
 -- a token before the bracket
-pub before : (token : SpelledToken) (named : NamedRegister) (left behind : List SpelledToken) → is_calm token ≡ true → WritesSum false 0 Nothing (One (Plain named)) left behind
+before : (token : SpelledToken) (named : NamedRegister) (left behind : List SpelledToken) → is_calm token ≡ true → WritesSum false 0 Nothing (One (Plain named)) left behind
     → WritesSum false 0 Nothing (One (Plain named)) (token ∷ left) (token ∷ behind)
 before token named left behind calm rest =
     let own = stays token calm in

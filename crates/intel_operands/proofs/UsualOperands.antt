@@ -23,12 +23,12 @@ use Rattle.intel_operands.specs.Spells.{HasNoComma, ends, alone, value}
 use Rattle.intel_operands.proofs.TextLemmas.{all_before, taken}
 use Rattle.intel_operands.proofs.OutlineTexts.{outline_reads}
 
-front_is : (tokens : List SpelledToken) (at : ℕ) (token : SpelledToken) → slice_get tokens at ≡ Some token → drop at tokens ≡ token ∷ drop (at + 1) tokens
+pub front_is : (tokens : List SpelledToken) (at : ℕ) (token : SpelledToken) → slice_get tokens at ≡ Some token → drop at tokens ≡ token ∷ drop (at + 1) tokens
 front_is [] at token is = cc
 front_is (first ∷ tokens) zero token is = let same : first ≡ token = cc in rw same refl
 front_is (first ∷ tokens) (suc at) token is = let next : suc at + 1 ≡ suc (at + 1) = omega arith in rw next (front_is tokens at token is)
 
-behind_is : (tokens : List SpelledToken) (at : ℕ) → slice_get (drop at tokens) 0 ≡ slice_get tokens at
+pub behind_is : (tokens : List SpelledToken) (at : ℕ) → slice_get (drop at tokens) 0 ≡ slice_get tokens at
 behind_is [] zero = refl
 behind_is [] (suc at) = refl
 behind_is (first ∷ tokens) zero = refl

@@ -7,7 +7,13 @@ use Rattle.att_operands.specs.Registers.{register_of}
 use Rattle.att_operands.specs.Marks.{mark_by, mark_at, ends_at}
 use Rattle.x86_insn.specs.declared.insns.Base.{Base}
 use Rattle.x86_insn.specs.declared.insns.Index.TheVariants as index
-use Rattle.att_operands.specs.Addresses.{register_by, base_by}
+use Rattle.x86_insn.specs.declared.insns.Address.{Address}
+use Rattle.att_operands.specs.declared.registers.NamedRegister.{NamedRegister}
+use Rattle.att_operands.specs.Addresses.{register_by, base_by, scale_by}
+use Rattle.intel_operands.specs.declared.parts.Part.TheVariants.{Plain, Scaled}
+use Rattle.intel_operands.specs.declared.parts.Parts.TheVariants.{Two}
+use Rattle.intel_operands.specs.declared.usual.FoundAddress.{FoundAddress}
+use Rattle.intel_operands.specs.Parts.{address_of}
 use Rattle.att_operands.specs.Values.{GivesSo}
 use Rattle.att_operands.specs.Spells.{in_segment}
 use Rattle.intel_operands.specs.declared.operands.SizedOperand.{SizedOperand}
@@ -55,19 +61,51 @@ pub record ClosesAt (text : List SpelledToken) (at : ℕ) (base : Base) : Type 0
   pub closes : mark_at text (at + 2) ≡ 93
   pub ended : ends_at text (at + 3) ≡ true
 
+-- two registers, which make the address, stand behind this place, and a `]` behind them, where an operand ends
+pub record PairsAt (text : List SpelledToken) (at : ℕ) (first second : NamedRegister) (address : Address) : Type 0 where
+  pub word : mark_at text (at + 1) ≡ 0
+  pub names : register_by (slice_get text (at + 1)) ≡ Some first
+  pub plus : mark_at text (at + 2) ≡ 43
+  pub other : mark_at text (at + 3) ≡ 0
+  pub renames : register_by (slice_get text (at + 3)) ≡ Some second
+  pub closes : mark_at text (at + 4) ≡ 93
+  pub ended : ends_at text (at + 5) ≡ true
+  pub makes : address_of None (Two (Plain first) (Plain second)) ≡ Some address
+
+-- the same with a scale of the second register
+pub record ScalesAt (text : List SpelledToken) (at : ℕ) (first second : NamedRegister) (scale : ℕ) (address : Address) : Type 0 where
+  pub word : mark_at text (at + 1) ≡ 0
+  pub names : register_by (slice_get text (at + 1)) ≡ Some first
+  pub plus : mark_at text (at + 2) ≡ 43
+  pub other : mark_at text (at + 3) ≡ 0
+  pub renames : register_by (slice_get text (at + 3)) ≡ Some second
+  pub star : mark_at text (at + 4) ≡ 42
+  pub digits : mark_at text (at + 5) ≡ 0
+  pub scales : scale_by (slice_get text (at + 5)) ≡ Some scale
+  pub closes : mark_at text (at + 6) ≡ 93
+  pub ended : ends_at text (at + 7) ≡ true
+  pub makes : address_of None (Two (Plain first) (Scaled second scale)) ≡ Some address
+
+-- The address of one register or two stands behind this place, and its `]` before that one, where an operand ends.
+pub data HoldsAddress : (text : List SpelledToken) (at : ℕ) (found : FoundAddress) → Type 0 where
+  of_base : (text : List SpelledToken) (at : ℕ) (base : Base) → ClosesAt text at base → HoldsAddress text at (record { address = in_segment None base index.Absent; next = at + 3 })
+  of_pair : (text : List SpelledToken) (at : ℕ) (first second : NamedRegister) (address : Address) → PairsAt text at first second address
+      → HoldsAddress text at (record { address = address; next = at + 5 })
+  of_scaled : (text : List SpelledToken) (at : ℕ) (first second : NamedRegister) (scale : ℕ) (address : Address) → ScalesAt text at first second scale address
+      → HoldsAddress text at (record { address = address; next = at + 7 })
+
 -- the operand as it was found, without its place
 abbrev pub sized_of : FoundOperand → SizedOperand
 sized_of found = record { operand = found.operand; bits = found.bits }
 
--- memory of so many bits at a base stands in front of the text
+-- memory of so many bits at an address stands in front of the text
 pub record ShowsMemory (text : List SpelledToken) (bits : ℕ) (found : FoundOperand) : Type 0 where
   pub before : ℕ
-  pub base : Base
+  pub address : Address
   pub opens : OpensBehind text before
   pub apart : (mark_at text 1 == 58) ≡ false
-  pub closes : ClosesAt text before base
-  pub next : found.next ≡ before + 3
-  pub reads : (branch : Bool) → GivesSo IsSized (Ok (sized_of found)) (outlined branch (Some (summed_at bits 0 (in_segment None base index.Absent) (take before text))))
+  pub holds : HoldsAddress text before (record { address = address; next = found.next })
+  pub reads : (branch : Bool) → GivesSo IsSized (Ok (sized_of found)) (outlined branch (Some (summed_at bits 0 address (take before text))))
 
 -- so many tokens say that memory has so many bits
 abbrev pub said_words : ℕ → ℕ

@@ -1,25 +1,34 @@
 //! The usual operands, read without what others need. Where one of these finds none, it says
 //! nothing.
 
-ghost use Rattle.std.specs.Prelude.{◌≡◌, ◌+◌, ◌<◌, ◌≤◌, Bool, map, length, take, drop, Ok, IsTrue, IsSome, IfSome};
+ghost use Rattle.std.specs.Prelude.{◌≡◌, ◌+◌, ◌<◌, ◌≤◌, Bool, map, length, take, drop, slice_get, Ok, Some, IsTrue, IsSome, IfSome};
 ghost use Rattle.asm_base.specs.Tokens.{spelled};
 ghost use Rattle.att_operands.specs.OperandTexts.{register};
-ghost use Rattle.att_operands.specs.Marks.{ends_at};
+ghost use Rattle.att_operands.specs.Marks.{mark_at, ends_at};
+ghost use Rattle.att_operands.specs.Addresses.{register_by};
 ghost use Rattle.att_operands.specs.Values.{GivesSo, IsValueOf};
-ghost use Rattle.intel_operands.specs.Usual.{NamesRegister, NamesNone, IsLoneWord, IsWordAt, OpensBehind, ClosesAt, ShowsMemory, said_words, SaysPlainly};
+ghost use Rattle.intel_operands.specs.Usual.{NamesRegister, NamesNone, IsLoneWord, IsWordAt, OpensBehind, ClosesAt, HoldsAddress, ShowsMemory, said_words, SaysPlainly};
 ghost use Rattle.intel_operands.specs.OperandTexts.{unsized, part, value_of, operand_at, IsPartRead};
 
 use crate::lone_sums::is_calm_at;
 use crate::operands::{FoundOperand, SizedOperand, word_by};
 use crate::other_registers::is_other_register;
 use crate::outlines::summed_at;
+use crate::parts::{Part, Parts, address_of};
 use crate::sums::mark_of;
 use crate::values::value_of;
 use crate::words::{bits_in, is_offset, token_at};
 use asm_base::{Token, TokenKind};
-use att_operands::{NamedRegister, base_by, mark_at, register_by, register_named};
+use att_operands::{NamedRegister, base_by, mark_at, register_by, register_named, scale_by};
 use std::alloc::Global;
 use x86_insn::{Address, Base, Index, Reg, Value};
+
+/// An address, and the index of the first token behind its `]`.
+#[derive(Clone, Copy)]
+pub(crate) struct FoundAddress {
+    pub address: Address,
+    pub next: usize,
+}
 
 /// The register that the token names.
 #[inline(always)]
@@ -224,7 +233,140 @@ fn base_at(text: &[Token], at: usize) -> Option<Base>
     base_by(register_by(text, at + 1))
 }
 
-/// Memory of so many bits at a base in front of the text.
+/// The address of two registers in the brackets that open at this place, behind which an operand
+/// ends.
+#[inline(always)]
+#[tactic(auto, using(crate::proofs::UsualMemory::pair_holds))]
+fn pair_at(
+    text: &[Token],
+    at: usize,
+    first: NamedRegister,
+    second: NamedRegister,
+) -> Option<FoundAddress>
+    requires place { at < 3 }
+    requires word { mark_at (map spelled text.now) (at + 1) ≡ 0 }
+    requires names { register_by (slice_get (map spelled text.now) (at + 1)) ≡ Some first }
+    requires plus { mark_at (map spelled text.now) (at + 2) ≡ 43 }
+    requires other { mark_at (map spelled text.now) (at + 3) ≡ 0 }
+    requires renames { register_by (slice_get (map spelled text.now) (at + 3)) ≡ Some second }
+    ensures value { IfSome result (λ found. HoldsAddress (map spelled text.now) at found) }
+    ensures order { IfSome result (λ found. at < found.next) }
+    ensures within { IfSome result (λ found. found.next ≤ length text.now) }
+{
+    if mark_at(text, at + 4) != b']' {
+        return None;
+    }
+    if !ends_at(text, at + 5) {
+        return None;
+    }
+    match address_of(None, Parts::Two(Part::Plain(first), Part::Plain(second))) {
+        Some(address) => Some(FoundAddress {
+            address,
+            next: at + 5,
+        }),
+        None => None,
+    }
+}
+
+/// The same with a scale of the second register.
+#[inline(always)]
+#[tactic(auto, using(crate::proofs::UsualMemory::scaled_holds))]
+fn scaled_at(
+    text: &[Token],
+    at: usize,
+    first: NamedRegister,
+    second: NamedRegister,
+) -> Option<FoundAddress>
+    requires place { at < 3 }
+    requires word { mark_at (map spelled text.now) (at + 1) ≡ 0 }
+    requires names { register_by (slice_get (map spelled text.now) (at + 1)) ≡ Some first }
+    requires plus { mark_at (map spelled text.now) (at + 2) ≡ 43 }
+    requires other { mark_at (map spelled text.now) (at + 3) ≡ 0 }
+    requires renames { register_by (slice_get (map spelled text.now) (at + 3)) ≡ Some second }
+    ensures value { IfSome result (λ found. HoldsAddress (map spelled text.now) at found) }
+    ensures order { IfSome result (λ found. at < found.next) }
+    ensures within { IfSome result (λ found. found.next ≤ length text.now) }
+{
+    if mark_at(text, at + 4) != b'*' {
+        return None;
+    }
+    if mark_at(text, at + 5) != 0 {
+        return None;
+    }
+    if mark_at(text, at + 6) != b']' {
+        return None;
+    }
+    if !ends_at(text, at + 7) {
+        return None;
+    }
+    match scale_by(text, at + 5) {
+        Some(scale) => match address_of(
+            None,
+            Parts::Two(Part::Plain(first), Part::Scaled(second, scale)),
+        ) {
+            Some(address) => Some(FoundAddress {
+                address,
+                next: at + 7,
+            }),
+            None => None,
+        },
+        None => None,
+    }
+}
+
+/// The address of two registers, with a scale or without one.
+#[inline(never)]
+fn two_at(text: &[Token], at: usize) -> Option<FoundAddress>
+    requires { at < 3 }
+    ensures value { IfSome result (λ found. HoldsAddress (map spelled text.now) at found) }
+    ensures order { IfSome result (λ found. at < found.next) }
+    ensures within { IfSome result (λ found. found.next ≤ length text.now) }
+{
+    if mark_at(text, at + 1) != 0 {
+        return None;
+    }
+    if mark_at(text, at + 2) != b'+' {
+        return None;
+    }
+    if mark_at(text, at + 3) != 0 {
+        return None;
+    }
+    match register_by(text, at + 1) {
+        Some(first) => match register_by(text, at + 3) {
+            Some(second) => match pair_at(text, at, first, second) {
+                Some(found) => Some(found),
+                None => scaled_at(text, at, first, second),
+            },
+            None => None,
+        },
+        None => None,
+    }
+}
+
+/// The address of one register or two in the brackets that open at this place, behind which an
+/// operand ends.
+#[inline(always)]
+#[tactic(auto, using(crate::proofs::UsualMemory::base_holds))]
+fn address_at(text: &[Token], at: usize) -> Option<FoundAddress>
+    requires { at < 3 }
+    ensures value { IfSome result (λ found. HoldsAddress (map spelled text.now) at found) }
+    ensures order { IfSome result (λ found. at < found.next) }
+    ensures within { IfSome result (λ found. found.next ≤ length text.now) }
+{
+    match base_at(text, at) {
+        Some(base) => Some(FoundAddress {
+            address: Address {
+                segment: None,
+                base,
+                index: Index::Absent,
+            },
+            next: at + 3,
+        }),
+        None => two_at(text, at),
+    }
+}
+
+/// Memory of so many bits in front of the text.
 #[inline(always)]
 fn front_memory<'a>(alloc: Global, text: &[Token<'a>], bits: u8) -> Option<FoundOperand<'a>>
     ensures value { IfSome result (λ found. ShowsMemory (map spelled text.now) bits found) }
@@ -234,17 +376,12 @@ fn front_memory<'a>(alloc: Global, text: &[Token<'a>], bits: u8) -> Option<Found
         return None;
     }
     let before = before_bracket(text)?;
-    let base = base_at(text, before)?;
-    let address = Address {
-        segment: None,
-        base,
-        index: Index::Absent,
-    };
-    match summed_at(alloc, &text[..before], 0, bits, address) {
+    let found = address_at(text, before)?;
+    match summed_at(alloc, &text[..before], 0, bits, found.address) {
         Ok(SizedOperand { operand, bits }) => Some(FoundOperand {
             operand,
             bits,
-            next: before + 3,
+            next: found.next,
         }),
         Err(_) => None,
     }
@@ -276,7 +413,7 @@ fn says_plainly(text: &[Token], bits: u8) -> bool
     bits == 0 || (mark_at(text, 0) == 0 && mark_at(text, 1) == 0)
 }
 
-/// The memory at a base that is the whole operand in front of the tokens.
+/// The memory at one register or two that is the whole operand in front of the tokens.
 #[inline(always)]
 fn whole_in_front<'a>(alloc: Global, tokens: &[Token<'a>]) -> Option<FoundOperand<'a>>
     ensures value { IfSome result (λ found. (branch : Bool)
@@ -308,7 +445,7 @@ fn whole_in_front<'a>(alloc: Global, tokens: &[Token<'a>]) -> Option<FoundOperan
     }
 }
 
-/// The memory at a base that is the whole operand at this place.
+/// The memory at one register or two that is the whole operand at this place.
 #[inline(always)]
 pub fn whole_memory<'a>(alloc: Global, tokens: &[Token<'a>], at: usize) -> Option<FoundOperand<'a>>
     requires { at ≤ length tokens.now }
