@@ -1,5 +1,5 @@
 -- Memory at one register or two is read so.
-use Rattle.std.proofs.Common.{◌≡◌, ℕ, zero, suc, ◌+◌, ◌==◌, ◌||◌, ◌&&◌, not, nat_lt, is_some, Bool, true, false, cond, List, [], ◌∷◌, ◌++◌, Option, Some, None, Result, Ok, Err, length, map, take, drop, slice_get, codes, refl, sym, ap, subst, ◌∙◌, arith, inl, inr, append_assoc, length-append}
+use Rattle.std.proofs.Common.{◌≡◌, ℕ, zero, suc, ◌+◌, ◌==◌, ◌||◌, ◌&&◌, nat_lt, is_some, Bool, true, false, cond, List, [], ◌∷◌, ◌++◌, Option, Some, None, Result, Ok, Err, length, map, take, drop, slice_get, codes, refl, sym, ap, subst, ◌∙◌, arith, inl, inr, append_assoc, length-append}
 use Rattle.std.proofs.lemmas.Bool.{eqb-true, cases_Bool, and_from, and_parts, lt-ltb}
 use Rattle.std.proofs.lemmas.List.{drop-map}
 use Rattle.std.specs.List.{list_all}
@@ -28,8 +28,8 @@ use Rattle.intel_operands.specs.Words.{is_word, bits_by, bits_in, offset_words}
 use Rattle.intel_operands.specs.Parts.{part_ends, address_of}
 use Rattle.intel_operands.specs.Sums.{adds}
 use Rattle.intel_operands.specs.LoneSums.{is_calm, is_calm_by}
-use Rattle.intel_operands.specs.OperandTexts.{SizedText, Outline, lone_register, segment_of, has_bracket, is_nested, is_memory, summed_at, outlined, outline_of, operand_of, is_no_comma, up_to_comma, ReadPart, ended, operand_at, IsSized, IsPartRead}
-use Rattle.intel_operands.specs.Spells.{WritesPart, alone, times, WritesSum, done, register_next, other, PlacesMemory, bracket, SegmentsMemory, plain, SizesMemory, unsaid, said, IsOutline, place, HasNoComma, ends}
+use Rattle.intel_operands.specs.OperandTexts.{SizedText, Outline, lone_register, segment_of, has_bracket, is_nested, is_memory, summed_at, outlined, operand_of, is_no_comma, up_to_comma, ReadPart, ended, operand_at, IsSized, IsPartRead}
+use Rattle.intel_operands.specs.Spells.{WritesPart, alone, times, WritesSum, done, register_next, other, PlacesMemory, bracket, SegmentsMemory, plain, unsaid, said, IsOutline, place, HasNoComma, ends}
 use Rattle.intel_operands.specs.Usual.{OpensBehind, bare_bracket, one_before, two_before, ClosesAt, HoldsAddress, of_base, of_pair, of_scaled, sized_of, ShowsMemory, said_words, SaysPlainly}
 use Rattle.intel_operands.proofs.LoneSums.{stays, nothing_ends, bracketed}
 use Rattle.intel_operands.proofs.OutlineTexts.{outline_reads, nothing_said, size_front}

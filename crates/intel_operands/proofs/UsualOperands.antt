@@ -1,24 +1,23 @@
 -- The usual operands are read so.
-use Rattle.std.proofs.Common.{◌≡◌, ℕ, zero, suc, ◌+◌, ◌<◌, ◌==◌, ◌||◌, nat_lt, Bool, true, false, cond, List, [], ◌∷◌, ◌++◌, Option, Some, None, Result, Ok, Err, IsTrue, length, take, drop, slice_get, get_or, codes, refl, sym, ap, subst, ◌∙◌, arith, inl, inr}
+use Rattle.std.proofs.Common.{◌≡◌, ℕ, zero, suc, ◌+◌, ◌<◌, ◌==◌, nat_lt, Bool, true, false, List, [], ◌∷◌, ◌++◌, Some, None, Result, Ok, Err, length, take, drop, slice_get, get_or, codes, refl, sym, ap, subst, ◌∙◌, arith}
 use Rattle.std.proofs.lemmas.Bool.{ltb-true}
 use Rattle.asm_base.specs.Tokens.{SpelledToken}
 use Rattle.x86_insn.specs.declared.registers.Reg.{Reg}
 use Rattle.x86_insn.specs.declared.amounts.Value.{Value}
 use Rattle.att_operands.specs.declared.faults.OperandCause.{OperandCause}
-use Rattle.att_operands.specs.Marks.{mark_by, mark_at, ends_by, ends_at}
+use Rattle.att_operands.specs.Marks.{mark_by, ends_by, ends_at}
 use Rattle.att_operands.specs.Registers.{register_of}
-use Rattle.att_operands.specs.Slots.{number_of, held_by}
+use Rattle.att_operands.specs.Slots.{number_of}
 use Rattle.att_operands.specs.Values.{GivesSo, ValueText, IsValueOf}
 use Rattle.att_operands.specs.OperandTexts.{register}
 use Rattle.att_operands.proofs.RegisterLookups.{register_found}
 use Rattle.intel_operands.specs.declared.operands.SizedOperand.{SizedOperand}
-use Rattle.intel_operands.specs.declared.operands.FoundOperand.{FoundOperand}
-use Rattle.intel_operands.specs.Words.{is_word, bits_in, offset_words}
+use Rattle.intel_operands.specs.Words.{is_word, offset_words}
 use Rattle.intel_operands.specs.OtherRegisters.{is_other_register}
-use Rattle.intel_operands.specs.Sums.{is_loose, is_register}
-use Rattle.intel_operands.specs.Symbols.{is_symbol, has_symbol, is_numeric, numbers_in_front, adds_to_symbol, names_place}
+use Rattle.intel_operands.specs.Sums.{is_register}
+use Rattle.intel_operands.specs.Symbols.{is_symbol, has_symbol, is_numeric, names_place}
 use Rattle.intel_operands.specs.Usual.{NamesRegister, NamesNone, IsLoneWord, IsWordAt}
-use Rattle.intel_operands.specs.OperandTexts.{SizedText, unsized, lone, bare, register_in, lone_register, segment_of, has_bracket, has_register, is_memory, value_of, bare_operand, as_bare, outlined, operand_of, is_no_comma, up_to_comma, ReadPart, part, ended, operand_at, IsSized, IsPartRead}
+use Rattle.intel_operands.specs.OperandTexts.{SizedText, unsized, lone, bare, lone_register, segment_of, has_bracket, has_register, is_memory, value_of, bare_operand, as_bare, outlined, operand_of, is_no_comma, up_to_comma, ReadPart, part, ended, operand_at, IsSized, IsPartRead}
 use Rattle.intel_operands.specs.Spells.{HasNoComma, ends, alone, value}
 use Rattle.intel_operands.proofs.TextLemmas.{all_before, taken}
 use Rattle.intel_operands.proofs.OutlineTexts.{outline_reads}
