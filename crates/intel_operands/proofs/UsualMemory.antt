@@ -518,6 +518,9 @@ long_in text count address next apart =
     let there = apart.ends_there in
     omega arith
 
+sized_in : (tokens rest own behind : List SpelledToken) (size pointer : SpelledToken) → tokens ≡ size ∷ pointer ∷ rest → rest ≡ own ++ behind → tokens ≡ (size ∷ pointer ∷ own) ++ behind
+sized_in tokens rest own behind size pointer splits inside = splits ∙ ap (λ (ts : List SpelledToken). size ∷ pointer ∷ ts) inside
+
 memory_by : (branch : Bool) (tokens : List SpelledToken) (bits : ℕ) (found : FoundOperand) (b : Bool) → nat_lt 0 bits ≡ b → is_word (codes "offset") (slice_get tokens 0) ≡ false → bits ≡ bits_in tokens
     → SaysPlainly bits tokens → ShowsMemory (drop (cond b 2 0) tokens) bits found
     → GivesSo IsPartRead (Ok (record { operand = found.operand; bits = found.bits; next = cond b 2 0 + found.next })) (operand_at branch tokens 0)
@@ -536,7 +539,8 @@ memory_by branch tokens bits found true some shown is plainly given =
     let first : mark_by (Some sizes.size) ≡ 0 = sym (ap (λ (ts : List SpelledToken). mark_at ts 0) sizes.splits) ∙ (plainly some).0 in
     let second : mark_by (Some sizes.pointer) ≡ 0 = sym (ap (λ (ts : List SpelledToken). mark_at ts 1) sizes.splits) ∙ (plainly some).1 in
     let round = said_outline bits outline sizes.size sizes.pointer own says some points offset first (segments bits sizes.rest shows.before shows.address found.next apart shows.apart) in
-    let stands_so : tokens ≡ all ++ apart.behind = sizes.splits ∙ ap (λ (ts : List SpelledToken). sizes.size ∷ sizes.pointer ∷ ts) (ending_in sizes.rest shows.before shows.address found.next apart) in
+    let stands_so : tokens ≡ all ++ apart.behind =
+    sized_in tokens sizes.rest own apart.behind sizes.size sizes.pointer sizes.splits (ending_in sizes.rest shows.before shows.address found.next apart) in
     let total = long_in sizes.rest shows.before shows.address found.next apart in
     let size : 2 + found.next ≡ length all = omega arith in
     whole_reads branch tokens all apart.behind outline (sized_of found) (2 + found.next) stands_so

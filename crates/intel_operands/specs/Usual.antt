@@ -86,7 +86,7 @@ pub record ScalesAt (text : List SpelledToken) (at : ℕ) (first second : NamedR
   pub ended : ends_at text (at + 7) ≡ true
   pub makes : address_of None (Two (Plain first) (Scaled second scale)) ≡ Some address
 
--- The address of one register or two stands behind this place, and its `]` before that one, where an operand ends.
+-- The address of one register or two stands in the brackets that open at this place, behind which an operand ends.
 pub data HoldsAddress : (text : List SpelledToken) (at : ℕ) (found : FoundAddress) → Type 0 where
   of_base : (text : List SpelledToken) (at : ℕ) (base : Base) → ClosesAt text at base → HoldsAddress text at (record { address = in_segment None base index.Absent; next = at + 3 })
   of_pair : (text : List SpelledToken) (at : ℕ) (first second : NamedRegister) (address : Address) → PairsAt text at first second address
