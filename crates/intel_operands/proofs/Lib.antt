@@ -8,5 +8,6 @@ pub mod SpelledIsRead
 pub mod ReadIsSpelled
 pub mod Faults
 pub mod UsualOperands
+pub mod UsualSums
 pub mod UsualMemory
 pub mod WorkedTexts

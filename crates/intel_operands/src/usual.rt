@@ -191,7 +191,7 @@ pub fn whole_value<'a>(
 
 /// How many tokens stand before the bracket, if they stay in the text of a sum: two at most.
 #[inline(always)]
-#[tactic(auto, using(crate::proofs::UsualMemory::behind_none, crate::proofs::UsualMemory::behind_one, crate::proofs::UsualMemory::behind_two))]
+#[tactic(auto, using(crate::proofs::UsualSums::behind_none, crate::proofs::UsualSums::behind_one, crate::proofs::UsualSums::behind_two))]
 fn before_bracket(text: &[Token]) -> Option<usize>
     ensures { IfSome result (λ before. OpensBehind (map spelled text.now) before) }
 {
@@ -236,7 +236,7 @@ fn base_at(text: &[Token], at: usize) -> Option<Base>
 /// The address of two registers in the brackets that open at this place, behind which an operand
 /// ends.
 #[inline(always)]
-#[tactic(auto, using(crate::proofs::UsualMemory::pair_holds))]
+#[tactic(auto, using(crate::proofs::UsualSums::pair_holds))]
 fn pair_at(
     text: &[Token],
     at: usize,
@@ -270,7 +270,7 @@ fn pair_at(
 
 /// The same with a scale of the second register.
 #[inline(always)]
-#[tactic(auto, using(crate::proofs::UsualMemory::scaled_holds))]
+#[tactic(auto, using(crate::proofs::UsualSums::scaled_holds))]
 fn scaled_at(
     text: &[Token],
     at: usize,
@@ -346,7 +346,7 @@ fn two_at(text: &[Token], at: usize) -> Option<FoundAddress>
 /// The address of one register or two in the brackets that open at this place, behind which an
 /// operand ends.
 #[inline(always)]
-#[tactic(auto, using(crate::proofs::UsualMemory::base_holds))]
+#[tactic(auto, using(crate::proofs::UsualSums::base_holds))]
 fn address_at(text: &[Token], at: usize) -> Option<FoundAddress>
     requires { at < 3 }
     ensures value { IfSome result (λ found. HoldsAddress (map spelled text.now) at found) }
