@@ -17,10 +17,10 @@ same_by_ends : (xs ys : List ℕ) → length xs ≡ length ys → 4 ≤ length x
     → drop (length xs - 4) xs ≡ drop (length ys - 4) ys → xs ≡ ys
 same_by_ends xs ys same enough few front back =
     let rest : drop 4 xs ≡ drop 4 ys =
-        sym (behind_four xs enough few)
-        ∙ (ap (drop (8 - length xs)) back
-        ∙ (ap (λ n. drop (8 - n) (drop (length ys - 4) ys)) same
-        ∙ behind_four ys (omega (arith, enough, same)) (omega (arith, few, same)))) in
+    sym (behind_four xs enough few)
+    ∙ (ap (drop (8 - length xs)) back
+    ∙ (ap (λ n. drop (8 - n) (drop (length ys - 4) ys)) same
+    ∙ behind_four ys (omega (arith, enough, same)) (omega (arith, few, same)))) in
     sym (take-append-drop 4 xs) ∙ (ap (λ part. part ++ drop 4 xs) front ∙ (ap (λ part. take 4 ys ++ part) rest ∙ take-append-drop 4 ys))
 
 -- and only there
