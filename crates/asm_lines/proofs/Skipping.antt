@@ -201,9 +201,25 @@ some_long source first others kept is long =
     let more : nat_lt longest_statement (own_length (first ∷ others)) ≡ true = lt-ltb longest_statement (own_length (first ∷ others)) (subst (λ these. 65536 < own_length these) is long) in
     (found_at first.start (StatementTooLong (line_of source first.start)), ap (long_found source) is ∙ ap (λ b. cond b (Some (found_at first.start (StatementTooLong (line_of source first.start)))) None) more)
 
+-- behind the next statement stand the same faults, where it has none
+pub same_faults : (source : List ℕ) (from : ℕ) (place : Point) (next : ℕ) → Reaches source from place → place.at < length source → pieces_at source next ≡ later_pieces (pieces_at source place.at) → all_close (first_interval (pieces_at source place.at)) ≡ true
+    → own_length_at source place.at ≤ 65536 → found_left source from ≡ found_left source next
+unfolding found_left
+same_faults source from place next reached inside later closed fits = by_token reached.begins
+  where
+    by_token : (length source ≤ place.at) ⊎ BeginsToken source place.at → found_left source from ≡ found_left source next
+    by_token (inl past) = absurd (omega arith)
+    by_token (inr token) =
+        let begin = place.at in
+        let none_found : interval_found source (first_interval (pieces_at source begin)) ≡ None =
+        ap (λ one. earlier one (long_found source (trimmed (first_interval (pieces_at source begin))))) (none_open source (first_interval (pieces_at source begin)) closed)
+        ∙ ap (long_found source) (token_kept source begin token) ∙ none_long source (kept_at source begin) fits in
+        sym reached.skipped.faults ∙ ap (λ one. earlier one (first_long source (intervals_of (pieces_at source begin)))) (sym (open_step source begin next (first_open source (pieces_at source begin)) later none_found refl))
+        ∙ ap (earlier (first_open source (pieces_at source next))) (sym (long_step source begin next (first_long source (intervals_of (pieces_at source begin))) later none_found refl))
+
 -- what is read is the next statement
 pub next_whole : (source : List ℕ) (from : ℕ) (place : Point) (read : List Token) (next there : ℕ) → Reaches source from place → place.at < length source → IsReadWhole source place.at read next there → own_length_at source place.at ≤ 65536 → IsNext source from read place.line next there
-unfolding statements_left found_left
+unfolding statements_left
 next_whole source from place read next there reached inside known fits = by_token reached.begins
   where
     by_token : (length source ≤ place.at) ⊎ BeginsToken source place.at → IsNext source from read place.line next there
@@ -211,9 +227,6 @@ next_whole source from place read next there reached inside known fits = by_toke
     by_token (inr token) =
         let begin = place.at in
         let whole : tokens_of (bytes_between source begin (reach source begin)) ≡ map spelled read = one_pass source begin known.closed ∙ sym known.tokens in
-        let none_found : interval_found source (first_interval (pieces_at source begin)) ≡ None =
-        ap (λ one. earlier one (long_found source (trimmed (first_interval (pieces_at source begin))))) (none_open source (first_interval (pieces_at source begin)) known.closed)
-        ∙ ap (long_found source) (token_kept source begin token) ∙ none_long source (kept_at source begin) fits in
         record {
           statements = λ file.
               let statement : StatementAt = record { file = file; line = line_of source begin; bytes = bytes_between source begin (reach source begin) } in
@@ -223,8 +236,7 @@ next_whole source from place read next there reached inside known fits = by_toke
               ∙ ap (λ these. statement ∷ filter_map (statement_in file source) (intervals_of these)) (sym known.later))
               ∙ ap (λ tokens. (let one : TokenStatement = record { file = file; line = line_of source begin; tokens = tokens } in one ∷ map in_tokens left)) whole
               ∙ ap (λ line. (let one : TokenStatement = record { file = file; line = line; tokens = map spelled read } in one ∷ map in_tokens left)) (sym reached.skipped.line);
-          faults = sym reached.skipped.faults ∙ ap (λ one. earlier one (first_long source (intervals_of (pieces_at source begin)))) (sym (open_step source begin next (first_open source (pieces_at source begin)) known.later none_found refl))
-              ∙ ap (earlier (first_open source (pieces_at source next))) (sym (long_step source begin next (first_long source (intervals_of (pieces_at source begin))) known.later none_found refl));
+          faults = same_faults source from place next reached inside known.later known.closed fits;
           there = known.line;
           within = known.within;
           more = omega (arith, known.more, reached.skipped.later);

@@ -1,8 +1,10 @@
 -- What stands between statements.
-use Rattle.std.specs.Prelude.{◌≡◌, ℕ, ◌≤◌, true, List, ◌∷◌, length, drop, Option, Some, None, ◌⊎◌}
+use Rattle.std.specs.Prelude.{◌≡◌, ℕ, ◌<◌, ◌≤◌, true, List, ◌∷◌, length, drop, Option, Some, None, ◌⊎◌}
 use Rattle.asm_base.specs.Dividing.{piece_kind}
 use Rattle.asm_lines.specs.declared.faults.Found.{Found}
 use Rattle.asm_lines.specs.declared.cursors.Point.{Point}
+use Rattle.asm_lines.specs.declared.cursors.NextPassed.{NextPassed}
+use Rattle.asm_lines.specs.declared.cursors.NextPassed.TheVariants.{Statement, End, Faulty}
 use Rattle.asm_lines.specs.LineNumbers.{line_of}
 use Rattle.asm_lines.specs.Lexemes.{makes_tokens}
 use Rattle.asm_lines.specs.NextStatements.{statements_left, found_left}
@@ -31,3 +33,16 @@ pub record Reaches (source : List ℕ) (from : ℕ) (to : Point) : Type 0 where
 abbrev pub Skips : List ℕ → ℕ → Option Point → Type 0
 Skips source from (Some to) = Reaches source from to
 Skips source from None = (found : Found) × (found_left source from ≡ Some found)
+
+-- from the offset on, the first fault of the lines is the first behind the point
+pub record HasSameFaults (source : List ℕ) (from : ℕ) (to : Point) : Type 0 where
+  pub faults : found_left source from ≡ found_left source to.at
+  pub line : to.line ≡ line_of source to.at
+  pub within : to.at ≤ length source
+  pub more : from < to.at
+
+-- what stands next is passed, and no fault with it; or nothing is left, or the lines have a fault
+abbrev pub PassesNext : List ℕ → ℕ → NextPassed → Type 0
+PassesNext source from (Statement to) = HasSameFaults source from to
+PassesNext source from End = found_left source from ≡ None
+PassesNext source from Faulty = (found : Found) × (found_left source from ≡ Some found)

@@ -1,5 +1,5 @@
 -- The tokens of the statement that begins a text, found in one pass over its bytes.
-use Rattle.std.specs.Prelude.{◌≡◌, ℕ, zero, suc, ◌+◌, ◌-◌, ◌<◌, ◌≤◌, Bool, true, false, not, ◌&&◌, List, [], ◌∷◌, length, drop, take, map, if◌then◌else◌}
+use Rattle.std.specs.Prelude.{◌≡◌, ℕ, zero, suc, ◌+◌, ◌-◌, ◌<◌, ◌≤◌, Bool, true, false, not, ◌&&◌, List, [], ◌∷◌, length, drop, take, map, Option, Some, None, if◌then◌else◌}
 use Rattle.asm_base.specs.Pieces.{Piece, is_space, ends_statement}
 use Rattle.asm_base.specs.Dividing.{piece_kind, piece_length}
 use Rattle.asm_base.specs.Tokens.{SpelledToken, spelled, token_kind, token_length, first_token}
@@ -7,6 +7,7 @@ use Rattle.asm_base.specs.declared.tokens.Token.{Token}
 use Rattle.asm_lines.specs.Intervals.{without_space_after, own_length}
 use Rattle.asm_lines.specs.LineNumbers.{line_of}
 use Rattle.asm_lines.specs.Scan.{pieces_at, first_interval, later_pieces}
+use Rattle.asm_lines.specs.declared.passing.Passed.{Passed}
 use Rattle.asm_lines.specs.declared.statement_tokens.ReadStatement.{ReadStatement}
 use Rattle.asm_lines.specs.declared.statement_tokens.ReadStatement.TheVariants.{Whole, Full, Unclosed}
 use Rattle.asm_lines.specs.Lexemes.{is_unclosed}
@@ -51,3 +52,17 @@ ReadsTokens source begin tokens (Whole next line count) =
     (count ≤ length tokens) × IsReadWhole source begin (take count tokens) next line
 ReadsTokens source begin tokens Full = begin + length tokens < length source
 ReadsTokens source begin tokens Unclosed = all_close (first_interval (pieces_at source begin)) ≡ false
+
+-- what is known of the statement that begins at this offset, once all of it is passed
+pub record IsPassed (source : List ℕ) (begin : ℕ) (passed : Passed) : Type 0 where
+  pub later : pieces_at source passed.next ≡ later_pieces (pieces_at source begin)
+  pub closed : all_close (first_interval (pieces_at source begin)) ≡ true
+  pub own : passed.own ≡ own_length_at source begin
+  pub line : passed.line ≡ line_of source passed.next
+  pub within : passed.next ≤ length source
+  pub more : begin < passed.next
+
+-- the statement that begins at this offset is passed, or has a piece that does not close
+abbrev pub PassesStatement : List ℕ → ℕ → Option Passed → Type 0
+PassesStatement source begin (Some passed) = IsPassed source begin passed
+PassesStatement source begin None = all_close (first_interval (pieces_at source begin)) ≡ false

@@ -4,7 +4,7 @@ ghost use Rattle.std.specs.Prelude.{◌≡◌, ◌+◌, ◌<◌, ◌≤◌, leng
 ghost use Rattle.asm_lines.specs.Faults.{longest_statement};
 ghost use Rattle.asm_lines.specs.LineNumbers.{line_of};
 ghost use Rattle.asm_lines.specs.Scan.{pieces_at, first_interval};
-ghost use Rattle.asm_lines.specs.Skips.{Skips};
+ghost use Rattle.asm_lines.specs.Skips.{PassesNext, Skips};
 ghost use Rattle.asm_lines.specs.StatementTokens.{all_close, own_length_at};
 ghost use Rattle.asm_lines.specs.NextStatements.{StandsNext};
 
@@ -12,9 +12,17 @@ use crate::classes::is_plain;
 use crate::intervals::LONGEST_STATEMENT;
 use crate::lexemes::{Lexeme, lexeme_at};
 use crate::line_numbers::{line_after, line_behind};
-use crate::statement_tokens::{ReadStatement, own_length, read_tokens};
-use asm_base::Token;
+use crate::passing::{own_length, pass_statement};
+use crate::statement_tokens::{ReadStatement, read_tokens};
+use asm_base::{Token, TokenKind};
 use std::alloc::AllocError;
+
+/// The slots of a list that has none.
+const FEW_SLOTS: [Token<'static>; 16] = [Token {
+    kind: TokenKind::Other,
+    bytes: b"",
+    start: 0,
+}; 16];
 
 /// An offset of a source, and its line.
 #[derive(Clone, Copy, Debug)]
@@ -71,8 +79,9 @@ fn skip(source: &[u8], from: usize, line: u32) -> Option<Point>
 /// Whether the statement between these offsets is too long. Its bytes are only counted where it has
 /// as many with its comments.
 #[inline(always)]
-fn is_too_long(source: &[u8], begin: usize, next: usize) -> bool
-    requires within { begin ≤ length source.now }
+fn is_too_long(source: &[u8], begin: usize, line: u32, next: usize) -> bool
+    requires within { begin < length source.now }
+    requires line { line ≡ line_of source.now begin }
     requires later { begin ≤ next }
     ensures { all_close (first_interval (pieces_at source.now begin)) ≡ true
         → begin + own_length_at source.now begin ≤ next
@@ -81,16 +90,19 @@ fn is_too_long(source: &[u8], begin: usize, next: usize) -> bool
     if next - begin <= LONGEST_STATEMENT {
         return false;
     }
-    own_length(source, begin) > LONGEST_STATEMENT
+    own_length(source, begin, line) > LONGEST_STATEMENT
 }
 
-/// Makes room for twice as many tokens.
+/// Makes room for a few tokens, or for twice as many.
 #[inline(never)]
 fn more_slots<'a>(tokens: &mut Vec<Token<'a>>) -> Result<(), AllocError>
     ensures { OnOk result (length tokens.old.items < length tokens.new.items) }
 {
     let room = tokens.len();
-    tokens.resize(room + room.max(16), Token::default())
+    if room == 0 {
+        return tokens.extend_from_slice(&FEW_SLOTS);
+    }
+    tokens.resize(room + room, Token::default())
 }
 
 /// Reads the statement that stands next, from this offset in bytes and its line on, into the first
@@ -116,7 +128,7 @@ pub fn next_statement<'a>(
     loop {
         match read_tokens(source, point.at, point.line, tokens.as_mut_slice()) {
             ReadStatement::Whole(next, there, count) => {
-                if is_too_long(source, point.at, next) {
+                if is_too_long(source, point.at, point.line, next) {
                     return Ok(NextStatement::Faulty);
                 }
                 return Ok(NextStatement::Statement(point.line, next, there, count));
@@ -125,4 +137,40 @@ pub fn next_statement<'a>(
             ReadStatement::Unclosed => return Ok(NextStatement::Faulty),
         }
     }
+}
+
+/// What stands next in a source whose statements are only passed.
+#[derive(Clone, Copy, Debug)]
+pub(crate) enum NextPassed {
+    /// A statement; this is the point behind its end.
+    Statement(Point),
+    /// The end of the source.
+    End,
+    /// The lines from here on have a fault.
+    Faulty,
+}
+
+/// Passes the statement that stands next, from this offset in bytes and its line on.
+#[inline(always)]
+pub(crate) fn pass_next(source: &[u8], from: usize, line: u32) -> NextPassed
+    requires within { from ≤ length source.now }
+    requires line { line ≡ line_of source.now from }
+    ensures { PassesNext source.now from result }
+{
+    let Some(point) = skip(source, from, line) else {
+        return NextPassed::Faulty;
+    };
+    if point.at >= source.len() {
+        return NextPassed::End;
+    }
+    let Some(passed) = pass_statement(source, point.at, point.line) else {
+        return NextPassed::Faulty;
+    };
+    if passed.own > LONGEST_STATEMENT {
+        return NextPassed::Faulty;
+    }
+    NextPassed::Statement(Point {
+        at: passed.next,
+        line: passed.line,
+    })
 }

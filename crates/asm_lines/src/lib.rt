@@ -10,6 +10,7 @@ mod laws;
 mod lexemes;
 mod line_checks;
 mod line_numbers;
+mod passing;
 mod placing;
 mod reading;
 mod statement_tokens;

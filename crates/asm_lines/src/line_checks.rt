@@ -6,7 +6,7 @@ ghost use Rattle.asm_lines.specs.Statements.{statements_of};
 ghost use Rattle.asm_lines.specs.NextStatements.{IsLineCheck};
 ghost use Rattle.asm_lines.specs.Placing.{IsFaultOfLines};
 
-use crate::cursors::{NextStatement, next_statement};
+use crate::cursors::{NextPassed, pass_next};
 use crate::faults::LineCause;
 use crate::reading::read_statements;
 use asm_base::{Refusal, Text};
@@ -44,17 +44,16 @@ pub fn fault_of_lines(
     if has_nul(source) {
         return line_fault(alloc, text, file);
     }
-    let mut tokens = Vec::new(alloc);
     let mut at = 0;
     let mut line = 1;
     loop {
-        match next_statement(source, at, line, &mut tokens)? {
-            NextStatement::Statement(_, next, there, _) => {
-                at = next;
-                line = there;
+        match pass_next(source, at, line) {
+            NextPassed::Statement(next) => {
+                at = next.at;
+                line = next.line;
             }
-            NextStatement::End => return Ok(None),
-            NextStatement::Faulty => return line_fault(alloc, text, file),
+            NextPassed::End => return Ok(None),
+            NextPassed::Faulty => return line_fault(alloc, text, file),
         }
     }
 }

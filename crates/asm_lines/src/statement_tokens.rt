@@ -1,9 +1,8 @@
 //! The tokens of one statement, read from its first byte to its end.
 
-ghost use Rattle.std.specs.Prelude.{◌≡◌, ◌<◌, ◌≤◌, length, true};
+ghost use Rattle.std.specs.Prelude.{◌≡◌, ◌<◌, length};
 ghost use Rattle.asm_lines.specs.LineNumbers.{line_of};
-ghost use Rattle.asm_lines.specs.Scan.{pieces_at, first_interval};
-ghost use Rattle.asm_lines.specs.StatementTokens.{ReadsTokens, all_close, own_length_at};
+ghost use Rattle.asm_lines.specs.StatementTokens.{ReadsTokens};
 
 use crate::lexemes::{Lexeme, lexeme_at};
 use crate::line_numbers::{line_after, line_behind};
@@ -62,31 +61,4 @@ pub(crate) fn read_tokens<'a>(
         }
     }
     ReadStatement::Whole(at, line, count)
-}
-
-/// How many bytes the statement has that begins at this offset, comments not counted.
-#[inline(never)]
-pub(crate) fn own_length(source: &[u8], begin: usize) -> usize
-    requires within { begin ≤ length source.now }
-    ensures { all_close (first_interval (pieces_at source.now begin)) ≡ true
-        → result ≡ own_length_at source.now begin }
-{
-    let mut at = begin;
-    let mut comments = 0;
-    let mut own = 0;
-    while at < source.len() {
-        match lexeme_at(source, at) {
-            Lexeme::LineEnd | Lexeme::StatementEnd | Lexeme::Unclosed => return own,
-            Lexeme::Blank => at += 1,
-            Lexeme::LineComment(length) | Lexeme::BlockComment(length) => {
-                comments += length;
-                at += length;
-            }
-            Lexeme::Token(_, length) => {
-                at += length;
-                own = at - begin - comments;
-            }
-        }
-    }
-    own
 }

@@ -4,7 +4,7 @@ use Rattle.std.specs.declared.alloc.AllocError.{AllocError}
 use Rattle.asm_lines.specs.declared.faults.LineCause.{LineCause}
 use Rattle.asm_lines.specs.LineNumbers.{line_of}
 use Rattle.asm_lines.specs.Statements.{StatementAt, statements_of}
-use Rattle.asm_lines.specs.NextStatements.{StandsNext, HasNoLineFault, IsLineCheck}
+use Rattle.asm_lines.specs.NextStatements.{HasNoLineFault, IsLineCheck}
 use Rattle.asm_lines.specs.Placing.{IsFaultOfLines}
 use Rattle.asm_lines.proofs.LineFaults.{found_never_ok, nul_never_ok, statements_all}
 use Rattle.asm_lines.proofs.line_checks.fault_of_lines.Goals as goal
@@ -27,21 +27,20 @@ returns-then-has_nul c =
     let whole : statements_of c.args.file c.args.text.now ≡ statements_of c.args.file source = ap (statements_of c.args.file) (sym c.as_bytes-source.ensures) in
     checks_of_fault c.args.file c.args.text.now c.line_fault.result (λ statements is. nul_never_ok c.args.file source statements (sym c.has_nul.ensures ∙ c.if-has_nul.true) (sym whole ∙ is)) c.line_fault.ensures
 
-pub loop-tokens-init : goal.loop-tokens-init
+pub loop-next-init : goal.loop-next-init
 unfolding line_of
-loop-tokens-init c = record { faults = refl; line = refl; within = omega arith }
+loop-next-init c = record { faults = refl; line = refl; within = omega arith }
 
 pub returns-in-End : goal.returns-in-End
 returns-in-End c =
     let source = c.as_bytes-source.result.now in
-    let step = subst (StandsNext source c.loop-tokens.at c.next_statement.new.tokens.items) c.in-End.is c.in_ok-next.ensures in
-    let none = sym c.loop-tokens.invariant.faults ∙ step.faults in
+    let none = sym c.loop-next.invariant.faults ∙ c.in-End.ensures in
     let Stands : List ℕ → Type 0 = λ text. HasNoLineFault c.args.file text in
     subst Stands c.as_bytes-source.ensures (record { statements = statements_all c.args.file source (sym c.has_nul.ensures ∙ c.if-has_nul.false) none; faults = none })
 
 pub returns-in-Faulty : goal.returns-in-Faulty
 returns-in-Faulty c =
     let source = c.as_bytes-source.result.now in
-    let step = subst (StandsNext source c.loop-tokens.at c.next_statement.new.tokens.items) c.in-Faulty.is c.in_ok-next.ensures in
+    let step = c.in-Faulty.ensures in
     let whole : statements_of c.args.file c.args.text.now ≡ statements_of c.args.file source = ap (statements_of c.args.file) (sym c.as_bytes-source.ensures) in
-    checks_of_fault c.args.file c.args.text.now c.line_fault-in-Faulty.result (λ statements is. found_never_ok c.args.file source statements (step.0, sym c.loop-tokens.invariant.faults ∙ step.1) (sym whole ∙ is)) c.line_fault-in-Faulty.ensures
+    checks_of_fault c.args.file c.args.text.now c.line_fault-in-Faulty.result (λ statements is. found_never_ok c.args.file source statements (step.0, sym c.loop-next.invariant.faults ∙ step.1) (sym whole ∙ is)) c.line_fault-in-Faulty.ensures
