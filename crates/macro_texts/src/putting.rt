@@ -155,7 +155,7 @@ pub fn put_in(
     ensures { IfOk result (λ text. text.items
         ≡ spec.put (map argument_seen arguments.now) number body.now) }
 {
-    let mut text = Vec::new(alloc);
+    let mut text = Vec::with_capacity(alloc, body.len())?;
     let mut at = 0;
     while at < body.len() {
         at += push_piece(alloc, &mut text, arguments, number, &body[at..])?;
