@@ -187,7 +187,7 @@ impl Frame {
         ensures { IfOk result (λ closed.
             PassesBlock block closed (level_of self.old) (level_of self.new)) }
     {
-        let mut search = Search::new(alloc, block, false);
+        let mut search = Search::new(alloc, block);
         match self.pass_to(alloc, &NoBranch, &mut search)? {
             Some(_) => Ok(true),
             None => Ok(false),
@@ -199,7 +199,7 @@ impl Frame {
         ensures { IfOk result (λ body. TakesBody block (option_map (λ text. text.items) body)
             (level_of self.old) (level_of self.new)) }
     {
-        let mut search = Search::new(alloc, block, true);
+        let mut search = Search::keeping(alloc, block)?;
         match self.pass_to(alloc, &NoBranch, &mut search)? {
             Some(_) => Ok(Some(search.text)),
             None => Ok(None),
@@ -215,7 +215,7 @@ impl Frame {
         ensures { IfOk result (λ branch. PassesBranch (E.told known.now) branch
             (level_of self.old) (level_of self.new)) }
     {
-        let mut search = Search::new(alloc, Block::Conditional, false);
+        let mut search = Search::new(alloc, Block::Conditional);
         let found = self.pass_to(alloc, &Branches { known }, &mut search)?;
         Ok(found)
     }

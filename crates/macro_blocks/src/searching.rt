@@ -64,6 +64,9 @@ pub(crate) enum Sought {
     End,
 }
 
+/// The room in bytes that the text of what is passed begins with.
+const SHORT_TEXT: usize = 128;
+
 /// A search for the end of a block: how many further blocks are open, and the text of what was passed, where that is kept.
 #[derive(Drop)]
 pub(crate) struct Search {
@@ -112,19 +115,34 @@ fn stop_at<V: Verdicts>(
 }
 
 impl Search {
-    /// A search that begins; where it keeps the text, none is passed.
-    pub(crate) fn new(alloc: Global, block: Block, keeps: bool) -> Search
+    /// A search that begins, and keeps no text.
+    pub(crate) fn new(alloc: Global, block: Block) -> Search
         ensures block { result.block ≡ block }
-        ensures keeps { result.keeps ≡ keeps }
+        ensures keeps { result.keeps ≡ false }
         ensures deep { result.deep ≡ 0 }
         ensures text { result.text.items ≡ [] }
     {
         Search {
             block,
-            keeps,
+            keeps: false,
             deep: 0,
             text: Vec::new(alloc),
         }
+    }
+
+    /// A search that begins, and keeps the text of what it passes.
+    pub(crate) fn keeping(alloc: Global, block: Block) -> Result<Search, AllocError>
+        ensures block { IfOk result (λ search. search.block ≡ block) }
+        ensures keeps { IfOk result (λ search. search.keeps ≡ true) }
+        ensures deep { IfOk result (λ search. search.deep ≡ 0) }
+        ensures text { IfOk result (λ search. search.text.items ≡ []) }
+    {
+        Ok(Search {
+            block,
+            keeps: true,
+            deep: 0,
+            text: Vec::with_capacity(alloc, SHORT_TEXT)?,
+        })
     }
 
     /// Whether the search ends at a statement of this word with these operands, and the verdict there.
