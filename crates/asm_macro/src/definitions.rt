@@ -12,6 +12,7 @@ ghost use Rattle.asm_macro.specs.Turning.{IsTurn, KeepsCounts, LeavesCall, level
 use crate::depths::is_call;
 use crate::expander::Expander;
 use crate::macros::Macro;
+use crate::open_parts::Part;
 use crate::refusing::{fault_at, standing, standing_line};
 use crate::turned::{MacroFault, Turned};
 use asm_base::{Pos, Refusal, Text, Token};
@@ -22,12 +23,12 @@ use std::alloc::AllocError;
 use std::rc::Rc;
 
 /// Takes the open parts away up to the innermost call, that included. It says whether there is one.
-fn leave_call(frames: &mut Vec<Frame>) -> bool
+fn leave_call(frames: &mut Vec<Part>) -> bool
     ensures after { LeavesCall result (levels_of frames.old.items) (levels_of frames.new.items) }
     ensures fewer { vec_len frames.new ≤ vec_len frames.old }
 {
     'parts: while let Some(outer) = frames.pop() {
-        if is_call(&outer) {
+        if is_call(outer.as_frame()) {
             return true;
         }
     }
@@ -106,7 +107,7 @@ impl Expander {
         let text = self.made_text(one, &arguments)?;
         self.begun += 1;
         match Frame::call(self.alloc, text, pos) {
-            Ok(callee) => Ok(Turned::Enters(callee)),
+            Ok(callee) => Ok(Turned::Enters(Part::new(self.alloc, callee)?)),
             Err(refusal) => Err(standing(refusal, pos)),
         }
     }

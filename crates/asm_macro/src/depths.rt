@@ -6,6 +6,7 @@ ghost use Rattle.asm_macro.specs.Expansion.{is_inner_part, is_file_part, is_call
 ghost use Rattle.asm_macro.specs.Turning.{state_of};
 
 use crate::expander::Expander;
+use crate::open_parts::Part;
 use macro_blocks::{Ending, Frame};
 
 /// The most calls and repeats that are open.
@@ -36,13 +37,13 @@ pub(crate) fn is_call(frame: &Frame) -> bool
 }
 
 /// How many of these are files.
-fn count_files(frames: &[Frame]) -> usize
-    ensures value { result ≡ count_by (λ frame. is_file_part (level_of frame)) frames.now }
-    ensures few { result ≤ length frames.now }
+fn count_files(parts: &[Part]) -> usize
+    ensures value { result ≡ count_by (λ frame. is_file_part (level_of frame)) parts.now }
+    ensures few { result ≤ length parts.now }
 {
     let mut count = 0;
-    for frame in frames {
-        if is_file(frame) {
+    for part in parts {
+        if is_file(part.as_frame()) {
             count += 1;
         }
     }
@@ -50,13 +51,13 @@ fn count_files(frames: &[Frame]) -> usize
 }
 
 /// How many of these are calls and repeats.
-fn count_inner(frames: &[Frame]) -> usize
-    ensures value { result ≡ count_by (λ frame. is_inner_part (level_of frame)) frames.now }
-    ensures few { result ≤ length frames.now }
+fn count_inner(parts: &[Part]) -> usize
+    ensures value { result ≡ count_by (λ frame. is_inner_part (level_of frame)) parts.now }
+    ensures few { result ≤ length parts.now }
 {
     let mut count = 0;
-    for frame in frames {
-        if is_inner(frame) {
+    for part in parts {
+        if is_inner(part.as_frame()) {
             count += 1;
         }
     }

@@ -4,8 +4,8 @@ ghost use Rattle.std.specs.Prelude.{◌≤◌, ◌+◌, length};
 ghost use Rattle.asm_macro.specs.Expansion.{most_given};
 
 use crate::macros::Macros;
+use crate::open_parts::Part;
 use asm_base::Files;
-use macro_blocks::Frame;
 use std::alloc::Global;
 
 /// The open files, calls and repeats: the list of statements and end marks.
@@ -13,7 +13,7 @@ use std::alloc::Global;
 pub(crate) struct Expander {
     pub alloc: Global,
     /// The innermost is the last; one that is at work is not among them.
-    pub frames: Vec<Frame>,
+    pub frames: Vec<Part>,
     pub macros: Macros,
     /// How many calls began.
     pub begun: u64,

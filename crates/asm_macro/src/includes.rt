@@ -11,6 +11,7 @@ ghost use Rattle.asm_macro.specs.Turning.{IsOpened, IsRewriting, state_of};
 
 use crate::expander::Expander;
 use crate::faults::ExpandFault;
+use crate::open_parts::Part;
 use crate::refusing::{standing, whole};
 use crate::turned::Turned;
 use asm_base::{Inputs, Pos, Text, TextFault, Token, read_text};
@@ -32,7 +33,10 @@ fn open_file<F: Drop>(alloc: Global, text: Text, file: u32) -> Result<Turned, Ex
         }
         Ok(None) => match Rc::new(alloc, text) {
             Err(_) => Err(ExpandFault::NoMemory),
-            Ok(text) => Ok(Turned::Enters(Frame::file(alloc, text, file, 0, 1))),
+            Ok(text) => match Part::new(alloc, Frame::file(alloc, text, file, 0, 1)) {
+                Err(_) => Err(ExpandFault::NoMemory),
+                Ok(part) => Ok(Turned::Enters(part)),
+            },
         },
     }
 }

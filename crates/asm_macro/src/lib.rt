@@ -13,6 +13,7 @@ mod heads;
 mod includes;
 mod laws;
 mod macros;
+mod open_parts;
 mod refusing;
 mod repeats;
 mod rewriting;

@@ -11,6 +11,7 @@ ghost use Rattle.asm_macro.specs.Expansion as spec;
 ghost use Rattle.asm_macro.specs.Turning.{IsTurn, state_of};
 
 use crate::expander::Expander;
+use crate::open_parts::Part;
 use crate::refusing::{fault_at, standing};
 use crate::turned::{MacroFault, Turned};
 use asm_base::{Pos, Refusal, Token};
@@ -46,7 +47,7 @@ impl Expander {
             return Err(fault_at(MacroCause::NestedTooDeeply, pos));
         }
         match Frame::repeat(self.alloc, body, pos, count) {
-            Ok(copies) => Ok(Turned::Enters(copies)),
+            Ok(copies) => Ok(Turned::Enters(Part::new(self.alloc, copies)?)),
             Err(refusal) => Err(standing(refusal, pos)),
         }
     }
@@ -73,7 +74,7 @@ impl Expander {
             return Err(fault_at(MacroCause::NestedTooDeeply, pos));
         }
         match Frame::each(self.alloc, body, line, self.begun, pos) {
-            Ok(copies) => Ok(Turned::Enters(copies)),
+            Ok(copies) => Ok(Turned::Enters(Part::new(self.alloc, copies)?)),
             Err(refusal) => Err(standing(refusal, pos)),
         }
     }

@@ -10,6 +10,7 @@ ghost use Rattle.asm_macro.specs.Turning.{TakesOne, TakesPart, state_of};
 
 use crate::expander::Expander;
 use crate::faults::ExpandFault;
+use crate::open_parts::Part;
 use crate::turned::Turned;
 use asm_base::Inputs;
 use macro_blocks::{Frame, Taken};
@@ -110,7 +111,7 @@ impl Expander {
 
     /// Takes the part in front off the list, if one is left.
     #[tactic(auto, using(crate::proofs::Stacks::popped, crate::proofs::Stacks::no_levels))]
-    fn take_part(&mut self) -> Option<Frame>
+    fn take_part(&mut self) -> Option<Part>
         ensures part { TakesPart result (state_of self.old) (state_of self.new) }
         ensures count { TakesOne result (vec_len self.old.frames) (vec_len self.new.frames) }
     {
@@ -119,19 +120,19 @@ impl Expander {
 
     /// Puts a part in front of the list.
     #[tactic(auto, using(crate::proofs::Stacks::pushed))]
-    fn put_part(&mut self, frame: Frame) -> Result<(), AllocError>
-        ensures part { OnOk result (state_of self.new ≡ under (level_of frame) (state_of self.old)) }
+    fn put_part(&mut self, part: Part) -> Result<(), AllocError>
+        ensures part { OnOk result (state_of self.new ≡ under (level_of part) (state_of self.old)) }
         ensures count { OnOk result (vec_len self.new.frames ≡ vec_len self.old.frames + 1) }
         ensures files { self.new.files ≡ self.old.files }
     {
-        if let Err(_) = self.frames.push(frame) {
+        if let Err(_) = self.frames.push(part) {
             return Err(AllocError);
         }
         Ok(())
     }
 
     /// Puts a part and one inside it in front of the list.
-    fn enter(&mut self, outer: Frame, inner: Frame) -> Result<(), AllocError>
+    fn enter(&mut self, outer: Part, inner: Part) -> Result<(), AllocError>
         ensures part { OnOk result (state_of self.new
             ≡ under (level_of inner) (under (level_of outer) (state_of self.old))) }
         ensures count { OnOk result (vec_len self.new.frames ≡ vec_len self.old.frames + 2) }
@@ -154,15 +155,16 @@ impl Expander {
             (input_by I.contents I.rest I.faults I.missing I.taken I.history ins.old)
             (input_by I.contents I.rest I.faults I.missing I.taken I.history ins.new) }
     {
-        'parts: while let Some(mut frame) = self.take_part() {
+        'parts: while let Some(part) = self.take_part() {
+            let mut frame = part.into_frame();
             match self.run_part(&mut frame, placer, ins) {
                 Ok(Turned::Stays) => {
-                    if let Err(_) = self.put_part(frame) {
+                    if let Err(_) = self.put_part(Part::with_frame(frame)) {
                         return Err(ExpandFault::NoMemory);
                     }
                 }
                 Ok(Turned::Enters(inner)) => {
-                    if let Err(_) = self.enter(frame, inner) {
+                    if let Err(_) = self.enter(Part::with_frame(frame), inner) {
                         return Err(ExpandFault::NoMemory);
                     }
                 }

@@ -13,6 +13,7 @@ use crate::expander::Expander;
 use crate::faults::ExpandFault;
 use crate::fronts::{Stop, check_lines, place_front};
 use crate::macros::Macros;
+use crate::open_parts::Part;
 use asm_base::{Files, Inputs, Pos, Refusal, Text};
 use asm_lines::{has_nul, line_faults_are_found};
 use macro_blocks::Frame;
@@ -46,8 +47,7 @@ fn expand_rest<P: KnowingPlacer, I: Inputs>(
     let Ok(text) = Rc::new(alloc, text) else {
         return Err(ExpandFault::NoMemory);
     };
-    let mut frames = Vec::new(alloc);
-    let Ok(()) = frames.push(Frame::file(alloc, text, 0, at, line)) else {
+    let Ok(frames) = Part::alone(alloc, Frame::file(alloc, text, 0, at, line)) else {
         return Err(ExpandFault::NoMemory);
     };
     let mut expander = Expander {

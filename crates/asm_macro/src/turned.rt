@@ -3,8 +3,8 @@
 ghost use Rattle.std.specs.Prelude.{◌≢◌};
 ghost use Rattle.macro_words.specs.declared.causes.MacroCause.TheVariants.{FileTooLarge};
 
+use crate::open_parts::Part;
 use asm_base::Pos;
-use macro_blocks::Frame;
 use macro_words::MacroCause;
 
 /// A fault of expansion, and where it stands. It is not that of a file that is too large.
@@ -21,7 +21,7 @@ pub(crate) enum Turned {
     /// The part goes on.
     Stays,
     /// Another part stands in front of it.
-    Enters(Frame),
+    Enters(Part),
     /// It is gone.
     Leaves,
 }
