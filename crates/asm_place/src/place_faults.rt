@@ -1,7 +1,5 @@
 //! The first fault of a source.
 
-ghost use Rattle.std.specs.Prelude.{◌≡◌, IfOk};
-
 use asm_base::{Fault, Notes, Pos};
 use std::alloc::{AllocError, Global};
 use std::marker::Model;
