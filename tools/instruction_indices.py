@@ -24,13 +24,34 @@ SIZES = [0, 8, 16, 32, 64]
 SPANS_HEAD = """\
 //! Where the rows of each name stand in the table.
 
-/// The rows of a name: the index of the first, and where those of 0, 8, 16, 32 and 64 bits end.
+/// The rows of a name: the index of the first, and where those end that have no size, and those of 8, 16,
+/// 32 and 64 bits.
 #[derive(Clone, Copy)]
-pub struct Span(pub u16, pub u16, pub u16, pub u16, pub u16, pub u16);
+pub struct Span {
+    pub first: u16,
+    pub sizeless_end: u16,
+    pub byte_end: u16,
+    pub word_end: u16,
+    pub long_end: u16,
+    pub quad_end: u16,
+}
+
+/// Spans, a line each.
+macro_rules! spans {
+    ($($first:literal $sizeless:literal $byte:literal $word:literal $long:literal $quad:literal;)*) => {
+        [$(Span {
+            first: $first,
+            sizeless_end: $sizeless,
+            byte_end: $byte,
+            word_end: $word,
+            long_end: $long,
+            quad_end: $quad,
+        }),*]
+    };
+}
 
 /// In the order of the names' numbers.
 #[rattlefmt::skip]
-pub static SPANS: [Span; {count}] = [
 """
 
 
@@ -40,9 +61,9 @@ def spans_file(rows: list[Row]) -> str:
     for name in dict.fromkeys(row.name for row in rows):
         first = next(index for index, row in enumerate(rows) if row.name == name)
         ends = [first + sum(row.name == name and row.size <= size for row in rows) for size in SIZES]
-        span = f"Span({', '.join(map(str, [first, *ends]))}),"
-        lines.append(f"    {span:<36} // {name}\n")
-    return SPANS_HEAD.format(count=len(lines)) + "".join(lines) + "];\n"
+        span = " ".join(f"{index:>3}" for index in [first, *ends])
+        lines.append(f"    {span}; // {name}\n")
+    return f"{SPANS_HEAD}pub static SPANS: [Span; {len(lines)}] = spans! {{\n{''.join(lines)}}};\n"
 
 
 # ---- Where mnemonics stand by their hashes
@@ -97,13 +118,27 @@ CODE_BYTES, NO_CODE, NUMBERS_ON_A_LINE = 4, 255, 16
 CODES_HEAD = """\
 //! The bytes of instructions without operands, by the mnemonics of AT&T syntax.
 
-/// Bytes, with zeros behind them up to four, and how many they are.
+/// The bytes of an instruction.
 #[derive(Clone, Copy)]
-pub struct Code(pub [u8; 4], pub u8);
+pub struct Code {
+    /// With zeros behind them.
+    pub padded: [u8; 4],
+    /// How many they are.
+    pub length: u8,
+}
+
+/// Codes, a line each.
+macro_rules! codes {
+    ($($padded:tt $length:literal;)*) => {
+        [$(Code {
+            padded: $padded,
+            length: $length,
+        }),*]
+    };
+}
 
 /// Of the rows without operands, in the order of the table.
 #[rattlefmt::skip]
-pub static CODES: [Code; {count}] = [
 """
 NUMBERS_HEAD = """\
 
@@ -123,21 +158,21 @@ def bare_code(row: Row) -> bytes:
 def codes_file(rows: list[Row], names: list[Name]) -> str:
     """The file of the codes, and of their numbers by mnemonics."""
     bare = [row for row in rows if not row.operands]
-    text = CODES_HEAD.format(count=len(bare))
+    text = f"{CODES_HEAD}pub static CODES: [Code; {len(bare)}] = codes! {{\n"
     for row in bare:
         code = bare_code(row)
         if len(code) > CODE_BYTES:
             raise TableError(f"{row.place} has more than {CODE_BYTES} bytes: {row.text}")
         padded = ", ".join(f"0x{byte:02X}" for byte in code + bytes(CODE_BYTES - len(code)))
         size = f" {row.size}" if row.size else ""
-        text += f"    Code([{padded}], {len(code)}), // {row.name}{size}\n"
+        text += f"    [{padded}] {len(code)}; // {row.name}{size}\n"
     numbers = []
     for name in names:
         own = [number for number, row in enumerate(bare) if row.name == name.row and name.size in (0, row.size)]
         if len(own) > 1:
             raise TableError(f"{name.text} has {len(own)} rows without operands")
         numbers.append(own[0] if own else NO_CODE)
-    text += "];\n" + NUMBERS_HEAD.format(count=len(numbers))
+    text += "};\n" + NUMBERS_HEAD.format(count=len(numbers))
     for at in range(0, len(numbers), NUMBERS_ON_A_LINE):
         text += f"    {' '.join(f'{number:>3},' for number in numbers[at:at + NUMBERS_ON_A_LINE])}\n"
     return text + "];\n"
@@ -156,14 +191,39 @@ WORDS = {"Absent": 0, "Lock": 1, "Rep": 2, "Repe": 4, "Notrack": 8}
 KEYS_HEAD = """\
 //! The keys of the rows.
 
-/// What a row admits: the operand size, the prefix words, a bit each, how many bytes it has at least,
-/// and the sorts of the operands, a bit each.
+/// What a row admits.
 #[derive(Clone, Copy)]
-pub struct Key(pub u8, pub u8, pub u8, pub u16, pub u16, pub u16);
+pub struct Key {
+    /// The operand size in bits, or 0.
+    pub size: u8,
+    /// The prefix words, a bit each.
+    pub words: u8,
+    /// How many bytes it has at least.
+    pub least_length: u8,
+    /// The sorts of the first operand, a bit each.
+    pub first: u16,
+    /// Those of the second.
+    pub second: u16,
+    /// Those of the third.
+    pub third: u16,
+}
+
+/// Keys, each on one line.
+macro_rules! keys {
+    ($($size:literal $words:literal $least:literal $first:literal $second:literal $third:literal;)*) => {
+        [$(Key {
+            size: $size,
+            words: $words,
+            least_length: $least,
+            first: $first,
+            second: $second,
+            third: $third,
+        }),*]
+    };
+}
 
 /// The rows' keys, in their order.
 #[rattlefmt::skip]
-pub static KEYS: [Key; {count}] = [
 """
 
 
@@ -188,8 +248,8 @@ def least_length(row: Row) -> int:
 def key_of(row: Row) -> str:
     """The key of a row, as it stands in the file."""
     operands = [*row.operands, *[Operand("Absent")] * 3][:3]
-    sorts = ", ".join(f"0x{sorts_of(row, operand):X}" for operand in operands)
-    return f"Key({row.size}, {WORDS[row.words]}, {least_length(row)}, {sorts}),"
+    sorts = " ".join(f"0x{sorts_of(row, operand):04X}" for operand in operands)
+    return f"{row.size:>2} {WORDS[row.words]} {least_length(row):>2} {sorts};"
 
 
 def keys_file(rows: list[Row]) -> str:
@@ -200,7 +260,7 @@ def keys_file(rows: list[Row]) -> str:
             lines.append(line)
             line = "   "
         line += f" {key}"
-    return KEYS_HEAD.format(count=len(rows)) + "\n".join([*lines, line]) + "\n];\n"
+    return f"{KEYS_HEAD}pub static KEYS: [Key; {len(rows)}] = keys! {{\n" + "\n".join([*lines, line]) + "\n};\n"
 
 
 # ---- All files

@@ -37,8 +37,6 @@ class Forms:
         self.variants: dict[str, dict[str, list[tuple[str, str]]]] = {"Class": {name: [] for name in CLASSES}}
         for name, body in re.findall(r"pub enum (\w+) \{(.*?)\n\}", text, re.DOTALL):
             self.variants[name] = {variant: [("", part) for part in parts.split(", ") if part] for variant, parts in re.findall(r"(\w+)(?:\((.*?)\))?,", body)}
-        for name, parts in re.findall(r"pub struct (\w+)\((.*?)\);", text):
-            self.variants[name] = {name: [("", part.removeprefix("pub ")) for part in parts.split(", ")]}
         for name, body in re.findall(r"pub struct (\w+) \{(.*?)\n\}", text, re.DOTALL):
             self.variants[name] = {name: re.findall(r"pub (\w+): (\w+),", body)}
         self.columns = self.variants.get("Row", {}).get("Row", [])
@@ -147,10 +145,24 @@ class Row:
         return None
 
 
+def expanded(text: str, value: str) -> str:
+    """The value of a short word, with the call of a macro of one arm, which puts words into a constant, made."""
+    call = re.fullmatch(r"(\w+)!\((.*)\)", value)
+    if not call:
+        return value
+    arm = re.search(rf"^macro_rules! {call[1]} \{{\n    \(([^()]*)\) => \{{\n(.*?)\n    \}};\n\}}", text, re.MULTILINE | re.DOTALL)
+    names = re.findall(r"\$(\w+):ident", arm[1]) if arm else []
+    if not names or len(names) != len(call[2].split()):
+        raise TableError(f"no macro takes these words: {value}")
+    said = dict(zip(names, call[2].split()))
+    return re.sub(r"\$(\w+)", lambda name: said[name[1]], arm[2]).strip()
+
+
 def words_in(text: str, forms: Forms) -> dict[str, Term]:
     """The short words of the columns, by the arms of macros that have one word."""
     words: dict[str, Term] = {}
     for word, value in re.findall(r"^ *\((\w+)\) => \{ (.*?) \};", text, re.MULTILINE | re.DOTALL):
+        value = expanded(text, value)
         term = forms.value(re.match(r"\w*", value)[0], value)
         if word in words:
             raise TableError(f"{word} says two things")
@@ -162,7 +174,7 @@ def rows_in(folder: pathlib.Path) -> list[Row]:
     """The rows of the table."""
     forms = Forms(folder / "forms.rt")
     path, text = file_with(folder, "ROWS")
-    columns = re.findall(r"\$(\w+):(?:ident|literal)", text)
+    columns = re.findall(r"\$(\w+):(?:ident|literal)", text[text.find("macro_rules! rows {"):])
     if columns != COLUMNS:
         raise TableError(f"{path}: a row has other columns: {columns}")
     words = words_in(text, forms)

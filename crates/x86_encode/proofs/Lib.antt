@@ -21,6 +21,8 @@ pub mod Turning
 pub mod Shortest
 pub mod Coded
 pub mod Encodings
+mod FieldPlaces
+mod UnknownFields
 pub mod Bare
 pub mod Comparing
 pub mod Orders

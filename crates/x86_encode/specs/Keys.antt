@@ -192,7 +192,7 @@ least_length r = row_length r + (bit r.lead.wide + modrm_least r.shape)
 
 -- the key of a row
 abbrev pub key_of : Row → Key
-key_of r = record { 0 = r.size; 1 = words_of r.words; 2 = least_length r; 3 = sorts r.shape r.first; 4 = sorts r.shape r.second; 5 = sorts r.shape r.third }
+key_of r = record { size = r.size; words = words_of r.words; least_length = least_length r; first = sorts r.shape r.first; second = sorts r.shape r.second; third = sorts r.shape r.third }
 
 -- WHETHER A KEY ADMITS AN INSTRUCTION
 
@@ -211,16 +211,16 @@ has_word k prefix.Notrack = has_bit k 3
 
 -- the key admits the instruction
 unfoldable pub admits : Key → View → Bool
-admits k insn = (insn.size == k.0) && (has_bit k.3 (sort insn.first) && (has_bit k.4 (sort insn.second) && (has_bit k.5 (sort insn.third) && has_word k.1 insn.«prefix»)))
+admits k insn = (insn.size == k.size) && (has_bit k.first (sort insn.first) && (has_bit k.second (sort insn.second) && (has_bit k.third (sort insn.third) && has_word k.words insn.«prefix»)))
 
 -- the sorts of an instruction's operands
 pub record AreSorts (s : Sorts) (n : View) : Type 0 where
-  pub first : s.0 ≡ sort n.first
-  pub second : s.1 ≡ sort n.second
-  pub third : s.2 ≡ sort n.third
-  pub first_small : s.0 < 16
-  pub second_small : s.1 < 16
-  pub third_small : s.2 < 16
+  pub first : s.first ≡ sort n.first
+  pub second : s.second ≡ sort n.second
+  pub third : s.third ≡ sort n.third
+  pub first_small : s.first < 16
+  pub second_small : s.second < 16
+  pub third_small : s.third < 16
 
 -- WHAT IS FOUND
 

@@ -8,6 +8,7 @@ pub mod Encoding
 pub mod Answers
 pub mod Faults
 pub mod EncodingLaws
+pub mod FieldPlaces
 pub mod Readings
 pub mod WorkedCodes
 pub mod WorkedEncodings

@@ -64,17 +64,21 @@ fn sort(slot: Slot, insn: &Insn, values: &Values) -> u8
 
 /// The sorts of three operands.
 #[derive(Clone, Copy)]
-pub struct Sorts(pub u8, pub u8, pub u8);
+pub struct Sorts {
+    pub first: u8,
+    pub second: u8,
+    pub third: u8,
+}
 
 /// The sorts of an instruction's operands.
 pub fn sorts_of(insn: &Insn, values: &Values) -> Sorts
     ensures are { AreSorts result (view_of insn.now values.now) }
 {
-    Sorts(
-        sort(insn.first, insn, values),
-        sort(insn.second, insn, values),
-        sort(insn.third, insn, values),
-    )
+    Sorts {
+        first: sort(insn.first, insn, values),
+        second: sort(insn.second, insn, values),
+        third: sort(insn.third, insn, values),
+    }
 }
 
 /// Whether the bit at this place is 1.
@@ -105,8 +109,8 @@ pub fn admits(key: &Key, sorts: Sorts, insn: &Insn, values: &Values) -> bool
     requires { AreSorts sorts (view_of insn.now values.now) }
     ensures { result ≡ admits key.now (view_of insn.now values.now) }
 {
-    insn.size == key.0
-        && (has_bit(key.3, sorts.0)
-            && (has_bit(key.4, sorts.1)
-                && (has_bit(key.5, sorts.2) && has_word(key.1, insn.prefix))))
+    insn.size == key.size
+        && (has_bit(key.first, sorts.first)
+            && (has_bit(key.second, sorts.second)
+                && (has_bit(key.third, sorts.third) && has_word(key.words, insn.prefix))))
 }

@@ -1,6 +1,7 @@
 //! What holds of all bytes that mean an instruction.
 
 ghost use Rattle.x86_encode.specs.EncodingLaws.{EncodingsCode, EncodingsFill, EncodingsNote, EncodingsPlace, EncodingsCause, BareRowsCode};
+ghost use Rattle.x86_encode.specs.FieldPlaces.{EncodingsApart, EncodingsHoldUnknown};
 ghost use Rattle.x86_encode.specs.WorkedCodes.{WorkedCodes};
 ghost use Rattle.x86_encode.specs.WorkedEncodings.{WorkedEncodings};
 ghost use Rattle.x86_encode.specs.Readings.{CodesRead, ReadingsCode, ExactReadingsCode, ExchangesAsRead};
@@ -24,6 +25,15 @@ pub fn encodings_are_codes()
     ensures positions { EncodingsPlace }
     ensures cause { EncodingsCause }
     ensures bare { BareRowsCode }
+{}
+
+/// The fields of an encoding stand apart, within its bytes and behind the first one: four bytes of a
+/// displacement, and behind it the one, two, four or eight of an immediate or a distance, which are the
+/// last. A field stands for a value that is not known, unless it holds a distance.
+#[tactic(auto, using(crate::proofs::FieldPlaces::fields_apart, crate::proofs::UnknownFields::fields_unknown))]
+pub fn fields_stand_apart()
+    ensures places { EncodingsApart }
+    ensures values { EncodingsHoldUnknown }
 {}
 
 /// The shortest bytes of instructions that were worked out by hand, and the encodings of some.

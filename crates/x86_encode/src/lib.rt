@@ -16,4 +16,4 @@ mod showing;
 
 pub use encoded::{EncodeFault, Encoded, Field, FieldKind, Position};
 pub use encoding::encode;
-pub use laws::{codes_are_readings, encodings_are_codes, worked_codes};
+pub use laws::{codes_are_readings, encodings_are_codes, fields_stand_apart, worked_codes};

@@ -94,7 +94,16 @@ pub fn shortest(
     let sorts = sorts_of(insn, values);
     for i in range.start as usize..range.stop as usize {
         if admits(&keys[i], sorts, insn, values) {
-            find_by(found, &table[i], keys[i].2, i, name, laid, insn, values);
+            find_by(
+                found,
+                &table[i],
+                keys[i].least_length,
+                i,
+                name,
+                laid,
+                insn,
+                values,
+            );
         }
     }
 }

@@ -190,15 +190,15 @@ in_order insn i j r s l e f a b =
     let x = admitted r insn a in
     let y = admitted s insn b in
     let alike = implies (may_meet r s) (write_same r s) (of_one the_rows i j r s agree l e f (x.name ∙ sym y.name)) (both_meet r s insn x y) in
-    let p = and_parts (destinations_number r.outputs.0 == destinations_number s.outputs.0) ((implied_number r.outputs.1 == implied_number s.outputs.1)
-    && ((store_number r.outputs.2 == store_number s.outputs.2) && (not (takes_memory r.first && takes_memory s.first) || (bytes_in_memory r.first == bytes_in_memory s.first)))) alike in
-    let q = and_parts (implied_number r.outputs.1 == implied_number s.outputs.1)
-    ((store_number r.outputs.2 == store_number s.outputs.2) && (not (takes_memory r.first && takes_memory s.first) || (bytes_in_memory r.first == bytes_in_memory s.first))) p.1 in
-    let t = and_parts (store_number r.outputs.2 == store_number s.outputs.2) (not (takes_memory r.first && takes_memory s.first) || (bytes_in_memory r.first == bytes_in_memory s.first)) q.1 in
-    let d = destinations_same r.outputs.0 s.outputs.0 p.0 in
-    let m = implied_same r.outputs.1 s.outputs.1 q.0 in
-    let k = store_same r.outputs.2 s.outputs.2 t.0 in
-    let w = stored_same r.first s.first insn.first x.first y.first t.1 s.outputs.2 in
+    let p = and_parts (destinations_number r.outputs.destinations == destinations_number s.outputs.destinations) ((implied_number r.outputs.implied == implied_number s.outputs.implied)
+    && ((store_number r.outputs.store == store_number s.outputs.store) && (not (takes_memory r.first && takes_memory s.first) || (bytes_in_memory r.first == bytes_in_memory s.first)))) alike in
+    let q = and_parts (implied_number r.outputs.implied == implied_number s.outputs.implied)
+    ((store_number r.outputs.store == store_number s.outputs.store) && (not (takes_memory r.first && takes_memory s.first) || (bytes_in_memory r.first == bytes_in_memory s.first))) p.1 in
+    let t = and_parts (store_number r.outputs.store == store_number s.outputs.store) (not (takes_memory r.first && takes_memory s.first) || (bytes_in_memory r.first == bytes_in_memory s.first)) q.1 in
+    let d = destinations_same r.outputs.destinations s.outputs.destinations p.0 in
+    let m = implied_same r.outputs.implied s.outputs.implied q.0 in
+    let k = store_same r.outputs.store s.outputs.store t.0 in
+    let w = stored_same r.first s.first insn.first x.first y.first t.1 s.outputs.store in
     rw (d, m, k, w) refl
 
 -- in any order

@@ -33,11 +33,11 @@ in_wider a b c d i l m h =
 
 -- the parts of a span follow each other
 pub record Ordered (span : Span) : Type 0 where
-  pub zero_first : span.0 ≤ span.1
-  pub byte_next : span.1 ≤ span.2
-  pub word_next : span.2 ≤ span.3
-  pub long_next : span.3 ≤ span.4
-  pub quad_last : span.4 ≤ span.5
+  pub zero_first : span.first ≤ span.sizeless_end
+  pub byte_next : span.sizeless_end ≤ span.byte_end
+  pub word_next : span.byte_end ≤ span.word_end
+  pub long_next : span.word_end ≤ span.long_end
+  pub quad_last : span.long_end ≤ span.quad_end
 
 of_ordered : (span : Span) → is_ordered span ≡ true → Ordered span
 of_ordered span h =
@@ -46,75 +46,75 @@ of_ordered span h =
     let c = and_parts _ _ b.1 in
     let d = and_parts _ _ c.1 in
     record {
-      zero_first = leb-true span.0 span.1 a.0;
-      byte_next = leb-true span.1 span.2 b.0;
-      word_next = leb-true span.2 span.3 c.0;
-      long_next = leb-true span.3 span.4 d.0;
-      quad_last = leb-true span.4 span.5 d.1;
+      zero_first = leb-true span.first span.sizeless_end a.0;
+      byte_next = leb-true span.sizeless_end span.byte_end b.0;
+      word_next = leb-true span.byte_end span.word_end c.0;
+      long_next = leb-true span.word_end span.long_end d.0;
+      quad_last = leb-true span.long_end span.quad_end d.1;
     }
 
 -- of spans that follow each other, what is said of the first and of the others
 record Follows (start stop : ℕ) (span : Span) (spans : List Span) : Type 0 where
-  behind : start ≤ span.0
+  behind : start ≤ span.first
   parts : Ordered span
-  others : all_ordered span.5 stop spans ≡ true
+  others : all_ordered span.quad_end stop spans ≡ true
 
 follows : (start stop : ℕ) (span : Span) (spans : List Span) → all_ordered start stop (span ∷ spans) ≡ true → Follows start stop span spans
 follows start stop span spans h =
-    let a = and_parts (nat_le start span.0) (is_ordered span && all_ordered span.5 stop spans) h in
-    let b = and_parts (is_ordered span) (all_ordered span.5 stop spans) a.1 in
-    record { behind = leb-true start span.0 a.0; parts = of_ordered span b.0; others = b.1 }
+    let a = and_parts (nat_le start span.first) (is_ordered span && all_ordered span.quad_end stop spans) h in
+    let b = and_parts (is_ordered span) (all_ordered span.quad_end stop spans) a.1 in
+    record { behind = leb-true start span.first a.0; parts = of_ordered span b.0; others = b.1 }
 
-span_long : (span : Span) → Ordered span → span.0 ≤ span.5
+span_long : (span : Span) → Ordered span → span.first ≤ span.quad_end
 span_long span o = let a = o.zero_first in let b = o.byte_next in let c = o.word_next in let d = o.long_next in let e = o.quad_last in omega arith
 
 ordered_at : (spans : List Span) (start stop k : ℕ) → all_ordered start stop spans ≡ true → Ordered (span_or (slice_get spans k))
 ordered_at [] start stop k h = record { zero_first = omega arith; byte_next = omega arith; word_next = omega arith; long_next = omega arith; quad_last = omega arith }
 ordered_at (span ∷ spans) start stop zero h = (follows start stop span spans h).parts
-ordered_at (span ∷ spans) start stop (suc k) h = ordered_at spans span.5 stop k (follows start stop span spans h).others
+ordered_at (span ∷ spans) start stop (suc k) h = ordered_at spans span.quad_end stop k (follows start stop span spans h).others
 
 -- they end where they have to
 ends : (spans : List Span) (start stop : ℕ) → all_ordered start stop spans ≡ true → start ≤ stop
 ends [] start stop h = leb-true start stop h
 ends (span ∷ spans) start stop h =
     let f = follows start stop span spans h in
-    let a = f.behind in let b = span_long span f.parts in let c = ends spans span.5 stop f.others in omega arith
+    let a = f.behind in let b = span_long span f.parts in let c = ends spans span.quad_end stop f.others in omega arith
 
-within_at : (spans : List Span) (start stop k : ℕ) → all_ordered start stop spans ≡ true → (span_or (slice_get spans k)).5 ≤ stop
+within_at : (spans : List Span) (start stop k : ℕ) → all_ordered start stop spans ≡ true → (span_or (slice_get spans k)).quad_end ≤ stop
 within_at [] start stop k h = omega arith
-within_at (span ∷ spans) start stop zero h = ends spans span.5 stop (follows start stop span spans h).others
-within_at (span ∷ spans) start stop (suc k) h = within_at spans span.5 stop k (follows start stop span spans h).others
+within_at (span ∷ spans) start stop zero h = ends spans span.quad_end stop (follows start stop span spans h).others
+within_at (span ∷ spans) start stop (suc k) h = within_at spans span.quad_end stop k (follows start stop span spans h).others
 
 -- each begins where they do, or behind that
-behind_at : (spans : List Span) (start stop k : ℕ) (span : Span) → all_ordered start stop spans ≡ true → slice_get spans k ≡ Some span → start ≤ span.0
+behind_at : (spans : List Span) (start stop k : ℕ) (span : Span) → all_ordered start stop spans ≡ true → slice_get spans k ≡ Some span → start ≤ span.first
 behind_at [] start stop k span h e = cc
 behind_at (t ∷ spans) start stop zero span h e =
     let same : t ≡ span = cc in
-    subst (λ (x : Span). start ≤ x.0) same (follows start stop t spans h).behind
+    subst (λ (x : Span). start ≤ x.first) same (follows start stop t spans h).behind
 behind_at (t ∷ spans) start stop (suc k) span h e =
     let f = follows start stop t spans h in
-    let a = f.behind in let b = span_long t f.parts in let c = behind_at spans t.5 stop k span f.others e in omega arith
+    let a = f.behind in let b = span_long t f.parts in let c = behind_at spans t.quad_end stop k span f.others e in omega arith
 
 -- a later one begins where an earlier one ends, or behind that
-apart_at : (spans : List Span) (start stop j k : ℕ) (one other : Span) → all_ordered start stop spans ≡ true → j < k → slice_get spans j ≡ Some one → slice_get spans k ≡ Some other → one.5 ≤ other.0
+apart_at : (spans : List Span) (start stop j k : ℕ) (one other : Span) → all_ordered start stop spans ≡ true → j < k → slice_get spans j ≡ Some one → slice_get spans k ≡ Some other → one.quad_end ≤ other.first
 apart_at [] start stop j k one other h l e f = cc
 apart_at (t ∷ spans) start stop j zero one other h l e f = absurd (omega arith)
 apart_at (t ∷ spans) start stop zero (suc k) one other h l e f =
     let same : t ≡ one = cc in
-    subst (λ (x : Span). x.5 ≤ other.0) same (behind_at spans t.5 stop k other (follows start stop t spans h).others f)
+    subst (λ (x : Span). x.quad_end ≤ other.first) same (behind_at spans t.quad_end stop k other (follows start stop t spans h).others f)
 apart_at (t ∷ spans) start stop (suc j) (suc k) one other h l e f =
     let g = follows start stop t spans h in
-    apart_at spans t.5 stop j k one other g.others (omega arith) e f
+    apart_at spans t.quad_end stop j k one other g.others (omega arith) e f
 
 order_of : (name : ℕ) (span : Span) → span ≡ span_of name → Ordered span
 unfolding span_of
 order_of name span e = subst (λ (x : Span). Ordered x) (sym e) (ordered_at the_spans 0 (length the_rows) name ordered)
 
-within_of : (name : ℕ) (span : Span) → span ≡ span_of name → span.5 ≤ length the_rows
+within_of : (name : ℕ) (span : Span) → span ≡ span_of name → span.quad_end ≤ length the_rows
 unfolding span_of
-within_of name span e = subst (λ (x : Span). x.5 ≤ length the_rows) (sym e) (within_at the_spans 0 (length the_rows) name ordered)
+within_of name span e = subst (λ (x : Span). x.quad_end ≤ length the_rows) (sym e) (within_at the_spans 0 (length the_rows) name ordered)
 
-pub name_within : (name : ℕ) (span : Span) → span ≡ span_of name → IsWithin (range span.0 span.5)
+pub name_within : (name : ℕ) (span : Span) → span ≡ span_of name → IsWithin (range span.first span.quad_end)
 name_within name span e = record { start = span_long span (order_of name span e); stop = within_of name span e }
 
 -- a part of a span lies in it
@@ -122,15 +122,15 @@ part_in : (span : Span) (size i : ℕ) → Ordered span → is_in (by_size span 
 part_in span size i o h =
     let l0 = o.zero_first in let l1 = o.byte_next in let l2 = o.word_next in let l3 = o.long_next in let l4 = o.quad_last in
     elim (cases_Bool (size == 0)) [
-      | inl a ↦ in_wider span.0 span.1 span.0 span.5 i (omega arith) (omega arith) (rw a at h)
+      | inl a ↦ in_wider span.first span.sizeless_end span.first span.quad_end i (omega arith) (omega arith) (rw a at h)
       | inr a ↦ elim (cases_Bool (size == 8)) [
-        | inl b ↦ in_wider span.1 span.2 span.0 span.5 i (omega arith) (omega arith) (rw (a, b) at h)
+        | inl b ↦ in_wider span.sizeless_end span.byte_end span.first span.quad_end i (omega arith) (omega arith) (rw (a, b) at h)
         | inr b ↦ elim (cases_Bool (size == 16)) [
-          | inl c ↦ in_wider span.2 span.3 span.0 span.5 i (omega arith) (omega arith) (rw (a, b, c) at h)
+          | inl c ↦ in_wider span.byte_end span.word_end span.first span.quad_end i (omega arith) (omega arith) (rw (a, b, c) at h)
           | inr c ↦ elim (cases_Bool (size == 32)) [
-            | inl d ↦ in_wider span.3 span.4 span.0 span.5 i (omega arith) (omega arith) (rw (a, b, c, d) at h)
+            | inl d ↦ in_wider span.word_end span.long_end span.first span.quad_end i (omega arith) (omega arith) (rw (a, b, c, d) at h)
             | inr d ↦ elim (cases_Bool (size == 64)) [
-              | inl e ↦ in_wider span.4 span.5 span.0 span.5 i (omega arith) (omega arith) (rw (a, b, c, d, e) at h)
+              | inl e ↦ in_wider span.long_end span.quad_end span.first span.quad_end i (omega arith) (omega arith) (rw (a, b, c, d, e) at h)
               | inr e ↦ (let none : is_in (range 0 0) i ≡ true = rw (a, b, c, d, e) at h in absurd (both_ways (is_in (range 0 0) i) (none_in i) none))
             ]
           ]
@@ -138,7 +138,7 @@ part_in span size i o h =
       ]
     ]
 
-bounded : (n : ℕ) (span : Span) (size : ℕ) → Ordered span → span.5 ≤ n → ((by_size span size).start ≤ (by_size span size).stop) × ((by_size span size).stop ≤ n)
+bounded : (n : ℕ) (span : Span) (size : ℕ) → Ordered span → span.quad_end ≤ n → ((by_size span size).start ≤ (by_size span size).stop) × ((by_size span size).stop ≤ n)
 bounded n span size o l5 =
     let l0 = o.zero_first in let l1 = o.byte_next in let l2 = o.word_next in let l3 = o.long_next in let l4 = o.quad_last in
     elim (cases_Bool (size == 0)) [
@@ -219,12 +219,12 @@ sized_at i own size span h =
 record Holds (i : ℕ) (found : Option Span) : Type 0 where
   span : Span
   is : found ≡ Some span
-  above : span.0 ≤ i
-  below : i < span.5
+  above : span.first ≤ i
+  below : i < span.quad_end
 
 held : (i : ℕ) (found : Option Span) → is_in (by_name (span_or found)) i ≡ true → Holds i found
 held i None h = absurd (both_ways (is_in (range 0 0) i) (none_in i) h)
-held i (Some span) h = let p = in_parts span.0 span.5 i h in record { span = span; is = refl; above = p.0; below = p.1 }
+held i (Some span) h = let p = in_parts span.first span.quad_end i h in record { span = span; is = refl; above = p.0; below = p.1 }
 
 -- no index lies in the spans of two names
 only_one : (i j k : ℕ) → is_in (by_name (span_of j)) i ≡ true → is_in (by_name (span_of k)) i ≡ true → j ≡ k
@@ -244,7 +244,7 @@ own_span : (i : ℕ) (r : Row) → slice_get the_rows i ≡ Some r → is_in (by
 own_span i r e = part_in (span_of r.name.0) r.size i (order_of r.name.0 (span_of r.name.0) refl)
     (sized_at i r.size r.size (span_of r.name.0) (spanned_row i r e) ∙ eq-eqb r.size r.size refl)
 
-pub name_rows : (name : ℕ) (span : Span) → span ≡ span_of name → AreRowsOf (is_named name) (range span.0 span.5)
+pub name_rows : (name : ℕ) (span : Span) → span ≡ span_of name → AreRowsOf (is_named name) (range span.first span.quad_end)
 name_rows name span e i r found =
     let own = own_span i r found in
     elim (cases_Bool (r.name.0 == name)) [

@@ -15,7 +15,7 @@ the_att_codes = ATT_CODES
 
 -- the bytes of a code
 abbrev pub code_bytes : Code → List ℕ
-code_bytes code = take code.1 code.0
+code_bytes code = take code.length code.padded
 
 -- the bytes of the code of this number
 abbrev pub code_of_number : ℕ → Option (List ℕ)

@@ -18,7 +18,7 @@ takes_no_operand r = is_absent r.first && (is_absent r.second && is_absent r.thi
 
 -- the row has the mnemonic's name, and its size where it fixes one
 abbrev pub is_row_of : Named → Row → Bool
-is_row_of named r = (r.name.0 == named.2.0) && ((named.3 == 0) || (r.size == named.3))
+is_row_of named r = (r.name.0 == named.name.0) && ((named.size == 0) || (r.size == named.size))
 
 -- the row of the mnemonic that takes no operand
 abbrev pub bare_row : Named → Option Row

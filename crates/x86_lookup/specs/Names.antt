@@ -27,7 +27,7 @@ the_intel_slots = INTEL_SLOTS
 
 -- the text of a mnemonic
 abbrev pub text_of : Named → List ℕ
-text_of named = take named.1 named.0
+text_of named = take named.length named.padded
 
 -- the mnemonic has this text, in either case
 abbrev pub has_text : List ℕ → Named → Bool
@@ -35,7 +35,7 @@ has_text text named = str_eq_ignore_ascii_case text (text_of named)
 
 -- the mnemonic names the rows of this number and fixes this size
 abbrev pub is_of : ℕ → ℕ → Named → Bool
-is_of name size named = (named.2.0 == name) && (named.3 == size)
+is_of name size named = (named.name.0 == name) && (named.size == size)
 
 -- the hash of a text, by the low five bits of its bytes, in which the cases of letters are alike
 abbrev pub mixed : ℕ → List ℕ → ℕ
@@ -81,10 +81,10 @@ all_placed slots i (named ∷ names) = is_index (slot_of slots (text_of named)) 
 
 -- rows have the mnemonic's name, and its size where it fixes one
 abbrev pub has_rows : Named → Bool
-has_rows named = if named.3 == 0 then nat_lt (span_of named.2.0).0 (span_of named.2.0).5
-    else nat_lt (by_size (span_of named.2.0) named.3).start (by_size (span_of named.2.0) named.3).stop
+has_rows named = if named.size == 0 then nat_lt (span_of named.name.0).first (span_of named.name.0).quad_end
+    else nat_lt (by_size (span_of named.name.0) named.size).start (by_size (span_of named.name.0) named.size).stop
 
 -- the text has no blank, no capital letter and at least one byte, and blanks stand behind it
 abbrev pub is_whole : Named → Bool
-is_whole named = nat_lt 0 named.1 && (list_all (λ byte. not (byte == 32) && (to_ascii_lowercase byte == byte)) (text_of named)
-    && list_all (λ byte. byte == 32) (drop named.1 named.0))
+is_whole named = nat_lt 0 named.length && (list_all (λ byte. not (byte == 32) && (to_ascii_lowercase byte == byte)) (text_of named)
+    && list_all (λ byte. byte == 32) (drop named.length named.padded))

@@ -13,7 +13,7 @@ the_spans = SPANS
 
 -- no rows
 abbrev pub no_span : Span
-no_span = record { 0 = 0; 1 = 0; 2 = 0; 3 = 0; 4 = 0; 5 = 0 }
+no_span = record { first = 0; sizeless_end = 0; byte_end = 0; word_end = 0; long_end = 0; quad_end = 0 }
 
 -- the span, or none
 abbrev pub span_or : Option Span → Span
@@ -30,12 +30,12 @@ range start stop = record { start = start; stop = stop }
 
 -- all rows of a span
 abbrev pub by_name : Span → RowRange
-by_name span = range span.0 span.5
+by_name span = range span.first span.quad_end
 
 -- those of a size
 abbrev pub by_size : Span → ℕ → RowRange
-by_size span size = if size == 0 then range span.0 span.1 else (if size == 8 then range span.1 span.2 else (if size == 16 then range span.2 span.3
-    else (if size == 32 then range span.3 span.4 else (if size == 64 then range span.4 span.5 else range 0 0))))
+by_size span size = if size == 0 then range span.first span.sizeless_end else (if size == 8 then range span.sizeless_end span.byte_end else (if size == 16 then range span.byte_end span.word_end
+    else (if size == 32 then range span.word_end span.long_end else (if size == 64 then range span.long_end span.quad_end else range 0 0))))
 
 -- the index lies in the range
 abbrev pub is_in : RowRange → ℕ → Bool
@@ -79,9 +79,9 @@ all_spanned i (r ∷ rows) = is_by_size i r.size (span_of r.name.0) && all_spann
 
 -- the parts of a span follow each other
 abbrev pub is_ordered : Span → Bool
-is_ordered span = nat_le span.0 span.1 && (nat_le span.1 span.2 && (nat_le span.2 span.3 && (nat_le span.3 span.4 && nat_le span.4 span.5)))
+is_ordered span = nat_le span.first span.sizeless_end && (nat_le span.sizeless_end span.byte_end && (nat_le span.byte_end span.word_end && (nat_le span.word_end span.long_end && nat_le span.long_end span.quad_end)))
 
 -- the spans follow each other, from one index on and up to another, and the parts of each do
 abbrev pub all_ordered : ℕ → ℕ → List Span → Bool
 all_ordered start stop [] = nat_le start stop
-all_ordered start stop (span ∷ spans) = nat_le start span.0 && (is_ordered span && all_ordered span.5 stop spans)
+all_ordered start stop (span ∷ spans) = nat_le start span.first && (is_ordered span && all_ordered span.quad_end stop spans)

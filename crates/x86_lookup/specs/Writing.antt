@@ -170,11 +170,11 @@ stored slot.Target k n = elsewhere k
 -- what the row says that the instruction writes
 unfoldable pub writes_by : Row → Insn → Writes
 writes_by r insn = record {
-  first = first_written r.outputs.0 insn.first;
-  second = second_written r.outputs.0 insn.second;
-  implied = r.outputs.1;
+  first = first_written r.outputs.destinations insn.first;
+  second = second_written r.outputs.destinations insn.second;
+  implied = r.outputs.implied;
   repeats = is_repeat insn.«prefix»;
-  store = stored insn.first r.outputs.2 (bytes_in_memory r.first);
+  store = stored insn.first r.outputs.store (bytes_in_memory r.first);
 }
 
 -- nothing is written
@@ -291,8 +291,8 @@ store_number kind.Unfixed = 5
 
 -- both rows say the same of what is written
 abbrev pub write_same : Row → Row → Bool
-write_same r s = (destinations_number r.outputs.0 == destinations_number s.outputs.0) && ((implied_number r.outputs.1 == implied_number s.outputs.1)
-    && ((store_number r.outputs.2 == store_number s.outputs.2) && (not (takes_memory r.first && takes_memory s.first) || (bytes_in_memory r.first == bytes_in_memory s.first))))
+write_same r s = (destinations_number r.outputs.destinations == destinations_number s.outputs.destinations) && ((implied_number r.outputs.implied == implied_number s.outputs.implied)
+    && ((store_number r.outputs.store == store_number s.outputs.store) && (not (takes_memory r.first && takes_memory s.first) || (bytes_in_memory r.first == bytes_in_memory s.first))))
 
 -- the row says the same of what is written as each of the rows behind it with its name that may admit what it does; behind those stand
 -- names of higher numbers

@@ -15,11 +15,11 @@ impl Code {
     fn bytes(&self) -> &[u8]
         ensures { result.now ≡ code_bytes self.now }
     {
-        let length = usize::from(self.1);
+        let length = usize::from(self.length);
         if length <= 4 {
-            &self.0[..length]
+            &self.padded[..length]
         } else {
-            &self.0
+            &self.padded
         }
     }
 }

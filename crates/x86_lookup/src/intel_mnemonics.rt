@@ -11,7 +11,13 @@ use x86_table::mnemonics::vectors::*;
 
 macro_rules! names {
     ($($text:literal $length:literal $name:ident $size:literal $rule:expr;)*) => {
-        [$(Named(*$text, $length, Mnemonic($name), $size, $rule)),*]
+        [$(Named {
+            padded: *$text,
+            length: $length,
+            name: Mnemonic($name),
+            size: $size,
+            rule: $rule,
+        }),*]
     };
 }
 

@@ -41,21 +41,31 @@ pub enum Rule {
     OrString(u16),
 }
 
-/// A mnemonic: its text in lower case with blanks behind it, the text's length, the name of the rows,
-/// the operand size in bits that it fixes or 0, and how its operands are read.
+/// A mnemonic.
 #[derive(Clone, Copy)]
-pub struct Named(pub [u8; 11], pub u8, pub Mnemonic, pub u8, pub Rule);
+pub struct Named {
+    /// Its text in lower case, with blanks behind it.
+    pub padded: [u8; 11],
+    /// How many bytes the text has.
+    pub length: u8,
+    /// The name of the rows.
+    pub name: Mnemonic,
+    /// The operand size in bits that it fixes, or 0.
+    pub size: u8,
+    /// How its operands are read.
+    pub rule: Rule,
+}
 
 impl Named {
     /// The text, in lower case.
     pub fn text(&self) -> &[u8]
         ensures { result.now ≡ text_of self.now }
     {
-        let length = usize::from(self.1);
+        let length = usize::from(self.length);
         if length <= 11 {
-            &self.0[..length]
+            &self.padded[..length]
         } else {
-            &self.0
+            &self.padded
         }
     }
 }
@@ -155,7 +165,7 @@ pub fn shown_as(names: &'static [Named], name: &Mnemonic, size: u8) -> Option<&'
 {
     names
         .iter()
-        .find(|named| named.2.0 == name.0 && named.3 == size)
+        .find(|named| named.name.0 == name.0 && named.size == size)
 }
 
 /// The mnemonic of AT&T syntax with this text, in either case, if there is one.

@@ -39,7 +39,14 @@ fn span_of(name: Mnemonic) -> Span
 {
     match spans().get(usize::from(name.0)) {
         Some(span) => *span,
-        None => Span(0, 0, 0, 0, 0, 0),
+        None => Span {
+            first: 0,
+            sizeless_end: 0,
+            byte_end: 0,
+            word_end: 0,
+            long_end: 0,
+            quad_end: 0,
+        },
     }
 }
 
@@ -51,8 +58,8 @@ pub fn rows_of(name: &Mnemonic) -> RowRange
 {
     let span = span_of(*name);
     RowRange {
-        start: span.0,
-        stop: span.5,
+        start: span.first,
+        stop: span.quad_end,
     }
 }
 
@@ -71,11 +78,11 @@ fn by_size(span: Span, size: u8) -> RowRange
     ensures { result ≡ by_size span size }
 {
     let (start, stop) = match size {
-        0 => (span.0, span.1),
-        8 => (span.1, span.2),
-        16 => (span.2, span.3),
-        32 => (span.3, span.4),
-        64 => (span.4, span.5),
+        0 => (span.first, span.sizeless_end),
+        8 => (span.sizeless_end, span.byte_end),
+        16 => (span.byte_end, span.word_end),
+        32 => (span.word_end, span.long_end),
+        64 => (span.long_end, span.quad_end),
         _ => (0, 0),
     };
     RowRange { start, stop }

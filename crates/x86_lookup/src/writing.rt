@@ -187,11 +187,11 @@ fn writes_by(row: &Row, insn: &Insn) -> Writes
     ensures { result ≡ writes_by row.now insn.now }
 {
     Writes {
-        first: first_written(row.outputs.0, insn.first),
-        second: second_written(row.outputs.0, insn.second),
-        implied: row.outputs.1,
+        first: first_written(row.outputs.destinations, insn.first),
+        second: second_written(row.outputs.destinations, insn.second),
+        implied: row.outputs.implied,
         repeats: is_repeat(insn.prefix),
-        store: stored(insn.first, row.outputs.2, bytes_in_memory(row.first)),
+        store: stored(insn.first, row.outputs.store, bytes_in_memory(row.first)),
     }
 }
 

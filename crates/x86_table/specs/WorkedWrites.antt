@@ -19,7 +19,7 @@ first_writes name size (r ∷ rows) = if (r.name.0 == name) && (r.size == size) 
 
 -- what a row writes
 abbrev pub writing : Destinations → Implied → StoreKind → Option Outputs
-writing operands own memory = Some (record { 0 = operands; 1 = own; 2 = memory })
+writing operands own memory = Some (record { destinations = operands; implied = own; store = memory })
 
 -- these write so
 pub record WorkedWrites : Type 0 where

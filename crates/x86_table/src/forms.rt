@@ -165,7 +165,11 @@ pub enum StoreKind {
 
 /// What an instruction of the row writes beside flags.
 #[derive(Clone, Copy)]
-pub struct Outputs(pub Destinations, pub Implied, pub StoreKind);
+pub struct Outputs {
+    pub destinations: Destinations,
+    pub implied: Implied,
+    pub store: StoreKind,
+}
 
 /// One form of an instruction.
 #[derive(Clone, Copy)]

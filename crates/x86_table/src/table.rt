@@ -103,32 +103,43 @@ macro_rules! operand {
     (ZW) => { Pattern::Low(Class::Word) };
 }
 
+/// The operands, the registers that no operand names, and what is stored.
+macro_rules! written {
+    ($destinations:ident $implied:ident $store:ident) => {
+        Outputs {
+            destinations: Destinations::$destinations,
+            implied: Implied::$implied,
+            store: StoreKind::$store,
+        }
+    };
+}
+
 /// What is written beside flags.
 macro_rules! outputs {
-    (NOTHING) => { Outputs(Destinations::Nothing, Implied::Absent, StoreKind::Absent) };
-    (FIRST) => { Outputs(Destinations::First, Implied::Absent, StoreKind::Operand) };
-    (BOTH) => { Outputs(Destinations::FirstAndSecond, Implied::Absent, StoreKind::Operand) };
-    (BIT_STRING) => { Outputs(Destinations::First, Implied::Absent, StoreKind::BitString) };
-    (PUSH8) => { Outputs(Destinations::Nothing, Implied::Rsp, StoreKind::PushQuad) };
-    (PUSH2) => { Outputs(Destinations::Nothing, Implied::Rsp, StoreKind::PushWord) };
-    (FIRST_RSP) => { Outputs(Destinations::First, Implied::Rsp, StoreKind::Operand) };
-    (JUST_RSP) => { Outputs(Destinations::Nothing, Implied::Rsp, StoreKind::Absent) };
-    (FIRST_RAX) => { Outputs(Destinations::First, Implied::Rax, StoreKind::Operand) };
-    (FIRST_RAX_RDX) => { Outputs(Destinations::First, Implied::RaxRdx, StoreKind::Operand) };
-    (JUST_RAX) => { Outputs(Destinations::Nothing, Implied::Rax, StoreKind::Absent) };
-    (JUST_RDX) => { Outputs(Destinations::Nothing, Implied::Rdx, StoreKind::Absent) };
-    (JUST_RCX) => { Outputs(Destinations::Nothing, Implied::Rcx, StoreKind::Absent) };
-    (JUST_RDI) => { Outputs(Destinations::Nothing, Implied::Rdi, StoreKind::Absent) };
-    (JUST_XMM0) => { Outputs(Destinations::Nothing, Implied::Xmm0, StoreKind::Absent) };
-    (RAX_RDX) => { Outputs(Destinations::Nothing, Implied::RaxRdx, StoreKind::Absent) };
-    (RAX_RSI) => { Outputs(Destinations::Nothing, Implied::RaxRsi, StoreKind::Absent) };
-    (RSI_RDI) => { Outputs(Destinations::Nothing, Implied::RsiRdi, StoreKind::Absent) };
-    (RSP_RBP) => { Outputs(Destinations::Nothing, Implied::RspRbp, StoreKind::Absent) };
-    (RAX_RBX_RCX_RDX) => { Outputs(Destinations::Nothing, Implied::RaxRbxRcxRdx, StoreKind::Absent) };
-    (MOVES) => { Outputs(Destinations::Nothing, Implied::RsiRdi, StoreKind::Unfixed) };
-    (STORES) => { Outputs(Destinations::Nothing, Implied::Rdi, StoreKind::Unfixed) };
-    (INTERRUPTS) => { Outputs(Destinations::Nothing, Implied::Rax, StoreKind::Unfixed) };
-    (CALLS_SYSTEM) => { Outputs(Destinations::Nothing, Implied::RaxRcxR11, StoreKind::Unfixed) };
+    (NOTHING) => { written!(Nothing Absent Absent) };
+    (FIRST) => { written!(First Absent Operand) };
+    (BOTH) => { written!(FirstAndSecond Absent Operand) };
+    (BIT_STRING) => { written!(First Absent BitString) };
+    (PUSH8) => { written!(Nothing Rsp PushQuad) };
+    (PUSH2) => { written!(Nothing Rsp PushWord) };
+    (FIRST_RSP) => { written!(First Rsp Operand) };
+    (JUST_RSP) => { written!(Nothing Rsp Absent) };
+    (FIRST_RAX) => { written!(First Rax Operand) };
+    (FIRST_RAX_RDX) => { written!(First RaxRdx Operand) };
+    (JUST_RAX) => { written!(Nothing Rax Absent) };
+    (JUST_RDX) => { written!(Nothing Rdx Absent) };
+    (JUST_RCX) => { written!(Nothing Rcx Absent) };
+    (JUST_RDI) => { written!(Nothing Rdi Absent) };
+    (JUST_XMM0) => { written!(Nothing Xmm0 Absent) };
+    (RAX_RDX) => { written!(Nothing RaxRdx Absent) };
+    (RAX_RSI) => { written!(Nothing RaxRsi Absent) };
+    (RSI_RDI) => { written!(Nothing RsiRdi Absent) };
+    (RSP_RBP) => { written!(Nothing RspRbp Absent) };
+    (RAX_RBX_RCX_RDX) => { written!(Nothing RaxRbxRcxRdx Absent) };
+    (MOVES) => { written!(Nothing RsiRdi Unfixed) };
+    (STORES) => { written!(Nothing Rdi Unfixed) };
+    (INTERRUPTS) => { written!(Nothing Rax Unfixed) };
+    (CALLS_SYSTEM) => { written!(Nothing RaxRcxR11 Unfixed) };
 }
 
 macro_rules! rows {

@@ -26,7 +26,7 @@ pub bounds-table-i : goal.bounds-table-i
 bounds-table-i c = row_inside c.rows_of_size-range.result c.loop-i.i c.rows-table.result.now c.rows_of_size-range.ensures.within c.rows-table.ensures c.loop-i-test.true
 
 pub find_by-requires-clause-keyed : goal.find_by-requires-clause-keyed
-find_by-requires-clause-keyed c = ap (λ (k : Key). k.2) (key_is c.keys-keys.result.now c.rows-table.result.now c.loop-i.i _ _ c.keys-keys.ensures c.rows-table.ensures
+find_by-requires-clause-keyed c = ap (λ (k : Key). k.least_length) (key_is c.keys-keys.result.now c.rows-table.result.now c.loop-i.i _ _ c.keys-keys.ensures c.rows-table.ensures
     (key_inside c.rows_of_size-range.result c.loop-i.i c.keys-keys.result.now c.rows_of_size-range.ensures.within c.keys-keys.ensures c.loop-i-test.true)
     (row_inside c.rows_of_size-range.result c.loop-i.i c.rows-table.result.now c.rows_of_size-range.ensures.within c.rows-table.ensures c.loop-i-test.true))
 
