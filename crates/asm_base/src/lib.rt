@@ -2,6 +2,7 @@
 #![tactic(auto)]
 
 mod byte_classes;
+mod causes;
 mod digits;
 mod faults;
 mod laws;
@@ -9,6 +10,7 @@ mod messages;
 mod notes;
 mod outside;
 mod pieces;
+mod places;
 mod positions;
 mod reading;
 mod refusals;
@@ -21,6 +23,7 @@ mod texts;
 mod tokens;
 
 pub use byte_classes::{is_name_byte, is_name_start};
+pub use causes::{FragCause, SymCause};
 pub use digits::digit_of;
 pub use faults::{EndFault, Fault, Note, SavedRegister, ScfiFault, StatementFault};
 pub use laws::{one_division, one_value};
@@ -28,6 +31,7 @@ pub use messages::{NoMemory, heading, message, warning};
 pub use notes::{Noted, Notes};
 pub use outside::{Channel, Console, Failed, Inputs, Output, failure};
 pub use pieces::{FirstPiece, PieceKind, first_piece, plain_length};
+pub use places::{Place, SectionPlace};
 pub use positions::{Files, Pos};
 pub use reading::{MOST_BYTES, TextFault, read_text};
 pub use refusals::Refusal;

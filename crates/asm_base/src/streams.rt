@@ -1,8 +1,9 @@
 //! The outside of files and standard streams. These tell nothing of contents: they are thin, and trusted.
 
-ghost use Rattle.std.specs.Prelude.{◌≡◌, ◌≤◌, None};
+ghost use Rattle.std.specs.Prelude.{◌≡◌, ◌≤◌, None, IfOk};
 ghost use Rattle.asm_base.specs.Counts.{HasRisen};
 
+use crate::messages::NoMemory;
 use crate::outside::{Channel, Console, Failed, Inputs, Output, failure};
 use std::alloc::Alloc;
 use std::fs::{self, Files, OpenFile};
@@ -107,16 +108,20 @@ pub struct FileOutput<'a, R: Files + Alloc> {
 }
 
 impl<'a, R: Files + Alloc> FileOutput<'a, R> {
-    /// Nothing is made.
-    pub fn new(rt: &'a R) -> FileOutput<'a, R>
-        ensures { result.faults ≡ 0 }
+    /// Nothing is made. Room is taken for a name of so many bytes, so that `create` takes no memory for one.
+    ///
+    /// # Errors
+    ///
+    /// Memory for the name is refused.
+    pub fn new(rt: &'a R, room: usize) -> Result<FileOutput<'a, R>, NoMemory>
+        ensures { IfOk result (λ output. output.faults ≡ 0) }
     {
-        FileOutput {
+        Ok(FileOutput {
             rt,
             file: None,
-            name: String::new(rt.alloc()),
+            name: String::with_capacity(rt.alloc(), room)?,
             faults: 0,
-        }
+        })
     }
 
     /// The name is the name of this very file, and the file is a regular one: no device, no pipe, and nothing behind a symbolic link.
@@ -153,14 +158,14 @@ impl<'a, R: Files + Alloc> Output for FileOutput<'a, R> {
     ghost faults = { λ o. o.faults };
 
     fn create(&mut self, name: &str) -> Result<(), Failed> {
-        // Where memory for the name is refused, no file is created.
-        let Ok(kept) = String::from_str(self.rt.alloc(), name) else {
+        // Only a name that is longer than the room takes memory, and where that is refused, no file is created.
+        self.name.clear();
+        if self.name.push_str(name).is_err() {
             return Err(failure(&mut self.faults));
-        };
+        }
         match fs::create(self.rt, name) {
             Ok(file) => {
                 self.file = Some(file);
-                self.name = kept;
                 Ok(())
             }
             Err(_) => { Err(failure(&mut self.faults)) }

@@ -7,8 +7,8 @@ use Rattle.asm_expr.specs.Forms.{Form}
 use Rattle.asm_base.specs.declared.refusals.Refusal.{Refusal}
 use Rattle.asm_base.specs.declared.refusals.Refusal.TheVariants.{Fault, NoMemory}
 use Rattle.asm_base.specs.Refusals.{FailsLast}
-use Rattle.asm_frags.specs.declared.faults.FragCause.{FragCause}
-use Rattle.asm_frags.specs.declared.faults.FragCause.TheVariants.{BadSection}
+use Rattle.asm_base.specs.declared.causes.FragCause.{FragCause}
+use Rattle.asm_base.specs.declared.causes.FragCause.TheVariants.{BadSection}
 use Rattle.asm_frags.specs.declared.fields.FieldSize.{FieldSize}
 use Rattle.asm_frags.specs.declared.roles.FieldRole.{FieldRole}
 use Rattle.asm_frags.specs.declared.roles.Suffix.{Suffix}

@@ -4,8 +4,8 @@ use Rattle.std.specs.Prelude.{codes}
 use Rattle.asm_base.specs.Refusals.{◌>>=◌}
 use Rattle.asm_base.specs.declared.positions.Pos.{Pos}
 use Rattle.asm_expr.specs.Forms.{constant_form}
-use Rattle.asm_frags.specs.declared.faults.FragCause.{FragCause}
-use Rattle.asm_frags.specs.declared.faults.FragCause.TheVariants.{BadSection}
+use Rattle.asm_base.specs.declared.causes.FragCause.{FragCause}
+use Rattle.asm_base.specs.declared.causes.FragCause.TheVariants.{BadSection}
 use Rattle.asm_frags.specs.declared.fields.FieldSize.TheVariants.{Two, Four}
 use Rattle.item_contents.specs.declared.contents.Content.{Content}
 use Rattle.item_contents.specs.declared.contents.Content.TheVariants.{Run, Fill, Align, Growing}

@@ -2,8 +2,8 @@
 use Rattle.std.specs.Prelude.{◌≡◌, ℕ, List, [], ◌∷◌, ◌++◌, Option, None, Some, Result, Ok, Err, codes, length, nat_lt, slice_get, slice_set, if◌then◌else◌}
 use Rattle.asm_base.specs.declared.refusals.Refusal.{Refusal}
 use Rattle.asm_base.specs.Refusals.{FailsLast}
-use Rattle.asm_frags.specs.declared.faults.FragCause.{FragCause}
-use Rattle.asm_frags.specs.declared.faults.FragCause.TheVariants.{BadSection}
+use Rattle.asm_base.specs.declared.causes.FragCause.{FragCause}
+use Rattle.asm_base.specs.declared.causes.FragCause.TheVariants.{BadSection}
 use Rattle.asm_frags.specs.declared.flags.SectionFlags.{SectionFlags}
 use Rattle.asm_frags.specs.SectionOf.{SectionOf, new_section, is_alike, section_number}
 

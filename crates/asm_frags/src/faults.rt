@@ -1,16 +1,7 @@
-//! The faults of sections.
+//! Why a call on sections is refused.
 
+pub use asm_base::FragCause;
 use asm_base::Refusal;
-use thiserror::Error;
-
-/// A fault of a section.
-#[derive(Clone, Copy, Debug, PartialEq, Eq, Error)]
-pub enum FragCause {
-    /// A section is named again with other flags, another type or another entry size, there are too many sections, or bytes
-    /// are put into one of type `SHT_NOBITS`.
-    #[error("bad section")]
-    BadSection,
-}
 
 /// Why a call on sections is refused.
 pub type FragFault = Refusal<FragCause>;

@@ -1,7 +1,8 @@
 -- What a `.cfi_` directive changes: the procedures, and of the symbols what naming its expressions does.
-use Rattle.std.proofs.Common.{◌≡◌, ℕ, Bool, true, false, cond, List, [], ◌∷◌, map, Result, Ok, Err, refl, sym, ap, ◌∙◌, subst, length}
+use Rattle.std.proofs.Common.{◌≡◌, ℕ, Bool, true, false, cond, List, [], ◌∷◌, map, Result, Ok, Err, refl, sym, ap, ◌∙◌, subst, length, arith}
 use Rattle.std.specs.Prelude.{◌&&◌, ◌||◌, nat_le, codes}
 use Rattle.std.specs.Result.{IfOk}
+use Rattle.std.proofs.lemmas.Bool.{le-leb}
 use Rattle.std.specs.Str.{bytes_eq}
 use Rattle.asm_base.specs.declared.positions.Pos.{Pos}
 use Rattle.asm_base.specs.Refusals.{◌>>=◌}
@@ -16,10 +17,9 @@ use Rattle.asm_operands.specs.Operands.{operands_of, is_name, each}
 use Rattle.asm_operands.specs.Results.{all_steps}
 use Rattle.asm_symbols.specs.Interning.{is_within_limits}
 use Rattle.asm_uses.specs.declared.tables.Naming.{Naming}
-use Rattle.asm_uses.specs.Tables.{Table, with_trees, naming_of, allowed}
+use Rattle.asm_uses.specs.Tables.{Table, with_trees, are_meant, naming_of, allowed}
 use Rattle.asm_values.specs.KnownOperands.{KnownOperands, known_operands}
 use Rattle.asm_values.specs.State.{Placed, with_names, here, known_here}
-use Rattle.asm_values.proofs.NameLemmas.{none_allowed, none_nothing, nothing_named}
 use Rattle.asm_words.specs.declared.directives.FrameDirective.{FrameDirective}
 use Rattle.asm_words.specs.declared.directives.FrameDirective.TheVariants as frame
 use Rattle.cfi_directives.specs.declared.faults.CfiCause.{CfiCause}
@@ -39,7 +39,7 @@ use Rattle.asm_frames.specs.declared.words.SlotWord.TheVariants as slot
 use Rattle.asm_frames.specs.Keeping.{line_here, OnlyNames}
 use Rattle.asm_frames.specs.Lines.{signed, slot_row, offset_row, rule_row}
 use Rattle.asm_frames.specs.Operands.{register_in, next_register, one_register, two_registers}
-use Rattle.asm_frames.specs.Placing.{frame_place, with_procedures, taken_here, refused_by, end_taking, take_named, taken_over, take_line, take_rule, place_bare, place_sections, place_offset, place_slot, place_cfa_register, place_register, place_each, place_some, place_rules, place_frame}
+use Rattle.asm_frames.specs.Placing.{with_procedures, taken_here, refused_by, end_taking, take_named, taken_over, take_line, take_rule, place_bare, place_sections, place_offset, place_slot, place_cfa_register, place_register, place_each, place_some, place_rules, place_frame}
 
 -- what holds of all that a step makes
 record Leaves {A E : Type 0} (P : A → Type 0) (result : Result A E) : Type 0 where
@@ -65,8 +65,15 @@ same_table naming table next is = by (naming.meant && (nat_le (length table.symb
     by true same = cc
     by false same = cc
 
+-- where no name comes the table is allowed as it is
+nothing_named : (table : Table) → allowed (naming_of [] table) table ≡ Ok table
+unfolding allowed are_meant
+nothing_named table =
+    ap (λ few. cond (few || is_within_limits table.symbols) (Ok table) (Err BadSymbolUse))
+    (le-leb (length table.symbols.symbols) (length table.symbols.symbols) (omega arith))
+
 -- a directive that is taken in front of others
-taken_more : (placed : Placed) (line : CfiLine) (lines : List CfiLine) (procedures next last : Procedures) → taken line (frame_place (here placed)) procedures ≡ Ok next
+taken_more : (placed : Placed) (line : CfiLine) (lines : List CfiLine) (procedures next last : Procedures) → taken line (here placed).place procedures ≡ Ok next
     → taken_from next (map (line_here placed) lines) ≡ Ok last → taken_from procedures (map (line_here placed) (line ∷ lines)) ≡ Ok last
 taken_more placed line lines procedures next last is later =
     ap (λ (taken : Result Procedures CfiCause). taken >>= λ next. taken_from next (map (line_here placed) lines)) is ∙ later
@@ -80,8 +87,7 @@ module _ (P : Placed → Type 0) (pos : Pos) (placed : Placed)
   unnamed : (lines : List CfiLine) (procedures : Procedures) → taken_from placed.procedures (map (line_here placed) lines) ≡ Ok procedures → P (with_procedures placed procedures)
   unfolding with_trees
   unnamed lines procedures is =
-      holds [] lines procedures is
-      (subst (λ (naming : Naming). allowed naming placed.table ≡ Ok placed.table) (sym (nothing_named [] placed.table none_nothing)) (none_allowed placed.table))
+      holds [] lines procedures is (nothing_named placed.table)
 
   line_keeps : (line : CfiLine) → Leaves P (take_line line placed)
   unfolding take_line

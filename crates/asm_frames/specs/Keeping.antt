@@ -7,11 +7,11 @@ use Rattle.asm_values.specs.State.{Placed, with_names, here}
 use Rattle.cfi_directives.specs.declared.lines.CfiLine.{CfiLine}
 use Rattle.cfi_directives.specs.Procedures.{Procedures}
 use Rattle.cfi_directives.specs.Taking.{PlacedLine, taken_from}
-use Rattle.asm_frames.specs.Placing.{frame_place, with_procedures}
+use Rattle.asm_frames.specs.Placing.{with_procedures}
 
 -- a directive of a procedure, at the place where the next statement puts
 abbrev pub line_here : Placed → CfiLine → PlacedLine
-line_here placed line = record { line = line; at = frame_place (here placed) }
+line_here placed line = record { line = line; at = (here placed).place }
 
 -- each name of some expressions got a symbol and was allowed, directives of procedures were taken at the place where the statement stands, and all
 -- else is what it was

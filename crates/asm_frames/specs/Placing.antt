@@ -8,7 +8,6 @@ use Rattle.asm_operands.specs.declared.place_faults.PlaceCause.{PlaceCause}
 use Rattle.asm_operands.specs.declared.place_faults.PlaceCause.TheVariants as placing
 use Rattle.asm_operands.specs.Operands.{operands_of, is_name, each}
 use Rattle.asm_operands.specs.Results.{all_steps}
-use Rattle.asm_symbols.specs.declared.entries.Spot.{Spot}
 use Rattle.asm_uses.specs.declared.tables.Naming.{Naming}
 use Rattle.asm_uses.specs.Tables.{Table, allowed}
 use Rattle.asm_values.specs.KnownOperands.{known_operands}
@@ -20,7 +19,6 @@ use Rattle.cfi_directives.specs.declared.faults.CfiCause.TheVariants.{OutOfRange
 use Rattle.cfi_directives.specs.declared.lines.CfiLine.{CfiLine}
 use Rattle.cfi_directives.specs.declared.lines.CfiLine.TheVariants.{StartProc, EndProc, Row}
 use Rattle.cfi_directives.specs.declared.lines.RowDirective.TheVariants as row
-use Rattle.cfi_directives.specs.declared.places.SectionPlace.{SectionPlace}
 use Rattle.cfi_directives.specs.declared.registers.DwarfRegister.{DwarfRegister}
 use Rattle.cfi_directives.specs.Procedures.{Procedures}
 use Rattle.cfi_directives.specs.Taking.{taken}
@@ -39,17 +37,13 @@ frame_fault OutOfRange = placing.OutOfRange
 frame_fault CfiOutsideProcedure = placing.CfiOutsideProcedure
 frame_fault UnbalancedCfiState = placing.UnbalancedCfiState
 
--- so many items and so many plain bytes of a section stand before this place
-abbrev pub frame_place : Spot → SectionPlace
-frame_place spot = record { section = spot.section; place = record { item = spot.item; offset = spot.offset } }
-
 -- what is placed, with these procedures
 abbrev pub with_procedures : Placed → Procedures → Placed
 with_procedures placed procedures = record placed { procedures = procedures }
 
 -- what a directive at this place makes of the procedures
 abbrev pub taken_here : CfiLine → Placed → Result Procedures CfiCause
-taken_here line placed = taken line (frame_place (here placed)) placed.procedures
+taken_here line placed = taken line (here placed).place placed.procedures
 
 -- a fault of the number comes before those of the names of operands, and any other fault after them
 abbrev pub refused_by : CfiCause → Result Table PlaceCause → Result Placed PlaceCause

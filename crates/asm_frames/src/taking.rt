@@ -3,28 +3,13 @@
 ghost use Rattle.std.specs.Prelude.{◌≡◌};
 ghost use Rattle.asm_base.specs.Refusals.{Fails};
 ghost use Rattle.asm_uses.specs.Tables.{allowed};
-ghost use Rattle.asm_values.specs.PlacedBy.{placed_by, PlacesBy};
-ghost use Rattle.asm_values.specs.State.{here};
+ghost use Rattle.asm_values.specs.PlacedBy.{PlacesBy};
 ghost use Rattle.asm_frames.specs.Placing as spec;
 
 use asm_operands::{PlaceCause, PlaceFault};
 use asm_uses::{Naming, SymbolUses};
 use asm_values::Assembler;
-use cfi_directives::{CfiCause, CfiFault, CfiLine, Place, SectionPlace};
-
-/// The place of a directive.
-fn frame_place(assembler: &Assembler) -> SectionPlace
-    ensures { result ≡ spec.frame_place (here (placed_by assembler.now)) }
-{
-    let spot = assembler.here();
-    SectionPlace {
-        section: spot.section,
-        place: Place {
-            item: spot.item,
-            offset: spot.offset,
-        },
-    }
-}
+use cfi_directives::{CfiCause, CfiFault, CfiLine};
 
 /// The fault of a directive as one of placing.
 fn frame_fault(cause: CfiCause) -> PlaceCause
@@ -61,7 +46,7 @@ pub(crate) fn take_named(
     ensures placed { PlacesBy (spec.take_named naming line) assembler.old assembler.new result }
     ensures kept { assembler.new.notes ≡ assembler.old.notes }
 {
-    let at = frame_place(assembler);
+    let at = assembler.here().place;
     match assembler.procedures.take(line, at) {
         Ok(()) => assembler.table.allow(naming),
         Err(CfiFault::Fault(cause)) => Err(refused_by(&assembler.table, naming, cause)),
@@ -75,7 +60,7 @@ pub(crate) fn take_line(assembler: &mut Assembler, line: CfiLine) -> Result<(), 
     ensures placed { PlacesBy (spec.take_line line) assembler.old assembler.new result }
     ensures kept { assembler.new.notes ≡ assembler.old.notes }
 {
-    let at = frame_place(assembler);
+    let at = assembler.here().place;
     match assembler.procedures.take(line, at) {
         Ok(()) => Ok(()),
         Err(CfiFault::Fault(cause)) => Err(PlaceFault::Fault(frame_fault(cause))),

@@ -3,7 +3,7 @@ use Rattle.std.proofs.Common.{◌≡◌, ℕ, ◌+◌, ◌-◌, ◌≤◌, inl, 
 use Rattle.std.specs.Prelude.{◌==◌, slice_get, slice_range, option_map, Ok}
 use Rattle.std.specs.Option.{option_map_or}
 use Rattle.std.proofs.Math.Seq.{take-append_seam}
-use Rattle.std.proofs.lemmas.List.{drop_at}
+use Rattle.std.proofs.lemmas.List.{drop_at, length-replicate, length-take}
 use Rattle.std.proofs.lemmas.List.Elements.{All-nil, All-cons, All-append, All-weaker}
 use Rattle.std.proofs.lemmas.Option.{slice_get-map}
 use Rattle.asm_base.specs.declared.positions.Pos.{Pos}
@@ -15,17 +15,30 @@ use Rattle.asm_frags.specs.SectionOf.{SectionOf}
 use Rattle.asm_frags.specs.Substituting.{substituted_field}
 use Rattle.asm_frags.specs.Writing.{LooseSection}
 use Rattle.assigned_forms.specs.Expanding.{expanded}
+use Rattle.asm_relax.specs.KeptSections.{kept_section}
 use Rattle.asm_relax.specs.Settling.{LaidItem, LaidSections, layout_of}
 use Rattle.elf_file.specs.Places.{PieceAt}
 use Rattle.elf_object.specs.Image.{image_of}
 use Rattle.elf_object.specs.Places.{section_offset, moved, IsBetween, IsFiled}
 use Rattle.asm_place.specs.CodePlaces.{FieldInCode, with_held, zeros_in, AreApart, field_in, CodeStandsAt}
-use Rattle.asm_place.proofs.FieldOrder.{zeros_long}
-use Rattle.asm_place.proofs.CodeParts.{slice_long, apart_inside, apart_before}
 use Rattle.asm_front.specs.ReadsBack.{file_place, final_value}
 use Rattle.asm_front.proofs.CodeValues.{low_length}
 use Rattle.asm_front.proofs.HeldFields.{field_held}
-use Rattle.frame_laws.proofs.LaidItems.{AreSettled, kept_section, section_kept, laid_stays, laid_sized, first_kept, others_kept, beside_kept, stand_kept}
+use Rattle.asm_front.proofs.SettledObjects.{AreSettled}
+
+-- so many bytes lie between two places
+slice_long : (bytes : List ℕ) (from to : ℕ) → from ≤ to → to ≤ length bytes → length (slice_range bytes from to) ≡ to - from
+slice_long bytes from to up within = length-take (to - from) (drop from bytes) ∙ (let long = length-drop from bytes in omega arith)
+
+-- fields that are apart begin within the bytes,
+apart_inside : (from end : ℕ) (fields : List FieldInCode) → AreApart from end fields → from ≤ end
+apart_inside from end [] apart = apart
+apart_inside from end (field ∷ fields) apart = let later = apart_inside (field.at + width field.size) end fields apart.1 in omega (arith, later, apart.0)
+
+-- and what is apart from a place on is so from one before it
+apart_before : (from earlier end : ℕ) (fields : List FieldInCode) → earlier ≤ from → AreApart from end fields → AreApart earlier end fields
+apart_before from earlier end [] less apart = omega (arith, less, apart)
+apart_before from earlier end (field ∷ fields) less apart = (omega (arith, less, apart.0), apart.1)
 
 -- a piece, and one that begins where it ends, are one
 pieces_join : (bytes one other : List ℕ) (at : ℕ) → PieceAt bytes at one → PieceAt bytes (at + length one) other → PieceAt bytes at (one ++ other)
@@ -64,21 +77,21 @@ module _ (settled : AreSettled) (symbols : SymbolMap) (sections : List LooseSect
 
   -- how far its rows are moved
   abbrev own : List ℕ
-  own = (section_kept symbols sections laid n section is stands.found).0
+  own = (settled.layouts.section symbols sections laid n section is stands.found).0
 
   -- the section as it is laid out
   abbrev kept : SectionOf LaidItem
   kept = kept_section symbols own section
 
   found : slice_get laid n ≡ Some kept
-  found = (section_kept symbols sections laid n section is stands.found).1
+  found = (settled.layouts.section symbols sections laid n section is stands.found).1
 
   filed : IsFiled laid n kept
   filed = record {
     found = found;
     takes_bytes = takes;
-    laid = laid_stays settled symbols sections laid n kept is found;
-    sized = laid_sized settled symbols sections laid n kept is found;
+    laid = settled.layouts.placed symbols sections laid n kept is found;
+    sized = settled.layouts.sized symbols sections laid n kept is found;
   }
 
   -- the place of a plain byte in the file
@@ -98,9 +111,9 @@ module _ (settled : AreSettled) (symbols : SymbolMap) (sections : List LooseSect
   between : (from to : ℕ) → offset ≤ from → to ≤ offset + length code → IsBetween kept.items item from to
   between from to up within = record {
     before = All-weaker (λ (i : LaidItem). i.offset ≤ offset) (λ (i : LaidItem). i.offset ≤ from) (λ i low. omega (arith, low, up)) _
-        (first_kept (λ at. at ≤ offset) item section.items own stands.items_before);
+        (settled.layouts.first offset item section.items own stands.items_before);
     behind = All-weaker (λ (i : LaidItem). offset + length code ≤ i.offset) (λ (i : LaidItem). to ≤ i.offset) (λ i high. omega (arith, high, within)) _
-        (others_kept (λ at. offset + length code ≤ at) item section.items own stands.items_behind);
+        (settled.layouts.others (offset + length code) item section.items own stands.items_behind);
   }
 
   -- plain bytes beside all fields
@@ -112,7 +125,7 @@ module _ (settled : AreSettled) (symbols : SymbolMap) (sections : List LooseSect
       (λ k. k + length (bytes ++ more)) long in
       settled.bytes symbols laid n item from kept bytes filed (omega (arith, whole))
       (ap (λ (xs : List ℕ). slice_range xs from (from + length bytes)) there ∙ middle front bytes more from long)
-      (beside_kept (expanded symbols) from (from + length bytes) section.fields free) (between from (from + length bytes) up within)
+      (settled.layouts.beside symbols from (from + length bytes) section.fields free) (between from (from + length bytes) up within)
 
   -- a field of the instruction is there
   field_got : (earlier more : List Field) (field : FieldInCode) → section.fields ≡ earlier ++ (place field ∷ more)
@@ -128,7 +141,7 @@ module _ (settled : AreSettled) (symbols : SymbolMap) (sections : List LooseSect
       → PieceAt image (file_at (offset + field.at)) (valued field)
   field_there earlier more field within there =
       settled.values symbols laid n (length earlier) kept (substituted_field (expanded symbols) (place field)) filed
-      (stand_kept (expanded symbols) section.bytes 0 section.fields stand)
+      (settled.layouts.stand symbols section.bytes 0 section.fields stand)
       (field_got earlier more field there)
       (between (offset + field.at) (offset + field.at + width field.size) (omega arith) (omega (arith, within)))
 
@@ -187,7 +200,7 @@ module _ (settled : AreSettled) (symbols : SymbolMap) (sections : List LooseSect
       let later = with_held zeros_in code next fields in
       let tail = with_held valued code next fields in
       let zeros : List ℕ = zeros_in field in
-      let size : length zeros ≡ width field.size = zeros_long field.size in
+      let size : length zeros ≡ width field.size = length-replicate {A = ℕ} (width field.size) 0 in
       let value_size : length (valued field) ≡ width field.size = low_length field.size (final_value symbols laid (place field)) in
       let split : section.bytes ≡ front ++ (slice ++ ((zeros ++ later) ++ stands.bytes_there.rest)) = there ∙ ap (λ (xs : List ℕ). front ++ xs)
       (append_assoc slice (zeros ++ later) stands.bytes_there.rest) in

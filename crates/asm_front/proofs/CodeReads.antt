@@ -8,18 +8,16 @@ use Rattle.x86_table.specs.Reads.{meaning, ReadsOneWay}
 use Rattle.x86_encode.specs.declared.encoded.Field.{Field as CodedField}
 use Rattle.x86_encode.specs.declared.encoded.FieldKind.{FieldKind}
 use Rattle.x86_encode.specs.declared.encoded.FieldKind.TheVariants as kind
-use Rattle.x86_encode.specs.Answers.{InOrder, Fills, Notes}
+use Rattle.x86_encode.specs.Answers.{InOrder, Fills}
 use Rattle.x86_encode.specs.Codes.{meant}
 use Rattle.x86_encode.specs.Encoding.{encoding_of}
-use Rattle.x86_encode.specs.EncodingLaws.{EncodingsFill, EncodingsNote}
-use Rattle.x86_encode.specs.Exchanges.{turned_if}
-use Rattle.x86_encode.specs.Filling.{Coding, kind_holds, field_holds, low_bytes as bytes_of_low, filled, Noted}
+use Rattle.x86_encode.specs.EncodingLaws.{EncodingsFill}
+use Rattle.x86_encode.specs.FieldPlaces.{IsWidth, Apart, HoldUnknown, Unknown, EncodingsApart, EncodingsHoldUnknown}
+use Rattle.x86_encode.specs.FieldPlaces as encoded
+use Rattle.x86_encode.specs.Filling.{Coding, kind_holds, field_holds, low_bytes as bytes_of_low, filled}
 use Rattle.att_insns.specs.InsnTexts.{InsnText}
 use Rattle.asm_place.specs.Coding.{shape_in, view_in, values_in, field_size, held_kind, is_branch, code_field, displacement_field, immediate_field, before_fields}
 use Rattle.asm_place.specs.CodePlaces.{FieldInCode, ValueForms, with_held, AreApart, code_fields}
-use Rattle.x86_encode.specs.Keys.{immediate_length}
-use Rattle.x86_encode.proofs.Fitted.{fit_of}
-use Rattle.asm_place.proofs.CodingFields.{shape_room, held_room, either_tells, coding_apart}
 use Rattle.asm_front.specs.ReadsBack.{value_in, FinalValues, final_values, final_code, ReadsWith, CodeReadsAt}
 use Rattle.asm_front.proofs.CodeValues.{low_same, low_length, holds_same}
 use Rattle.asm_front.proofs.SmallForms.{IsSmall, open_small, held_small}
@@ -167,8 +165,22 @@ branch_small : (test : Bool) (one other : FieldInCode) → (test ≡ true → Is
 branch_small true one other first later = first refl
 branch_small false one other first later = later refl
 
-module _ (text : InsnText) (forms : ValueForms) (made : Coding) (exchanged : Bool)
-    (noted : Noted (turned_if exchanged (meant (view_in text (values_in forms)))) made) where
+-- what both fields tell alike, either tells
+either_tells : {Y : Type 0} (tells : FieldInCode → Y) (y : Y) (test : Bool) (one other : FieldInCode) → tells one ≡ y → tells other ≡ y → tells (cond test one other) ≡ y
+either_tells tells y true one other a b = a
+either_tells tells y false one other a b = b
+
+-- a field of so many bytes has them
+width_is : (size : ℕ) → IsWidth size → width (field_size size) ≡ size
+width_is size has =
+    let same : (n : ℕ) → size ≡ n → width (field_size n) ≡ n → width (field_size size) ≡ size = λ n is held. subst (λ m. width (field_size m) ≡ m) (sym is) held in
+    elim has [
+      | inl is ↦ same 1 is refl
+      | inr more ↦ elim more [ inl is ↦ same 2 is refl | inr large ↦ elim large [ inl is ↦ same 4 is refl | inr is ↦ same 8 is refl ] ]
+    ]
+
+module _ (text : InsnText) (forms : ValueForms) (made : Coding) (stand : encoded.AreApart made)
+    (unknown : HoldUnknown (meant (view_in text (values_in forms))) made) where
   abbrev ds : CodedField → FieldInCode
   ds = displacement_field (length made.bytes) (shape_in text) forms
 
@@ -177,7 +189,7 @@ module _ (text : InsnText) (forms : ValueForms) (made : Coding) (exchanged : Boo
 
   displacement_small : (f : CodedField) → made.displacement ≡ Some f → IsSmall (ds f).form
   displacement_small f is =
-      held_small f.kind forms.displacement (λ near. elim (displacement_open text (values_in forms) exchanged made f noted is) [
+      held_small f.kind forms.displacement (λ near. elim (displacement_open text (values_in forms) made f unknown is) [
         | inl address ↦ kind_far f.kind (inl address) near
         | inr none ↦ open_small forms.displacement none
       ])
@@ -186,7 +198,7 @@ module _ (text : InsnText) (forms : ValueForms) (made : Coding) (exchanged : Boo
   immediate_small f is =
       branch_small (is_branch f.kind) (ds f) (code_field (length made.bytes) f text.immediate.suffix forms.immediate)
       (λ branch. held_small f.kind forms.displacement (λ near. branch_far f.kind branch near))
-      (λ plain. held_small f.kind forms.immediate (λ near. elim (immediate_open text (values_in forms) exchanged made f noted is) [
+      (λ plain. held_small f.kind forms.immediate (λ near. elim (immediate_open text (values_in forms) made f unknown is) [
         | inl branch ↦ kind_far f.kind (inr branch) near
         | inr none ↦ open_small forms.immediate none
       ]))
@@ -194,19 +206,15 @@ module _ (text : InsnText) (forms : ValueForms) (made : Coding) (exchanged : Boo
   -- the bytes of a field, and how many there are
   displacement_sized : (f : CodedField) → made.displacement ≡ Some f → width (ds f).size ≡ f.size
   displacement_sized f is =
-      let r = noted.r in
-      let fit = fit_of r noted.p noted.means.fit in
-      let m = shape_room (length made.bytes - immediate_length r.immediate - 4) noted.here f r.shape noted.p.place fit.place (sym noted.moved ∙ is) in
-      ap (λ s. width (field_size s)) m.size_is ∙ sym m.size_is
+      let size = (stand.displacement f is).size in
+      ap (λ s. width (field_size s)) size ∙ sym size
 
   immediate_sized : (f : CodedField) → made.immediate ≡ Some f → width (bs f).size ≡ f.size
   immediate_sized f is =
-      let r = noted.r in
-      let fit = fit_of r noted.p noted.means.fit in
-      let h = held_room (length made.bytes - immediate_length r.immediate) noted.there f r.immediate noted.p.held fit.held (sym noted.held ∙ is) in
+      let last = stand.immediate f is in
       ap width (either_tells (λ c. c.size) (field_size f.size) (is_branch f.kind) (ds f)
       (code_field (length made.bytes) f text.immediate.suffix forms.immediate) refl refl)
-      ∙ (ap (λ s. width (field_size s)) h.size_is ∙ (h.sized ∙ sym h.size_is))
+      ∙ (ap (λ s. width (field_size s)) last.size ∙ (width_is stand.last last.width ∙ sym last.size))
 
   immediate_at : (f : CodedField) → (bs f).at ≡ f.at
   immediate_at f = either_tells (λ c. c.at) f.at (is_branch f.kind) (ds f) (code_field (length made.bytes) f text.immediate.suffix forms.immediate) refl refl
@@ -270,22 +278,22 @@ code_at one_way bytes rest at insn made values stands reads = record {
 }
 
 -- where the bytes of an encoding stand with the values of its fields, and the fields hold them, they read as the instruction
-pub code_reads : ReadsOneWay → EncodingsFill → EncodingsNote
+pub code_reads : ReadsOneWay → EncodingsFill → EncodingsApart → EncodingsHoldUnknown
     → (text : InsnText) (forms : ValueForms) (made : Coding) (value : FieldInCode → ℕ) (bytes rest : List ℕ) (at : ℕ)
-    → encoding_of (view_in text) (values_in forms) ≡ Ok made → ((c : FieldInCode) → IsSmall c.form → value c < 2 ^ 64)
+    → encoding_of (view_in text) (values_in forms) ≡ Ok made → AreApart 1 (length made.bytes) (code_fields text forms made) → ((c : FieldInCode) → IsSmall c.form → value c < 2 ^ 64)
     → All (λ c. holds c.role.kind c.size (value c) ≡ true) (code_fields text forms made)
     → drop at bytes ≡ with_held (λ c. low_bytes c.size (value c)) made.bytes 0 (code_fields text forms made) ++ rest
     → CodeReadsAt bytes at (meant (view_in text (values_in forms))) made (final_values value text forms made)
-code_reads one_way fills notes text forms made value bytes rest at coding low all stands =
+code_reads one_way fills places unknown text forms made value bytes rest at coding apart low all stands =
     let insn = meant (view_in text (values_in forms)) in
     let values = final_values value text forms made in
     let fill = subst (Fills insn) coding (fills (view_in text) (values_in forms)) in
-    let noted = subst (Notes insn) coding (notes (view_in text) (values_in forms)) in
-    let apart = coding_apart notes (shape_in text) forms made coding in
+    let stand = subst Apart coding (places (view_in text) (values_in forms)) in
+    let holds_unknown = subst (Unknown insn) coding (unknown (view_in text) (values_in forms)) in
     code_at one_way bytes rest at insn made values
-    (stands ∙ ap (λ (xs : List ℕ). xs ++ rest) (code_filled text forms made noted.0 noted.2 value low apart)) (
+    (stands ∙ ap (λ (xs : List ℕ). xs ++ rest) (code_filled text forms made stand holds_unknown value low apart)) (
       fill.0,
       fill.1,
-      fill.2 values.displacement values.immediate (displacement_held text forms made noted.0 noted.2 value low all)
-          (immediate_held text forms made noted.0 noted.2 value low all),
+      fill.2 values.displacement values.immediate (displacement_held text forms made stand holds_unknown value low all)
+          (immediate_held text forms made stand holds_unknown value low all),
     )

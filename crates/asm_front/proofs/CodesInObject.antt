@@ -5,18 +5,17 @@ use Rattle.std.specs.Option.{option_map_or}
 use Rattle.asm_lines.specs.NextStatements.{TokenStatement}
 use Rattle.asm_frags.specs.SectionOf.{SectionOf}
 use Rattle.asm_relax.specs.Settling.{LaidItem}
-use Rattle.elf_file.proofs.FilePlaces.{drop_stands}
 use Rattle.elf_file.specs.Places.{PieceAt}
 use Rattle.elf_file.specs.Sections.{no_bits}
 use Rattle.elf_object.specs.Image.{image_of}
 use Rattle.x86_table.specs.Reads.{ReadsOneWay}
 use Rattle.x86_lookup.specs.BareInstructions.{BareCodesRead}
-use Rattle.x86_encode.specs.EncodingLaws.{EncodingsFill, EncodingsNote}
+use Rattle.x86_encode.specs.EncodingLaws.{EncodingsFill}
+use Rattle.x86_encode.specs.FieldPlaces.{EncodingsApart, EncodingsHoldUnknown}
 use Rattle.asm_values.specs.State.{nothing_placed}
 use Rattle.asm_place.specs.Sources.{pos_at}
 use Rattle.asm_place.specs.Instructions.{next_item, next_offset, IsWithin}
 use Rattle.asm_place.specs.CodePlaces.{field_in, code_fields}
-use Rattle.asm_place.proofs.GrowthLemmas.{All-there}
 use Rattle.asm_front.specs.Ending.{Flags}
 use Rattle.asm_front.specs.declared.ending.NotedObject.{NotedObject}
 use Rattle.asm_front.specs.ReadsBack.{file_place, final_value, CodesReadBack, ReadsBack}
@@ -24,9 +23,10 @@ use Rattle.asm_front.proofs.SmallForms.{final_small}
 use Rattle.asm_front.proofs.CodePieces.{all_hold, code_there}
 use Rattle.asm_front.proofs.CodeReads.{code_reads}
 use Rattle.asm_front.proofs.FramedSections.{TableFacts, is_framed, code_stays}
-use Rattle.asm_front.proofs.PlacedItems.{PlaceFacts, code_items}
+use Rattle.asm_front.proofs.PlacedFacts.{PlaceFacts}
 use Rattle.asm_front.proofs.JumpsInObject.{JumpFacts, jumps_read_back}
-use Rattle.frame_laws.proofs.LaidItems.{AreSettled, section_kept}
+use Rattle.asm_front.proofs.Lists.{all_there}
+use Rattle.asm_front.proofs.SettledObjects.{AreSettled, drop_stands}
 use Rattle.asm_front.proofs.FramesInObject.{FrameFacts, frames_read_back}
 use Rattle.asm_front.proofs.ObjectReads.{Makes, bare_read_back, assembly_is}
 
@@ -35,10 +35,10 @@ object_begins : (object image piece : List ℕ) (at : ℕ) → object ≡ image 
 object_begins object image piece at same there = ap (drop at) same ∙ drop_stands image at piece there
 
 -- each instruction with operands that is handed out reads back
-codes_read_back : AreSettled → ReadsOneWay → EncodingsFill → EncodingsNote → TableFacts → PlaceFacts → (flags : Flags) (handed : List TokenStatement) (made : NotedObject)
+codes_read_back : AreSettled → ReadsOneWay → EncodingsFill → EncodingsApart → EncodingsHoldUnknown → TableFacts → PlaceFacts → (flags : Flags) (handed : List TokenStatement) (made : NotedObject)
     → Makes flags handed made
     → CodesReadBack flags handed made.object
-codes_read_back settled one_way fills notes table facts flags handed made e before after s text placed whole tables laid are front all framed_is is written no_jump filed =
+codes_read_back settled one_way fills places unknown table facts flags handed made e before after s text placed whole tables laid are front all framed_is is written no_jump filed =
     let empty = nothing_placed flags.no_warn in
     let begins = facts.begins flags.no_warn in
     let insn = facts.code_stands before s after empty placed whole text begins front all written no_jump in
@@ -50,32 +50,31 @@ codes_read_back settled one_way fills notes table facts flags handed made e befo
     let code = insn.coded.made.bytes in
     let fields = code_fields text insn.coded.forms insn.coded.made in
     let with_table = is_framed table whole tables (facts.within (before ++ s ∷ after) empty whole all begins) framed_is in
-    let stands = code_stays whole.sections tables.sections number item offset pos code fields with_table.grows insn.stands
-    (code_items facts before s after empty placed whole insn.stands.section front all insn.stands.found text written no_jump) in
+    let stands = code_stays whole.sections tables.sections number item offset pos code fields with_table.grows insn.stands in
     let section = stands.section in
-    let within : IsWithin section = All-there IsWithin tables.sections number section stands.found with_table.within in
+    let within : IsWithin section = all_there IsWithin tables.sections number section stands.found with_table.within in
     let takes : (section.kind == 8) ≡ false =
     sym (ap (λ found. option_map_or (λ (kept : SectionOf LaidItem). kept.kind == no_bits) found false)
-    (section_kept symbols tables.sections laid number section is stands.found).1) ∙ filed in
+    (settled.layouts.section symbols tables.sections laid number section is stands.found).1) ∙ filed in
     let there = code_there settled symbols tables.sections laid number item offset pos code fields is stands within.apart takes in
     let same : made.object ≡ image_of symbols laid = assembly_is flags handed made (before ++ s ∷ after) whole tables laid are all framed_is is e in
     let at = file_place symbols laid number item offset in
     record {
       coded = insn.coded;
       reads =
-          code_reads one_way fills notes text insn.coded.forms insn.coded.made
+          code_reads one_way fills places unknown text insn.coded.forms insn.coded.made
           (λ field. final_value symbols laid (field_in pos number item offset field)) made.object there.rest at
-          insn.coded.coding (λ field small. final_small symbols laid (field_in pos number item offset field) small)
+          insn.coded.coding insn.stands.apart (λ field small. final_small symbols laid (field_in pos number item offset field) small)
           (all_hold settled symbols tables.sections laid number item offset pos code fields is stands within.apart takes)
           (object_begins made.object (image_of symbols laid) _ at same there);
     }
 
 -- each instruction that is handed out reads back
-pub reads_back : AreSettled → ReadsOneWay → BareCodesRead → EncodingsFill → EncodingsNote → TableFacts → PlaceFacts → JumpFacts → FrameFacts → (flags : Flags)
+pub reads_back : AreSettled → ReadsOneWay → BareCodesRead → EncodingsFill → EncodingsApart → EncodingsHoldUnknown → TableFacts → PlaceFacts → JumpFacts → FrameFacts → (flags : Flags)
     (handed : List TokenStatement) (made : NotedObject) → Makes flags handed made → ReadsBack flags handed made.object
-reads_back settled one_way read fills notes table facts jumps frames flags handed made e = record {
+reads_back settled one_way read fills places unknown table facts jumps frames flags handed made e = record {
   bare = bare_read_back settled one_way read table facts flags handed made e;
-  coded = codes_read_back settled one_way fills notes table facts flags handed made e;
+  coded = codes_read_back settled one_way fills places unknown table facts flags handed made e;
   jumps = jumps_read_back settled one_way table facts jumps flags handed made e;
   frames = frames_read_back settled table facts jumps frames flags handed made e;
 }

@@ -8,8 +8,8 @@ use Rattle.asm_place.specs.Faults.{is_file_too_large}
 use Rattle.asm_base.specs.declared.positions.Pos.{Pos}
 use Rattle.cfi_directives.specs.Procedures.{Procedures, frames_of}
 use Rattle.eh_frame.specs.Pieces.{Tables}
-use Rattle.asm_frags.specs.declared.faults.FragCause.{FragCause}
-use Rattle.asm_frags.specs.declared.faults.FragCause.TheVariants.{BadSection}
+use Rattle.asm_base.specs.declared.causes.FragCause.{FragCause}
+use Rattle.asm_base.specs.declared.causes.FragCause.TheVariants.{BadSection}
 use Rattle.asm_uses.specs.Tables.{Table, with_map}
 use Rattle.asm_frags.specs.Writing.{LooseSection}
 use Rattle.asm_base.specs.Refusals.{◌>>=◌}
@@ -17,7 +17,6 @@ use Rattle.asm_lines.specs.NextStatements.{TokenStatement}
 use Rattle.asm_values.specs.State.{Placed}
 use Rattle.asm_place.specs.Sources.{place, place_all}
 use Rattle.asm_place.specs.declared.place_faults.FaultAt.{FaultAt}
-use Rattle.asm_place.proofs.PlacingLaws.{no_fault_of_reading}
 use Rattle.asm_front.specs.Ending.{noted, laid_end, unclosed, first_line, with_frames, framed_end, unless_open, finished}
 use Rattle.asm_front.specs.declared.ending.NotedObject.{NotedObject}
 use Rattle.asm_front.specs.declared.ending.Ended.{Ended}
@@ -63,6 +62,7 @@ end_is_no_reading fatal sections table procedures notes fault is =
     IfErr-at_err (λ at. is_file_too_large at.fault ≡ false) is (finished_fine fatal sections table procedures notes).holds
 
 -- nor is the placing of a statement
-pub placing_is_small : (s : TokenStatement) (before : Placed) (fault : FaultAt) → place s before ≡ Err fault → is_file_too_large fault.fault ≡ false
+pub placing_is_small : ((statements : List TokenStatement) (before : Placed) (fault : FaultAt) → place_all statements before ≡ Err fault → is_file_too_large fault.fault ≡ false)
+    → (s : TokenStatement) (before : Placed) (fault : FaultAt) → place s before ≡ Err fault → is_file_too_large fault.fault ≡ false
 unfolding place_all
-placing_is_small s before fault is = no_fault_of_reading (s ∷ []) before fault (ap (λ answer. answer >>= place_all []) is)
+placing_is_small none s before fault is = none (s ∷ []) before fault (ap (λ answer. answer >>= place_all []) is)

@@ -1,14 +1,14 @@
 -- What was placed stands in the sections with the frame table where it stood before.
-use Rattle.std.proofs.Common.{◌≡◌, ℕ, ◌+◌, ◌-◌, ◌≤◌, inr, List, [], ◌∷◌, ◌++◌, All, Option, Some, Ok, length, take, drop, refl, sym, ap, ◌∙◌, subst, arith, append_assoc, length-append, length-drop}
+use Rattle.std.proofs.Common.{◌≡◌, ℕ, ◌+◌, ◌-◌, ◌≤◌, inr, List, [], ◌∷◌, ◌++◌, All, Option, Some, Ok, length, take, drop, refl, sym, ap, ◌∙◌, subst, arith, append_assoc, append-nil, length-append, length-drop}
 use Rattle.std.specs.Prelude.{map, slice_get, slice_range}
 use Rattle.std.proofs.lemmas.List.{take-append-le, drop-append-le}
-use Rattle.std.proofs.lemmas.List.Elements.{All-append, All-weaker}
-use Rattle.std.proofs.lemmas.Option.{same_Some}
+use Rattle.std.proofs.lemmas.List.Elements.{All-nil, All-append, All-weaker}
+use Rattle.std.proofs.lemmas.Option.{slice_get_within}
 use Rattle.asm_base.specs.declared.positions.Pos.{Pos}
 use Rattle.asm_frags.specs.declared.fields.Field.{Field}
 use Rattle.asm_frags.specs.declared.flags.SectionFlags.{SectionFlags}
 use Rattle.asm_frags.specs.PlainBytes.{IsBeside}
-use Rattle.asm_frags.specs.Writing.{LooseItem, LooseSection, ends_in_run, with_run}
+use Rattle.asm_frags.specs.Writing.{LooseItem, LooseSection}
 use Rattle.cfi_directives.specs.declared.frames.Frame.{Frame}
 use Rattle.cfi_directives.specs.Procedures.{frames_of}
 use Rattle.eh_frame.specs.Pieces.{Tables, tables_of}
@@ -17,18 +17,13 @@ use Rattle.eh_frame.specs.Standing.{Extends}
 use Rattle.eh_frame.specs.Found as found
 use Rattle.eh_frame.specs.Found.{IsPlaced}
 use Rattle.eh_frame.specs.StandingPlaces.{LabelsStand}
-use Rattle.eh_frame.proofs.ExtendLemmas.{extends_same}
 use Rattle.item_bytes.specs.declared.jumps.Condition.{Condition}
 use Rattle.asm_values.specs.State.{Placed}
-use Rattle.asm_place.specs.Instructions.{run_end, with_more, IsContinued, Grows, IsWithin, AreWithin, StandsAt}
+use Rattle.asm_place.specs.Instructions.{with_more, IsContinued, Grows, IsWithin, AreWithin, StandsAt}
 use Rattle.asm_place.specs.CodePlaces.{FieldInCode, blanked, field_in, CodeStandsAt}
 use Rattle.asm_place.specs.JumpPlaces.{JumpStandsAt}
-use Rattle.asm_place.proofs.CodeLaws.{held_long}
-use Rattle.asm_place.proofs.CodeParts.{apart_before}
-use Rattle.asm_place.proofs.GrowthLemmas.{get_append}
-use Rattle.asm_place.proofs.InstructionLaws.{run_items}
 use Rattle.asm_front.specs.Ending.{framed}
-use Rattle.frame_laws.proofs.LaidItems.{inside}
+use Rattle.asm_front.proofs.Lists.{get_append}
 
 -- what is known of frame tables: all that was in the sections stays, and the places of their labels stand
 pub record TableFacts : Type 0 where
@@ -66,8 +61,15 @@ continued held later now is more = record {
   items_behind = more.items_behind;
 }
 
-continued_not : (section : LooseSection) → Extends section section → IsContinued section (Some section)
-continued_not section same = continued section (Some section) section refl same
+continued_not : (section : LooseSection) → IsContinued section (Some section)
+continued_not section = record {
+  bytes = [];
+  fields = [];
+  items = [];
+  there = ap Some (extended section section [] [] [] refl refl refl refl (sym (append-nil section.bytes)) (sym (append-nil section.fields)) (sym (append-nil section.items)));
+  fields_behind = All-nil _;
+  items_behind = All-nil _;
+}
 
 within_table : (section : LooseSection) → IsWithin section → found.IsWithin section
 within_table section low = record { items = low.items; fields = low.fields; apart = low.apart }
@@ -82,7 +84,7 @@ not_grown : (before after : List LooseSection) → before ≡ after → Grows be
 not_grown before after same =
     subst (λ (sections : List LooseSection). Grows before sections) same
     (record {
-      kept = λ number section there. subst (IsContinued section) (sym there) (continued_not section (extends_same section));
+      kept = λ number section there. subst (IsContinued section) (sym there) (continued_not section);
     })
 
 framed_by : TableFacts → (frames : List Frame) (tables after : Tables) → AreWithin tables.sections → placed frames tables ≡ Ok after → IsFramed tables.sections after.sections
@@ -110,16 +112,6 @@ is_framed facts whole tables within is = framed_by facts (frames_of whole.proced
 
 -- WHAT STANDS IN A SECTION
 
--- so many items stand before bytes that are put last, the run among them
-pub run_within : (pos : Pos) (section new : LooseSection) (later : Option LooseSection) (last : LooseSection) → new.items ≡ (with_run pos section).items
-    → IsContinued new later → later ≡ Some last → run_end section ≤ length last.items
-run_within pos section new later last are more is =
-    let count : length new.items ≡ run_end section = ap length are ∙ run_items (ends_in_run section.items) pos section in
-    let same : with_more new more.bytes more.fields more.items ≡ last = same_Some _ _ (sym more.there ∙ is) in
-    let items : length last.items ≡ length new.items + length more.items =
-    sym (ap (λ (s : LooseSection). length s.items) same) ∙ length-append new.items more.items in
-    omega (arith, count, items)
-
 range_more : (xs ys : List ℕ) (from to : ℕ) → from ≤ to → to ≤ length xs → slice_range (xs ++ ys) from to ≡ slice_range xs from to
 range_more xs ys from to up within =
     let inside : from ≤ length xs = omega (arith, up, within) in
@@ -135,9 +127,10 @@ others_more : (P : LooseItem → Type 0) (count : ℕ) (xs ys : List LooseItem) 
 others_more P count xs ys few all more = subst (All P) (sym (drop-append-le count xs ys few)) (All-append P (drop count xs) ys all more)
 
 -- plain bytes stand where they stood
-pub bytes_stay : (before after : List LooseSection) (n item offset : ℕ) (bytes : List ℕ) → Grows before after → (stands : StandsAt before n item offset bytes)
-    → item ≤ length stands.section.items → StandsAt after n item offset bytes
-bytes_stay before after n item offset bytes grows stands few =
+pub bytes_stay : (before after : List LooseSection) (n item offset : ℕ) (bytes : List ℕ) → Grows before after → StandsAt before n item offset bytes
+    → StandsAt after n item offset bytes
+bytes_stay before after n item offset bytes grows stands =
+    let few = stands.enough in
     let section = stands.section in
     let more = grows.kept n section stands.found in
     let within = stands.within in
@@ -145,6 +138,7 @@ bytes_stay before after n item offset bytes grows stands few =
       section = with_more section more.bytes more.fields more.items;
       found = more.there;
       takes_bytes = stands.takes_bytes;
+      enough = omega (arith, few, length-append section.items more.items);
       within = omega (arith, within, length-append section.bytes more.bytes);
       there = range_more section.bytes more.bytes offset (offset + length bytes) (omega arith) within ∙ stands.there;
       free = All-append (IsBeside offset (offset + length bytes)) section.fields more.fields stands.free
@@ -158,21 +152,18 @@ bytes_stay before after n item offset bytes grows stands few =
 
 -- so do those of an instruction with its fields
 pub code_stays : (before after : List LooseSection) (n item offset : ℕ) (pos : Pos) (bytes : List ℕ) (fields : List FieldInCode) → Grows before after
-    → (stands : CodeStandsAt before n item offset pos bytes fields) → item ≤ length stands.section.items → CodeStandsAt after n item offset pos bytes fields
-code_stays before after n item offset pos bytes fields grows stands few =
+    → CodeStandsAt before n item offset pos bytes fields → CodeStandsAt after n item offset pos bytes fields
+code_stays before after n item offset pos bytes fields grows stands =
+    let few = stands.enough in
+    let within = stands.within in
     let section = stands.section in
     let more = grows.kept n section stands.found in
     let at = stands.bytes_there in
     let among = stands.fields_there in
-    let counted = held_long bytes 0 fields (apart_before 1 0 (length bytes) fields (omega arith) stands.apart) in
-    let long : length (blanked bytes fields) ≡ length bytes = omega (arith, counted) in
-    let front : length at.front ≡ offset = at.long in
-    let all : length section.bytes ≡ length at.front + (length (blanked bytes fields) + length at.rest) =
-    ap (λ (xs : List ℕ). length xs) at.there ∙ length-append at.front (blanked bytes fields ++ at.rest)
-    ∙ ap (λ k. length at.front + k) (length-append (blanked bytes fields) at.rest) in
-    let within : offset + length bytes ≤ length section.bytes = omega (arith, long, front, all) in
     record {
       apart = stands.apart;
+      within = omega (arith, within, length-append section.bytes more.bytes);
+      enough = omega (arith, few, length-append section.items more.items);
       section = with_more section more.bytes more.fields more.items;
       found = more.there;
       bytes_there = record {
@@ -204,7 +195,7 @@ pub jump_stays : (before after : List LooseSection) (n item offset : ℕ) (pos :
 jump_stays before after n item offset pos condition field grows stands =
     let section = stands.section in
     let more = grows.kept n section stands.found in
-    let some = inside section.items item _ stands.item_there in
+    let some = slice_get_within section.items item _ stands.item_there in
     let within = stands.within in
     record {
       section = with_more section more.bytes more.fields more.items;

@@ -62,9 +62,9 @@ items_grow before after number items grows has =
 
 meaning_grows : (before after : List LooseSection) (last : ℕ) → Grows before after → (meant : Meaning) → MeaningStands before last meant → MeaningStands after last meant
 meaning_grows before after last grows meaning.Undefined stands = tt
-meaning_grows before after last grows (meaning.Label spot) stands = items_grow before after spot.section spot.item grows stands
+meaning_grows before after last grows (meaning.Label spot) stands = items_grow before after spot.place.section spot.place.place.item grows stands
 meaning_grows before after last grows (meaning.Common size align) stands = tt
-meaning_grows before after last grows (meaning.Space spot) stands = items_grow before after spot.section spot.item grows stands
+meaning_grows before after last grows (meaning.Space spot) stands = items_grow before after spot.place.section spot.place.place.item grows stands
 meaning_grows before after last grows (meaning.Assigned form) stands = stands
 
 label_means : (sections : List LooseSection) (last : ℕ) (symbol : Symbol) → LabelStands sections symbol → MeaningStands sections last symbol.meaning

@@ -20,7 +20,7 @@ use Rattle.asm_place.specs.ProcedurePlaces.{StandInOrder}
 use Rattle.asm_place.specs.Sources.{place_all}
 use Rattle.asm_place.specs.SymbolPlaces.{IsGiven, MeaningStands, NameStands, SymbolStands, ProcedureStands, PlacesStand}
 use Rattle.cfi_directives.specs.declared.frames.Frame.{Frame}
-use Rattle.cfi_directives.specs.declared.places.SectionPlace.{SectionPlace}
+use Rattle.asm_base.specs.declared.places.SectionPlace.{SectionPlace}
 use Rattle.cfi_directives.specs.Procedures.{frames_of}
 use Rattle.eh_frame.specs.Labels.{IsLabelAt}
 use Rattle.eh_frame.specs.Marks.{place_name}
@@ -28,7 +28,7 @@ use Rattle.eh_frame.specs.Pieces.{tables_of}
 use Rattle.eh_frame.specs.Placing.{placed}
 use Rattle.frame_laws.specs.PlacedTables.{IsCovered, SymbolHolds, AreReady}
 use Rattle.frame_laws.specs.TableReads.{TableReads, FrameTablesRead}
-use Rattle.frame_laws.proofs.LaidItems.{AreSettled, layout_is}
+use Rattle.asm_front.proofs.SettledObjects.{AreSettled}
 use Rattle.asm_front.specs.Ending.{Flags, unclosed, first_line, framed, framed_end, unless_open, finished, first_over}
 use Rattle.asm_front.specs.declared.ending.NotedObject.{NotedObject}
 use Rattle.asm_front.specs.ReadsBack.{FramesReadBack}
@@ -37,7 +37,7 @@ use Rattle.asm_front.proofs.FramedSymbols.{frame_stands, holds_items}
 use Rattle.asm_front.proofs.JumpsInObject.{JumpFacts}
 use Rattle.asm_front.proofs.LowLayouts.{all_small, layout_low}
 use Rattle.asm_front.proofs.ObjectReads.{Makes, assembly_is, none_over}
-use Rattle.asm_front.proofs.PlacedItems.{PlaceFacts}
+use Rattle.asm_front.proofs.PlacedFacts.{PlaceFacts}
 use Rattle.asm_front.proofs.SmallSections.{sections_small}
 
 -- what is known of frame tables in objects, and of the procedures that statements place
@@ -84,18 +84,18 @@ place_label : (symbol : Symbol) (meant : Meaning) → symbol.meaning ≡ meant �
 place_label symbol meaning.Undefined means given at is = absurd (subst IsGiven is given)
 place_label symbol (meaning.Label spot) means (inl given) at is = absurd (subst IsGiven is given)
 place_label symbol (meaning.Label spot) means (inr (named, unbound)) at is =
-    let same : naming.Place spot.section spot.item spot.offset ≡ naming.Place at.section at.place.item at.place.offset = sym named ∙ is in
-    let section : spot.section ≡ at.section = cc in
-    let item : spot.item ≡ at.place.item = cc in
-    let offset : spot.offset ≡ at.place.offset = cc in
+    let same : naming.Place spot.place.section spot.place.place.item spot.place.place.offset ≡ naming.Place at.section at.place.item at.place.offset = sym named ∙ is in
+    let section : spot.place.section ≡ at.section = cc in
+    let item : spot.place.place.item ≡ at.place.item = cc in
+    let offset : spot.place.place.offset ≡ at.place.offset = cc in
     record { spot = spot; means = means; place = record { section = section; item = item; offset = offset }; unbound = unbound }
 place_label symbol (meaning.Common size align) means given at is = absurd (subst IsGiven is given)
 place_label symbol (meaning.Space spot) means given at is = absurd (subst IsGiven is given)
 place_label symbol (meaning.Assigned form) means given at is = absurd (subst IsGiven is given)
 
 means_hold : (sections : List LooseSection) (last : ℕ) (symbol : Symbol) → MeaningStands sections last symbol.meaning → SymbolHolds sections symbol
-means_hold sections last symbol stands spot (inl means) = holds_items sections spot.section spot.item (subst (MeaningStands sections last) means stands)
-means_hold sections last symbol stands spot (inr means) = holds_items sections spot.section spot.item (subst (MeaningStands sections last) means stands)
+means_hold sections last symbol stands spot (inl means) = holds_items sections spot.place.section spot.place.place.item (subst (MeaningStands sections last) means stands)
+means_hold sections last symbol stands spot (inr means) = holds_items sections spot.place.section spot.place.place.item (subst (MeaningStands sections last) means stands)
 
 -- what was placed is ready for a frame table
 placed_ready : TableFacts → PlaceFacts → JumpFacts → (statements : List TokenStatement) (no_warn : Bool) (whole : Placed)
@@ -128,10 +128,10 @@ frames_read_back settled table placing facts frames_facts flags handed made e fr
     sym (ap (λ (all : List Frame). placed all (tables_of whole.table.symbols whole.sections)) are) ∙ framed_is in
     let same : made.object ≡ image_of tables.symbols laid = assembly_is flags handed made handed whole tables laid refl all framed_is is e in
     let none = none_over flags handed made handed whole tables laid refl all framed_is is e in
-    let laid_is = layout_is tables.symbols tables.sections laid is in
+    let laid_is = settled.layouts.settled tables.symbols tables.sections laid is in
     let small = sections_small facts.addresses laid
     (subst (λ (all : LaidSections). map placed_section all ≡ all) (sym laid_is) (settled.placed tables.symbols (planned tables.symbols tables.sections))) (all_small laid none) in
     let within = (is_framed table whole tables (placing.within handed (nothing_placed no_warn) whole all (placing.begins no_warn)) framed_is).within in
-    let low = layout_low facts.ranked tables.symbols tables.sections within (sym (ap first_over laid_is) ∙ none) in
+    let low = layout_low facts.rise facts.count tables.symbols tables.sections within (sym (ap first_over laid_is) ∙ none) in
     subst (λ (file : List ℕ). TableReads file tables.symbols laid (frame ∷ frames)) (sym same)
     (frames_facts.read frame frames (tables_of whole.table.symbols whole.sections) tables laid ready covered with_table is (record { small = small; rows = low }))

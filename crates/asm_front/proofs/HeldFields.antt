@@ -18,9 +18,12 @@ use Rattle.asm_relax.specs.RangeChecks.{large_section, section_back, misfit, fie
 use Rattle.asm_relax.specs.Settling.{LaidItem, LooseSections, LaidSections, planned, unless, settled_sections, layout_of}
 use Rattle.asm_front.specs.ReadsBack.{final_value}
 use Rattle.asm_front.proofs.CodeValues.{holds_zero}
-use Rattle.frame_laws.proofs.LaidItems.{unless_is}
 
--- no fault is answered
+-- what is answered without a fault
+unless_is : {A E : Type 0} (fault : Option E) (made answer : A) → unless fault made ≡ Ok answer → answer ≡ made
+unless_is None made answer e = cc
+unless_is (Some fault) made answer e = absurd cc
+
 unless_none : {A E : Type 0} (fault : Option E) (made answer : A) → unless fault made ≡ Ok answer → fault ≡ None
 unless_none None made answer e = refl
 unless_none (Some fault) made answer e = absurd cc

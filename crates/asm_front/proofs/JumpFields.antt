@@ -3,7 +3,8 @@ use Rattle.std.proofs.Common.{◌≡◌, ℕ, ◌+◌, ◌-◌, ◌^◌, ◌<◌
 use Rattle.std.specs.Prelude.{◌==◌, slice_get, option_map}
 use Rattle.std.specs.Option.{option_map_or}
 use Rattle.std.proofs.lemmas.List.{length-map}
-use Rattle.std.proofs.lemmas.Option.{none-some, same_Some, slice_get-map}
+use Rattle.std.proofs.lemmas.Option.{none-some, same_Some, slice_get-map, slice_get_within}
+use Rattle.asm_base.specs.declared.places.SectionPlace.{SectionPlace}
 use Rattle.asm_base.specs.declared.positions.Pos.{Pos}
 use Rattle.asm_expr.specs.declared.forms.Term.{Term}
 use Rattle.asm_expr.specs.Forms.{Form, wrapped, constant_form, symbol_form, plus_times}
@@ -17,15 +18,14 @@ use Rattle.asm_frags.specs.Substituting.{substituted_field, laid_item, laid_sect
 use Rattle.asm_frags.specs.Writing.{LooseSection}
 use Rattle.item_bytes.specs.declared.jumps.Condition.{Condition}
 use Rattle.assigned_forms.specs.Expanding.{replacement, plus_terms, with_replaced, names_assigned, expanded_within, expanded}
-use Rattle.row_distances.specs.declared.places.Place.{Place}
 use Rattle.row_distances.specs.Places.{meant_place, place_of}
-use Rattle.asm_relax.specs.ItemRows.{own_of}
+use Rattle.item_rows.specs.ItemRows.{own_of}
 use Rattle.asm_relax.specs.ItemValues.{StandsIn, NamesOwnPlace, IsInItem}
 use Rattle.asm_relax.specs.Settling.{planned}
 use Rattle.asm_place.specs.Coding.{from_own_place}
 use Rattle.asm_place.specs.JumpPlaces.{JumpStandsAt}
 use Rattle.asm_place.specs.SymbolPlaces.{HasItems, MeaningStands}
-use Rattle.frame_laws.proofs.LaidItems.{all_there, inside}
+use Rattle.asm_front.proofs.Lists.{all_there}
 
 -- THE CONSTANT
 
@@ -58,7 +58,7 @@ expanded_small map form small = expanded_by (names_assigned map form) (replaceme
 -- THE PLACES
 
 -- a section keeps its items where it is laid out
-planned_stands : (symbols : SymbolMap) (sections : List LooseSection) (place : Place) → HasItems sections place.section place.item → StandsIn (planned symbols sections) place
+planned_stands : (symbols : SymbolMap) (sections : List LooseSection) (place : SectionPlace) → HasItems sections place.section place.place.item → StandsIn (planned symbols sections) place
 unfolding planned
 planned_stands symbols sections place has =
     let count = length-map has.section.items laid_item in
@@ -74,18 +74,18 @@ abbrev pub StandUpTo : ℕ → List LooseSection → List Symbol → Type 0
 StandUpTo last sections symbols = All (λ symbol. MeaningStands sections last symbol.meaning) symbols
 
 module _ (symbols : SymbolMap) (sections : List LooseSection) (last : ℕ) (stand : StandUpTo last sections symbols.symbols) where
-  by_meaning : (meant : Meaning) (place : Place) → MeaningStands sections last meant → meant_place meant ≡ Some place → StandsIn (planned symbols sections) place
+  by_meaning : (meant : Meaning) (place : SectionPlace) → MeaningStands sections last meant → meant_place meant ≡ Some place → StandsIn (planned symbols sections) place
   by_meaning meaning.Undefined place stands is = absurd (none-some place is)
   by_meaning (meaning.Label spot) place stands is =
-      let own : Place = record { section = spot.section; item = spot.item; offset = spot.offset } in
+      let own : SectionPlace = spot.place in
       subst (StandsIn (planned symbols sections)) (same_Some own place is) (planned_stands symbols sections own stands)
   by_meaning (meaning.Common size align) place stands is = absurd (none-some place is)
   by_meaning (meaning.Space spot) place stands is =
-      let own : Place = record { section = spot.section; item = spot.item; offset = spot.offset } in
+      let own : SectionPlace = spot.place in
       subst (StandsIn (planned symbols sections)) (same_Some own place is) (planned_stands symbols sections own stands)
   by_meaning (meaning.Assigned form) place stands is = absurd (none-some place is)
 
-  by_symbol : (index : ℕ) (found : Option Symbol) (place : Place) → slice_get symbols.symbols index ≡ found
+  by_symbol : (index : ℕ) (found : Option Symbol) (place : SectionPlace) → slice_get symbols.symbols index ≡ found
       → option_map_or (λ (symbol : Symbol). meant_place symbol.meaning) found None ≡ Some place → StandsIn (planned symbols sections) place
   by_symbol index None place there is = absurd (none-some place is)
   by_symbol index (Some symbol) place there is =
@@ -95,17 +95,17 @@ module _ (symbols : SymbolMap) (sections : List LooseSection) (last : ℕ) (stan
       (of_section : field.section ≡ n) (behind_item : field.item ≡ item + 1) where
     own_stands : StandsIn (planned symbols sections) (own_of (substituted_field (expanded symbols) field)).place
     own_stands =
-        let some = inside stands.section.items item _ stands.item_there in
+        let some = slice_get_within stands.section.items item _ stands.item_there in
         planned_stands symbols sections (own_of field).place
         (record { section = stands.section; there = ap (slice_get sections) of_section ∙ stands.found; enough = omega (arith, behind_item, some) })
 
-    by_test : (test : Bool) (index : ℕ) (place : Place)
+    by_test : (test : Bool) (index : ℕ) (place : SectionPlace)
         → cond test (Some (own_of (substituted_field (expanded symbols) field)).place) (option_map_or (λ (symbol : Symbol). meant_place symbol.meaning) (slice_get symbols.symbols index) None)
         ≡ Some place → StandsIn (planned symbols sections) place
     by_test true index place is = subst (StandsIn (planned symbols sections)) (same_Some _ place is) own_stands
     by_test false index place is = by_symbol index (slice_get symbols.symbols index) place refl is
 
-    places_stand : (index : ℕ) (place : Place) → place_of symbols (own_of (substituted_field (expanded symbols) field)) index ≡ Some place
+    places_stand : (index : ℕ) (place : SectionPlace) → place_of symbols (own_of (substituted_field (expanded symbols) field)) index ≡ Some place
         → StandsIn (planned symbols sections) place
     unfolding place_of
     places_stand index place is = by_test (index == own_place) index place is

@@ -6,6 +6,8 @@ use Rattle.std.proofs.lemmas.Bool.{or_cases, ltb-true, leb-true}
 use Rattle.std.proofs.lemmas.Option.{same_Some, slice_get-map}
 use Rattle.asm_base.specs.declared.positions.Pos.{Pos}
 use Rattle.asm_base.specs.Refusals.{◌>>=◌}
+use Rattle.asm_expr.specs.Coefficients.{AreAdded}
+use Rattle.asm_expr.specs.Forms.{Form}
 use Rattle.asm_lines.specs.NextStatements.{TokenStatement}
 use Rattle.asm_symbols.specs.SymbolMap.{SymbolMap}
 use Rattle.asm_frags.specs.declared.fields.Field.{Field}
@@ -21,20 +23,20 @@ use Rattle.item_contents.specs.declared.contents.Content.{Content}
 use Rattle.item_contents.specs.declared.contents.Content.TheVariants.{Growing}
 use Rattle.item_contents.specs.declared.kinds.Growth.TheVariants.{Jump}
 use Rattle.item_contents.specs.Contents.{level_size}
-use Rattle.asm_levels.specs.declared.rows.Row.{Row}
-use Rattle.asm_levels.specs.Needs.{need, tops, IsSignedWithin}
-use Rattle.asm_levels.specs.Sizes.{jump_size}
-use Rattle.level_ranks.specs.Ranks.{IsLayout}
+use Rattle.asm_levels.specs.Shifts.{shifts_of}
+use Rattle.item_bytes.specs.Levels.{IsSignedWithin}
+use Rattle.item_bytes.specs.Levels.{jump_size}
 use Rattle.assigned_forms.specs.Expanding.{expanded}
+use Rattle.item_rows.specs.ItemRows.{all_rows, rows_of, levels_of}
 use Rattle.asm_relax.specs.FieldValues.{held_value}
-use Rattle.asm_relax.specs.ItemRows.{rows_of, levels_of}
 use Rattle.asm_relax.specs.ItemValues.{AreLow, IsInItem, HasRoom}
+use Rattle.asm_relax.specs.KeptSections.{kept_section}
 use Rattle.asm_relax.specs.Placing.{placed_from, shift_of}
+use Rattle.asm_relax.specs.RisingRows.{AllRise}
 use Rattle.asm_relax.specs.SettledRoom.{HasRoomFor, SettledHaveRoom}
 use Rattle.asm_relax.specs.Settling.{LaidItem, LaidSections, planned, settled_sections, layout_of}
 use Rattle.elf_file.specs.Places.{PieceAt}
 use Rattle.elf_file.specs.Sections.{no_bits}
-use Rattle.elf_file.proofs.FilePlaces.{drop_stands}
 use Rattle.elf_object.specs.Contents.{value_or_zero, item_bytes}
 use Rattle.elf_object.specs.Image.{image_of}
 use Rattle.elf_object.specs.Places.{section_offset, moved, IsFiled, ItemsStand}
@@ -44,7 +46,6 @@ use Rattle.asm_values.specs.State.{Placed, nothing_placed}
 use Rattle.asm_place.specs.Instructions.{next_offset, AreWithin}
 use Rattle.asm_place.specs.CodePlaces.{insn_in, jump_in}
 use Rattle.asm_place.specs.SymbolPlaces.{AreUpTo, PlacesStand}
-use Rattle.asm_place.proofs.StatementSplits.{all_split}
 use Rattle.asm_place.specs.JumpPlaces.{IsJump, jump_form, items_so_far, jump_field, JumpStandsAt, JumpStands, jump_written}
 use Rattle.asm_place.specs.Sources.{pos_at, place_all}
 use Rattle.x86_encode.specs.declared.encoded.FieldKind.TheVariants as kind
@@ -54,12 +55,13 @@ use Rattle.asm_front.specs.declared.ending.NotedObject.{NotedObject}
 use Rattle.asm_front.specs.ReadsBack.{file_place, final_value, has_no_bits, JumpReadsAt, JumpReadsBack, JumpsReadBack}
 use Rattle.asm_front.proofs.FramedSections.{TableFacts, is_framed, jump_stays}
 use Rattle.asm_front.proofs.FramedSymbols.{labels_framed, symbols_framed, forms_framed}
-use Rattle.asm_front.proofs.PlacedItems.{PlaceFacts}
+use Rattle.asm_front.proofs.PlacedFacts.{PlaceFacts}
+use Rattle.asm_front.proofs.StatementSplits.{all_split}
 use Rattle.asm_front.proofs.HeldFields.{field_held}
 use Rattle.asm_front.proofs.JumpFields.{stands_in_item, jump_constant}
 use Rattle.asm_front.proofs.LowLayouts.{layout_low}
 use Rattle.asm_front.proofs.OwnPlaces.{names_own_place}
-use Rattle.frame_laws.proofs.LaidItems.{AreSettled, layout_is, kept_section, section_kept, laid_stays, laid_sized, first_kept, item_kept}
+use Rattle.asm_front.proofs.SettledObjects.{AreSettled, drop_stands}
 use Rattle.asm_front.proofs.ObjectReads.{Makes, reads_code, assembly_is, none_over}
 use Rattle.asm_front.proofs.SmallForms.{held_small, final_small}
 
@@ -78,7 +80,9 @@ pub record JumpFacts : Type 0 where
   pub short : (condition : Option Condition) (distance : ℕ) → distance < 2 ^ 64 → IsSignedWithin (2 ^ 7) distance
       → jump_distance false (jump_bytes condition false distance) ≡ distance
   pub room : SettledHaveRoom
-  pub ranked : (rows : List Row) → (rounds : ℕ) × IsLayout (need rows) (tops rows) (levels_of rows) rounds
+  pub rise : (symbols : SymbolMap) (sections : LaidSections) → AllRise (shifts_of (rows_of symbols sections) (levels_of (rows_of symbols sections))) sections
+  pub count : (symbols : SymbolMap) (levels : List ℕ) (sections : LaidSections) → length (shifts_of (rows_of symbols sections) levels) ≡ all_rows sections
+  pub adds : (one other : Form) → AreAdded one other
   pub starts : (no_warn : Bool) → PlacesStand (nothing_placed no_warn)
   pub places : (statements : List TokenStatement) (before placed : Placed) → place_all statements before ≡ Ok placed → PlacesStand before → PlacesStand placed
   pub few : (statements : List TokenStatement) (no_warn : Bool) (placed : Placed) → place_all statements (nothing_placed no_warn) ≡ Ok placed
@@ -97,21 +101,21 @@ module _ (settled : AreSettled) (facts : JumpFacts) (symbols : SymbolMap) (secti
 
   -- how far its rows are moved
   abbrev own : List ℕ
-  own = (section_kept symbols sections laid n section is stands.found).0
+  own = (settled.layouts.section symbols sections laid n section is stands.found).0
 
   -- the section as it is laid out
   abbrev kept : SectionOf LaidItem
   kept = kept_section symbols own section
 
   found : slice_get laid n ≡ Some kept
-  found = (section_kept symbols sections laid n section is stands.found).1
+  found = (settled.layouts.section symbols sections laid n section is stands.found).1
 
   filed : IsFiled laid n kept
   filed = record {
     found = found;
     takes_bytes = takes;
-    laid = laid_stays settled symbols sections laid n kept is found;
-    sized = laid_sized settled symbols sections laid n kept is found;
+    laid = settled.layouts.placed symbols sections laid n kept is found;
+    sized = settled.layouts.sized symbols sections laid n kept is found;
   }
 
   -- the item, as it is put and as it is laid out
@@ -122,7 +126,7 @@ module _ (settled : AreSettled) (facts : JumpFacts) (symbols : SymbolMap) (secti
   put = item_behind offset (new_item pos content)
 
   got : (address : ℕ) × (size : ℕ) × (slice_get kept.items item ≡ Some (item_laid_at address size (laid_item put)))
-  got = item_kept section.items own item put stands.item_there
+  got = settled.layouts.item section.items own item put stands.item_there
 
   abbrev item_size : ℕ
   item_size = got.1
@@ -134,7 +138,7 @@ module _ (settled : AreSettled) (facts : JumpFacts) (symbols : SymbolMap) (secti
   address_is : got.0 ≡ moved kept.items item offset
   address_is =
       let stays : slice_get (placed_from 0 kept.items) item ≡ Some settled_item =
-      ap (λ (s : SectionOf LaidItem). slice_get s.items item) (laid_stays settled symbols sections laid n kept is found) ∙ got.2 in
+      ap (λ (s : SectionOf LaidItem). slice_get s.items item) (settled.layouts.placed symbols sections laid n kept is found) ∙ got.2 in
       let moves : slice_get (placed_from 0 kept.items) item ≡ Some (item_laid_at (offset + shift_of item 0 kept.items) item_size settled_item) =
       facts.addresses kept.items item
       ∙ ap (option_map (λ (i : LaidItem). item_laid_at (i.offset + shift_of item 0 kept.items) i.size i)) got.2 in
@@ -157,7 +161,7 @@ module _ (settled : AreSettled) (facts : JumpFacts) (symbols : SymbolMap) (secti
   item_there : PieceAt (image_of symbols laid) (file_place symbols laid n item offset) (jump_bytes condition is_near item_value)
   item_there =
       let there = facts.stand symbols laid n item kept settled_item filed got.2 stands.within
-      (first_kept (λ at. at ≤ offset) item section.items own stands.before) in
+      (settled.layouts.first offset item section.items own stands.before) in
       let holds_value = ap (value_or_zero symbols laid) field_got in
       let place : section_offset symbols laid n + got.0 ≡ file_place symbols laid n item offset =
       ap (λ at. section_offset symbols laid n + at) address_is
@@ -169,7 +173,7 @@ module _ (settled : AreSettled) (facts : JumpFacts) (symbols : SymbolMap) (secti
   has_room : AreLow symbols (levels_of (rows_of symbols (planned symbols sections))) (planned symbols sections)
       → IsInItem symbols (planned symbols sections) (substituted_field (expanded symbols) field) → HasRoomFor symbols laid (Jump condition) item_size (substituted_field (expanded symbols) field)
   has_room low in_item =
-      let settled_is : laid ≡ settled_sections symbols (planned symbols sections) = layout_is symbols sections laid is in
+      let settled_is : laid ≡ settled_sections symbols (planned symbols sections) = settled.layouts.settled symbols sections laid is in
       subst (λ (all : LaidSections). HasRoomFor symbols all (Jump condition) item_size (substituted_field (expanded symbols) field)) (sym settled_is)
       (facts.room symbols (planned symbols sections) n item stands.index kept settled_item (Jump condition) (substituted_field (expanded symbols) field) low in_item
       (ap (λ (all : LaidSections). slice_get all n) (sym settled_is) ∙ found) got.2 refl field_got)
@@ -238,21 +242,21 @@ jump_reads_back settled one_way table placing facts no_warn front s later text c
     let stands = jump_stays whole.sections sections n item offset pos condition field with_table.grows there.stands in
     let takes : (stands.section.kind == 8) ≡ false =
     sym (ap (λ found. option_map_or (λ (kept : SectionOf LaidItem). kept.kind == no_bits) found false)
-    (section_kept symbols sections laid n stands.section is stands.found).1) ∙ filed in
+    (settled.layouts.section symbols sections laid n stands.section is stands.found).1) ∙ filed in
     let piece = item_there settled facts symbols sections laid n item offset pos condition field is stands takes in
     let at = file_place symbols laid n item offset in
     let distance = final_value symbols laid field in
     let small = final_small symbols laid field (held_small kind.Branch there.jump.forms.displacement (λ far. absurd cc)) in
     let fits = value_fits settled facts symbols sections laid n item offset pos condition field is stands takes in
     let bytes = item_size settled facts symbols sections laid n item offset pos condition field is stands takes in
-    let low = layout_low facts.ranked symbols sections with_table.within (sym (ap first_over (layout_is symbols sections laid is)) ∙ none) in
+    let low = layout_low facts.rise facts.count symbols sections with_table.within (sym (ap first_over (settled.layouts.settled symbols sections laid is)) ∙ none) in
     let places = facts.places (front ++ s ∷ later) empty whole all (facts.starts no_warn) in
     let rest = sym (ap (λ r. r >>= place_all (s ∷ later)) front_is) ∙ (sym (all_split front (s ∷ later) empty) ∙ all) in
     let named = facts.named s later placed whole text (facts.places front empty placed front_is (facts.starts no_warn)) there.jump rest written in
     let labels = labels_framed table whole tables within places framed_is in
     let last = length whole.table.symbols.symbols in
     let stand = symbols_framed whole.sections sections whole.table.symbols symbols with_table.grows places.symbols labels in
-    let own = names_own_place sections symbols last there.jump.forms.displacement stand (facts.few (front ++ s ∷ later) no_warn whole all)
+    let own = names_own_place facts.adds sections symbols last there.jump.forms.displacement stand (facts.few (front ++ s ∷ later) no_warn whole all)
     (λ index form assigned. forms_framed sections whole.table.symbols symbols index form labels assigned) named in
     let room = has_room settled facts symbols sections laid n item offset pos condition field is stands takes low
     (stands_in_item symbols sections last stand n item offset pos condition field stands refl refl refl refl own

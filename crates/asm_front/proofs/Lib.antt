@@ -1,4 +1,6 @@
 -- The proofs of this crate.
+mod Lists
+mod SettledObjects
 pub mod ObjectReads
 pub mod FaultLaws
 pub mod ToldFiles
@@ -17,7 +19,8 @@ pub mod JumpFields
 pub mod LowLayouts
 pub mod OwnPlaces
 pub mod FramedSections
-pub mod PlacedItems
+pub mod PlacedFacts
+mod StatementSplits
 pub mod FramedSymbols
 pub mod JumpsInObject
 pub mod SmallSections

@@ -6,22 +6,20 @@ use Rattle.std.specs.Option.{option_map_or}
 use Rattle.std.proofs.lemmas.Bool.{cases_lt, ltb-false}
 use Rattle.std.proofs.lemmas.List.Elements.{All-nil, All-cons, All-head, All-tail}
 use Rattle.std.proofs.lemmas.Grind.{get_or_default_zero}
+use Rattle.std.proofs.lemmas.List.{get_or-drop}
 use Rattle.asm_expr.specs.Forms.{Form}
 use Rattle.asm_symbols.specs.SymbolMap.{SymbolMap}
+use Rattle.asm_frags.specs.Addresses.{item_laid_at}
 use Rattle.asm_frags.specs.Substituting.{laid_item, laid_section, laid_sections}
 use Rattle.asm_frags.specs.Writing.{LooseItem, LooseSection}
 use Rattle.assigned_forms.specs.Expanding.{expanded}
 use Rattle.asm_frags.specs.SectionOf.{SectionOf}
-use Rattle.asm_levels.specs.declared.rows.Row.{Row}
-use Rattle.asm_levels.specs.Needs.{need, tops}
 use Rattle.asm_levels.specs.Shifts.{shifts_of}
-use Rattle.level_ranks.specs.Ranks.{IsLayout}
-use Rattle.asm_relax.specs.ItemRows.{row_count, all_rows, rows_of, levels_of}
+use Rattle.item_rows.specs.ItemRows.{row_count, all_rows, rows_of, levels_of}
 use Rattle.asm_relax.specs.ItemValues.{AreLow}
 use Rattle.asm_relax.specs.Layout.{laid_from, laid_out_section, laid_out, laid_by}
+use Rattle.asm_relax.specs.RisingRows.{Rise, AllRise}
 use Rattle.asm_relax.specs.Settling.{LaidItem, LaidSections, planned, settled_sections}
-use Rattle.asm_relax.proofs.LayingLemmas.{next_shift, laid_there, shift_behind, rows_are_all}
-use Rattle.asm_relax.proofs.ShiftTail.{Rise, AllRise, ranked_within, rows_rise, shifts_long}
 use Rattle.asm_place.specs.Instructions.{IsWithin, AreWithin}
 use Rattle.asm_front.specs.Ending.{whole_size, is_over, last_place, first_over}
 
@@ -58,6 +56,15 @@ last_behind first next items =
     let moved : Option LaidItem → ℕ = λ found. option_map_or (λ item. item.address + item.size - item.offset) found 0 in
     ap (λ n. moved (slice_get (first ∷ next ∷ items) n)) one ∙ sym (ap (λ n. moved (slice_get (next ∷ items) n)) other)
 
+-- behind the first shift stand the others
+next_shift : (shifts : List ℕ) (index : ℕ) → slice_index (drop 1 shifts) index ≡ slice_index shifts (suc index)
+next_shift [] index = refl
+next_shift (shift ∷ shifts) index = refl
+
+-- the item, laid out by the first shifts
+abbrev first_laid : List ℕ → LaidItem → LaidItem
+first_laid shifts item = item_laid_at (item.offset + slice_index shifts 0) (slice_index shifts 1 - slice_index shifts 0) item
+
 -- the row behind the last item is moved as far
 last_moves : (first : LaidItem) (items : List LaidItem) (shifts : List ℕ) → Rise shifts (first ∷ items)
     → end_of (laid_from shifts (first ∷ items)) ≡ slice_index shifts (suc (length items))
@@ -66,7 +73,7 @@ last_moves first [] shifts rise =
     let end : first.offset + slice_index shifts 0 + (slice_index shifts 1 - slice_index shifts 0) - first.offset ≡ slice_index shifts 1 = omega (arith, up) in
     end
 last_moves first (next ∷ items) shifts rise =
-    last_behind (laid_there shifts 0 first) (laid_there (drop 1 shifts) 0 next) (laid_from (drop 1 (drop 1 shifts)) items) ∙ (last_moves next items (drop 1 shifts) rise.1 ∙ next_shift shifts (suc (length items)))
+    last_behind (first_laid shifts first) (first_laid (drop 1 shifts) next) (laid_from (drop 1 (drop 1 shifts)) items) ∙ (last_moves next items (drop 1 shifts) rise.1 ∙ next_shift shifts (suc (length items)))
 
 -- and so is the one behind all items
 end_moves : (items : List LaidItem) (shifts : List ℕ) → slice_index shifts 0 ≡ 0 → Rise shifts items → end_of (laid_from shifts items) ≡ slice_index shifts (length items)
@@ -105,7 +112,7 @@ rows_low (section ∷ sections) shifts rise low index few = elim (cases_lt index
       let deep = rows_low sections (drop (row_count section) shifts) rise.2 rest (index - row_count section) (omega (arith, past, few)) in
       let place : row_count section + (index - row_count section) ≡ index = omega (arith, past) in
       let same : slice_index shifts index ≡ slice_index (drop (row_count section) shifts) (index - row_count section) =
-      sym (ap (slice_index shifts) place) ∙ shift_behind shifts (row_count section) (index - row_count section) in
+      sym (ap (slice_index shifts) place) ∙ sym (get_or-drop (row_count section) shifts (index - row_count section) 0) in
       omega (arith, deep, same))
 ]
 
@@ -140,22 +147,22 @@ offsets_low substitute (section ∷ sections) shifts within low =
     (offsets_low substitute sections behind (All-tail IsWithin section sections within) (All-tail IsSmall own others low))
 
 -- where no section of a layout is too large, all rows are low
-pub layout_low : ((rows : List Row) → (rounds : ℕ) × IsLayout (need rows) (tops rows) (levels_of rows) rounds) → (symbols : SymbolMap) (sections : List LooseSection)
+pub layout_low : ((symbols : SymbolMap) (sections : LaidSections) → AllRise (shifts_of (rows_of symbols sections) (levels_of (rows_of symbols sections))) sections)
+    → ((symbols : SymbolMap) (levels : List ℕ) (sections : LaidSections) → length (shifts_of (rows_of symbols sections) levels) ≡ all_rows sections) → (symbols : SymbolMap) (sections : List LooseSection)
     → AreWithin sections → first_over (settled_sections symbols (planned symbols sections)) ≡ None
     → AreLow symbols (levels_of (rows_of symbols (planned symbols sections))) (planned symbols sections)
 unfolding planned settled_sections laid_by
-layout_low ranked symbols sections within none =
+layout_low rows_rise counts symbols sections within none =
     let all = laid_sections (expanded symbols) sections in
     let rows = rows_of symbols all in
     let levels = levels_of rows in
     let shifts = shifts_of rows levels in
-    let layout = ranked rows in
-    let rise = rows_rise symbols levels all (ranked_within rows levels layout.0 layout.1) in
+    let rise = rows_rise symbols all in
     let small = all_small (laid_out shifts all) none in
     record {
       offsets = offsets_low (expanded symbols) sections shifts within small;
       shifts = λ index default few.
-          let count = shifts_long rows levels ∙ rows_are_all symbols all in
+          let count = counts symbols levels all in
           let there = rows_low all shifts rise small index (omega (arith, count, few)) in
           let same = get_or_default_zero shifts index default few in
           omega (arith, there, same);

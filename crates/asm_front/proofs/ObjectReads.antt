@@ -6,7 +6,7 @@ use Rattle.asm_base.specs.declared.notes.Noted.{Noted}
 use Rattle.asm_base.specs.declared.positions.Pos.{Pos}
 use Rattle.asm_lines.specs.NextStatements.{TokenStatement}
 use Rattle.asm_symbols.specs.SymbolMap.{SymbolMap}
-use Rattle.assigned_forms.specs.Expanding.{expanded}
+use Rattle.asm_relax.specs.KeptSections.{kept_section}
 use Rattle.asm_relax.specs.Settling.{LaidSections, unless, layout_of}
 use Rattle.asm_relax.specs.declared.faults.LayoutFault.{LayoutFault}
 use Rattle.x86_insn.specs.Views.{View}
@@ -20,7 +20,7 @@ use Rattle.asm_words.specs.declared.directives.Syntax.{Syntax}
 use Rattle.asm_words.specs.declared.directives.Syntax.TheVariants.{Att, Intel}
 use Rattle.cfi_directives.specs.Procedures.{frames_of}
 use Rattle.eh_frame.specs.Pieces.{Tables}
-use Rattle.asm_frags.specs.declared.faults.FragCause.{FragCause}
+use Rattle.asm_base.specs.declared.causes.FragCause.{FragCause}
 use Rattle.asm_place.specs.declared.place_faults.FaultAt.{FaultAt}
 use Rattle.asm_place.specs.Sources.{place_all}
 use Rattle.asm_place.specs.Instructions.{behind_labels, instruction_written, next_item, next_offset, StandsAt}
@@ -30,37 +30,36 @@ use Rattle.elf_object.specs.Objects.{object_of}
 use Rattle.elf_object.specs.Image.{image_of}
 use Rattle.elf_file.specs.Places.{PieceAt}
 use Rattle.elf_object.specs.Places.{IsFiled, IsBetween}
-use Rattle.elf_file.proofs.FilePlaces.{drop_stands}
 use Rattle.asm_front.specs.Ending.{Flags, first_warning, warned_end, made_end, first_over, unless_over, laid_end, noted, unclosed, first_line, framed, framed_end, unless_open, finished}
 use Rattle.asm_front.specs.declared.ending.Ended.{Ended}
 use Rattle.asm_front.specs.declared.ending.NotedObject.{NotedObject}
 use Rattle.asm_front.specs.ReadsBack.{ReadsAt, file_place, BareReadBack}
 use Rattle.asm_front.proofs.FramedSections.{TableFacts, is_framed, bytes_stay}
-use Rattle.asm_front.proofs.PlacedItems.{PlaceFacts, bare_items}
-use Rattle.frame_laws.proofs.LaidItems.{AreSettled, kept_section, section_kept, laid_stays, laid_sized, first_kept, others_kept, beside_kept}
+use Rattle.asm_front.proofs.PlacedFacts.{PlaceFacts}
+use Rattle.asm_front.proofs.SettledObjects.{AreSettled, drop_stands}
 
 -- plain bytes that stand in a section stand in the object at their place
 pub object_stands : AreSettled → (symbols : SymbolMap) (sections : List LooseSection) (laid : LaidSections) (n item offset : ℕ) (bytes : List ℕ) → layout_of symbols sections ≡ Ok laid
     → StandsAt sections n item offset bytes → PieceAt (image_of symbols laid) (file_place symbols laid n item offset) bytes
 object_stands settled symbols sections laid n item offset bytes e holds =
-    let got = section_kept symbols sections laid n holds.section e holds.found in
+    let got = settled.layouts.section symbols sections laid n holds.section e holds.found in
     let section = kept_section symbols got.0 holds.section in
     let there : slice_get laid n ≡ Some section = got.1 in
     let last = offset + length bytes in
     let filed : IsFiled laid n section = record {
       found = there;
       takes_bytes = holds.takes_bytes;
-      laid = laid_stays settled symbols sections laid n section e there;
-      sized = laid_sized settled symbols sections laid n section e there;
+      laid = settled.layouts.placed symbols sections laid n section e there;
+      sized = settled.layouts.sized symbols sections laid n section e there;
     } in
     let between : IsBetween section.items item offset last = record {
-      before = first_kept (λ at. at ≤ offset) item holds.section.items got.0 holds.before;
-      behind = others_kept (λ at. last ≤ at) item holds.section.items got.0 holds.behind;
+      before = settled.layouts.first offset item holds.section.items got.0 holds.before;
+      behind = settled.layouts.others last item holds.section.items got.0 holds.behind;
     } in
     let within : last ≤ length holds.section.bytes = holds.within in
     let inside : offset ≤ length holds.section.bytes = omega arith in
     let stands = settled.bytes symbols laid n item offset section bytes filed inside holds.there
-    (beside_kept (expanded symbols) offset last holds.section.fields holds.free) between in
+    (settled.layouts.beside symbols offset last holds.section.fields holds.free) between in
     rw there stands
 
 written_of_one : (name plain : Bool) (found : Option Coded) (coded : Coded) → cond (name && plain) found None ≡ Some coded → found ≡ Some coded
@@ -164,8 +163,7 @@ bare_read_back settled one_way read table facts flags handed made e before after
     let begins = facts.begins flags.no_warn in
     let stands = facts.bare_stands before s after empty placed whole coded begins front all written in
     let grows = (is_framed table whole tables (facts.within (before ++ s ∷ after) empty whole all begins) framed_is).grows in
-    let holds = bytes_stay whole.sections tables.sections placed.current (next_item placed) (next_offset placed) coded.bytes grows stands
-    (bare_items facts before s after empty placed whole stands.section front all stands.found coded written) in
+    let holds = bytes_stay whole.sections tables.sections placed.current (next_item placed) (next_offset placed) coded.bytes grows stands in
     let symbols = tables.symbols in
     let at = file_place symbols laid placed.current (next_item placed) (next_offset placed) in
     let same : made.object ≡ image_of symbols laid = assembly_is flags handed made (before ++ s ∷ after) whole tables laid are all framed_is is e in

@@ -48,7 +48,7 @@ symbol name what = record {
 }
 
 label : ℕ → ℕ → ℕ → Meaning
-label section item offset = meaning.Label (record { section = section; item = item; offset = offset; stretch = 0; at = 0 })
+label section item offset = meaning.Label (record { place = record { section = section; place = record { item = item; offset = offset } }; stretch = 0; at = 0 })
 
 x : Name
 x = Plain (codes "x")

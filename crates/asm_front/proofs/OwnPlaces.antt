@@ -5,9 +5,8 @@ use Rattle.std.proofs.lemmas.Bool.Decides.{nat_tests}
 use Rattle.std.proofs.lemmas.Option.{none-some}
 use Rattle.std.proofs.lemmas.Nat.{mul-mod_second}
 use Rattle.asm_expr.specs.declared.forms.Term.{Term}
-use Rattle.asm_expr.specs.Forms.{Form, wrapped, constant_form, symbol_form, with_terms, scaled_term, plus_times}
-use Rattle.asm_expr.specs.Coefficients.{counted_as, times, coefficient}
-use Rattle.asm_expr.proofs.Weights.{IsWeight, weighed, with_terms_weighs}
+use Rattle.asm_expr.specs.Forms.{Form, wrapped, constant_form, symbol_form, with_terms, signed_term, sum_of, scaled_term, plus_times}
+use Rattle.asm_expr.specs.Coefficients.{counted_as, times, coefficient, AreAdded}
 use Rattle.asm_frags.specs.Fields.{own_place}
 use Rattle.asm_frags.specs.Writing.{LooseSection}
 use Rattle.asm_symbols.specs.declared.entries.Meaning.{Meaning}
@@ -19,31 +18,17 @@ use Rattle.assigned_forms.specs.Expanding.{form_or_symbol, replacement, plus_ter
 use Rattle.asm_relax.specs.ItemValues.{NamesOwnPlace}
 use Rattle.asm_place.specs.Coding.{from_own_place}
 use Rattle.asm_place.specs.SymbolPlaces.{AreUpTo, MeaningStands}
-use Rattle.frame_laws.proofs.LaidItems.{all_there}
 use Rattle.asm_front.proofs.JumpFields.{StandUpTo}
+use Rattle.asm_front.proofs.Lists.{all_there}
 
 -- A SUM WITH A FACTOR
 
-count_adds : (b : Bool) (m n : ℕ) → wrapped (cond b (wrapped (m + n)) 0) ≡ wrapped (cond b m 0 + cond b n 0)
-count_adds true m n = omega arith
-count_adds false m n = omega arith
+-- terms that are added are taken as they are
+plain_terms : (factor : ℕ) (terms : List Term) → map (signed_term false) (map (scaled_term factor) terms) ≡ map (scaled_term factor) terms
+plain_terms factor [] = refl
+plain_terms factor (term ∷ terms) = ap (λ (rest : List Term). scaled_term factor term ∷ rest) (plain_terms factor terms)
 
-count_none : (b : Bool) → wrapped (cond b 0 0) ≡ 0
-count_none true = refl
-count_none false = refl
-
-module _ (own : ℕ) where
-  -- how often a symbol counts adds up
-  counts : IsWeight (counted_as own)
-  counts = record {
-    none = λ symbol. count_none (symbol == own);
-    adds = λ symbol m n. count_adds (symbol == own) m n;
-  }
-
-  times_weighs : (terms : List Term) → times own terms ≡ weighed (counted_as own) terms
-  times_weighs [] = refl
-  times_weighs (term ∷ terms) = ap (λ (n : ℕ). counted_as own term.symbol term.coefficient + n) (times_weighs terms)
-
+module _ (adds : (one other : Form) → AreAdded one other) (own : ℕ) where
   counted_times : (b : Bool) (factor count : ℕ) → wrapped (cond b (wrapped (factor * count)) 0) ≡ wrapped (factor * cond b count 0)
   counted_times true factor count = omega arith
   counted_times false factor count = omega arith
@@ -61,13 +46,15 @@ module _ (own : ℕ) where
   plus_counts : (made : Form) (factor : ℕ) (other : Form) → coefficient (plus_times made factor other) own ≡ wrapped (coefficient made own + factor * coefficient other own)
   unfolding plus_times
   plus_counts made factor other =
-      let both = with_terms_weighs (counted_as own) counts made.terms (map (scaled_term factor) other.terms) in
-      let one = times_weighs made.terms in
-      let more = times_weighs (map (scaled_term factor) other.terms) in
-      let all = times_weighs (with_terms made.terms (map (scaled_term factor) other.terms)) in
+      let more : Form = record { terms = map (scaled_term factor) other.terms; constant = 0 } in
+      let plain : coefficient (sum_of made more) own ≡ wrapped (times own (with_terms made.terms (map (scaled_term factor) other.terms))) =
+      ap (λ (terms : List Term). wrapped (times own (with_terms made.terms terms))) (plain_terms factor other.terms) in
+      let both : wrapped (times own (with_terms made.terms (map (scaled_term factor) other.terms)))
+      ≡ wrapped (coefficient made own + wrapped (times own (map (scaled_term factor) other.terms))) =
+      sym plain ∙ (adds made more).sum own in
       let scaled = scaled_times factor other.terms in
       let inner = mul-mod_second factor (times own other.terms) (2 ^ 64) in
-      omega arith
+      omega (arith, both, scaled, inner)
 
   -- THE EXPANSION
 
@@ -153,16 +140,16 @@ module _ (own : ℕ) where
     expanded_counts form = within_counts (suc (length symbols.symbols)) form
 
 -- the field of a jump to a target that names symbols up to a low number names its own place minus once
-pub names_own_place : (sections : List LooseSection) (symbols : SymbolMap) (last : ℕ) (target : Form) → StandUpTo last sections symbols.symbols → last ≤ 2 ^ 24
+pub names_own_place : ((one other : Form) → AreAdded one other) → (sections : List LooseSection) (symbols : SymbolMap) (last : ℕ) (target : Form) → StandUpTo last sections symbols.symbols → last ≤ 2 ^ 24
     → ((index : ℕ) (form : Form) → form_at symbols.symbols index ≡ Some form → index < last)
     → AreUpTo last target.terms → NamesOwnPlace true (expanded symbols (from_own_place target))
-names_own_place sections symbols last target stand few assigned named =
+names_own_place adds sections symbols last target stand few assigned named =
     let low : last < own_place = omega (arith, few) in
     let below : (index : ℕ) (form : Form) → form_at symbols.symbols index ≡ Some form → index < own_place =
     λ index form is. (let before = assigned index form is in omega (arith, before, low)) in
-    let kept = expanded_counts own_place sections symbols last stand low below (from_own_place target) in
-    let plus = plus_counts own_place target (2 ^ 64 - 1) (symbol_form own_place) in
-    let none = uncounted own_place last target.terms low named in
+    let kept = expanded_counts adds own_place sections symbols last stand low below (from_own_place target) in
+    let plus = plus_counts adds own_place target (2 ^ 64 - 1) (symbol_form own_place) in
+    let none = uncounted adds own_place last target.terms low named in
     let once : coefficient (symbol_form own_place) own_place ≡ 1 = refl in
     let minus : coefficient (from_own_place target) own_place ≡ 2 ^ 64 - 1 = omega arith in
     kept ∙ minus

@@ -1,18 +1,24 @@
 -- A section of a layout that is not too large ends within 2^30 bytes.
-use Rattle.std.proofs.Common.{◌≡◌, ℕ, suc, ◌+◌, ◌-◌, List, [], ◌∷◌, All, Some, map, length, refl, sym, ap, ◌∙◌, arith}
+use Rattle.std.proofs.Common.{◌≡◌, ℕ, zero, suc, ◌+◌, ◌-◌, List, [], ◌∷◌, All, Some, map, length, refl, sym, ap, ◌∙◌, arith}
 use Rattle.std.specs.Prelude.{slice_get, option_map}
 use Rattle.std.specs.Option.{option_map_or}
 use Rattle.std.proofs.lemmas.List.Elements.{All-nil, All-cons, All-head, All-tail}
-use Rattle.std.proofs.lemmas.Option.{same_Some}
+use Rattle.std.proofs.lemmas.Option.{none-some, same_Some}
 use Rattle.asm_frags.specs.Addresses.{item_laid_at}
 use Rattle.asm_frags.specs.SectionOf.{SectionOf}
 use Rattle.asm_relax.specs.Placing.{placed_from, placed_section, shift_of}
 use Rattle.asm_relax.specs.Settling.{LaidItem, LaidSections}
 use Rattle.elf_object.specs.Places.{moved}
 use Rattle.frame_laws.specs.PlacedTables as table
-use Rattle.frame_laws.proofs.Shifts.{shift_next}
 use Rattle.asm_front.specs.Ending.{last_item, whole_size}
 use Rattle.asm_front.proofs.LowLayouts.{IsSmall}
+
+-- an item moves what stands behind it by its size
+shift_next : (items : List LaidItem) (index shift : ℕ) (item : LaidItem) → slice_get items index ≡ Some item
+    → shift_of (suc index) shift items ≡ shift_of index shift items + item.size
+shift_next [] index shift item there = absurd (none-some item there)
+shift_next (one ∷ items) zero shift item there = ap (λ (i : LaidItem). shift + i.size) (same_Some one item there)
+shift_next (one ∷ items) (suc index) shift item there = shift_next items index (shift + one.size) item there
 
 -- there is a last item where there are items
 last_of : (item : LaidItem) (items : List LaidItem) → (last : LaidItem) × (slice_get (item ∷ items) (length items) ≡ Some last)

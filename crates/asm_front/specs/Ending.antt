@@ -22,8 +22,8 @@ use Rattle.cfi_directives.specs.Procedures.{Procedures, frames_of}
 use Rattle.eh_frame.specs.Pieces.{Tables, tables_of}
 use Rattle.eh_frame.specs.Placing.{placed}
 use Rattle.asm_uses.specs.Tables.{Table, last_sized, with_map}
-use Rattle.asm_frags.specs.declared.faults.FragCause.{FragCause}
-use Rattle.asm_frags.specs.declared.faults.FragCause.TheVariants as frag
+use Rattle.asm_base.specs.declared.causes.FragCause.{FragCause}
+use Rattle.asm_base.specs.declared.causes.FragCause.TheVariants as frag
 use Rattle.asm_frags.specs.Writing.{LooseSection}
 use Rattle.asm_values.specs.State.{Placed}
 use Rattle.asm_place.specs.Sources.{fault_at}

@@ -15,17 +15,20 @@ ghost use Rattle.asm_front.specs.Assembly.{assembled, assembly_of, expansion_of,
 ghost use Rattle.asm_front.specs.ReadsBack.{ReadsBack};
 
 use crate::placers::SourcePlacer;
+use asm_expr::coefficients_add;
 use asm_macro::handed_statements_are_placed;
 use asm_place::{
-    encoding_items, encoding_stands, instruction_items, instruction_stands, jump_items, jumps_read,
-    places_stand, placing_grows, placing_in_order, placing_within, procedures_stand_in_order,
+    encoding_items, instruction_items, jump_items, jumps_read, places_stand, placing_in_order,
+    placing_within, procedures_stand_in_order,
 };
-use asm_relax::{settled_by_the_ranking, settled_is_placed, settled_items_have_room, sizes_add_up};
+use asm_relax::{
+    layouts_keep_sections, rows_rise, settled_is_placed, settled_items_have_room, sizes_add_up,
+};
 use eh_frame::{labels_stand, pieces_are_found};
 use elf_object::{bytes_stand, items_stand, values_stand};
 use frame_laws::frame_tables_read;
 use item_bytes::jump_reads_back;
-use x86_encode::encodings_are_codes;
+use x86_encode::{encodings_are_codes, fields_stand_apart};
 use x86_lookup::bare_codes_read;
 use x86_table::read_one_way;
 
@@ -54,24 +57,24 @@ pub fn written_reads_back()
 {
     handed_statements_are_placed::<SourcePlacer>();
     placing_in_order();
+    layouts_keep_sections();
     settled_is_placed();
     bytes_stand();
     values_stand();
     read_one_way();
     bare_codes_read();
     encodings_are_codes();
+    fields_stand_apart();
     items_stand();
     sizes_add_up();
     settled_items_have_room();
-    settled_by_the_ranking();
-    placing_grows();
+    rows_rise();
+    coefficients_add();
     placing_within();
     places_stand();
     pieces_are_found();
     labels_stand();
-    instruction_stands();
     instruction_items();
-    encoding_stands();
     encoding_items();
     jump_items();
     jumps_read();

@@ -3,7 +3,7 @@
 use crate::knowing::{definition_told, value_told};
 use asm_base::{NoMemory, Notes, Pos, Refusal, Token};
 use asm_lines::Placer;
-use asm_place::{BoxedFault, FaultAt, StatementPlacer};
+use asm_place::{BoxedFault, FaultAt, StatementPlacer, placing_is_not_reading};
 use asm_values::Placed;
 use macro_words::{KnowingPlacer, MacroCause};
 use std::alloc::{AllocError, Global};
@@ -90,7 +90,10 @@ impl Placer for SourcePlacer {
     fn place(&mut self, pos: Pos, tokens: &[Token]) -> Result<(), Refusal<StatementRefusal>> {
         match self.statements.place(pos, tokens) {
             Ok(()) => Ok(()),
-            Err(Refusal::Fault(fault)) => Err(Refusal::Fault(StatementRefusal { fault })),
+            Err(Refusal::Fault(fault)) => {
+                placing_is_not_reading();
+                Err(Refusal::Fault(StatementRefusal { fault }))
+            }
             Err(Refusal::NoMemory) => Err(Refusal::NoMemory),
         }
     }

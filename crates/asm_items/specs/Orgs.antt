@@ -31,11 +31,11 @@ has_place item offset section = nat_le item (length section.items) && nat_le off
 -- the place is one of the section of this number
 unfoldable pub is_place_in : List LooseSection → ℕ → Spot → Bool
 is_place_in sections number spot =
-    option_map_or (λ section. (spot.section == number) && has_place spot.item spot.offset section) (slice_get sections number) false
+    option_map_or (λ section. (spot.place.section == number) && has_place spot.place.place.item spot.place.place.offset section) (slice_get sections number) false
 
 -- the place, if it is one of the section of this number
 abbrev pub origin_at : List LooseSection → ℕ → Spot → Option Origin
-origin_at sections number spot = if is_place_in sections number spot then Some (record { from = spot.item; offset = spot.offset }) else None
+origin_at sections number spot = if is_place_in sections number spot then Some (record { from = spot.place.place.item; offset = spot.place.place.offset }) else None
 
 -- where a symbol of this meaning stands, if it stands in the section: a label, or space
 abbrev pub origin_meant : List LooseSection → ℕ → Meaning → Option Origin

@@ -37,11 +37,12 @@ fn has_place(section: &Section<Loose>, item: u64, offset: u64) -> bool
 #[tactic(auto, unfolding(crate::specs::Orgs::is_place_in))]
 fn is_place_in(sections: &Sections, number: u32, spot: &Spot) -> bool
     ensures value { result ≡ spec.is_place_in sections.now number spot.now }
-    ensures few { IsTrue result → spot.now.item ≤ 2 ^ 28 }
-    ensures small { IsTrue result → spot.now.offset ≤ 2 ^ 33 }
+    ensures few { IsTrue result → spot.now.place.place.item ≤ 2 ^ 28 }
+    ensures small { IsTrue result → spot.now.place.place.offset ≤ 2 ^ 33 }
 {
     match sections.as_slice().get(number as usize) {
-        Some(section) => spot.section == number && has_place(section, spot.item, spot.offset),
+        Some(section) => spot.place.section == number
+            && has_place(section, spot.place.place.item, spot.place.place.offset),
         None => false,
     }
 }
@@ -53,8 +54,8 @@ fn origin_at(sections: &Sections, number: u32, spot: &Spot) -> Option<Origin>
 {
     if is_place_in(sections, number, spot) {
         Some(Origin {
-            from: spot.item as u32,
-            offset: spot.offset,
+            from: spot.place.place.item as u32,
+            offset: spot.place.place.offset,
         })
     } else {
         None

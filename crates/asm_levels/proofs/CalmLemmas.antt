@@ -9,7 +9,8 @@ use Rattle.asm_levels.specs.declared.rows.RowSize.{RowSize}
 use Rattle.asm_levels.specs.declared.rows.RowSize.TheVariants.{Fixed, Align, Org, Jump, Leb128, Advance, End}
 use Rattle.asm_levels.specs.declared.rows.Row.{Row}
 use Rattle.asm_levels.specs.Distances.{distance_value}
-use Rattle.asm_levels.specs.Needs.{jump_level, leb128_level, advance_level, needed, top, tops, has_levels, levels_needed}
+use Rattle.asm_levels.specs.Needs.{needed, top, tops, has_levels, levels_needed}
+use Rattle.item_bytes.specs.Levels.{jump_level, leb128_level, advance_level}
 use Rattle.asm_levels.specs.Resizing.{AreMoved, AreEnds, IsAmong, AreTouched, AreResized}
 use Rattle.asm_levels.specs.Watching.{IsSpan, RowSpans, block_of, leaf_of, HasEntryAbove, IsWatched, IsCovered, IsTouched, AreHighest}
 use Rattle.asm_levels.specs.Looking.{AreCalm}

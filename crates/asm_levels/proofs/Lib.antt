@@ -1,6 +1,5 @@
 -- Lemmas, a file for each subject.
 pub mod PaddingLemmas
-pub mod LimitLemmas
 pub mod TopLemmas
 pub mod Powers
 pub mod RowLemmas

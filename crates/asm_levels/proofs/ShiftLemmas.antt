@@ -9,7 +9,8 @@ use Rattle.std.proofs.lemmas.List.Elements.{All-push, All-weaker}
 use Rattle.asm_levels.specs.declared.rows.RowSize.{RowSize}
 use Rattle.asm_levels.specs.declared.rows.RowSize.TheVariants.{Fixed, Align, Org, Jump, Leb128, Advance, End}
 use Rattle.asm_levels.specs.declared.rows.Row.{Row}
-use Rattle.asm_levels.specs.Sizes.{unless_above, near_size, jump_size, advance_size, size_at, most_bytes, most_in}
+use Rattle.asm_levels.specs.Sizes.{unless_above, size_at, most_bytes, most_in}
+use Rattle.item_bytes.specs.Levels.{near_size, jump_size, advance_size}
 use Rattle.asm_levels.specs.Shifts.{moved_past, shift_behind, shifts_from, shifts_of}
 
 -- no shift is above the bound

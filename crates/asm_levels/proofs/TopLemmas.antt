@@ -9,40 +9,22 @@ use Rattle.asm_levels.specs.declared.rows.RowSize.TheVariants.{Fixed, Align, Org
 use Rattle.asm_levels.specs.declared.rows.Row.{Row}
 use Rattle.asm_levels.specs.Distances.{distance_value}
 use Rattle.asm_levels.specs.Shifts.{shifts_of}
-use Rattle.asm_levels.specs.Needs.{jump_level, unsigned_limits, unsigned_level, without_sign, signed_limits, signed_level, leb128_level, advance_limits, advance_level, needed, top, tops, levels_needed, need}
+use Rattle.asm_levels.specs.Needs.{needed, top, tops, levels_needed, need}
+use Rattle.item_bytes.specs.Levels.{jump_level, unsigned_limits, unsigned_level, without_sign, signed_limits, signed_level, advance_limits, advance_level}
 
-pub jump-le : (distance : ℕ) → jump_level distance ≤ 1
+jump-le : (distance : ℕ) → jump_level distance ≤ 1
 unfolding jump_level
-jump-le distance = one_or_none (nat_lt ((distance + 2 ^ 7) % 2 ^ 64) (2 ^ 8))
-  where
-    one_or_none : (b : Bool) → cond b 0 1 ≤ 1
-    one_or_none true = omega arith
-    one_or_none false = omega arith
-
-pub unsigned-le : (value : ℕ) → unsigned_level value ≤ 9
-unfolding unsigned_level
-unsigned-le value = prefix_len-le-length (λ limit. nat_le limit value) unsigned_limits
-
-pub signed-le : (value : ℕ) → signed_level value ≤ 9
-unfolding signed_level
-signed-le value = prefix_len-le-length (λ limit. nat_le limit (without_sign value)) signed_limits
-
-leb128-le : (signed : Bool) (value : ℕ) → leb128_level signed value ≤ 9
-leb128-le true value = signed-le value
-leb128-le false value = unsigned-le value
-
-pub advance-le : (distance : ℕ) → advance_level distance ≤ 4
-unfolding advance_level
-advance-le distance = prefix_len-le-length (λ limit. nat_le limit distance) advance_limits
+jump-le distance = elim (nat_lt ((distance + 2 ^ 7) % 2 ^ 64) (2 ^ 8)) as (λ b. cond b 0 1 ≤ 1) [ true ↦ omega arith | false ↦ omega arith ]
 
 pub needed-le : (shifts : List ℕ) (size : RowSize) → needed shifts size ≤ top size
-unfolding needed top
+unfolding needed top unsigned_level signed_level advance_level
 needed-le shifts (Fixed bytes) = omega arith
 needed-le shifts (Align log most) = omega arith
 needed-le shifts (Org from ahead behind) = omega arith
 needed-le shifts (Jump conditional distance) = jump-le (distance_value shifts distance)
-needed-le shifts (Leb128 signed distance) = leb128-le signed (distance_value shifts distance)
-needed-le shifts (Advance distance) = advance-le (distance_value shifts distance)
+needed-le shifts (Leb128 true distance) = prefix_len-le-length (λ limit. nat_le limit (without_sign (distance_value shifts distance))) signed_limits
+needed-le shifts (Leb128 false distance) = prefix_len-le-length (λ limit. nat_le limit (distance_value shifts distance)) unsigned_limits
+needed-le shifts (Advance distance) = prefix_len-le-length (λ limit. nat_le limit (distance_value shifts distance)) advance_limits
 needed-le shifts End = omega arith
 
 pub top-le : (size : RowSize) → top size ≤ 9

@@ -1,5 +1,6 @@
 -- The sizes of rows, in bytes.
 use Rattle.std.specs.Prelude.{ℕ, zero, suc, ◌+◌, ◌-◌, ◌%◌, ◌^◌, nat_le, Bool, List, [], ◌∷◌, slice_index, sum_by, if◌then◌else◌}
+use Rattle.item_bytes.specs.Levels.{jump_size, advance_size}
 use Rattle.asm_levels.specs.declared.rows.RowSize.{RowSize}
 use Rattle.asm_levels.specs.declared.rows.RowSize.TheVariants.{Fixed, Align, Org, Jump, Leb128, Advance, End}
 use Rattle.asm_levels.specs.declared.rows.Row.{Row}
@@ -11,19 +12,6 @@ padding alignment address = (alignment - address % alignment) % alignment
 -- so many bytes, or none where they are more than the most
 abbrev pub unless_above : ℕ → ℕ → ℕ
 unless_above most bytes = if nat_le bytes most then bytes else 0
-
--- the near form of a jump: an opcode of one byte, or of two with a condition, and a distance of four
-abbrev pub near_size : Bool → ℕ
-near_size conditional = if conditional then 6 else 5
-
--- level 0 is the short form of a jump: an opcode and a distance of one byte each
-abbrev pub jump_size : Bool → ℕ → ℕ
-jump_size conditional zero = 2
-jump_size conditional (suc level) = near_size conditional
-
--- nothing, one byte with the distance in it, and one byte before 1, 2 and 4 that hold it (DWARF 5, section 6.4.2.1)
-abbrev pub advance_size : ℕ → ℕ
-advance_size level = slice_index (0 ∷ 1 ∷ 2 ∷ 3 ∷ 5 ∷ []) level
 
 -- how far the row is moved that an `.org` counts from, and 0 for other rows
 abbrev pub start_of : List ℕ → RowSize → ℕ

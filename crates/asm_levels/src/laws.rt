@@ -5,34 +5,9 @@ ghost use Rattle.level_ranks.specs.Rounds.{NeedsWithin};
 ghost use Rattle.asm_levels.specs.declared.rows.Row.{Row as TheRow};
 ghost use Rattle.asm_levels.specs.Sizes.{padding, most_bytes, most_in};
 ghost use Rattle.asm_levels.specs.Shifts.{shifts_of, AreInRow};
-ghost use Rattle.asm_levels.specs.Needs.{jump_level, unsigned_level, signed_level, advance_level, need, tops, IsSignedWithin, AdvanceHolds};
+ghost use Rattle.asm_levels.specs.Needs.{need, tops};
+ghost use Rattle.item_bytes.specs.Levels.{jump_level, unsigned_level, signed_level, advance_level, IsSignedWithin, AdvanceHolds};
 ghost use Rattle.asm_levels.specs.Standing.{AllStand};
-
-/// The short form of a jump holds exactly the distances from -2^7 to 2^7 - 1, and the near form is the only other one.
-pub fn short_jumps_hold_a_signed_byte()
-    ensures short { (distance : ℕ) → distance < 2 ^ 64
-        → (jump_level distance ≡ 0) ↔ IsSignedWithin (2 ^ 7) distance }
-    ensures near { (distance : ℕ) → jump_level distance ≤ 1 }
-{}
-
-/// So many groups of 7 bits besides the first hold exactly the unsigned numbers below 2^(7 (level + 1)), and the
-/// signed ones from -2^(7 (level + 1) - 1) to 2^(7 (level + 1) - 1) - 1. Ten groups hold each number modulo 2^64.
-pub fn groups_hold_their_number()
-    ensures unsigned { (value level : ℕ) → value < 2 ^ 64
-        → (unsigned_level value ≤ level) ↔ (value < 2 ^ (7 * (level + 1))) }
-    ensures signed { (value level : ℕ) → value < 2 ^ 64
-        → (signed_level value ≤ level) ↔ IsSignedWithin (2 ^ (7 * (level + 1) - 1)) value }
-    ensures most_unsigned { (value : ℕ) → unsigned_level value ≤ 9 }
-    ensures most_signed { (value : ℕ) → signed_level value ≤ 9 }
-{}
-
-/// An advance of no byte holds exactly the distance 0, one of 1 byte those below 2^6, of 2 bytes those
-/// below 2^8, of 3 bytes those below 2^16, and of 5 bytes those below 2^32. The last one is taken where none holds it.
-pub fn advances_hold_their_distance()
-    ensures holds { (distance level : ℕ) → distance < 2 ^ 32
-        → (advance_level distance ≤ level) ↔ AdvanceHolds level distance }
-    ensures beyond { (distance : ℕ) → 2 ^ 32 ≤ distance → advance_level distance ≡ 4 }
-{}
 
 /// The padding is the least number that takes an address to a multiple of the alignment.
 pub fn padding_is_least()

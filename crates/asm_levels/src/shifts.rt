@@ -1,6 +1,7 @@
 //! The sizes of rows, and how far these move the rows behind them.
 
 ghost use Rattle.std.specs.Prelude.{◌≡◌, ◌+◌, ◌^◌, ◌<◌, ◌≤◌, All, length};
+ghost use Rattle.item_bytes.specs.Levels.{jump_size, advance_size};
 ghost use Rattle.asm_levels.specs.Sizes as spec;
 ghost use Rattle.asm_levels.specs.Shifts as shift_spec;
 ghost use Rattle.asm_levels.specs.Standing.{AlignStands, OrgStands, AllStand};
@@ -24,7 +25,7 @@ fn padding_within(log: u8, most: u64, address: u64) -> u64
 
 #[inline(always)]
 fn jump_bytes(conditional: bool, level: u8) -> u64
-    ensures size { result ≡ spec.jump_size conditional level }
+    ensures size { result ≡ jump_size conditional level }
     ensures within { result ≤ 6 }
 {
     if level == 0 {
@@ -38,7 +39,7 @@ fn jump_bytes(conditional: bool, level: u8) -> u64
 
 #[inline(always)]
 fn advance_bytes(level: u8) -> u64
-    ensures size { result ≡ spec.advance_size level }
+    ensures size { result ≡ advance_size level }
     ensures within { result ≤ 5 }
 {
     if level < 4 {

@@ -1,5 +1,5 @@
 -- A text may be cut behind a piece or a token: what stands before the cut is read as before.
-use Rattle.std.proofs.Common.{◌≡◌, ℕ, zero, suc, ◌+◌, ◌-◌, ◌<◌, ◌≤◌, Bool, true, false, cond, ◌&&◌, ◌||◌, ◌==◌, List, [], ◌∷◌, ◌++◌, length, take, length-append, refl, sym, ap, subst, ◌∙◌, arith}
+use Rattle.std.proofs.Common.{◌≡◌, ℕ, zero, suc, ◌+◌, ◌-◌, ◌<◌, ◌≤◌, Bool, true, false, cond, ◌&&◌, ◌||◌, ◌==◌, List, [], ◌∷◌, ◌++◌, length, take, refl, sym, ap, ◌∙◌, arith}
 use Rattle.std.specs.List.{prefix_len}
 use Rattle.std.proofs.lemmas.List.Sums.{prefix_len-le-length}
 use Rattle.std.proofs.lemmas.Bool.{false≢true}
@@ -12,11 +12,10 @@ use Rattle.asm_base.specs.declared.pieces.PieceKind.TheVariants as piece
 use Rattle.asm_base.specs.declared.tokens.TokenKind.{TokenKind}
 use Rattle.asm_base.specs.declared.tokens.TokenKind.TheVariants.{Name, Digits, Character, String, Operator, Other}
 use Rattle.asm_base.specs.Tokens.{is_long_operator, token_kind_by, token_kind, token_length}
-use Rattle.asm_base.proofs.DivisionFirst.{is_first}
-use Rattle.asm_base.proofs.DivisionSome.{front}
 use Rattle.asm_lines.specs.Lexemes.{is_unclosed, makes_tokens}
 use Rattle.asm_lines.proofs.Lexing.{plain_kind}
 use Rattle.asm_lines.proofs.TokenPieces.{piece_token, plain_token}
+use Rattle.asm_lines.proofs.FirstPieces.{OneDivision, by_grammar, piece_within, same_front}
 
 -- what stands in front of a list stands in front of its beginning
 begins_cut : (byte k : ℕ) (after : List ℕ) → begins_with byte (take (suc k) after) ≡ begins_with byte after
@@ -75,62 +74,16 @@ piece_cut piece.String k bytes after closes some is = is
 piece_cut piece.OpenString k bytes after closes some is = cc
 piece_cut piece.Other k bytes after closes some is = (is.0, is.1, other_cut k is.0 after is.2)
 
--- the first piece by the grammar
-pub record IsFront (first : ℕ) (rest : List ℕ) : Type 0 where
-  pub kind : PieceKind
-  pub more : List ℕ
-  pub after : List ℕ
-  pub rest_is : rest ≡ more ++ after
-  pub piece : IsPiece kind (first ∷ more) after
-  pub kind_is : piece_kind first rest ≡ kind
-  pub length_is : piece_length (piece_kind first rest) rest ≡ suc (length more)
-
-is_front : (first f : ℕ) (rest more after bytes : List ℕ) (kind : PieceKind) → IsPiece kind bytes after → first ≡ f → rest ≡ more ++ after → bytes ≡ f ∷ more → piece_kind f (more ++ after) ≡ kind → piece_length kind (more ++ after) ≡ suc (length more) → IsFront first rest
-is_front first f rest more after bytes kind piece first_is rest_is bytes_is kind_is length_is =
-    let Is : List ℕ → Type 0 = λ these. IsPiece kind these after in
-    record {
-      kind = kind;
-      more = more;
-      after = after;
-      rest_is = rest_is;
-      piece = subst Is (bytes_is ∙ ap (λ b. b ∷ more) (sym first_is)) piece;
-      kind_is = rw (first_is, rest_is) kind_is;
-      length_is = rw (first_is, rest_is, kind_is) length_is;
-    }
-
-pub by_grammar : (first : ℕ) (rest : List ℕ) → IsFront first rest
-by_grammar first rest =
-    let here = front first rest in
-    let is = is_first here.kind here.bytes here.rest here.piece in
-    let whole : first ∷ rest ≡ is.first ∷ (is.more ++ here.rest) = here.text_is ∙ ap (λ these. these ++ here.rest) is.bytes_is in
-    is_front first is.first rest is.more here.rest here.bytes here.kind here.piece (cc) (cc) is.bytes_is is.kind_is is.length_is
-
-same_at : (first f : ℕ) (more m after : List ℕ) (kind : PieceKind) → first ≡ f → more ≡ m → piece_kind f (m ++ after) ≡ kind → piece_length kind (m ++ after) ≡ suc (length m)
-    → (piece_kind first (more ++ after) ≡ kind) × (piece_length kind (more ++ after) ≡ suc (length more))
-same_at first f more m after kind heads tails kind_is length_is = (rw (heads, tails) kind_is, rw tails length_is)
-
-pub same_front : (first : ℕ) (more after : List ℕ) (kind : PieceKind) → IsPiece kind (first ∷ more) after → (piece_kind first (more ++ after) ≡ kind) × (piece_length kind (more ++ after) ≡ suc (length more))
-same_front first more after kind piece =
-    let is = is_first kind (first ∷ more) after piece in
-    let e = is.bytes_is in
-    same_at first is.first more is.more after kind (cc) (cc) is.kind_is is.length_is
-
 -- a piece before a cut that stands so far behind it
-pub local_piece : (first : ℕ) (rest : List ℕ) (k : ℕ) → is_unclosed (piece_kind first rest) ≡ false → (is_space (piece_kind first rest) ≡ true → 0 < k)
+pub local_piece : OneDivision → (first : ℕ) (rest : List ℕ) (k : ℕ) → is_unclosed (piece_kind first rest) ≡ false → (is_space (piece_kind first rest) ≡ true → 0 < k)
     → (let cut = take (piece_length (piece_kind first rest) rest - 1 + k) rest in (piece_kind first cut ≡ piece_kind first rest) × (piece_length (piece_kind first rest) cut ≡ piece_length (piece_kind first rest) rest))
-local_piece first rest k closes some =
-    let here = by_grammar first rest in
+local_piece law first rest k closes some =
+    let here = by_grammar law first rest in
     let count : piece_length (piece_kind first rest) rest - 1 + k ≡ length here.more + k = omega (arith, here.length_is) in
     let cut : take (piece_length (piece_kind first rest) rest - 1 + k) rest ≡ here.more ++ take k here.after = ap (λ n. take n rest) count ∙ ap (take (length here.more + k)) here.rest_is ∙ take-append-add here.more here.after k in
     let before = piece_cut here.kind k (first ∷ here.more) here.after (ap is_unclosed (sym here.kind_is) ∙ closes) (λ space. some (ap is_space here.kind_is ∙ space)) here.piece in
-    let same = same_front first here.more (take k here.after) here.kind before in
+    let same = same_front law first here.more (take k here.after) here.kind before in
     (ap (piece_kind first) cut ∙ same.0 ∙ sym here.kind_is, ap (piece_length (piece_kind first rest)) cut ∙ ap (λ kind. piece_length kind (here.more ++ take k here.after)) here.kind_is ∙ same.1 ∙ sym here.length_is)
-
--- a piece lies within its text
-pub piece_within : (first : ℕ) (rest : List ℕ) → piece_length (piece_kind first rest) rest ≤ 1 + length rest
-piece_within first rest =
-    let here = by_grammar first rest in
-    omega (arith, here.length_is, ap length here.rest_is, length-append here.more here.after)
 
 -- a run before a cut behind it
 run_cut : (p : ℕ → Bool) (bytes : List ℕ) (k : ℕ) → prefix_len p (take (prefix_len p bytes + k) bytes) ≡ prefix_len p bytes
@@ -189,10 +142,10 @@ pub record SameToken (first : ℕ) (rest cut : List ℕ) : Type 0 where
   pub kind : token_kind first cut ≡ token_kind first rest
   pub length : token_length (token_kind first cut) first cut ≡ token_length (token_kind first rest) first rest
 
-pub local_token : (first : ℕ) (rest : List ℕ) (k : ℕ) → makes_tokens (piece_kind first rest) ≡ true → is_unclosed (piece_kind first rest) ≡ false → is_space (piece_kind first rest) ≡ false
+pub local_token : OneDivision → (first : ℕ) (rest : List ℕ) (k : ℕ) → makes_tokens (piece_kind first rest) ≡ true → is_unclosed (piece_kind first rest) ≡ false → is_space (piece_kind first rest) ≡ false
     → SameToken first rest (take (token_length (token_kind first rest) first rest - 1 + k) rest)
 unfolding token_kind
-local_token first rest k makes closes no_space = by_class (is_plain first) refl
+local_token law first rest k makes closes no_space = by_class (is_plain first) refl
   where
     cut : List ℕ
     cut = take (token_length (token_kind first rest) first rest - 1 + k) rest
@@ -205,16 +158,16 @@ local_token first rest k makes closes no_space = by_class (is_plain first) refl
     by_class false special =
         let whole = piece_token first rest special makes in
         let at_piece : cut ≡ take (piece_length (piece_kind first rest) rest - 1 + k) rest = ap (λ n. take (n - 1 + k) rest) whole in
-        let local = local_piece first rest k closes (λ space. absurd (false≢true (sym no_space ∙ space))) in
+        let local = local_piece law first rest k closes (λ space. absurd (false≢true (sym no_space ∙ space))) in
         let same : piece_kind first cut ≡ piece_kind first rest = ap (piece_kind first) at_piece ∙ local.0 in
         let kind : token_kind first cut ≡ token_kind first rest = ap (token_kind_by first) same in
         let long : piece_length (piece_kind first cut) cut ≡ piece_length (piece_kind first rest) rest = ap (λ t. piece_length t cut) same ∙ ap (piece_length (piece_kind first rest)) at_piece ∙ local.1 in
         record { piece = ap makes_tokens same ∙ makes; kind = kind; length = piece_token first cut special (ap makes_tokens same ∙ makes) ∙ long ∙ sym whole }
 
 -- a token lies within its text
-pub token_within : (first : ℕ) (rest : List ℕ) → makes_tokens (piece_kind first rest) ≡ true → token_length (token_kind first rest) first rest ≤ 1 + length rest
-token_within first rest makes = by_class (is_plain first) refl
+pub token_within : OneDivision → (first : ℕ) (rest : List ℕ) → makes_tokens (piece_kind first rest) ≡ true → token_length (token_kind first rest) first rest ≤ 1 + length rest
+token_within law first rest makes = by_class (is_plain first) refl
   where
     by_class : (plain : Bool) → is_plain first ≡ plain → token_length (token_kind first rest) first rest ≤ 1 + length rest
     by_class true plain = omega (arith, plain_token first rest (token_kind first rest) plain, prefix_len-le-length is_plain (first ∷ rest))
-    by_class false special = omega (arith, piece_token first rest special makes, piece_within first rest)
+    by_class false special = omega (arith, piece_token first rest special makes, piece_within law first rest)

@@ -1,22 +1,24 @@
 -- The lemmas, in reading order.
-pub mod Pieces
-pub mod PlainRuns
-pub mod Scans
-pub mod Order
-pub mod Steps
-pub mod RunLaws
-pub mod Runs
-pub mod ClassTable
-pub mod Lexing
-pub mod TokenPieces
-pub mod Moves
-pub mod LineFeeds
-pub mod TokenSteps
-pub mod OwnLengths
-pub mod Cuts
-pub mod OnePass
-pub mod Skipping
-pub mod LineFaults
-pub mod TokenFronts
-pub mod TokenLists
+mod Pieces
+mod PlainRuns
+mod Scans
+mod Order
+mod Steps
+mod RunLaws
+mod Runs
+mod ClassTable
+mod Lexing
+mod TokenPieces
+mod Fronts
+mod FirstPieces
+mod Moves
+mod LineFeeds
+mod TokenSteps
+mod OwnLengths
+mod Cuts
+mod OnePass
+mod Skipping
+mod LineFaults
+mod TokenFronts
+mod TokenLists
 mod Samples

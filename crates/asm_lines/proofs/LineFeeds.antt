@@ -1,17 +1,15 @@
 -- How many line feeds a piece has, by its class.
-use Rattle.std.proofs.Common.{◌≡◌, ℕ, suc, ◌+◌, ◌≤◌, Bool, true, false, cond, ◌&&◌, ◌==◌, List, [], ◌∷◌, ◌++◌, length, take, drop, min, refl, sym, ap, subst, ◌∙◌, arith, eqb-true, ◌⊎◌, inl, inr, take_at}
+use Rattle.std.proofs.Common.{◌≡◌, ℕ, ◌+◌, ◌≤◌, Bool, true, false, cond, ◌&&◌, ◌==◌, List, [], ◌∷◌, ◌++◌, take, drop, min, refl, sym, ap, subst, ◌∙◌, arith, eqb-true, ◌⊎◌, inl, inr}
 use Rattle.std.specs.Prelude.{count_by}
 use Rattle.std.proofs.lemmas.Bool.{or_parts}
 use Rattle.std.proofs.lemmas.List.Elements.{All-head, All-tail}
 use Rattle.std.proofs.lemmas.List.Sums.{sum_by-append, sum_by-cons}
 use Rattle.std.specs.List.{prefix_len}
 use Rattle.asm_base.specs.ByteClasses.{is_feed, is_blank, begins_with, line_goes_on}
-use Rattle.asm_base.specs.Pieces.{IsPiece, IsOnLine, IsQuoted, empty, plain, escape, is_blank_before, begins_class}
-use Rattle.asm_base.specs.Dividing.{is_plain, piece_kind, piece_length}
+use Rattle.asm_base.specs.Pieces.{IsDivision, IsPiece, IsOnLine, IsQuoted, empty, plain, escape, is_blank_before, begins_class}
+use Rattle.asm_base.specs.Dividing.{is_plain, piece_kind, piece_length, pieces_from, pieces_of}
 use Rattle.asm_base.specs.declared.pieces.PieceKind.{PieceKind}
 use Rattle.asm_base.specs.declared.pieces.PieceKind.TheVariants as piece
-use Rattle.asm_base.proofs.DivisionFirst.{is_first}
-use Rattle.asm_base.proofs.DivisionSome.{front}
 use Rattle.asm_lines.specs.LineNumbers.{line_of, last_line}
 use Rattle.asm_lines.proofs.Pieces.{line_more}
 use Rattle.asm_lines.proofs.PlainRuns.{line_of_run}
@@ -75,41 +73,22 @@ piece_feeds piece.String bytes rest is line =
     ap feeds is.1 ∙ no_feed 34 (is.0 ++ 34 ∷ []) refl (sum_by-append (λ b. cond (is_feed b) 1 0) is.0 (34 ∷ []) ∙ ap (λ n. n + 0) (quoted_feeds is.0 is.2))
 piece_feeds piece.Other bytes rest is line = ap feeds is.1 ∙ no_feed is.0 ([]) (no_class is.0 rest is.2) refl
 
--- the first piece by the grammar
-record IsFront (first : ℕ) (rest : List ℕ) : Type 0 where
-  kind : PieceKind
-  bytes : List ℕ
-  after : List ℕ
-  piece : IsPiece kind bytes after
-  kind_is : piece_kind first rest ≡ kind
-  bytes_is : take (piece_length (piece_kind first rest) rest) (first ∷ rest) ≡ bytes
-
-is_front : (first f : ℕ) (rest more after bytes : List ℕ) (kind : PieceKind) → first ≡ f → rest ≡ more ++ after → bytes ≡ f ∷ more → piece_kind f (more ++ after) ≡ kind → piece_length kind (more ++ after) ≡ suc (length more)
-    → (piece_kind first rest ≡ kind) × (take (piece_length (piece_kind first rest) rest) (first ∷ rest) ≡ bytes)
-is_front first f rest more after bytes kind first_is rest_is bytes_is kind_is length_is =
-    (rw (first_is, rest_is) kind_is, rw (first_is, rest_is, kind_is, length_is, bytes_is, take_at more after (length more) refl) refl)
-
-by_grammar : (first : ℕ) (rest : List ℕ) → IsFront first rest
-by_grammar first rest =
-    let here = front first rest in
-    let is = is_first here.kind here.bytes here.rest here.piece in
-    let whole : first ∷ rest ≡ is.first ∷ (is.more ++ here.rest) = here.text_is ∙ ap (λ these. these ++ here.rest) is.bytes_is in
-    let known = is_front first is.first rest is.more here.rest here.bytes here.kind (cc) (cc) is.bytes_is is.kind_is is.length_is in
-    record { kind = here.kind; bytes = here.bytes; after = here.rest; piece = here.piece; kind_is = known.0; bytes_is = known.1 }
+-- every text is its pieces
+abbrev pub Divides : Type 0
+Divides = (text : List ℕ) → IsDivision text (pieces_of text)
 
 -- the bytes of the first piece
-pub first_feeds : (first : ℕ) (rest : List ℕ) → is_on_line (piece_kind first rest) ≡ true → feeds (take (piece_length (piece_kind first rest) rest) (first ∷ rest)) ≡ 0
-first_feeds first rest line =
-    let here = by_grammar first rest in
-    ap feeds here.bytes_is ∙ piece_feeds here.kind here.bytes here.after here.piece (ap is_on_line (sym here.kind_is) ∙ line)
+pub first_feeds : Divides → (first : ℕ) (rest : List ℕ) → is_on_line (piece_kind first rest) ≡ true → feeds (take (piece_length (piece_kind first rest) rest) (first ∷ rest)) ≡ 0
+unfolding pieces_from
+first_feeds divides first rest line = let here = divides (first ∷ rest) in piece_feeds (piece_kind first rest) _ here.0 here.3 line
 
-pub feed_feeds : (first : ℕ) (rest : List ℕ) → piece_kind first rest ≡ piece.LineFeed → feeds (take 1 (first ∷ rest)) ≡ 1
-unfolding piece_length
-feed_feeds first rest feed =
-    let here = by_grammar first rest in
-    let Is : PieceKind → Type 0 = λ k. IsPiece k here.bytes here.after in
-    let one : here.bytes ≡ 10 ∷ [] = subst Is (sym here.kind_is ∙ feed) here.piece in
-    ap (λ k. feeds (take (piece_length k rest) (first ∷ rest))) (sym feed) ∙ ap feeds (here.bytes_is ∙ one)
+pub feed_feeds : Divides → (first : ℕ) (rest : List ℕ) → piece_kind first rest ≡ piece.LineFeed → feeds (take 1 (first ∷ rest)) ≡ 1
+unfolding pieces_from piece_length
+feed_feeds divides first rest feed =
+    let here = divides (first ∷ rest) in
+    let Is : PieceKind → Type 0 = λ k. IsPiece k (take (piece_length k rest) (first ∷ rest)) here.0 in
+    let one : take 1 (first ∷ rest) ≡ 10 ∷ [] = subst Is feed here.3 in
+    ap feeds one
 
 -- the line behind a piece on one line
 line_stays : (source : List ℕ) (at n line : ℕ) → feeds (take n (drop at source)) ≡ 0 → line ≡ line_of source at → line ≡ line_of source (at + n)
@@ -118,14 +97,14 @@ line_stays source at n line none line_is =
     let stays : line ≡ min (line + 0) last_line = omega arith in
     line_more source at n line line line_is (stays ∙ ap (λ k. min (line + k) last_line) (sym none))
 
-pub line_over_piece : (source : List ℕ) (at first : ℕ) (rest : List ℕ) (n line : ℕ) → drop at source ≡ first ∷ rest → is_on_line (piece_kind first rest) ≡ true → n ≡ piece_length (piece_kind first rest) rest → line ≡ line_of source at → line ≡ line_of source (at + n)
-line_over_piece source at first rest n line front_is on_line n_is line_is =
-    line_stays source at n line (ap (λ k. feeds (take k (drop at source))) n_is ∙ ap (λ these. feeds (take (piece_length (piece_kind first rest) rest) these)) front_is ∙ first_feeds first rest on_line) line_is
+pub line_over_piece : Divides → (source : List ℕ) (at first : ℕ) (rest : List ℕ) (n line : ℕ) → drop at source ≡ first ∷ rest → is_on_line (piece_kind first rest) ≡ true → n ≡ piece_length (piece_kind first rest) rest → line ≡ line_of source at → line ≡ line_of source (at + n)
+line_over_piece divides source at first rest n line front_is on_line n_is line_is =
+    line_stays source at n line (ap (λ k. feeds (take k (drop at source))) n_is ∙ ap (λ these. feeds (take (piece_length (piece_kind first rest) rest) these)) front_is ∙ first_feeds divides first rest on_line) line_is
 
-pub line_over_token : (source : List ℕ) (at first : ℕ) (rest : List ℕ) (n line : ℕ) → drop at source ≡ first ∷ rest → is_on_line (piece_kind first rest) ≡ true → (n ≤ prefix_len is_plain (drop at source)) ⊎ (n ≡ piece_length (piece_kind first rest) rest) → line ≡ line_of source at → line ≡ line_of source (at + n)
-line_over_token source at first rest n line front_is on_line (inl run) line_is = line_of_run source at n line run line_is
-line_over_token source at first rest n line front_is on_line (inr n_is) line_is = line_over_piece source at first rest n line front_is on_line n_is line_is
+pub line_over_token : Divides → (source : List ℕ) (at first : ℕ) (rest : List ℕ) (n line : ℕ) → drop at source ≡ first ∷ rest → is_on_line (piece_kind first rest) ≡ true → (n ≤ prefix_len is_plain (drop at source)) ⊎ (n ≡ piece_length (piece_kind first rest) rest) → line ≡ line_of source at → line ≡ line_of source (at + n)
+line_over_token divides source at first rest n line front_is on_line (inl run) line_is = line_of_run source at n line run line_is
+line_over_token divides source at first rest n line front_is on_line (inr n_is) line_is = line_over_piece divides source at first rest n line front_is on_line n_is line_is
 
-pub line_over_feed : (source : List ℕ) (at first : ℕ) (rest : List ℕ) (line there : ℕ) → drop at source ≡ first ∷ rest → piece_kind first rest ≡ piece.LineFeed → there ≡ min (line + 1) last_line → line ≡ line_of source at → there ≡ line_of source (at + 1)
-line_over_feed source at first rest line there front_is feed there_is line_is =
-    line_more source at 1 line there line_is (there_is ∙ ap (λ k. min (line + k) last_line) (sym (ap (λ these. feeds (take 1 these)) front_is ∙ feed_feeds first rest feed)))
+pub line_over_feed : Divides → (source : List ℕ) (at first : ℕ) (rest : List ℕ) (line there : ℕ) → drop at source ≡ first ∷ rest → piece_kind first rest ≡ piece.LineFeed → there ≡ min (line + 1) last_line → line ≡ line_of source at → there ≡ line_of source (at + 1)
+line_over_feed divides source at first rest line there front_is feed there_is line_is =
+    line_more source at 1 line there line_is (there_is ∙ ap (λ k. min (line + k) last_line) (sym (ap (λ these. feeds (take 1 these)) front_is ∙ feed_feeds divides first rest feed)))

@@ -7,10 +7,10 @@ use Rattle.asm_base.specs.Dividing.{piece_kind, piece_length, first_piece}
 use Rattle.asm_base.specs.declared.pieces.PieceKind.{PieceKind}
 use Rattle.asm_base.specs.declared.pieces.PieceKind.TheVariants as piece
 use Rattle.asm_base.specs.Tokens.{SpelledToken, token_kind, token_length}
-use Rattle.asm_base.proofs.ReadingTokens.{drop-next, piece_length-positive, token_length-positive}
 use Rattle.asm_lines.specs.Intervals.{before_others, own_bytes, without_space_after}
 use Rattle.asm_lines.specs.Scan.{pieces_at, first_interval, later_pieces}
 use Rattle.asm_lines.proofs.Pieces.{one_off, none_off}
+use Rattle.asm_lines.proofs.Fronts.{some_length, some_token_length, left_behind_first}
 use Rattle.asm_lines.specs.Lexemes.{is_unclosed, makes_tokens}
 use Rattle.asm_lines.specs.StatementTokens.{first_tokens_from, all_close, own_behind}
 use Rattle.asm_lines.proofs.TokenPieces.{TokenPieces, MakesTokens, end_behind}
@@ -140,7 +140,7 @@ first_drop (suc n) offset (byte ∷ rest) =
 first_skip : (s : List ℕ) (at offset first : ℕ) (rest : List ℕ) (n : ℕ) → drop at s ≡ first ∷ rest → 0 < n → first_tokens_from (n - 1) (suc offset) rest ≡ first_tokens_from 0 (offset + n) (drop (at + n) s)
 first_skip s at offset first rest n e positive =
     let whole : suc (n - 1) ≡ n = omega arith in
-    let left : drop (at + n) s ≡ drop (n - 1) rest = ap (λ k. drop (at + k) s) (sym whole) ∙ drop-next s at first rest (n - 1) e in
+    let left : drop (at + n) s ≡ drop (n - 1) rest = ap (λ k. drop (at + k) s) (sym whole) ∙ left_behind_first s at first rest (n - 1) e in
     let next : suc offset + (n - 1) ≡ offset + n = omega arith in
     first_drop (n - 1) (suc offset) rest ∙ ap (λ k. first_tokens_from 0 k (drop (n - 1) rest)) next ∙ ap (first_tokens_from 0 (offset + n)) (sym left)
 
@@ -148,14 +148,14 @@ pub tokens_over_space : (s : List ℕ) (at offset first : ℕ) (rest : List ℕ)
     → first_tokens_from 0 offset (drop at s) ≡ first_tokens_from 0 (offset + n) (drop (at + n) s)
 unfolding first_tokens_from
 tokens_over_space s at offset first rest n front space goes_on n_is =
-    let positive : 0 < n = rw n_is (piece_length-positive (piece_kind first rest) rest) in
+    let positive : 0 < n = rw n_is (some_length (piece_kind first rest) rest) in
     rw (← first_skip s at offset first rest n front positive, front, goes_on, space, ← n_is) refl
 
 pub tokens_over_token : (s : List ℕ) (at offset first : ℕ) (rest : List ℕ) (n : ℕ) → drop at s ≡ first ∷ rest → makes_tokens (piece_kind first rest) ≡ true → n ≡ token_length (token_kind first rest) first rest
     → first_tokens_from 0 offset (drop at s) ≡ (let token : SpelledToken = record { kind = token_kind first rest; bytes = take n (drop at s); start = offset } in token ∷ first_tokens_from 0 (offset + n) (drop (at + n) s))
 unfolding first_tokens_from
 tokens_over_token s at offset first rest n front makes n_is =
-    let positive : 0 < n = rw n_is (token_length-positive (token_kind first rest) first rest) in
+    let positive : 0 < n = rw n_is (some_token_length (token_kind first rest) first rest) in
     rw (← first_skip s at offset first rest n front positive, front, token_goes_on (piece_kind first rest) makes, token_no_space (piece_kind first rest) makes, ← n_is) refl
 
 pub no_tokens : (s : List ℕ) (at offset first : ℕ) (rest : List ℕ) → drop at s ≡ first ∷ rest → ends_statement (piece_kind first rest) ≡ true → first_tokens_from 0 offset (drop at s) ≡ []
@@ -201,7 +201,7 @@ unclosed_goes_on piece.Other unclosed = refl
 pub never_closes : (source : List ℕ) (at first : ℕ) (rest : List ℕ) → drop at source ≡ first ∷ rest → is_unclosed (piece_kind first rest) ≡ true → all_close (first_interval (pieces_at source at)) ≡ false
 unfolding all_close
 never_closes source at first rest front unclosed =
-    let off = one_off source at first rest (piece_length (piece_kind first rest) rest) front refl (piece_length-positive (piece_kind first rest) rest) in
+    let off = one_off source at first rest (piece_length (piece_kind first rest) rest) front refl (some_length (piece_kind first rest) rest) in
     rw (off, unclosed_goes_on (piece_kind first rest) unclosed, unclosed) refl
 
 -- spaces by their class

@@ -9,7 +9,6 @@ use Rattle.asm_base.specs.declared.pieces.PieceKind.{PieceKind}
 use Rattle.asm_base.specs.declared.pieces.PieceKind.TheVariants as piece
 use Rattle.asm_base.specs.declared.tokens.Token.{Token}
 use Rattle.asm_base.specs.Tokens.{spelled, tokens_of}
-use Rattle.asm_base.proofs.ReadingTokens.{piece_length-positive}
 use Rattle.asm_lines.specs.declared.faults.Found.{Found}
 use Rattle.asm_lines.specs.declared.faults.LineCause.TheVariants.{StatementTooLong}
 use Rattle.asm_lines.specs.Intervals.{intervals_of, own_length, trimmed, without_space_after}
@@ -25,6 +24,8 @@ use Rattle.asm_lines.specs.Lexemes.{is_unclosed}
 use Rattle.asm_lines.specs.NextStatements.{TokenStatement, in_tokens, statements_left, found_left, IsNext, IsEnd}
 use Rattle.asm_lines.specs.Skips.{BeginsToken, IsSkipped, Reaches}
 use Rattle.asm_lines.proofs.TokenPieces.{end_behind}
+use Rattle.asm_lines.proofs.Fronts.{some_length}
+use Rattle.asm_lines.proofs.FirstPieces.{OneDivision}
 use Rattle.asm_lines.proofs.Moves.{kept_first, token_goes_on, token_no_space}
 use Rattle.asm_lines.proofs.OnePass.{kept_at, reach, one_pass}
 
@@ -122,7 +123,7 @@ skip_over source from at next line line_next here off passes line_is within late
 pub skip_unclosed : (source : List ℕ) (from at first line : ℕ) (rest : List ℕ) → drop at source ≡ first ∷ rest → is_unclosed (piece_kind first rest) ≡ true → (let place : Point = record { at = at; line = line } in IsSkipped source from place) → IsSome (found_left source from)
 unfolding found_left
 skip_unclosed source from at first line rest front unclosed before =
-    let off = one_off source at first rest (piece_length (piece_kind first rest) rest) front refl (piece_length-positive (piece_kind first rest) rest) in
+    let off = one_off source at first rest (piece_length (piece_kind first rest) rest) front refl (some_length (piece_kind first rest) rest) in
     let here = first_piece at first rest in
     let next = pieces_at source (at + piece_length (piece_kind first rest) rest) in
     let some = one_earlier (first_open source (here ∷ next)) (first_long source (intervals_of (here ∷ next))) (some_or (open_found source here) (first_open source next) (open_some source (piece_kind first rest) at unclosed)) in
@@ -134,7 +135,7 @@ token_kept : (source : List ℕ) (begin : ℕ) → BeginsToken source begin → 
 unfolding trimmed
 token_kept source begin token =
     let n = piece_length (piece_kind token.first token.rest) token.rest in
-    let off = one_off source begin token.first token.rest n token.front refl (piece_length-positive (piece_kind token.first token.rest) token.rest) in
+    let off = one_off source begin token.first token.rest n token.front refl (some_length (piece_kind token.first token.rest) token.rest) in
     let goes_on = token_goes_on (piece_kind token.first token.rest) token.makes in
     let no_space = token_no_space (piece_kind token.first token.rest) token.makes in
     rw (off, goes_on, no_space) refl
@@ -148,7 +149,7 @@ record KeptToken (source : List ℕ) (begin : ℕ) : Type 0 where
 kept_begins : (source : List ℕ) (begin : ℕ) → BeginsToken source begin → KeptToken source begin
 kept_begins source begin token =
     let n = piece_length (piece_kind token.first token.rest) token.rest in
-    let off = one_off source begin token.first token.rest n token.front refl (piece_length-positive (piece_kind token.first token.rest) token.rest) in
+    let off = one_off source begin token.first token.rest n token.front refl (some_length (piece_kind token.first token.rest) token.rest) in
     let goes_on = token_goes_on (piece_kind token.first token.rest) token.makes in
     let no_space = token_no_space (piece_kind token.first token.rest) token.makes in
     let here = first_piece begin token.first token.rest in
@@ -218,15 +219,15 @@ same_faults source from place next reached inside later closed fits = by_token r
         ∙ ap (earlier (first_open source (pieces_at source next))) (sym (long_step source begin next (first_long source (intervals_of (pieces_at source begin))) later none_found refl))
 
 -- what is read is the next statement
-pub next_whole : (source : List ℕ) (from : ℕ) (place : Point) (read : List Token) (next there : ℕ) → Reaches source from place → place.at < length source → IsReadWhole source place.at read next there → own_length_at source place.at ≤ 65536 → IsNext source from read place.line next there
+pub next_whole : OneDivision → (source : List ℕ) (from : ℕ) (place : Point) (read : List Token) (next there : ℕ) → Reaches source from place → place.at < length source → IsReadWhole source place.at read next there → own_length_at source place.at ≤ 65536 → IsNext source from read place.line next there
 unfolding statements_left
-next_whole source from place read next there reached inside known fits = by_token reached.begins
+next_whole law source from place read next there reached inside known fits = by_token reached.begins
   where
     by_token : (length source ≤ place.at) ⊎ BeginsToken source place.at → IsNext source from read place.line next there
     by_token (inl past) = absurd (omega arith)
     by_token (inr token) =
         let begin = place.at in
-        let whole : tokens_of (bytes_between source begin (reach source begin)) ≡ map spelled read = one_pass source begin known.closed ∙ sym known.tokens in
+        let whole : tokens_of (bytes_between source begin (reach source begin)) ≡ map spelled read = one_pass law source begin known.closed ∙ sym known.tokens in
         record {
           statements = λ file.
               let statement : StatementAt = record { file = file; line = line_of source begin; bytes = bytes_between source begin (reach source begin) } in

@@ -17,7 +17,7 @@ use Rattle.asm_lines.specs.TokenGrammar.{IsMarkByte, IsNameTail, IsToken}
 use Rattle.asm_lines.proofs.ClassTable.{holds_from, of_byte}
 use Rattle.asm_lines.proofs.Lexing.{plain_kind, short_long}
 use Rattle.asm_lines.proofs.TokenPieces.{name_is_plain}
-use Rattle.asm_lines.proofs.Cuts.{by_grammar, same_front}
+use Rattle.asm_lines.proofs.FirstPieces.{OneDivision, by_grammar, same_front}
 
 -- a token, as the definition has it
 pub record IsFirstToken (kind : TokenKind) (bytes rest : List ℕ) : Type 0 where
@@ -126,31 +126,31 @@ long_first first second rest long =
     record { first = first; more = second ∷ []; bytes_is = refl; no_space = rw plain refl; kind_is = rw (plain, start, digit, operator) refl; length_is = rw whole refl }
 
 -- a token of one byte that is its own piece
-mark_kind : (byte : ℕ) (rest : List ℕ) → IsMarkByte byte rest → piece_kind byte rest ≡ piece.Other
-mark_kind byte rest is = (same_front byte ([]) rest piece.Other (byte, refl, is.0)).0
+mark_kind : OneDivision → (byte : ℕ) (rest : List ℕ) → IsMarkByte byte rest → piece_kind byte rest ≡ piece.Other
+mark_kind law byte rest is = (same_front law byte ([]) rest piece.Other (byte, refl, is.0)).0
 
-short_first : (byte : ℕ) (rest : List ℕ) → IsMarkByte byte rest → is_operator_byte byte ≡ true → is_long_operator byte rest ≡ false → IsFirstToken Operator (byte ∷ []) rest
+short_first : OneDivision → (byte : ℕ) (rest : List ℕ) → IsMarkByte byte rest → is_operator_byte byte ≡ true → is_long_operator byte rest ≡ false → IsFirstToken Operator (byte ∷ []) rest
 unfolding token_kind token_length
-short_first byte rest is operator short =
-    let kind = mark_kind byte rest is in
+short_first law byte rest is operator short =
+    let kind = mark_kind law byte rest is in
     let start = is.1 in
     let digit = is.2 in
     record { first = byte; more = []; bytes_is = refl; no_space = rw kind refl; kind_is = rw (kind, start, digit, operator) refl; length_is = rw short refl }
 
-stray_first : (byte : ℕ) (rest : List ℕ) → IsMarkByte byte rest → is_operator_byte byte ≡ false → IsFirstToken Other (byte ∷ []) rest
+stray_first : OneDivision → (byte : ℕ) (rest : List ℕ) → IsMarkByte byte rest → is_operator_byte byte ≡ false → IsFirstToken Other (byte ∷ []) rest
 unfolding token_kind token_length piece_length
-stray_first byte rest is operator =
-    let kind = mark_kind byte rest is in
+stray_first law byte rest is operator =
+    let kind = mark_kind law byte rest is in
     let start = is.1 in
     let digit = is.2 in
     record { first = byte; more = []; bytes_is = refl; no_space = rw kind refl; kind_is = rw (kind, start, digit, operator) refl; length_is = rw kind refl }
 
 -- a token that is a piece of another class
-piece_first : (first : ℕ) (more rest : List ℕ) (kind : PieceKind) (class : TokenKind) → IsPiece kind (first ∷ more) rest → is_space kind ≡ false → token_kind_by first kind ≡ class → ((these : List ℕ) → token_length class first these ≡ piece_length (piece_kind first these) these)
+piece_first : OneDivision → (first : ℕ) (more rest : List ℕ) (kind : PieceKind) (class : TokenKind) → IsPiece kind (first ∷ more) rest → is_space kind ≡ false → token_kind_by first kind ≡ class → ((these : List ℕ) → token_length class first these ≡ piece_length (piece_kind first these) these)
     → IsFirstToken class (first ∷ more) rest
 unfolding token_kind
-piece_first first more rest kind class is no_space class_is length_is =
-    let same = same_front first more rest kind is in
+piece_first law first more rest kind class is no_space class_is length_is =
+    let same = same_front law first more rest kind is in
     record {
       first = first;
       more = more;
@@ -164,25 +164,25 @@ piece_first first more rest kind class is no_space class_is length_is =
 token_by_piece : (first : ℕ) (kind : PieceKind) → is_name_start first ≡ false → is_ascii_digit first ≡ false → token_kind_by first kind ≡ kind_by_piece first kind
 token_by_piece first kind start digit = rw (start, digit) refl
 
-at_quote : (more rest : List ℕ) → IsPiece piece.Character (39 ∷ more) rest → IsFirstToken Character (39 ∷ more) rest
+at_quote : OneDivision → (more rest : List ℕ) → IsPiece piece.Character (39 ∷ more) rest → IsFirstToken Character (39 ∷ more) rest
 unfolding is_name_start token_length
-at_quote more rest is = piece_first 39 more rest piece.Character Character is refl refl (λ these. refl)
+at_quote law more rest is = piece_first law 39 more rest piece.Character Character is refl refl (λ these. refl)
 
-at_string : (more rest : List ℕ) → IsPiece piece.String (34 ∷ more) rest → IsFirstToken String (34 ∷ more) rest
+at_string : OneDivision → (more rest : List ℕ) → IsPiece piece.String (34 ∷ more) rest → IsFirstToken String (34 ∷ more) rest
 unfolding is_name_start token_length
-at_string more rest is = piece_first 34 more rest piece.String String is refl refl (λ these. refl)
+at_string law more rest is = piece_first law 34 more rest piece.String String is refl refl (λ these. refl)
 
-at_open : (more rest : List ℕ) → IsPiece piece.OpenString (34 ∷ more) rest → IsFirstToken Other (34 ∷ more) rest
+at_open : OneDivision → (more rest : List ℕ) → IsPiece piece.OpenString (34 ∷ more) rest → IsFirstToken Other (34 ∷ more) rest
 unfolding is_name_start token_length
-at_open more rest is = piece_first 34 more rest piece.OpenString Other is refl refl (λ these. refl)
+at_open law more rest is = piece_first law 34 more rest piece.OpenString Other is refl refl (λ these. refl)
 
-at_feed : (rest : List ℕ) → IsFirstToken Other (10 ∷ []) rest
+at_feed : OneDivision → (rest : List ℕ) → IsFirstToken Other (10 ∷ []) rest
 unfolding is_name_start token_length
-at_feed rest = piece_first 10 ([]) rest piece.LineFeed Other refl refl refl (λ these. refl)
+at_feed law rest = piece_first law 10 ([]) rest piece.LineFeed Other refl refl refl (λ these. refl)
 
-at_semicolon : (rest : List ℕ) → IsFirstToken Other (59 ∷ []) rest
+at_semicolon : OneDivision → (rest : List ℕ) → IsFirstToken Other (59 ∷ []) rest
 unfolding is_name_start token_length
-at_semicolon rest = piece_first 59 ([]) rest piece.Semicolon Other refl refl refl (λ these. refl)
+at_semicolon law rest = piece_first law 59 ([]) rest piece.Semicolon Other refl refl refl (λ these. refl)
 
 -- the same, whatever the bytes are called
 first_by : (kind : TokenKind) (bytes those rest : List ℕ) → bytes ≡ those → IsFirstToken kind those rest → IsFirstToken kind bytes rest
@@ -191,17 +191,17 @@ first_by kind bytes those rest same is = let Is : List ℕ → Type 0 = λ these
 pieces_by : (kind : PieceKind) (bytes those rest : List ℕ) → bytes ≡ those → IsPiece kind bytes rest → IsPiece kind those rest
 pieces_by kind bytes those rest same is = let Is : List ℕ → Type 0 = λ these. IsPiece kind these rest in subst Is same is
 
-pub first_token_is : (kind : TokenKind) (bytes rest : List ℕ) → IsToken kind bytes rest → IsFirstToken kind bytes rest
-first_token_is Name bytes rest is = first_by Name bytes (is.0 ∷ is.1) rest is.2 (name_first is.0 is.1 rest is.3 is.4)
-first_token_is Digits bytes rest is = first_by Digits bytes (is.0 ∷ is.1) rest is.2 (digits_first is.0 is.1 rest is.3 is.4)
-first_token_is Character bytes rest is = first_by Character bytes (39 ∷ is.0 ∷ []) rest is.1 (at_quote (is.0 ∷ []) rest (pieces_by piece.Character bytes (39 ∷ is.0 ∷ []) rest is.1 is))
-first_token_is String bytes rest is = first_by String bytes (34 ∷ is.0 ++ 34 ∷ []) rest is.1 (at_string (is.0 ++ 34 ∷ []) rest (pieces_by piece.String bytes (34 ∷ is.0 ++ 34 ∷ []) rest is.1 is))
-first_token_is Operator bytes rest (inl long) = first_by Operator bytes (long.0 ∷ long.1 ∷ []) rest long.2 (long_first long.0 long.1 rest long.3)
-first_token_is Operator bytes rest (inr short) = first_by Operator bytes (short.0 ∷ []) rest short.1 (short_first short.0 rest short.2 short.3 short.4)
-first_token_is Other bytes rest (inl stray) = first_by Other bytes (stray.0 ∷ []) rest stray.1 (stray_first stray.0 rest stray.2 stray.3)
-first_token_is Other bytes rest (inr (inl unclosed)) = first_by Other bytes (34 ∷ unclosed.0) rest unclosed.1 (at_open unclosed.0 rest (pieces_by piece.OpenString bytes (34 ∷ unclosed.0) rest unclosed.1 unclosed))
-first_token_is Other bytes rest (inr (inr (inl feed))) = first_by Other bytes (10 ∷ []) rest feed (at_feed rest)
-first_token_is Other bytes rest (inr (inr (inr semicolon))) = first_by Other bytes (59 ∷ []) rest semicolon (at_semicolon rest)
+pub first_token_is : OneDivision → (kind : TokenKind) (bytes rest : List ℕ) → IsToken kind bytes rest → IsFirstToken kind bytes rest
+first_token_is law Name bytes rest is = first_by Name bytes (is.0 ∷ is.1) rest is.2 (name_first is.0 is.1 rest is.3 is.4)
+first_token_is law Digits bytes rest is = first_by Digits bytes (is.0 ∷ is.1) rest is.2 (digits_first is.0 is.1 rest is.3 is.4)
+first_token_is law Character bytes rest is = first_by Character bytes (39 ∷ is.0 ∷ []) rest is.1 (at_quote law (is.0 ∷ []) rest (pieces_by piece.Character bytes (39 ∷ is.0 ∷ []) rest is.1 is))
+first_token_is law String bytes rest is = first_by String bytes (34 ∷ is.0 ++ 34 ∷ []) rest is.1 (at_string law (is.0 ++ 34 ∷ []) rest (pieces_by piece.String bytes (34 ∷ is.0 ++ 34 ∷ []) rest is.1 is))
+first_token_is law Operator bytes rest (inl long) = first_by Operator bytes (long.0 ∷ long.1 ∷ []) rest long.2 (long_first long.0 long.1 rest long.3)
+first_token_is law Operator bytes rest (inr short) = first_by Operator bytes (short.0 ∷ []) rest short.1 (short_first law short.0 rest short.2 short.3 short.4)
+first_token_is law Other bytes rest (inl stray) = first_by Other bytes (stray.0 ∷ []) rest stray.1 (stray_first law stray.0 rest stray.2 stray.3)
+first_token_is law Other bytes rest (inr (inl unclosed)) = first_by Other bytes (34 ∷ unclosed.0) rest unclosed.1 (at_open law unclosed.0 rest (pieces_by piece.OpenString bytes (34 ∷ unclosed.0) rest unclosed.1 unclosed))
+first_token_is law Other bytes rest (inr (inr (inl feed))) = first_by Other bytes (10 ∷ []) rest feed (at_feed law rest)
+first_token_is law Other bytes rest (inr (inr (inr semicolon))) = first_by Other bytes (59 ∷ []) rest semicolon (at_semicolon law rest)
 
 -- the token in front of a text
 pub record FrontToken (text : List ℕ) : Type 0 where
@@ -277,12 +277,12 @@ front_by_piece first rest start digit piece.BlockComment more after rest_is is n
 front_by_piece first rest start digit piece.OpenComment more after rest_is is no_space = cc
 
 -- a token stands in front of every text with no space in front
-pub front_token : (first : ℕ) (rest : List ℕ) → is_space (piece_kind first rest) ≡ false → FrontToken (first ∷ rest)
-front_token first rest no_space = by_class (is_name_start first) (is_ascii_digit first) refl refl
+pub front_token : OneDivision → (first : ℕ) (rest : List ℕ) → is_space (piece_kind first rest) ≡ false → FrontToken (first ∷ rest)
+front_token law first rest no_space = by_class (is_name_start first) (is_ascii_digit first) refl refl
   where
     by_class : (start digit : Bool) → is_name_start first ≡ start → is_ascii_digit first ≡ digit → FrontToken (first ∷ rest)
     by_class true digit start_is digit_is = front_name first rest start_is
     by_class false true start_is digit_is = front_digits first rest digit_is
     by_class false false start_is digit_is =
-        let here = by_grammar first rest in
+        let here = by_grammar law first rest in
         front_by_piece first rest start_is digit_is here.kind here.more here.after here.rest_is here.piece (ap is_space (sym here.kind_is) ∙ no_space)

@@ -1,5 +1,5 @@
 -- What stands next in a source: a statement as its tokens, the end, or a fault of its lines.
-use Rattle.std.specs.Prelude.{◌≡◌, ℕ, ◌<◌, ◌≤◌, List, [], ◌∷◌, length, take, map, Option, Some, None, Result, Ok, Err}
+use Rattle.std.specs.Prelude.{◌≡◌, ℕ, ◌<◌, ◌≤◌, List, [], ◌∷◌, length, take, map, Option, Some, None, Ok, Err}
 use Rattle.std.specs.List.{filter_map}
 use Rattle.asm_base.specs.Tokens.{SpelledToken, spelled, tokens_of}
 use Rattle.asm_base.specs.declared.tokens.Token.{Token}

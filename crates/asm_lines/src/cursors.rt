@@ -14,7 +14,7 @@ use crate::lexemes::{Lexeme, lexeme_at};
 use crate::line_numbers::{line_after, line_behind};
 use crate::passing::{own_length, pass_statement};
 use crate::statement_tokens::{ReadStatement, read_tokens};
-use asm_base::{Token, TokenKind};
+use asm_base::{Token, TokenKind, one_division};
 use std::alloc::AllocError;
 
 /// The slots of a list that has none.
@@ -50,6 +50,7 @@ fn skip(source: &[u8], from: usize, line: u32) -> Option<Point>
     requires line { line ≡ line_of source.now from }
     ensures { Skips source.now from result }
 {
+    one_division();
     let mut at = from;
     let mut line = line;
     while at < source.len() {
@@ -119,6 +120,7 @@ pub fn next_statement<'a>(
     requires line { line ≡ line_of source.now from }
     ensures { IfOk result (λ next. StandsNext source.now from tokens.new.items next) }
 {
+    one_division();
     let Some(point) = skip(source, from, line) else {
         return Ok(NextStatement::Faulty);
     };

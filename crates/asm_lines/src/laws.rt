@@ -38,9 +38,10 @@ pub fn line_faults_are_found()
 {}
 
 /// By the grammar of tokens a statement is the tokens of its definition, and no others.
-#[tactic(auto, using(crate::proofs::TokenLists::some_tokens, crate::proofs::TokenLists::only_tokens))]
 pub fn one_list_of_tokens()
     ensures some { (bytes : List ℕ) → AreTokens 0 bytes (tokens_of bytes) }
     ensures only { (bytes : List ℕ) (one other : List SpelledToken) → AreTokens 0 bytes one
         → AreTokens 0 bytes other → one ≡ other }
-{}
+{
+    one_division();
+}

@@ -7,6 +7,7 @@ ghost use Rattle.asm_lines.specs.StatementTokens.{PassesStatement, all_close, ow
 
 use crate::lexemes::{Lexeme, lexeme_at};
 use crate::line_numbers::{line_after, line_behind};
+use asm_base::one_division;
 
 /// A statement that was passed: the offset behind its end, the line there, and how many bytes it has, comments not counted.
 #[derive(Clone, Copy, Debug)]
@@ -23,6 +24,7 @@ pub(crate) fn pass_statement(source: &[u8], begin: usize, line: u32) -> Option<P
     requires line { line ≡ line_of source.now begin }
     ensures { PassesStatement source.now begin result }
 {
+    one_division();
     let mut at = begin;
     let mut line = line;
     let mut comments = 0;

@@ -6,7 +6,7 @@ ghost use Rattle.asm_lines.specs.StatementTokens.{ReadsTokens};
 
 use crate::lexemes::{Lexeme, lexeme_at};
 use crate::line_numbers::{line_after, line_behind};
-use asm_base::Token;
+use asm_base::{Token, one_division};
 
 /// A statement whose tokens are read.
 #[derive(Clone, Copy, Debug)]
@@ -32,6 +32,7 @@ pub(crate) fn read_tokens<'a>(
     ensures read { ReadsTokens source.now begin slots.new result }
     ensures len { length slots.new ≡ length slots.old }
 {
+    one_division();
     let mut at = begin;
     let mut line = line;
     let mut count = 0;

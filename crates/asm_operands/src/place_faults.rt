@@ -2,10 +2,8 @@
 
 ghost use Rattle.std.specs.Prelude.{◌≡◌};
 
-use asm_base::Refusal;
+use asm_base::{FragCause, Refusal, SymCause};
 use asm_expr::ExprCause;
-use asm_frags::FragCause;
-use asm_symbols::SymCause;
 
 /// A fault of a statement that placing answers.
 #[derive(Clone, Copy, Drop)]

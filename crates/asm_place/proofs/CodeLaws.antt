@@ -24,7 +24,7 @@ use Rattle.asm_words.specs.declared.directives.Syntax.{Syntax}
 use Rattle.asm_words.specs.declared.directives.Syntax.TheVariants.{Att, Intel}
 use Rattle.x86_encode.specs.declared.encoded.EncodeFault.{EncodeFault}
 use Rattle.x86_encode.specs.Encoding.{encoding_of}
-use Rattle.x86_encode.specs.EncodingLaws.{EncodingsNote}
+use Rattle.x86_encode.specs.FieldPlaces.{EncodingsApart}
 use Rattle.x86_encode.specs.Filling.{Coding}
 use Rattle.asm_place.specs.declared.codes.InsnForms.{InsnForms}
 use Rattle.asm_place.specs.declared.codes.CodeField.{CodeField}
@@ -241,17 +241,17 @@ section_put pos bytes fields before placed (Some section) apart there is =
     record { apart = apart; section = section; there = there; put = code.sections }
 section_put pos bytes fields before placed None apart there is = code_none pos bytes fields before placed apart there is
 
-insn_put : EncodingsNote → (pos : Pos) (shape : InsnShape) (forms : InsnForms) (before placed : Placed) → shape.jump ≡ None
+insn_put : EncodingsApart → (pos : Pos) (shape : InsnShape) (forms : InsnForms) (before placed : Placed) → shape.jump ≡ None
     → put_insn pos shape forms before ≡ Ok placed → IsPutCode pos shape forms before placed
 unfolding put_insn put_coded
-insn_put notes pos shape forms before placed no_jump is =
+insn_put places pos shape forms before placed no_jump is =
     both_ok _ _ placed (sym (ap (λ jump. put_by_jump jump pos shape forms before) no_jump) ∙ is) (λ made made_is put_is.
     let coding = code_is (encoding_of shape.view (values_in forms)) made made_is in
     record {
       made = made;
       coding = coding;
       put = section_put pos made.bytes (fields_of shape forms made) before placed (slice_get before.sections before.current)
-          (coding_apart notes shape forms made coding) refl put_is;
+          (coding_apart places shape forms made coding) refl put_is;
     })
 
 -- an instruction whose names have symbols
@@ -265,15 +265,15 @@ pub table_keeps : (put placed : Placed) (answer : Result Table PlaceCause) → (
 table_keeps put placed (Ok table) is = ap (λ (p : Placed). p.sections) (sym (same_Ok (with_table put table) placed is))
 table_keeps put placed (Err fault) is = err-ok fault placed is
 
-text_put : EncodingsNote → (pos : Pos) (text : InsnText) (before placed : Placed) → jump_in text ≡ None → place_text pos text before ≡ Ok placed
+text_put : EncodingsApart → (pos : Pos) (text : InsnText) (before placed : Placed) → jump_in text ≡ None → place_text pos text before ≡ Ok placed
     → IsTextPut pos text before placed
 unfolding place_insn
-text_put notes pos text before placed no_jump is =
+text_put places pos text before placed no_jump is =
     let trees = text.immediate.tree ∷ text.displacement.tree ∷ [] in
     let named = with_names pos trees before in
     both_ok _ _ placed is (λ forms forms_are named_is.
     both_ok _ _ placed named_is (λ put put_is end_is.
-    let code = insn_put notes pos (shape_in text) forms named put no_jump put_is in
+    let code = insn_put places pos (shape_in text) forms named put no_jump put_is in
     let same = table_keeps put placed (end_naming pos (naming_of trees before.table) (here named)
     (keeps_place (known_here named).place forms) put.table) end_is in
     record {
@@ -288,15 +288,15 @@ text_put notes pos text before placed no_jump is =
     }))
 
 -- where the tokens are an instruction with operands, the bytes and the fields of its encoding are put last in the current section
-pub tokens_put : EncodingsNote → (pos : Pos) (tokens : List SpelledToken) (before placed : Placed) (text : InsnText)
+pub tokens_put : EncodingsApart → (pos : Pos) (tokens : List SpelledToken) (before placed : Placed) (text : InsnText)
     → insn_written before.syntax (behind_labels tokens) ≡ Some text → jump_in text ≡ None
     → place_tokens pos tokens before ≡ Ok placed → IsInsnPut pos tokens text before placed
 unfolding place_tokens
-tokens_put notes pos tokens before placed text written no_jump is =
+tokens_put places pos tokens before placed text written no_jump is =
     both_ok _ _ placed (sym (labels_split pos tokens before) ∙ wide_ok (has_wide_label tokens) (place_labelled pos tokens before) placed is)
     (λ labels labels_are body_is.
     let keeps = labels_keep pos tokens before labels labels_are in
-    let put = text_put notes pos text labels placed no_jump (sym (behind_is pos tokens text before labels labels_are written) ∙ body_is) in
+    let put = text_put places pos text labels placed no_jump (sym (behind_is pos tokens text before labels labels_are written) ∙ body_is) in
     let fields = code_fields text put.forms put.code.made in
     record {
       coded = record { labels = labels; labels_are = labels_are; forms = put.forms; forms_are = put.forms_are; made = put.code.made; coding = put.code.coding };
@@ -304,17 +304,17 @@ tokens_put notes pos tokens before placed text written no_jump is =
           (subst (λ sections. IsCodePut sections placed.sections labels.current pos put.code.made.bytes fields) keeps.sections put.code.put);
     })
 
-statement_put : EncodingsNote → (s : TokenStatement) (before next : Placed) (text : InsnText) → insn_in before.syntax s ≡ Some text → jump_in text ≡ None → place s before ≡ Ok next
+statement_put : EncodingsApart → (s : TokenStatement) (before next : Placed) (text : InsnText) → insn_in before.syntax s ≡ Some text → jump_in text ≡ None → place s before ≡ Ok next
     → IsInsnPut (pos_at s.file s.line) s.tokens text before next
 unfolding place
-statement_put notes s before next text written no_jump is =
-    tokens_put notes (pos_at s.file s.line) s.tokens before next text written no_jump
+statement_put places s before next text written no_jump is =
+    tokens_put places (pos_at s.file s.line) s.tokens before next text written no_jump
     (located_ok s before.notes (place_tokens (pos_at s.file s.line) s.tokens before) next is)
 
 -- WHERE IT STANDS
 
 -- how many bytes stand from a place on, whatever the fields hold
-pub held_long : (bytes : List ℕ) (from : ℕ) (fields : List CodeField) → AreApart from (length bytes) fields
+held_long : (bytes : List ℕ) (from : ℕ) (fields : List CodeField) → AreApart from (length bytes) fields
     → from + length (with_held zeros_in bytes from fields) ≡ length bytes
 held_long bytes from [] apart = let long = length-drop from bytes in omega (arith, long, apart)
 held_long bytes from (field ∷ fields) apart =
@@ -368,6 +368,8 @@ module _ (pos : Pos) (section : LooseSection) (bytes : List ℕ) (fields : List 
     apart = apart;
     section = last;
     found = later.there;
+    within = omega (arith, ends, length-append (section.bytes ++ blanked bytes fields) later.bytes);
+    enough = omega (arith, items_so_far, length-append begun.items later.items);
     bytes_there = record { front = section.bytes; rest = later.bytes; long = refl; there = append_assoc section.bytes (blanked bytes fields) later.bytes };
     fields_there = record {
       earlier = section.fields;
@@ -394,14 +396,14 @@ put_stands before next whole number pos bytes fields put within grows =
     (grows.kept number new there))
 
 -- an instruction with operands stands in the whole
-pub insn_there : FramesKeep → EncodingsNote
+pub insn_there : FramesKeep → EncodingsApart
     → (front : List TokenStatement) (s : TokenStatement) (later : List TokenStatement) (before placed whole : Placed) (text : InsnText)
     → AreWithin before.sections → place_all front before ≡ Ok placed → place_all (front ++ s ∷ later) before ≡ Ok whole → insn_in placed.syntax s ≡ Some text
     → jump_in text ≡ None → InsnStands whole.sections (pos_at s.file s.line) s.tokens text placed
-insn_there frames notes front s later before placed whole text within is_front is_whole written no_jump =
+insn_there frames places front s later before placed whole text within is_front is_whole written no_jump =
     first_placed s later placed whole (sym (all_split front (s ∷ later) before ∙ ap (λ r. r >>= place_all (s ∷ later)) is_front) ∙ is_whole)
     (λ next is_next is_later.
-    let insn = statement_put notes s placed next text written no_jump is_next in
+    let insn = statement_put places s placed next text written no_jump is_next in
     record {
       coded = insn.coded;
       stands =

@@ -8,8 +8,8 @@ use Rattle.asm_base.specs.declared.positions.Pos.{Pos}
 use Rattle.asm_base.specs.Refusals.{◌>>=◌}
 use Rattle.asm_expr.specs.Forms.{Form}
 use Rattle.item_contents.specs.declared.contents.Content.TheVariants.{Run}
-use Rattle.asm_frags.specs.declared.faults.FragCause.{FragCause}
-use Rattle.asm_frags.specs.declared.faults.FragCause.TheVariants as frag
+use Rattle.asm_base.specs.declared.causes.FragCause.{FragCause}
+use Rattle.asm_base.specs.declared.causes.FragCause.TheVariants as frag
 use Rattle.asm_frags.specs.declared.fields.Field.{Field}
 use Rattle.asm_frags.specs.declared.fields.FieldSize.{FieldSize}
 use Rattle.asm_frags.specs.declared.roles.FieldRole.{FieldRole}

@@ -24,7 +24,7 @@ use Rattle.asm_symbols.specs.declared.entries.Definition.TheVariants.{Space, Com
 use Rattle.asm_symbols.specs.LeadsBack.{assigned}
 use Rattle.asm_words.specs.declared.directives.Directive.{Directive}
 use Rattle.asm_words.specs.declared.directives.Directive.TheVariants as directive
-use Rattle.asm_words.specs.declared.directives.SymbolAttribute.{SymbolAttribute}
+use Rattle.asm_symbols.specs.declared.entries.SymbolAttribute.{SymbolAttribute}
 use Rattle.asm_words.specs.declared.directives.AlignedBy.{AlignedBy}
 use Rattle.asm_words.specs.Paddings.{align_of, org_of}
 use Rattle.asm_uses.specs.declared.tables.Naming.{Naming}
@@ -35,25 +35,25 @@ use Rattle.asm_uses.specs.Places.{uses_place, spot_at, known_at, end_naming}
 use Rattle.asm_values.specs.State.{Placed, with_table, with_names, here, known_here, unless_dot}
 use Rattle.asm_values.specs.DataItems.{put_by, put_forms, is_cut, cut_notes}
 use Rattle.asm_operands.specs.Results.{all_steps, if_some}
-use Rattle.asm_place.specs.SectionChanges.{with_current, popped}
+use Rattle.asm_declarations.specs.SectionChanges.{bare, with_current, popped}
 use Rattle.asm_operands.specs.NamedTrees.{NamedTree}
 use Rattle.asm_uses.specs.Attributes.{kind_said, sized, define_space}
-use Rattle.asm_place.specs.SymbolWords.{place_said, place_type}
+use Rattle.asm_declarations.specs.SymbolWords.{place_said, place_type}
 use Rattle.asm_values.specs.Sizes.{size_words, place_size, words_naming, with_words, words_symbol, end_words}
 use Rattle.asm_values.specs.Assignments.{assign_words, place_set, place_assignment}
-use Rattle.asm_place.specs.Commons.{bss, with_space, with_common, is_said_local, place_space, place_comm, place_lcomm, SpaceWords, with_own, space_words}
+use Rattle.asm_declarations.specs.Commons.{bss, with_space, with_common, is_said_local, place_space, place_comm, place_lcomm, SpaceWords, with_own, space_words}
 use Rattle.asm_words.specs.Spaces.{space_size, space_of, units_of, unit_size, log_of}
 use Rattle.asm_base.specs.declared.faults.Note.TheVariants.{Written}
 use Rattle.asm_place.specs.Remarks.{place_err, place_error, place_warning}
 use Rattle.asm_words.specs.declared.directives.Syntax.{Syntax}
 use Rattle.asm_words.specs.declared.directives.Syntax.TheVariants.{Att, Intel}
 use Rattle.asm_place.specs.SyntaxWords.{with_syntax, says_names, place_syntax}
-use Rattle.asm_place.specs.Idents.{items_in, comment_bytes, comment_header, place_ident, place_file, one_string, file_name}
+use Rattle.asm_declarations.specs.Idents.{items_in, comment_bytes, comment_header, place_ident, place_file, one_string, file_name}
 use Rattle.asm_values.specs.Data.{put_data, place_data, place_strings, with_named, place_zero, place_skip, place_fill}
 use Rattle.asm_items.specs.Alignments.{is_code, place_align}
 use Rattle.asm_items.specs.Orgs.{known_origin, origin_by, place_org}
 use Rattle.asm_items.specs.Leb128Numbers.{put_number_by, put_numbers, put_leb128, some_expressions, place_leb128}
-use Rattle.asm_place.specs.Placing.{bare, initial_number, place_by, place_found, place_directive}
+use Rattle.asm_place.specs.Placing.{initial_number, place_by, place_found, place_directive}
 use Rattle.asm_place.proofs.Walks.{FramesKeep, Fine, made, refused, step, after, either}
 use Rattle.asm_uses.specs.Tables.{changed_by, file_named, naming_of, allowed}
 use Rattle.std.proofs.Common.{◌<◌, arith}
@@ -85,7 +85,7 @@ pub here_stand : (pos : Pos) (naming : Naming) (keeps : Bool) (placed put : Plac
     → Fine (Allows put.sections naming.before put.table) (end_naming pos naming (here placed) keeps put.table)
 here_stand pos naming keeps placed put stands stays =
     end_stand put.sections pos naming (here placed) keeps put.table
-    (λ last. items_grow placed.sections put.sections (here placed).section (here placed).item stays.grows (spot_stands placed.sections placed.current stands.current))
+    (λ last. items_grow placed.sections put.sections (here placed).place.section (here placed).place.place.item stays.grows (spot_stands placed.sections placed.current stands.current))
 
 values_walk : (pos : Pos) (size : FieldSize) (naming : Naming) (forms : List Form) (placed : Placed) → PlacesStand placed
     → Fine (Closes naming.before placed) (put_data pos size naming forms placed)
@@ -274,7 +274,7 @@ with_space_walk pos naming symbol size log placed stands =
     (λ pushed stays. closes_on naming.before aligned pushed _ stays
     (table_close naming.before pushed (define_space naming symbol size (Space (spot_at aligned.sections bss)) pushed.table) stays.stands
     (define_space_stand pushed.sections naming symbol size (Space (spot_at aligned.sections bss)) pushed.table
-    (λ last. items_grow aligned.sections pushed.sections (spot_at aligned.sections bss).section (spot_at aligned.sections bss).item stays.grows
+    (λ last. items_grow aligned.sections pushed.sections (spot_at aligned.sections bss).place.section (spot_at aligned.sections bss).place.place.item stays.grows
     (spot_stands aligned.sections bss (there.first bss (omega arith))))))))))
 
 with_common_walk : (naming : Naming) (symbol size log : ℕ) (placed : Placed) → PlacesStand placed → Fine (Closes naming.before placed) (with_common naming symbol size log placed)

@@ -21,7 +21,7 @@ use Rattle.asm_symbols.specs.declared.entries.Definition.TheVariants.{Space, Com
 use Rattle.asm_symbols.specs.LeadsBack.{assigned}
 use Rattle.asm_words.specs.declared.directives.Directive.{Directive}
 use Rattle.asm_words.specs.declared.directives.Directive.TheVariants as directive
-use Rattle.asm_words.specs.declared.directives.SymbolAttribute.{SymbolAttribute}
+use Rattle.asm_symbols.specs.declared.entries.SymbolAttribute.{SymbolAttribute}
 use Rattle.asm_words.specs.declared.directives.AlignedBy.{AlignedBy}
 use Rattle.asm_words.specs.Paddings.{align_of, org_of}
 use Rattle.asm_uses.specs.declared.tables.Naming.{Naming}
@@ -33,16 +33,16 @@ use Rattle.asm_uses.specs.Places.{uses_place, spot_at, end_naming}
 use Rattle.asm_values.specs.State.{Placed, with_table, with_notes, with_names, here, known_here, unless_dot}
 use Rattle.asm_values.specs.DataItems.{put_by, put_forms, is_cut, cut_notes}
 use Rattle.asm_operands.specs.Results.{all_steps, if_some}
-use Rattle.asm_place.specs.SectionChanges.{with_current, popped}
+use Rattle.asm_declarations.specs.SectionChanges.{bare, with_current, popped}
 use Rattle.asm_operands.specs.NamedTrees.{plain_of, NamedTree, named_tree}
 use Rattle.asm_uses.specs.Attributes.{kind_said, sized, say_all, define_space}
-use Rattle.asm_place.specs.SymbolWords.{place_said, place_type}
+use Rattle.asm_declarations.specs.SymbolWords.{place_said, place_type}
 use Rattle.asm_values.specs.Sizes.{size_words, place_size, words_naming, with_words, words_symbol, end_words}
 use Rattle.asm_words.specs.SymbolKinds.{named_kind}
 use Rattle.asm_values.specs.Assignments.{assign_words, place_set, place_assignment}
-use Rattle.asm_place.specs.Commons.{bss, with_space, with_common, is_said_local, place_space, place_comm, place_lcomm, SpaceWords, with_own, space_words}
+use Rattle.asm_declarations.specs.Commons.{bss, with_space, with_common, is_said_local, place_space, place_comm, place_lcomm, SpaceWords, with_own, space_words}
 use Rattle.asm_words.specs.Spaces.{space_size, space_of, units_of, unit_size, log_of}
-use Rattle.asm_place.specs.Idents.{items_in, comment_bytes, comment_header, place_ident, place_file, one_string, file_name}
+use Rattle.asm_declarations.specs.Idents.{items_in, comment_bytes, comment_header, place_ident, place_file, one_string, file_name}
 use Rattle.asm_place.specs.Remarks.{place_err, place_error, place_warning}
 use Rattle.asm_place.specs.SyntaxWords.{with_syntax, says_names, place_syntax}
 use Rattle.asm_words.specs.declared.directives.FrameDirective.{FrameDirective}
@@ -53,7 +53,7 @@ use Rattle.asm_values.specs.Data.{put_data, place_data, place_strings, with_name
 use Rattle.asm_items.specs.Alignments.{is_code, place_align}
 use Rattle.asm_items.specs.Orgs.{known_origin, origin_by, place_org}
 use Rattle.asm_items.specs.Leb128Numbers.{put_number_by, put_numbers, put_leb128, some_expressions, place_leb128}
-use Rattle.asm_place.specs.Placing.{bare, initial_number, place_by, place_found, place_directive}
+use Rattle.asm_place.specs.Placing.{initial_number, place_by, place_found, place_directive}
 use Rattle.asm_uses.specs.Tables.{changed_by, change_named, file_named, naming_of, allowed}
 use Rattle.asm_place.proofs.Walks.{FramesKeep, Fine, made, refused, known, weaker, step, after, either}
 use Rattle.asm_place.proofs.ProcedureSteps.{Led, Steps, leads_by, leads_lines, still, on, grown}

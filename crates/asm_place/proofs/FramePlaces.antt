@@ -10,11 +10,11 @@ use Rattle.asm_values.specs.State.{Placed, with_names, here}
 use Rattle.asm_words.specs.declared.directives.FrameDirective.{FrameDirective}
 use Rattle.cfi_directives.specs.declared.frames.Frame.{Frame}
 use Rattle.cfi_directives.specs.declared.lines.CfiLine.{CfiLine}
-use Rattle.cfi_directives.specs.declared.places.Place.{Place}
+use Rattle.asm_base.specs.declared.places.Place.{Place}
 use Rattle.cfi_directives.specs.Procedures.{Procedures, frames_of}
 use Rattle.cfi_directives.specs.Taking.{taken_from}
 use Rattle.asm_frames.specs.Keeping.{line_here, OnlyNames}
-use Rattle.asm_frames.specs.Placing.{frame_place, with_procedures, place_frame}
+use Rattle.asm_frames.specs.Placing.{with_procedures, place_frame}
 use Rattle.asm_place.specs.SymbolPlaces.{HasItems, ProcedureStands, PlacesStand}
 use Rattle.asm_place.proofs.Walks.{FramesKeep, known, weaker}
 use Rattle.asm_place.proofs.TakenPlaces.{HasPlaces, HavePlaces, frames_have, have_frames, lines_have}
@@ -33,7 +33,7 @@ module _ (sections : List LooseSection) where
   frame_stands frame has = record { start = has.start; stop = has.stop; ops = has.ops }
 
 -- where a directive stands its section has the items before it
-here_has : (placed : Placed) → PlacesStand placed → HasItems placed.sections (frame_place (here placed)).section (frame_place (here placed)).place.item
+here_has : (placed : Placed) → PlacesStand placed → HasItems placed.sections (here placed).place.section (here placed).place.place.item
 here_has placed stands = spot_stands placed.sections placed.current stands.current
 
 lines_stand : (placed : Placed) (lines : List CfiLine) (last : Procedures) → PlacesStand placed → taken_from placed.procedures (map (line_here placed) lines) ≡ Ok last

@@ -15,7 +15,7 @@ use Rattle.asm_base.specs.Tokens.{SpelledToken}
 use Rattle.asm_lines.specs.NextStatements.{TokenStatement}
 use Rattle.item_contents.specs.declared.contents.Content.TheVariants.{Run}
 use Rattle.asm_frags.specs.declared.fields.Field.{Field}
-use Rattle.asm_frags.specs.declared.faults.FragCause.TheVariants as frag
+use Rattle.asm_base.specs.declared.causes.FragCause.TheVariants as frag
 use Rattle.item_contents.specs.Zeros.{is_zero}
 use Rattle.asm_frags.specs.PlainBytes.{field_end, IsBeside}
 use Rattle.asm_frags.specs.Writing.{LooseItem, LooseSection, new_item, ends_in_run, takes_zeros_alone, with_item, with_run, with_bytes, bytes_put}
@@ -241,6 +241,7 @@ module _ (pos : Pos) (section : LooseSection) (bytes : List ℕ) (within : IsWit
     found = later.there;
     takes_bytes = run_keeps (λ s. s.kind == 8) pos section refl ∙ takes;
     within = omega (arith, length-append (section.bytes ++ bytes) later.bytes, length-append section.bytes bytes);
+    enough = omega (arith, items_so_far, length-append begun.items later.items);
     there = between section.bytes bytes later.bytes;
     free = fields_beside;
     before = items_before;

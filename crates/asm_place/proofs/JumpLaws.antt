@@ -14,7 +14,7 @@ use Rattle.asm_expr.specs.Forms.{Form}
 use Rattle.asm_frags.specs.declared.fields.Field.{Field}
 use Rattle.asm_frags.specs.declared.fields.FieldSize.TheVariants.{Four}
 use Rattle.asm_frags.specs.declared.roles.FieldKind.TheVariants.{Branch}
-use Rattle.asm_frags.specs.declared.faults.FragCause.TheVariants as frag
+use Rattle.asm_base.specs.declared.causes.FragCause.TheVariants as frag
 use Rattle.asm_frags.specs.declared.roles.Suffix.{Suffix as SaidSuffix}
 use Rattle.asm_frags.specs.Sections.{with_section_or_fault, put_into_there}
 use Rattle.asm_frags.specs.Writing.{LooseItem, LooseSection, new_item, item_behind, with_growing, growing_put, takes_zeros_alone}
@@ -23,7 +23,7 @@ use Rattle.item_bytes.specs.Jumps.{number_of, condition_of, jump_bytes, jump_dis
 use Rattle.item_contents.specs.declared.contents.Content.TheVariants.{Growing}
 use Rattle.item_contents.specs.declared.kinds.Growth.{Growth}
 use Rattle.item_contents.specs.declared.kinds.Growth.TheVariants.{Jump}
-use Rattle.jump_codes.specs.JumpReadings.{jump_name, jump_over, JumpCodesRead}
+use Rattle.jump_laws.specs.JumpReadings.{jump_name, jump_over, JumpCodesRead}
 use Rattle.asm_operands.specs.LayerFaults.{of_sections}
 use Rattle.asm_uses.specs.Places.{end_naming}
 use Rattle.asm_uses.specs.Tables.{naming_of}

@@ -5,7 +5,6 @@ pub mod NamedForms
 pub mod AmountTrees
 pub mod FieldOrder
 pub mod GrowthLemmas
-pub mod BareLemmas
 pub mod LabelLemmas
 pub mod Walks
 pub mod TakenPlaces

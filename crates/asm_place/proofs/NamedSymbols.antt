@@ -18,7 +18,6 @@ use Rattle.asm_expr.specs.Knowledge.{Told, absent, constant, label, form, Knowle
 use Rattle.asm_expr.specs.Settled.{spot_of, cancelled_number, put_one, put_all, settled}
 use Rattle.asm_expr.specs.Arithmetic.{complement, combined}
 use Rattle.asm_expr.specs.Linear.{form_by, form_of, constant_of, unary_form, constant_binary, binary_form, linear}
-use Rattle.asm_expr.proofs.RefusedSteps.{steps}
 use Rattle.asm_frags.specs.Writing.{LooseSection}
 use Rattle.asm_operands.specs.Expressions.{form_in}
 use Rattle.asm_operands.specs.ExprFaults.{in_statement}
@@ -33,7 +32,7 @@ use Rattle.asm_symbols.specs.Looking.{form_told, meaning_told, told}
 use Rattle.asm_uses.specs.Places.{here_name, known_at}
 use Rattle.asm_place.specs.SymbolPlaces.{AreUpTo, MeaningStands, SymbolStands, SymbolsStand}
 use Rattle.asm_place.proofs.GrowthLemmas.{All-there}
-use Rattle.asm_place.proofs.StatementSplits.{err-ok, same_Ok}
+use Rattle.asm_place.proofs.StatementSplits.{err-ok, same_Ok, both_ok}
 
 -- TERMS
 
@@ -115,15 +114,13 @@ module _ (last : ℕ) where
       ok_up (settled told' (difference_of (constant_form 0) one)) made
       (settled_up told' (difference_of (constant_form 0) one) (joined_up true (constant_form 0) one tt all)) is
   unary_up told' Complement one made all is =
-      let s = steps (constant_of one) (λ n. Ok (constant_form (complement n))) made is in
-      ok_up (constant_form (complement s.middle)) made tt s.ends
+      both_ok (constant_of one) (λ n. Ok (constant_form (complement n))) made is (λ n n_is made_is. ok_up (constant_form (complement n)) made tt made_is)
 
   constants_up : (op : BinaryOp) (one other made : Form) → constant_binary op one other ≡ Ok made → AreUpTo last made.terms
   constants_up op one other made is =
-      let s = steps (constant_of one) (λ a. constant_of other >>= (λ b. combined op a b >>= (λ n. Ok (constant_form n)))) made is in
-      let t = steps (constant_of other) (λ b. combined op s.middle b >>= (λ n. Ok (constant_form n))) made s.ends in
-      let u = steps (combined op s.middle t.middle) (λ n. Ok (constant_form n)) made t.ends in
-      ok_up (constant_form u.middle) made tt u.ends
+      both_ok (constant_of one) (λ a. constant_of other >>= (λ b. combined op a b >>= (λ n. Ok (constant_form n)))) made is (λ a a_is later.
+      both_ok (constant_of other) (λ b. combined op a b >>= (λ n. Ok (constant_form n))) made later (λ b b_is last_one.
+      both_ok (combined op a b) (λ n. Ok (constant_form n)) made last_one (λ n n_is made_is. ok_up (constant_form n) made tt made_is)))
 
   binary_up : (told' : ℕ → Told) (op : BinaryOp) (one other made : Form) → AreUpTo last one.terms → AreUpTo last other.terms
       → binary_form told' op one other ≡ Ok made → AreUpTo last made.terms
@@ -143,12 +140,11 @@ module _ (last : ℕ) where
   linear_up known here made knows is =
       ok_up (form_of known.told known.place) made (symbol_up known.told known.place (known.told known.place) knows.place (knows.forms known.place)) is
   linear_up known (unary op operand) made knows is =
-      let s = steps (linear known operand) (unary_form known.told op) made is in
-      unary_up known.told op s.middle made (linear_up known operand s.middle knows s.begins) s.ends
+      both_ok (linear known operand) (unary_form known.told op) made is (λ one one_is made_is. unary_up known.told op one made (linear_up known operand one knows one_is) made_is)
   linear_up known (binary op left right) made knows is =
-      let s = steps (linear known left) (λ one. linear known right >>= (λ other. binary_form known.told op one other)) made is in
-      let t = steps (linear known right) (λ other. binary_form known.told op s.middle other) made s.ends in
-      binary_up known.told op s.middle t.middle made (linear_up known left s.middle knows s.begins) (linear_up known right t.middle knows t.begins) t.ends
+      both_ok (linear known left) (λ one. linear known right >>= (λ other. binary_form known.told op one other)) made is (λ one one_is later.
+      both_ok (linear known right) (λ other. binary_form known.told op one other) made later (λ other other_is made_is.
+      binary_up known.told op one other made (linear_up known left one knows one_is) (linear_up known right other knows other_is) made_is))
 
 -- WHAT IS KNOWN
 

@@ -9,9 +9,9 @@ use Rattle.asm_base.specs.declared.positions.Pos.{Pos}
 use Rattle.asm_base.specs.Tokens.{SpelledToken}
 use Rattle.asm_expr.specs.Forms.{Form}
 use Rattle.item_contents.specs.declared.contents.Content.{Content}
-use Rattle.asm_frags.specs.declared.faults.FragCause.{FragCause}
+use Rattle.asm_base.specs.declared.causes.FragCause.{FragCause}
 use Rattle.asm_frags.specs.declared.fields.FieldSize.{FieldSize}
-use Rattle.asm_frags.specs.declared.faults.FragCause.TheVariants as frag
+use Rattle.asm_base.specs.declared.causes.FragCause.TheVariants as frag
 use Rattle.asm_frags.specs.SectionOf.{new_section, is_alike, section_number}
 use Rattle.item_contents.specs.Zeros.{is_zero}
 use Rattle.item_contents.specs.Contents.{is_known_zeros}
@@ -20,7 +20,7 @@ use Rattle.asm_frags.specs.declared.roles.Suffix.{Suffix}
 use Rattle.item_contents.specs.declared.kinds.Growth.{Growth}
 use Rattle.asm_frags.specs.Writing.{LooseSection, new_item, takes_zeros_alone, with_item, with_bytes, with_field, with_growing, bytes_put, field_put, item_put, growing_put}
 use Rattle.asm_frags.specs.Sections.{section_flags, entered_there, entered_by}
-use Rattle.asm_place.specs.declared.section_changes.Header.{Header}
+use Rattle.asm_declarations.specs.declared.section_changes.Header.{Header}
 use Rattle.asm_values.specs.declared.stacks.Entered.{Entered}
 use Rattle.asm_base.specs.Refusals.{◌>>=◌}
 use Rattle.asm_operands.specs.Operands.{operands_of}
@@ -29,7 +29,7 @@ use Rattle.asm_values.specs.State.{Placed, with_table, with_notes, with_names, k
 use Rattle.asm_words.specs.SectionWords.{SectionWords, section_words}
 use Rattle.asm_words.specs.declared.directives.Syntax.{Syntax}
 use Rattle.asm_place.specs.SyntaxWords.{with_syntax}
-use Rattle.asm_place.specs.SectionChanges.{with_current, option_trees, numbered, entered_as, enter_words, place_section, entered_now, place_pushed, back_to, popped, entry_size_in, header_by}
+use Rattle.asm_declarations.specs.SectionChanges.{with_current, option_trees, numbered, entered_as, enter_words, place_section, entered_now, place_pushed, back_to, popped, entry_size_in, header_by}
 use Rattle.asm_expr.specs.Trees.{Tree}
 use Rattle.asm_place.specs.Instructions.{Grows}
 use Rattle.asm_place.proofs.GrowthLemmas.{IsAdded, adds_nothing, item_added, bytes_added, field_added, growing_added}
@@ -149,9 +149,9 @@ items_grow before after number items grows has =
 
 meaning_grows : (before after : List LooseSection) (last : ℕ) → Grows before after → (meant : Meaning) → MeaningStands before last meant → MeaningStands after last meant
 meaning_grows before after last grows meaning.Undefined stands = tt
-meaning_grows before after last grows (meaning.Label spot) stands = items_grow before after spot.section spot.item grows stands
+meaning_grows before after last grows (meaning.Label spot) stands = items_grow before after spot.place.section spot.place.place.item grows stands
 meaning_grows before after last grows (meaning.Common size align) stands = tt
-meaning_grows before after last grows (meaning.Space spot) stands = items_grow before after spot.section spot.item grows stands
+meaning_grows before after last grows (meaning.Space spot) stands = items_grow before after spot.place.section spot.place.place.item grows stands
 meaning_grows before after last grows (meaning.Assigned form) stands = stands
 
 -- procedures stand where they stood
@@ -245,7 +245,7 @@ pub names_gain : (pos : Pos) (trees : List Tree) (placed : Placed) → PlacesSta
 names_gain pos trees placed stands = table_gains placed (with_trees pos trees placed.table) (trees_stand placed.sections pos trees placed.table) stands
 
 -- the place of a statement stands
-pub spot_stands : (sections : List LooseSection) (number : ℕ) → HasItems sections number 0 → HasItems sections (spot_at sections number).section (spot_at sections number).item
+pub spot_stands : (sections : List LooseSection) (number : ℕ) → HasItems sections number 0 → HasItems sections (spot_at sections number).place.section (spot_at sections number).place.place.item
 unfolding spot_at
 spot_stands sections number has =
     rw has.there (record { section = has.section; there = has.there; enough = omega arith })

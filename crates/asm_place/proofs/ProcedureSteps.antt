@@ -10,13 +10,12 @@ use Rattle.asm_frags.specs.declared.fields.Field.{Field}
 use Rattle.asm_frags.specs.Writing.{LooseItem, LooseSection}
 use Rattle.asm_uses.specs.Places.{spot_in, no_spot, spot_at}
 use Rattle.asm_values.specs.State.{Placed, here}
-use Rattle.asm_frames.specs.Placing.{frame_place}
 use Rattle.asm_frames.specs.Keeping.{line_here}
 use Rattle.cfi_directives.specs.declared.frames.Frame.{Frame}
 use Rattle.cfi_directives.specs.declared.frames.PlacedOp.{PlacedOp}
 use Rattle.cfi_directives.specs.declared.lines.CfiLine.{CfiLine}
-use Rattle.cfi_directives.specs.declared.places.Place.{Place}
-use Rattle.cfi_directives.specs.declared.places.SectionPlace.{SectionPlace}
+use Rattle.asm_base.specs.declared.places.Place.{Place}
+use Rattle.asm_base.specs.declared.places.SectionPlace.{SectionPlace}
 use Rattle.cfi_directives.specs.Meant.{stop_of}
 use Rattle.cfi_directives.specs.Order.{IsUpTo, last_place, IsInOrder, AreInOrder, IsReached}
 use Rattle.cfi_directives.specs.Procedures.{Procedures, no_procedures, frames_of}
@@ -81,7 +80,7 @@ fits_later before after grows number place = by (slice_get before number) refl
 
 -- where the next statement puts: behind all bytes and items
 abbrev end_by : ℕ → Option LooseSection → SectionPlace
-end_by number found = frame_place (option_map_or (spot_in number) found (no_spot number))
+end_by number found = (option_map_or (spot_in number) found (no_spot number)).place
 
 end_section : (number : ℕ) (found : Option LooseSection) → (end_by number found).section ≡ number
 end_section number None = refl
@@ -156,7 +155,7 @@ came (Err fault) f y is = absurd (let none : ⊥ = cc in none)
 
 module _ (laws : DirectivesKeep) (placed : Placed) (within : AreWithin placed.sections) where
   abbrev at : SectionPlace
-  at = frame_place (here placed)
+  at = (here placed).place
 
   abbrev FitsHere : ℕ → Place → Type 0
   FitsHere = FitsIn placed.sections

@@ -7,9 +7,9 @@ use Rattle.asm_base.specs.declared.positions.Pos.{Pos}
 use Rattle.asm_base.specs.Tokens.{SpelledToken}
 use Rattle.asm_expr.specs.Forms.{Form}
 use Rattle.item_contents.specs.declared.contents.Content.{Content}
-use Rattle.asm_frags.specs.declared.faults.FragCause.{FragCause}
+use Rattle.asm_base.specs.declared.causes.FragCause.{FragCause}
 use Rattle.asm_frags.specs.declared.fields.FieldSize.{FieldSize}
-use Rattle.asm_frags.specs.declared.faults.FragCause.TheVariants as frag
+use Rattle.asm_base.specs.declared.causes.FragCause.TheVariants as frag
 use Rattle.asm_frags.specs.SectionOf.{new_section, is_alike, section_number}
 use Rattle.item_contents.specs.Zeros.{is_zero}
 use Rattle.item_contents.specs.Contents.{is_known_zeros}
@@ -18,13 +18,13 @@ use Rattle.asm_frags.specs.declared.roles.Suffix.{Suffix}
 use Rattle.item_contents.specs.declared.kinds.Growth.{Growth}
 use Rattle.asm_frags.specs.Writing.{LooseSection, new_item, takes_zeros_alone, with_item, with_bytes, with_field, with_growing, bytes_put, field_put, item_put, growing_put}
 use Rattle.asm_frags.specs.Sections.{section_flags, entered_there, entered_by, with_section_or_fault, put_into_there}
-use Rattle.asm_place.specs.declared.section_changes.Header.{Header}
+use Rattle.asm_declarations.specs.declared.section_changes.Header.{Header}
 use Rattle.asm_values.specs.declared.stacks.Entered.{Entered}
 use Rattle.asm_operands.specs.LayerFaults.{of_sections}
 use Rattle.asm_operands.specs.Operands.{operands_of}
 use Rattle.asm_values.specs.State.{Placed, with_table, with_names, known_here, put_section, put_bytes_into, put_field_into, put_growing_into, push_into}
 use Rattle.asm_words.specs.SectionWords.{SectionWords, section_words}
-use Rattle.asm_place.specs.SectionChanges.{with_current, option_trees, numbered, entered_as, enter_words, place_section, entered_now, place_pushed, back_to, popped, entry_size_in, header_by}
+use Rattle.asm_declarations.specs.SectionChanges.{with_current, option_trees, numbered, entered_as, enter_words, place_section, entered_now, place_pushed, back_to, popped, entry_size_in, header_by}
 use Rattle.asm_place.proofs.GrowthLemmas.{Adds, IsAdded, adds_nothing, adds_to, adds_section, item_added, bytes_added, field_added, growing_added}
 use Rattle.asm_uses.specs.Tables.{naming_of, allowed}
 use Rattle.asm_place.proofs.Walks.{Fine, made, refused, step, after, either}

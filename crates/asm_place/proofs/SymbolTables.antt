@@ -26,8 +26,8 @@ use Rattle.asm_symbols.specs.declared.entries.Meaning.{Meaning}
 use Rattle.asm_symbols.specs.declared.entries.Meaning.TheVariants as meaning
 use Rattle.asm_symbols.specs.declared.entries.Spot.{Spot}
 use Rattle.asm_symbols.specs.declared.entries.Symbol.{Symbol}
-use Rattle.asm_symbols.specs.declared.faults.SymCause.{SymCause}
-use Rattle.asm_symbols.specs.declared.faults.SymCause.TheVariants.{BadSymbolUse}
+use Rattle.asm_base.specs.declared.causes.SymCause.{SymCause}
+use Rattle.asm_base.specs.declared.causes.SymCause.TheVariants.{BadSymbolUse}
 use Rattle.asm_symbols.specs.Assigning.{form_fault_at, with_form}
 use Rattle.asm_symbols.specs.Attributes.{with_binding, with_kind, with_visibility, with_size, with_next_size, bound_as, bound_by, bound}
 use Rattle.asm_symbols.specs.Counting.{meant_name, next_named}
@@ -43,8 +43,8 @@ use Rattle.asm_uses.specs.Labels.{named_symbol, label_by, label_symbol}
 use Rattle.asm_uses.specs.Places.{here_name, here_by, name_here, end_naming}
 use Rattle.asm_uses.specs.Tables.{Table, with_map, found_in, symbol_of, next_symbol, changed_by, change_named, file_named, with_name as table_with_name, with_tree, with_trees, allowed}
 use Rattle.asm_uses.specs.declared.tables.Naming.{Naming}
-use Rattle.asm_words.specs.declared.directives.SymbolAttribute.{SymbolAttribute}
-use Rattle.asm_words.specs.declared.directives.SymbolAttribute.TheVariants.{Bind, See}
+use Rattle.asm_symbols.specs.declared.entries.SymbolAttribute.{SymbolAttribute}
+use Rattle.asm_symbols.specs.declared.entries.SymbolAttribute.TheVariants.{Bind, See}
 use Rattle.asm_place.specs.SymbolPlaces.{AreUpTo, IsGiven, MeaningStands, NameStands, SymbolStands, SymbolsStand}
 use Rattle.asm_place.proofs.GivenNames.{GivenAt, meant_given, given_stands, found_given, form_takes}
 use Rattle.asm_place.proofs.NamedSymbols.{up_to_more}

@@ -10,8 +10,8 @@ use Rattle.cfi_directives.specs.declared.frames.Frame.{Frame}
 use Rattle.cfi_directives.specs.declared.frames.PlacedOp.{PlacedOp}
 use Rattle.cfi_directives.specs.declared.lines.CfiLine.{CfiLine}
 use Rattle.cfi_directives.specs.declared.lines.CfiLine.TheVariants.{StartProc, EndProc, Row}
-use Rattle.cfi_directives.specs.declared.places.Place.{Place}
-use Rattle.cfi_directives.specs.declared.places.SectionPlace.{SectionPlace}
+use Rattle.asm_base.specs.declared.places.Place.{Place}
+use Rattle.asm_base.specs.declared.places.SectionPlace.{SectionPlace}
 use Rattle.cfi_rows.specs.declared.rows.CfiOp.{CfiOp}
 use Rattle.cfi_directives.specs.Meant.{stop_of}
 use Rattle.cfi_directives.specs.Order.{IsUpTo, last_of, last_place, IsReached}
@@ -20,7 +20,6 @@ use Rattle.cfi_directives.specs.Rows.{rows_after}
 use Rattle.cfi_directives.specs.Saying.{said}
 use Rattle.cfi_directives.specs.Taking.{frame_in, with_op, started, ended, put, taken, taken_from}
 use Rattle.asm_values.specs.State.{Placed, here}
-use Rattle.asm_frames.specs.Placing.{frame_place}
 use Rattle.asm_frames.specs.Keeping.{line_here}
 use Rattle.asm_base.specs.Refusals.{◌>>=◌}
 use Rattle.asm_place.proofs.Walks.{Fine, made, refused, step, after}
@@ -117,11 +116,11 @@ module _ (Q : ℕ → Place → Type 0) where
       after (said (cfa_offset procedures.begun) directive) (λ op. put_has at op procedures.closed procedures.begun here have.closed have.begun)
 
   -- and so do directives, one after the other at one place
-  pub lines_have : (placed : Placed) → Q (frame_place (here placed)).section (frame_place (here placed)).place → (lines : List CfiLine) (procedures : Procedures)
+  pub lines_have : (placed : Placed) → Q (here placed).place.section (here placed).place.place → (lines : List CfiLine) (procedures : Procedures)
       → HavePlaces procedures → Fine HavePlaces (taken_from procedures (map (line_here placed) lines))
   lines_have placed at [] procedures have = made _ have
   lines_have placed at (line ∷ lines) procedures have =
-      step (taken_has line (frame_place (here placed)) procedures at have) (λ next now. lines_have placed at lines next now)
+      step (taken_has line (here placed).place procedures at have) (λ next now. lines_have placed at lines next now)
 
 -- whatever an answer is
 always : {A E : Type 0} {P : A → Type 0} (r : Result A E) → ((x : A) → P x) → Fine P r

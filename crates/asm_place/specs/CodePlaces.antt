@@ -153,6 +153,8 @@ pub record CodeStandsAt (sections : List LooseSection) (number item offset : ℕ
   pub apart : AreApart 1 (length bytes) fields
   pub section : LooseSection
   pub found : slice_get sections number ≡ Some section
+  pub within : offset + length bytes ≤ length section.bytes
+  pub enough : item ≤ length section.items
   pub bytes_there : BytesAt section.bytes offset (blanked bytes fields)
   pub fields_there : FieldsAmong section.fields offset (offset + length bytes) (map (field_in pos number item offset) fields)
   pub items_before : All (λ item. item.offset ≤ offset) (take item section.items)

@@ -87,6 +87,7 @@ pub record StandsAt (sections : List LooseSection) (number item offset : ℕ) (b
   pub found : slice_get sections number ≡ Some section
   pub takes_bytes : (section.kind == 8) ≡ false
   pub within : offset + length bytes ≤ length section.bytes
+  pub enough : item ≤ length section.items
   pub there : slice_range section.bytes offset (offset + length bytes) ≡ bytes
   pub free : All (IsBeside offset (offset + length bytes)) section.fields
   pub before : All (λ item. item.offset ≤ offset) (take item section.items)

@@ -1,11 +1,5 @@
 -- The definitions that the contracts cite, in reading order.
 pub mod Faults
-pub mod SectionChanges
-pub mod SymbolWords
-pub mod BareNames
-pub mod Commons
-pub mod SpaceWordsIn
-pub mod Idents
 pub mod Remarks
 pub mod SyntaxWords
 pub mod Coding

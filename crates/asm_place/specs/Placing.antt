@@ -16,12 +16,12 @@ use Rattle.asm_base.specs.Refusals.{◌>>=◌}
 use Rattle.asm_uses.specs.Tables.{changed_by}
 use Rattle.asm_values.specs.State.{Placed, with_table, unless_dot, here}
 use Rattle.asm_operands.specs.Operands.{is_name, is_dot, names_symbol, is_assignment, begins_with_dot, is_number, is_label}
-use Rattle.asm_place.specs.SectionChanges.{with_current, place_section, place_pushed, popped}
-use Rattle.asm_place.specs.SymbolWords.{place_said, place_type}
+use Rattle.asm_declarations.specs.SectionChanges.{with_current, place_section, place_pushed, popped, bare}
+use Rattle.asm_declarations.specs.SymbolWords.{place_said, place_type}
 use Rattle.asm_values.specs.Sizes.{place_size}
 use Rattle.asm_values.specs.Assignments.{place_set, place_assignment}
-use Rattle.asm_place.specs.Commons.{place_comm, place_lcomm}
-use Rattle.asm_place.specs.Idents.{place_ident, place_file}
+use Rattle.asm_declarations.specs.Commons.{place_comm, place_lcomm}
+use Rattle.asm_declarations.specs.Idents.{place_ident, place_file}
 use Rattle.asm_place.specs.Remarks.{place_error, place_warning}
 use Rattle.asm_place.specs.SyntaxWords.{place_syntax}
 use Rattle.asm_place.specs.Coding.{place_instruction}
@@ -32,11 +32,6 @@ use Rattle.asm_items.specs.Alignments.{place_align}
 use Rattle.asm_items.specs.Orgs.{place_org}
 use Rattle.asm_items.specs.Leb128Numbers.{place_leb128}
 use Rattle.asm_values.specs.Data.{place_data, place_strings, place_zero, place_skip, place_fill}
-
--- a directive that stands alone
-abbrev pub bare : List SpelledToken → Result Placed PlaceCause → Result Placed PlaceCause
-bare [] answer = answer
-bare (token ∷ rest) answer = Err BadOperand
 
 -- the numbers of the sections that are there from the beginning
 abbrev pub initial_number : InitialSection → ℕ

@@ -2,7 +2,7 @@
 use Rattle.std.specs.Prelude.{◌≡◌, ◌≤◌, List, All, IfSome, Some, length, take, drop, slice_get}
 use Rattle.asm_frags.specs.Writing.{LooseSection}
 use Rattle.cfi_directives.specs.declared.frames.Frame.{Frame}
-use Rattle.cfi_directives.specs.declared.places.Place.{Place}
+use Rattle.asm_base.specs.declared.places.Place.{Place}
 use Rattle.cfi_directives.specs.Meant.{stop_of}
 use Rattle.cfi_directives.specs.Order.{AreInOrder}
 use Rattle.cfi_directives.specs.Procedures.{Procedures}

@@ -9,7 +9,7 @@ use Rattle.asm_operands.specs.declared.place_faults.PlaceCause.{PlaceCause}
 use Rattle.asm_operands.specs.declared.place_faults.PlaceCause.TheVariants.{ErrorDirective, BadOperand}
 use Rattle.asm_operands.specs.Operands.{string_by_kind}
 use Rattle.asm_values.specs.State.{Placed, with_notes}
-use Rattle.asm_place.specs.Idents.{one_string}
+use Rattle.asm_declarations.specs.Idents.{one_string}
 
 -- `.err` stands alone
 abbrev pub place_err : List SpelledToken → Result Placed PlaceCause

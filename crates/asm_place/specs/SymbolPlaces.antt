@@ -29,9 +29,9 @@ AreUpTo last (term ∷ terms) = (term.symbol ≤ last) × AreUpTo last terms
 -- this number
 abbrev pub MeaningStands : List LooseSection → ℕ → Meaning → Type 0
 MeaningStands sections last Undefined = Unit {0}
-MeaningStands sections last (Label spot) = HasItems sections spot.section spot.item
+MeaningStands sections last (Label spot) = HasItems sections spot.place.section spot.place.place.item
 MeaningStands sections last (Common size align) = Unit {0}
-MeaningStands sections last (Space spot) = HasItems sections spot.section spot.item
+MeaningStands sections last (Space spot) = HasItems sections spot.place.section spot.place.place.item
 MeaningStands sections last (Assigned form) = AreUpTo last form.terms
 
 -- a name that statements give: a text, or a numeric label

@@ -23,8 +23,8 @@ ghost use Rattle.asm_place.specs.Instructions.{behind_labels, instruction_writte
 
 use asm_frames::frame_directives_keep_all_else;
 use cfi_directives::{places_never_fall, procedures_are_sound};
-use jump_codes::{conditions_are_numbered, jump_codes_read};
-use x86_encode::encodings_are_codes;
+use jump_laws::{conditions_are_numbered, jump_codes_read};
+use x86_encode::fields_stand_apart;
 use x86_lookup::bare_codes_read;
 
 /// Placing only adds bytes, fields and items, behind those that are there.
@@ -100,7 +100,7 @@ pub fn encoding_stands()
         → insn_written before.syntax (behind_labels tokens) ≡ Some text → jump_in text ≡ None
         → place_tokens pos tokens before ≡ Ok placed → IsInsnPut pos tokens text before placed }
 {
-    encodings_are_codes();
+    fields_stand_apart();
 }
 
 /// The bytes and fields of its encoding stand in what all statements place, where those before it end.
@@ -113,7 +113,7 @@ pub fn encoding_items()
         → InsnStands whole.sections (pos_at s.file s.line) s.tokens text placed }
 {
     frame_directives_keep_all_else();
-    encodings_are_codes();
+    fields_stand_apart();
 }
 
 /// Where a statement is a direct jump, an item that grows with the distance to its target is put last

@@ -4,16 +4,12 @@
 mod amount_forms;
 mod code_putting;
 mod codes;
-mod commons;
-mod idents;
 mod instructions;
 mod laws;
 mod place_faults;
 mod placing;
 mod remarks;
-mod section_changes;
 mod sources;
-mod symbol_words;
 mod syntax_words;
 
 pub use laws::{

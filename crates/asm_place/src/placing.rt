@@ -2,21 +2,21 @@
 
 ghost use Rattle.std.specs.Prelude.{◌≡◌, ◌∷◌, map, Ok};
 ghost use Rattle.asm_base.specs.Tokens.{spelled};
-ghost use Rattle.asm_place.specs.Placing.{initial_number, is_too_wide, has_wide_label, bare, place_by, place_directive, place_body, place_label, place_unlabelled, place_labelled, place_tokens};
+ghost use Rattle.asm_place.specs.Placing.{initial_number, is_too_wide, has_wide_label, place_by, place_directive, place_body, place_label, place_unlabelled, place_labelled, place_tokens};
 ghost use Rattle.asm_base.specs.Refusals.{Gives};
 ghost use Rattle.asm_operands.specs.Operands.{begins_with_label};
 ghost use Rattle.asm_values.specs.Answers.{KeepsNotes};
-ghost use Rattle.asm_place.specs.SectionChanges.{with_current};
+ghost use Rattle.asm_declarations.specs.SectionChanges.{bare, with_current};
 ghost use Rattle.asm_values.specs.PlacedBy.{placed_by, PlacesBy};
 
-use crate::commons::{place_comm, place_lcomm};
-use crate::idents::{place_file, place_ident};
 use crate::instructions::place_instruction;
 use crate::remarks::{place_error, place_warning};
-use crate::section_changes::{place_popped, place_pushed, place_section, set_current};
-use crate::symbol_words::{place_said, place_type};
 use crate::syntax_words::place_syntax;
 use asm_base::{Pos, Token};
+use asm_declarations::{
+    place_comm, place_file, place_ident, place_lcomm, place_popped, place_pushed, place_said,
+    place_section, place_type, set_current,
+};
 use asm_frames::place_frame;
 use asm_items::{place_align, place_leb128, place_org};
 use asm_operands::{

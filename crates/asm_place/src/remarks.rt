@@ -6,8 +6,8 @@ ghost use Rattle.asm_place.specs.Remarks.{place_error, place_warning, string_if,
 ghost use Rattle.asm_values.specs.Answers.{KeepsNotes};
 ghost use Rattle.asm_values.specs.PlacedBy.{PlacesBy};
 
-use crate::idents::one_string;
 use asm_base::{Note, Noted, Pos, Text, Token, TokenKind, string_value};
+use asm_declarations::one_string;
 use asm_operands::{PlaceCause, PlaceFault};
 use asm_values::Assembler;
 use expr_texts::between_quotes;

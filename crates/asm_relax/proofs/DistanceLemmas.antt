@@ -12,8 +12,9 @@ use Rattle.asm_frags.specs.declared.fields.FieldSize.TheVariants.{One, Two, Four
 use Rattle.asm_frags.specs.declared.items.Frag.{Frag}
 use Rattle.asm_frags.specs.Fields.{width, own_place}
 use Rattle.asm_frags.specs.SectionOf.{SectionOf}
+use Rattle.item_rows.specs.Links.{is_linked}
 use Rattle.asm_relax.specs.Final.{final_told}
-use Rattle.asm_relax.specs.FieldValues.{is_linked, field_address, place_label, place_told, told_in_field, less, counted, held_value, instruction_end, DistancesLead}
+use Rattle.asm_relax.specs.FieldValues.{field_address, place_label, place_told, told_in_field, less, counted, held_value, instruction_end, DistancesLead}
 use Rattle.asm_relax.proofs.PairLemmas.{beside_is}
 
 -- a symbol and a number, less another symbol

@@ -4,6 +4,7 @@ use Rattle.std.specs.Prelude.{slice_get}
 use Rattle.std.specs.Option.{option_map_or}
 use Rattle.std.proofs.lemmas.Bool.Decides.{Decides-eqb}
 use Rattle.std.proofs.lemmas.Nat.{mul-mod_first}
+use Rattle.asm_base.specs.declared.places.SectionPlace.{SectionPlace}
 use Rattle.asm_expr.specs.declared.forms.Term.{Term}
 use Rattle.asm_expr.specs.Forms.{Form, wrapped}
 use Rattle.asm_expr.specs.Knowledge.{Told, absent, label}
@@ -21,18 +22,19 @@ use Rattle.asm_levels.specs.declared.distances.Distance.{Distance}
 use Rattle.asm_levels.specs.declared.distances.Distance.TheVariants.{Between, Sum}
 use Rattle.asm_levels.specs.Distances.{distance_value}
 use Rattle.asm_levels.specs.Shifts.{shifts_of}
-use Rattle.row_distances.specs.declared.places.Place.{Place}
 use Rattle.row_distances.specs.declared.places.OwnPlace.{OwnPlace}
 use Rattle.row_distances.specs.Places.{meant_place, place_of, address_at, place_told, row_told}
 use Rattle.row_distances.specs.FormDistances.{value_among, distance_of, IsDistanceOf}
+use Rattle.item_rows.specs.Links.{is_linked}
+use Rattle.item_rows.specs.ItemRows.{all_rows, starts_from, rows_of, own_of, levels_of}
 use Rattle.asm_relax.specs.Final.{address_of, final_meaning, final_told}
-use Rattle.asm_relax.specs.FieldValues.{is_linked, less, field_address, place_label, place_told as field_told, told_in_field, held_value}
-use Rattle.asm_relax.specs.ItemRows.{all_rows, starts_from, rows_of, own_of, levels_of}
+use Rattle.asm_relax.specs.FieldValues.{less, field_address, place_label, place_told as field_told, told_in_field, held_value}
 use Rattle.asm_relax.specs.Layout.{laid_out, laid_by, AreWithin}
 use Rattle.asm_relax.specs.Settling.{LaidSections, settled_sections}
 use Rattle.asm_relax.specs.ItemValues.{StandsIn, NamesOwnPlace, HoldTheirDistances, HoldWhereSettled}
 use Rattle.asm_relax.proofs.LayingLemmas.{rows_are_all}
-use Rattle.asm_relax.proofs.ShiftTail.{AllRise, rows_rise, shifts_long}
+use Rattle.asm_relax.specs.RisingRows.{AllRise}
+use Rattle.asm_relax.proofs.ShiftTail.{rows_rise, shifts_long}
 use Rattle.asm_relax.proofs.PlaceLemmas.{AllLow, place_moved}
 use Rattle.asm_relax.proofs.ShiftedForms.{IsShifted, AreShifted, shifted_by, value_shifted}
 
@@ -105,7 +107,7 @@ back_again n counts taken behind small few none minus =
     omega arith
 
 module _ (map' : SymbolMap) (shifts : List ℕ) (sections : LaidSections) (field : Field) (rise : AllRise shifts sections) (low : AllLow sections)
-    (places : (index : ℕ) (place : Place) → place_of map' (own_of field) index ≡ Some place → StandsIn sections place) (in_item : field.in_item ≡ true) where
+    (places : (index : ℕ) (place : SectionPlace) → place_of map' (own_of field) index ≡ Some place → StandsIn sections place) (in_item : field.in_item ≡ true) where
   -- the first rows of the sections
   abbrev starts : List ℕ
   starts = starts_from 0 sections
@@ -126,23 +128,23 @@ module _ (map' : SymbolMap) (shifts : List ℕ) (sections : LaidSections) (field
   abbrev moved : ℕ → Told
   moved = told_in_field map' laid field
 
-  address_is : (index : ℕ) (place : Place) → place_of map' (own_of field) index ≡ Some place → address_of laid place.section place.item place.offset ≡ address_at starts shifts place
+  address_is : (index : ℕ) (place : SectionPlace) → place_of map' (own_of field) index ≡ Some place → address_of laid place.section place.place.item place.place.offset ≡ address_at starts shifts place
   address_is index place is =
       let stands = places index place is in
-      place_moved shifts place.section place.item place.offset sections stands.section stands.there stands.within rise low
+      place_moved shifts place.section place.place.item place.place.offset sections stands.section stands.there stands.within rise low
 
-  as_it_is : (place : Place) → address_at starts shifts place ≡ wrapped (address_at starts shifts place + 0)
+  as_it_is : (place : SectionPlace) → address_at starts shifts place ≡ wrapped (address_at starts shifts place + 0)
   as_it_is place = omega arith
 
   by_meaning : (symbol : ℕ) (meant : Meaning) → place_of map' (own_of field) symbol ≡ meant_place meant → IsShifted (place_told starts shifts (meant_place meant)) (final_meaning laid meant) 0
   by_meaning symbol meaning.Undefined is = inl (refl, refl)
   by_meaning symbol (meaning.Label spot) is =
-      let place : Place = record { section = spot.section; item = spot.item; offset = spot.offset } in
-      inr (spot.section, address_at starts shifts place, refl, ap (λ at. label spot.section at) (address_is symbol place is ∙ as_it_is place))
+      let place : SectionPlace = spot.place in
+      inr (spot.place.section, address_at starts shifts place, refl, ap (λ at. label spot.place.section at) (address_is symbol place is ∙ as_it_is place))
   by_meaning symbol (meaning.Common size align) is = inl (refl, refl)
   by_meaning symbol (meaning.Space spot) is =
-      let place : Place = record { section = spot.section; item = spot.item; offset = spot.offset } in
-      inr (spot.section, address_at starts shifts place, refl, ap (λ at. label spot.section at) (address_is symbol place is ∙ as_it_is place))
+      let place : SectionPlace = spot.place in
+      inr (spot.place.section, address_at starts shifts place, refl, ap (λ at. label spot.place.section at) (address_is symbol place is ∙ as_it_is place))
   by_meaning symbol (meaning.Assigned other) is = inl (refl, refl)
 
   by_symbol : (symbol : ℕ) (found : Option Symbol) → place_of map' (own_of field) symbol ≡ option_map_or (λ one. meant_place one.meaning) found None

@@ -7,8 +7,8 @@ use Rattle.asm_expr.specs.Forms.{wrapped}
 use Rattle.asm_frags.specs.declared.items.Frag.{Frag}
 use Rattle.asm_frags.specs.SectionOf.{SectionOf}
 use Rattle.asm_frags.specs.Addresses.{item_laid_at}
+use Rattle.item_rows.specs.ItemRows.{row_count}
 use Rattle.asm_relax.specs.Final.{shift_in}
-use Rattle.asm_relax.specs.ItemRows.{row_count}
 use Rattle.asm_relax.specs.Layout.{laid_from, laid_out, without_addresses, IsInRow}
 use Rattle.asm_relax.specs.Placing.{placed_from, shift_of}
 use Rattle.asm_relax.proofs.LayingLemmas.{there_is}

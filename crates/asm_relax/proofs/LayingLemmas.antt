@@ -1,15 +1,14 @@
 -- Items and sections that are laid out one after the other, in place.
-use Rattle.std.proofs.Common.{◌≡◌, ℕ, zero, suc, ◌+◌, ◌-◌, ◌<◌, ◌≤◌, List, [], ◌∷◌, ◌++◌, Some, length, get_or, drop, refl, sym, ap, ◌∙◌, arith, length-append, append_assoc, drop-drop}
+use Rattle.std.proofs.Common.{◌≡◌, ℕ, zero, suc, ◌+◌, ◌-◌, ◌<◌, ◌≤◌, List, [], ◌∷◌, Some, length, drop, refl, sym, ap, ◌∙◌, arith, length-append, drop-drop}
 use Rattle.std.specs.Prelude.{slice_get, slice_index}
 use Rattle.std.proofs.Math.Seq.{get_or-drop}
-use Rattle.std.proofs.lemmas.List.{at_drop_more}
 use Rattle.asm_frags.specs.declared.items.Frag.{Frag}
 use Rattle.asm_frags.specs.SectionOf.{SectionOf}
 use Rattle.asm_frags.specs.Addresses.{item_laid_at, section_laid_at, changed_at, sections_laid_at, HasItem}
 use Rattle.asm_symbols.specs.SymbolMap.{SymbolMap}
 use Rattle.asm_frags.specs.declared.fields.Field.{Field}
 use Rattle.asm_levels.specs.declared.rows.Row.{Row}
-use Rattle.asm_relax.specs.ItemRows.{RowsIn, row_count, starts_from, all_rows, rows_in, row_of, item_rows, end_of, section_rows, rows_from, rows_of}
+use Rattle.item_rows.specs.ItemRows.{RowsIn, row_count, starts_from, all_rows, rows_in, row_of, item_rows, end_of, section_rows, rows_from, rows_of}
 use Rattle.asm_relax.specs.Layout.{laid_from, laid_out_section, laid_out}
 use Rattle.asm_relax.specs.Placing.{address_there}
 use Rattle.asm_relax.proofs.Changes.{changed_more, changed_twice, changed_alike, changed_get, changed_none}
@@ -185,19 +184,6 @@ module _ {P : Type 0} where
   row_inside n [] section is = absurd cc
   row_inside zero (one ∷ sections) section is = let same : one ≡ section = cc in rw same (omega arith)
   row_inside (suc n) (one ∷ sections) section is = let later = row_inside n sections section is in omega arith
-
-  -- a section more goes last
-  pub rows_step : (rows : RowsIn) (sections : List (SectionOf (Frag P ℕ))) (i : ℕ) (section : SectionOf (Frag P ℕ)) (old new whole : List Row) → i < length sections
-      → section ≡ get_or sections i section → new ≡ old ++ section_rows rows (length old) section → old ++ rows_from rows (length old) (drop i sections) ≡ whole
-      → new ++ rows_from rows (length new) (drop (i + 1) sections) ≡ whole
-  rows_step rows sections i section old new whole inside is put before =
-      let own = section_rows rows (length old) section in
-      let long : length new ≡ length old + row_count section = ap (λ (all : List Row). length all) put ∙ length-append old own ∙ ap (λ (n : ℕ). length old + n) (section_long rows (length old) section) in
-      let rest = rows_from rows (length old + row_count section) (drop (i + 1) sections) in
-      let head : rows_from rows (length old) (drop i sections) ≡ own ++ rest =
-      at_drop_more (rows_from rows (length old)) sections i section inside ∙ ap (λ (s : SectionOf (Frag P ℕ)). rows_from rows (length old) (s ∷ drop (i + 1) sections)) (sym is) in
-      ap (λ (n : ℕ). new ++ rows_from rows n (drop (i + 1) sections)) long ∙ ap (λ (all : List Row). all ++ rest) put ∙ append_assoc old own rest
-      ∙ ap (λ (all : List Row). old ++ all) (sym head) ∙ before
 
   -- there are as many rows as the sections have
   pub rows_are_all : (map : SymbolMap) (sections : List (SectionOf (Frag P ℕ))) → length (rows_of map sections) ≡ all_rows sections

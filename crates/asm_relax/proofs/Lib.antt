@@ -1,13 +1,14 @@
 -- The proofs of this crate.
+mod LoneTerms
 pub mod PairLemmas
 pub mod DistanceLemmas
 pub mod Changes
-pub mod RowFitting
 pub mod LayingLemmas
 pub mod ShiftTail
 pub mod FirstLemmas
 pub mod SettlingLemmas
 pub mod LawLemmas
+pub mod KeptSections
 pub mod StretchLemmas
 pub mod ShiftedForms
 pub mod PlaceLemmas

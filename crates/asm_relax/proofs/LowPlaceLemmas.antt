@@ -16,18 +16,19 @@ use Rattle.asm_levels.specs.declared.rows.Row.{Row}
 use Rattle.asm_levels.specs.Needs.{need, tops}
 use Rattle.asm_levels.specs.Shifts.{shifts_of}
 use Rattle.level_ranks.specs.Ranks.{IsLayout}
+use Rattle.item_rows.specs.ItemRows.{row_count, rows_of}
 use Rattle.asm_relax.specs.declared.faults.LayoutFault.{LayoutFault}
 use Rattle.asm_relax.specs.declared.faults.LayoutFault.TheVariants.{SectionTooLarge}
 use Rattle.asm_relax.specs.Faults.{or_later, first_of}
 use Rattle.asm_relax.specs.Final.{shift_in, section_size}
-use Rattle.asm_relax.specs.ItemRows.{row_count, rows_of}
 use Rattle.asm_relax.specs.Layout.{laid_from, laid_out_section, laid_out, AreWithin}
 use Rattle.asm_relax.specs.LowPlaces.{MovesOn, KeepsLow}
 use Rattle.asm_relax.specs.RangeChecks.{is_large, begins_late, first_large, large_section}
 use Rattle.asm_relax.specs.Settling.{LaidSections}
 use Rattle.asm_relax.proofs.LayingLemmas.{there_is, shift_behind}
 use Rattle.asm_relax.proofs.PlaceLemmas.{rise_at, moved_as_row}
-use Rattle.asm_relax.proofs.ShiftTail.{Rise, AllRise, ranked_within, rows_rise}
+use Rattle.asm_relax.specs.RisingRows.{Rise, AllRise}
+use Rattle.asm_relax.proofs.ShiftTail.{ranked_within, rows_rise}
 
 -- what holds of all elements holds of the one at an index
 pub all_get : {X : Type 0} (P : X → Type 0) (xs : List X) (n : ℕ) (x : X) → slice_get xs n ≡ Some x → All P xs → P x

@@ -8,11 +8,11 @@ use Rattle.std.proofs.lemmas.List.Elements.{All-head, All-tail}
 use Rattle.asm_expr.specs.Forms.{wrapped}
 use Rattle.asm_frags.specs.declared.items.Frag.{Frag}
 use Rattle.asm_frags.specs.SectionOf.{SectionOf}
+use Rattle.item_rows.specs.ItemRows.{row_count, starts_from}
 use Rattle.asm_relax.specs.Final.{shift_in, address_in, address_of}
-use Rattle.asm_relax.specs.ItemRows.{row_count, starts_from}
 use Rattle.asm_relax.specs.Layout.{laid_from, laid_out}
 use Rattle.asm_relax.proofs.LayingLemmas.{next_shift, laid_there, there_is, shift_behind}
-use Rattle.asm_relax.proofs.ShiftTail.{Rise, AllRise}
+use Rattle.asm_relax.specs.RisingRows.{Rise, AllRise}
 
 -- the end of an item, less the plain bytes before it
 behind_row : (offset this next : ℕ) → offset < 2 ^ 64 → this ≤ next → wrapped (wrapped (offset + this + (next - this)) + (2 ^ 64 - offset)) ≡ wrapped next

@@ -6,9 +6,10 @@ use Rattle.item_contents.specs.declared.kinds.Growth.TheVariants as growth
 use Rattle.asm_levels.specs.declared.distances.Distance.{Distance}
 use Rattle.asm_levels.specs.declared.rows.Row.{Row}
 use Rattle.asm_levels.specs.Distances.{distance_value}
-use Rattle.asm_levels.specs.Needs.{jump_level, unsigned_level, signed_level, advance_level, needed, need, IsSignedWithin, AdvanceHolds}
+use Rattle.asm_levels.specs.Needs.{needed, need}
+use Rattle.item_bytes.specs.Levels.{jump_level, unsigned_level, signed_level, advance_level, IsSignedWithin, AdvanceHolds}
 use Rattle.asm_levels.specs.Shifts.{shifts_of}
-use Rattle.asm_relax.specs.ItemRows.{rows_in, rows_of, field_distance, grown_row}
+use Rattle.item_rows.specs.ItemRows.{rows_in, rows_of, field_distance, grown_row}
 use Rattle.asm_relax.specs.ItemValues.{HoldTheirDistances, HasRoom, HaveRoom}
 use Rattle.asm_relax.proofs.ItemValueLemmas.{distance_small}
 

@@ -20,8 +20,8 @@ use Rattle.asm_levels.specs.Distances.{distance_value}
 use Rattle.asm_levels.specs.Needs.{need, top, tops}
 use Rattle.asm_levels.specs.Shifts.{moved_past, shift_behind, shifts_of}
 use Rattle.asm_levels.specs.Sizes.{size_at}
+use Rattle.item_rows.specs.ItemRows.{RowsIn, row_count, rows_in, field_distance, grown_row, row_size, row_of, item_rows, end_of, section_rows, rows_from, rows_of, levels_of}
 use Rattle.asm_relax.specs.FieldValues.{held_value}
-use Rattle.asm_relax.specs.ItemRows.{RowsIn, row_count, rows_in, field_distance, grown_row, row_size, row_of, item_rows, end_of, section_rows, rows_from, rows_of, levels_of}
 use Rattle.asm_relax.specs.ItemValues.{HasRoom, HoldTheirDistances, HaveRoom}
 use Rattle.asm_relax.specs.Layout.{laid_from, laid_out_section, laid_out, laid_by, AreWithin}
 use Rattle.asm_relax.specs.Settling.{LaidItem, LaidSections, settled_sections}

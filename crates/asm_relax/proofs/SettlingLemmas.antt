@@ -7,7 +7,7 @@ use Rattle.level_ranks.specs.Rounds.{NeedsWithin, after}
 use Rattle.asm_levels.specs.declared.rows.Row.{Row}
 use Rattle.asm_levels.specs.Needs.{need, tops}
 use Rattle.asm_levels.specs.Shifts.{shifts_of}
-use Rattle.asm_relax.specs.ItemRows.{rows_of, lowest_levels, levels_of}
+use Rattle.item_rows.specs.ItemRows.{rows_of, lowest_levels, levels_of}
 use Rattle.asm_symbols.specs.SymbolMap.{SymbolMap}
 use Rattle.asm_relax.specs.Layout.{laid_out, laid_by, AreSized, AreWithin}
 use Rattle.asm_relax.specs.Placing.{placed_section}

@@ -23,9 +23,10 @@ use Rattle.asm_levels.specs.declared.rows.Row.{Row}
 use Rattle.asm_levels.specs.Sizes.{size_at}
 use Rattle.asm_levels.specs.Needs.{need, top, tops}
 use Rattle.asm_levels.specs.Shifts.{moved_past, shift_behind, shifts_from, shifts_of}
-use Rattle.asm_relax.specs.ItemRows.{RowsIn, rows_in, row_count, field_distance, grown_row, row_size, row_of, item_rows, end_of, section_rows, rows_from, rows_of}
+use Rattle.item_rows.specs.ItemRows.{RowsIn, rows_in, row_count, field_distance, grown_row, row_size, row_of, item_rows, end_of, section_rows, rows_from, rows_of}
 use Rattle.asm_relax.specs.Layout.{laid_from, laid_out_section, laid_out, laid_by, AreSized, AreWithin, HasSizeAt, HaveSizes, IsInRow}
 use Rattle.asm_relax.specs.Placing.{placed_from, placed_section}
+use Rattle.asm_relax.specs.RisingRows.{Rise, AllRise}
 use Rattle.asm_relax.proofs.LawLemmas.{placed_in_row}
 
 -- how far these rows are moved, the first of them so far, behind those that are done
@@ -109,16 +110,6 @@ taken_within (numbers ∷ ranks) (row ∷ rows) same =
 -- the levels of a ranking are within the highest ones
 pub ranked_within : (rows : List Row) (levels : List ℕ) (rounds : ℕ) → IsLayout (need rows) (tops rows) levels rounds → AreWithin levels rows
 ranked_within rows levels rounds layout = subst (λ (all : List ℕ). AreWithin all rows) (sym layout.taken) (taken_within layout.ranks rows layout.ranking.levels)
-
--- the row of each item is moved as far as the one before it or farther
-abbrev pub Rise : {P : Type 0} → List ℕ → List (Frag P ℕ) → Type 0
-Rise shifts [] = Unit {0}
-Rise shifts (item ∷ items) = (slice_index shifts 0 ≤ slice_index shifts 1) × Rise (drop 1 shifts) items
-
--- so are those of each section, the first of which is not moved
-abbrev pub AllRise : {P : Type 0} → List ℕ → List (SectionOf (Frag P ℕ)) → Type 0
-AllRise shifts [] = Unit {0}
-AllRise shifts (section ∷ sections) = (slice_index shifts 0 ≡ 0) × Rise shifts section.items × AllRise (drop (row_count section) shifts) sections
 
 module _ (all : RowsIn) (fields : List Field) where
   no_end : (number index : ℕ) (held : Content) → NotEnd (row_size all fields number index held)

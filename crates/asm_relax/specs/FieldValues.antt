@@ -1,51 +1,19 @@
 -- The values of fields in a layout: that of the form, less what the field's kind counts from.
-use Rattle.std.specs.Prelude.{◌≡◌, ◌<◌, [], ◌∷◌, ℕ, ◌+◌, ◌-◌, ◌^◌, ◌==◌, ◌||◌, Bool, true, false, List, Option, None, Some, option_map, slice_get, if◌then◌else◌}
-use Rattle.std.specs.Option.{option_map_or}
-use Rattle.std.specs.List.{list_any}
+use Rattle.std.specs.Prelude.{◌≡◌, ◌<◌, [], ◌∷◌, ℕ, ◌+◌, ◌-◌, ◌^◌, ◌==◌, true, false, List, Option, Some, option_map, if◌then◌else◌}
 use Rattle.asm_expr.specs.declared.forms.Term.{Term}
-use Rattle.asm_expr.specs.Forms.{Form, wrapped, term_of}
+use Rattle.asm_expr.specs.Forms.{wrapped, term_of}
 use Rattle.asm_expr.specs.Knowledge.{Told, absent, label}
 use Rattle.asm_expr.specs.Settled.{settled, constant_left}
-use Rattle.asm_symbols.specs.declared.entries.Binding.{Binding}
-use Rattle.asm_symbols.specs.declared.entries.Binding.TheVariants.{Local, Global, Weak}
 use Rattle.asm_symbols.specs.SymbolMap.{SymbolMap}
 use Rattle.asm_frags.specs.declared.fields.Field.{Field}
 use Rattle.asm_frags.specs.declared.fields.FieldSize.{FieldSize}
 use Rattle.asm_frags.specs.declared.roles.FieldRole.{FieldRole}
-use Rattle.asm_frags.specs.declared.roles.Suffix.{Suffix}
-use Rattle.asm_frags.specs.declared.roles.Suffix.TheVariants.{Absent, Plt, GotPcRel, GotTpOff, TpOff}
 use Rattle.asm_frags.specs.declared.items.Frag.{Frag}
 use Rattle.asm_frags.specs.declared.phases.Laid.{Laid}
 use Rattle.asm_frags.specs.Fields.{width, is_distance, own_place}
 use Rattle.asm_frags.specs.SectionOf.{SectionOf}
+use Rattle.item_rows.specs.Links.{is_linked}
 use Rattle.asm_relax.specs.Final.{address_of, final_told}
-
--- there is a suffix
-abbrev pub is_suffixed : Suffix → Bool
-is_suffixed Absent = false
-is_suffixed Plt = true
-is_suffixed GotPcRel = true
-is_suffixed GotTpOff = true
-is_suffixed TpOff = true
-
--- the binding is STB_WEAK
-abbrev pub is_weak : Option Binding → Bool
-is_weak None = false
-is_weak (Some Local) = false
-is_weak (Some Global) = false
-is_weak (Some Weak) = true
-
--- the term is of a symbol that is weak: another object may define it too
-abbrev pub is_of_weak : SymbolMap → Term → Bool
-is_of_weak map term = option_map_or (λ symbol. is_weak symbol.binding) (slice_get map.symbols term.symbol) false
-
--- the form names a weak symbol
-abbrev pub names_weak : SymbolMap → Form → Bool
-names_weak map form = list_any (is_of_weak map) form.terms
-
--- the linker alone knows how far the symbol is from the field: it has a suffix, or is weak
-abbrev pub is_linked : SymbolMap → Field → Bool
-is_linked map field = is_suffixed field.role.suffix || names_weak map field.form
 
 -- a number modulo 2 ^ 64, taken away
 abbrev pub less : ℕ → ℕ → ℕ

@@ -34,7 +34,7 @@ address_of sections section item offset = option_map_or (λ found. address_in fo
 
 -- a place is known as a label of its section at its address
 abbrev pub spot_told : {P : Type 0} → List (SectionOf (Frag P ℕ)) → Spot → Told
-spot_told sections spot = label spot.section (address_of sections spot.section spot.item spot.offset)
+spot_told sections spot = label spot.place.section (address_of sections spot.place.section spot.place.place.item spot.place.place.offset)
 
 -- labels and space of this object are known by their places, and other symbols are not known
 abbrev pub final_meaning : {P : Type 0} → List (SectionOf (Frag P ℕ)) → Meaning → Told

@@ -1,5 +1,6 @@
 -- The value that a field in an item holds, and the distance of the item's row.
 use Rattle.std.specs.Prelude.{◌≡◌, ℕ, ◌+◌, ◌-◌, ◌*◌, ◌^◌, ◌<◌, ◌≤◌, Bool, true, false, List, All, IfSome, length, Some, option_map, slice_get, slice_index}
+use Rattle.asm_base.specs.declared.places.SectionPlace.{SectionPlace}
 use Rattle.asm_expr.specs.Forms.{Form}
 use Rattle.asm_expr.specs.Coefficients.{coefficient, is_among}
 use Rattle.asm_symbols.specs.SymbolMap.{SymbolMap}
@@ -10,20 +11,20 @@ use Rattle.item_contents.specs.declared.kinds.Growth.{Growth}
 use Rattle.item_contents.specs.declared.kinds.Growth.TheVariants as growth
 use Rattle.asm_levels.specs.declared.rows.Row.{Row}
 use Rattle.asm_levels.specs.Distances.{distance_value}
-use Rattle.asm_levels.specs.Needs.{need, IsSignedWithin, AdvanceHolds}
+use Rattle.asm_levels.specs.Needs.{need}
+use Rattle.item_bytes.specs.Levels.{IsSignedWithin, AdvanceHolds}
 use Rattle.asm_levels.specs.Shifts.{shifts_of}
-use Rattle.row_distances.specs.declared.places.Place.{Place}
 use Rattle.row_distances.specs.Places.{place_of}
+use Rattle.item_rows.specs.ItemRows.{rows_in, rows_of, own_of, field_distance, grown_row, levels_of}
 use Rattle.asm_relax.specs.FieldValues.{held_value}
-use Rattle.asm_relax.specs.ItemRows.{rows_in, rows_of, own_of, field_distance, grown_row, levels_of}
 use Rattle.asm_relax.specs.Layout.{laid_by, AreWithin}
 use Rattle.asm_relax.specs.Settling.{LaidSections, LaidItem, settled_sections}
 
 -- the place stands in one of the sections, which has as many items as stand before it
-pub record StandsIn (sections : LaidSections) (place : Place) : Type 0 where
+pub record StandsIn (sections : LaidSections) (place : SectionPlace) : Type 0 where
   pub section : SectionOf LaidItem
   pub there : slice_get sections place.section ≡ Some section
-  pub within : place.item ≤ length section.items
+  pub within : place.place.item ≤ length section.items
 
 -- how often the form names the place of its field: minus once where the field holds a distance, and else never
 abbrev pub NamesOwnPlace : Bool → Form → Type 0
@@ -36,7 +37,7 @@ pub record IsInItem (map : SymbolMap) (sections : LaidSections) (field : Field) 
   pub behind : field.role.behind ≡ 0
   pub own : NamesOwnPlace (is_distance field.role.kind) field.form
   pub constant : field.form.constant < 2 ^ 64
-  pub places : (index : ℕ) (place : Place) → place_of map (own_of field) index ≡ Some place → StandsIn sections place
+  pub places : (index : ℕ) (place : SectionPlace) → place_of map (own_of field) index ≡ Some place → StandsIn sections place
 
 -- each item stands behind fewer than 2^64 plain bytes, and no row is moved by as many
 pub record AreLow (map : SymbolMap) (levels : List ℕ) (sections : LaidSections) : Type 0 where

@@ -11,7 +11,7 @@ use Rattle.asm_levels.specs.declared.rows.Row.{Row}
 use Rattle.asm_levels.specs.Sizes.{padding, unless_above}
 use Rattle.asm_levels.specs.Needs.{top}
 use Rattle.asm_levels.specs.Shifts.{shifts_of}
-use Rattle.asm_relax.specs.ItemRows.{row_count, rows_of}
+use Rattle.item_rows.specs.ItemRows.{row_count, rows_of}
 
 -- the items, each behind the plain bytes before it, which are moved as far as its row; its size is how much farther the row behind it is moved
 abbrev pub laid_from : {P : Type 0} → List ℕ → List (Frag P ℕ) → List (Frag P ℕ)

@@ -1,8 +1,6 @@
 -- The definitions that contracts cite, in reading order.
 pub mod Final
 pub mod FieldValues
-pub mod ItemRows
-pub mod RowViews
 pub mod Layout
 pub mod Placing
 pub mod Faults
@@ -12,3 +10,5 @@ pub mod RowBounds
 pub mod Settling
 pub mod ItemValues
 pub mod SettledRoom
+pub mod KeptSections
+pub mod RisingRows

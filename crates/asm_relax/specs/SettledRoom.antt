@@ -6,8 +6,8 @@ use Rattle.asm_frags.specs.SectionOf.{SectionOf}
 use Rattle.item_contents.specs.declared.kinds.Growth.{Growth}
 use Rattle.item_contents.specs.declared.contents.Content.TheVariants.{Growing}
 use Rattle.item_contents.specs.Contents.{top_of, level_size}
+use Rattle.item_rows.specs.ItemRows.{rows_of, levels_of}
 use Rattle.asm_relax.specs.FieldValues.{held_value}
-use Rattle.asm_relax.specs.ItemRows.{rows_of, levels_of}
 use Rattle.asm_relax.specs.ItemValues.{IsInItem, AreLow, HasRoom}
 use Rattle.asm_relax.specs.Settling.{LaidSections, LaidItem, settled_sections}
 

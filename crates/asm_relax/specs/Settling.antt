@@ -6,11 +6,11 @@ use Rattle.asm_frags.specs.declared.items.Frag.{Frag}
 use Rattle.asm_frags.specs.SectionOf.{SectionOf}
 use Rattle.asm_frags.specs.Writing.{LooseSection}
 use Rattle.asm_frags.specs.Substituting.{laid_sections}
+use Rattle.item_rows.specs.ItemRows.{rows_of, levels_of}
 use Rattle.asm_relax.specs.declared.faults.LayoutFault.{LayoutFault}
 use Rattle.assigned_forms.specs.Expanding.{expanded}
 use Rattle.level_ranks.specs.Ranks.{IsLayout}
 use Rattle.asm_levels.specs.Needs.{need, tops}
-use Rattle.asm_relax.specs.ItemRows.{rows_of, levels_of}
 use Rattle.asm_relax.specs.Layout.{laid_by}
 use Rattle.asm_relax.specs.declared.plan_states.PlanState.{PlanState}
 use Rattle.asm_relax.specs.declared.plan_states.PlanState.TheVariants.{Fresh}

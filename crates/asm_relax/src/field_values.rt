@@ -4,62 +4,17 @@ ghost use Rattle.std.specs.Prelude.{◌≡◌, ◌==◌, [], ◌∷◌, true, fa
 ghost use Rattle.asm_expr.specs.Forms.{is_kept};
 ghost use Rattle.asm_expr.specs.Knowledge.{label, told_by};
 ghost use Rattle.asm_expr.specs.Settled.{constant_left, settled};
-ghost use Rattle.asm_relax.specs.FieldValues.{is_suffixed, is_weak, is_of_weak, names_weak, is_linked, field_address, place_label, place_told, told_beside, told_in_field, counted_bytes, counted, held_value, IsNearPair};
+ghost use Rattle.item_rows.specs.Links.{is_linked};
+ghost use Rattle.asm_relax.specs.FieldValues.{field_address, place_label, place_told, told_beside, told_in_field, counted_bytes, counted, held_value, IsNearPair};
 ghost use Rattle.asm_relax.specs.Final.{address_of, final_meaning, final_told, spot_told};
 ghost use Rattle.asm_relax.specs.Settling.{LaidSections};
 
 use crate::finals::{beside_label, cannot_cancel, constant_left, final_look};
 use crate::places::{address_in, address_of};
 use asm_expr::{Known, Linear, Look, SymId, Term, Written, settled_value};
-use asm_frags::{Field, FieldRole, FieldSize, Laid, Section, Sections, Suffix, own_place};
-use asm_symbols::{Binding, Meaning, Spot, Symbols};
-
-/// Whether there is a suffix.
-pub fn is_suffixed(suffix: Suffix) -> bool
-    ensures { result ≡ is_suffixed suffix }
-{
-    !matches!(suffix, Suffix::Absent)
-}
-
-/// Whether the binding is that of a weak symbol.
-fn is_weak(binding: Option<Binding>) -> bool
-    ensures { result ≡ is_weak binding }
-{
-    matches!(binding, Some(Binding::Weak))
-}
-
-/// Whether the term is of a weak symbol.
-fn is_of_weak(symbols: &Symbols, term: &Term) -> bool
-    ensures { result ≡ is_of_weak symbols.now term.now }
-{
-    match symbols.as_slice().get(term.symbol.index() as usize) {
-        Some(found) => is_weak(found.binding),
-        None => false,
-    }
-}
-
-/// Whether the form names a weak symbol.
-fn names_weak(symbols: &Symbols, form: &Linear) -> bool
-    ensures { result ≡ names_weak symbols.now form.now }
-{
-    form.terms().iter().any(|term| is_of_weak(symbols, term))
-}
-
-/// Whether the linker alone knows how far the symbol is from the field.
-pub(crate) fn is_linked(symbols: &Symbols, field: &Field) -> bool
-    ensures { result ≡ is_linked symbols.now field.now }
-{
-    is_suffixed(field.role.suffix) || names_weak(symbols, &field.form)
-}
-
-/// The same for a field whose form has these two terms.
-#[inline(always)]
-pub(crate) fn is_linked_pair(symbols: &Symbols, field: &Field, one: &Term, other: &Term) -> bool
-    requires { field.now.form.terms ≡ one.now ∷ other.now ∷ [] }
-    ensures { result ≡ is_linked symbols.now field.now }
-{
-    is_suffixed(field.role.suffix) || is_of_weak(symbols, one) || is_of_weak(symbols, other)
-}
+use asm_frags::{Field, FieldRole, FieldSize, Laid, Section, Sections, own_place};
+use asm_symbols::{Meaning, Spot, Symbols};
+use item_rows::{is_linked, is_linked_pair};
 
 /// What symbols are known as in the form of a field.
 #[derive(Clone, Copy)]
@@ -258,11 +213,11 @@ fn spot_of(meaning: &Meaning) -> Option<Spot>
 #[tactic(auto, unfolding(crate::specs::Final::final_told))]
 pub(crate) fn spot_within(symbols: &Symbols, section: u32, symbol: SymId) -> Option<Spot>
     ensures { IfSome result (λ spot. (sections : LaidSections) → final_told symbols.now sections symbol
-        ≡ label section (address_of sections section spot.item spot.offset)) }
+        ≡ label section (address_of sections section spot.place.place.item spot.place.place.offset)) }
 {
     let found = symbols.as_slice().get(symbol.index() as usize)?;
     let spot = spot_of(&found.meaning)?;
-    if spot.section != section {
+    if spot.place.section != section {
         return None;
     }
     Some(spot)
@@ -303,7 +258,7 @@ fn near_value(
     }
     let spot = spot_within(symbols, field.section, one.symbol)?;
     let section = sections.as_slice().get(field.section as usize)?;
-    let at = address_in(section, spot.item, spot.offset);
+    let at = address_in(section, spot.place.place.item, spot.place.place.offset);
     let known = Look::Label {
         stretch: u64::from(field.section),
         at: address_within(section, field),

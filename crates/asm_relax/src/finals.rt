@@ -12,7 +12,7 @@ use asm_base::NoMemory;
 use asm_expr::{Known, Linear, Look, SymId, Term, Written, copied_form, settled, settled_value};
 use asm_frags::{Laid, Sections};
 use asm_symbols::{Meaning, Spot, Symbols};
-use assigned_forms::Expansions;
+use assigned_forms::{Expansions, expansions_are_exact};
 use std::alloc::{AllocError, Global};
 
 /// What the symbols are known as in a layout.
@@ -27,8 +27,13 @@ fn spot_look<'a>(sections: &Sections<Laid>, spot: &Spot) -> Look<'a>
     ensures { told_by result ≡ spot_told sections.now spot.now }
 {
     Look::Label {
-        stretch: u64::from(spot.section),
-        at: address_of(sections, spot.section, spot.item, spot.offset),
+        stretch: u64::from(spot.place.section),
+        at: address_of(
+            sections,
+            spot.place.section,
+            spot.place.place.item,
+            spot.place.place.offset,
+        ),
     }
 }
 
@@ -210,6 +215,7 @@ pub fn end_value(
     ensures { IfOk result (λ value. value
         ≡ field_value symbols.now sections.now form.now) }
 {
+    expansions_are_exact();
     let [_, ..] = form.terms() else {
         return Ok(laid_value(symbols, sections, form));
     };

@@ -5,6 +5,7 @@ ghost use Rattle.asm_expr.specs.Forms.{wrapped};
 ghost use Rattle.asm_symbols.specs.SymbolMap.{SymbolMap};
 ghost use Rattle.asm_frags.specs.Addresses.{item_laid_at};
 ghost use Rattle.asm_frags.specs.KnownExtents.{extent_of};
+ghost use Rattle.item_rows.specs.ItemRows.{rows_of, levels_of};
 ghost use Rattle.asm_relax.specs.FieldValues.{DistancesLead};
 ghost use Rattle.asm_relax.specs.Final.{shift_in};
 ghost use Rattle.asm_relax.specs.ItemValues.{HoldTheirDistances, HoldWhereSettled, HaveRoom};
@@ -15,12 +16,15 @@ ghost use Rattle.asm_relax.specs.SettledRoom.{SettledHaveRoom};
 ghost use Rattle.asm_levels.specs.declared.rows.Row.{Row as TheRow};
 ghost use Rattle.asm_levels.specs.Needs.{need, tops};
 ghost use Rattle.level_ranks.specs.Ranks.{IsLayout};
-ghost use Rattle.asm_relax.specs.ItemRows.{rows_of, levels_of};
+ghost use Rattle.item_rows.specs.ItemRows.{all_rows, rows_of, levels_of};
+ghost use Rattle.asm_relax.specs.KeptSections.{LayoutsKeepSections};
+ghost use Rattle.asm_relax.specs.RisingRows.{AllRise};
+ghost use Rattle.asm_levels.specs.Shifts.{shifts_of};
 
 use asm_expr::whole_stretches_cancel;
-use asm_levels::{
-    advances_hold_their_distance, groups_hold_their_number, needs_stay_within_tops,
-    short_jumps_hold_a_signed_byte,
+use asm_levels::needs_stay_within_tops;
+use item_bytes::{
+    advances_hold_their_distance, groups_hold_their_number, short_jumps_hold_a_signed_byte,
 };
 use level_ranks::{layouts_are_reached, some_ranking};
 use row_distances::distances_are_values;
@@ -136,4 +140,26 @@ pub fn settled_items_have_room()
     items_have_room_for_their_values();
     needs_stay_within_tops();
     settled_by_the_ranking();
+}
+
+/// A layout keeps the offsets of items and the places of fields, and each section stands in it as it
+/// is laid out.
+pub fn layouts_keep_sections()
+    ensures { LayoutsKeepSections }
+{
+    settled_is_placed();
+}
+
+/// In a layout each row of a section is moved as far as the one before it or farther, and the first one
+/// not at all. There are as many shifts as rows.
+pub fn rows_rise()
+    ensures rise { (symbols : SymbolMap) (sections : LaidSections)
+        → AllRise (shifts_of (rows_of symbols sections) (levels_of (rows_of symbols sections)))
+        sections }
+    ensures count { (symbols : SymbolMap) (levels : List ℕ) (sections : LaidSections)
+        → length (shifts_of (rows_of symbols sections) levels) ≡ all_rows sections }
+{
+    layouts_are_reached();
+    needs_stay_within_tops();
+    some_ranking();
 }

@@ -3,7 +3,7 @@
 ghost use Rattle.std.specs.Prelude.{◌≡◌, ◌+◌, ◌-◌, ◌<◌, ◌≤◌, ◌^◌, IfSome, Some, drop, length, slice_get};
 ghost use Rattle.asm_frags.specs.Addresses.{HasItem, sections_laid_at, changed_at};
 ghost use Rattle.asm_symbols.specs.SymbolMap.{SymbolMap};
-ghost use Rattle.asm_relax.specs.ItemRows.{row_count, all_rows};
+ghost use Rattle.item_rows.specs.ItemRows.{row_count, all_rows};
 ghost use Rattle.asm_relax.specs.Layout.{laid_out_section, laid_out};
 ghost use Rattle.asm_relax.specs.Placing.{address_there};
 

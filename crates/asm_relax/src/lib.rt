@@ -4,7 +4,6 @@
 mod faults;
 mod field_values;
 mod finals;
-mod item_rows;
 mod laws;
 mod laying;
 mod places;
@@ -13,14 +12,13 @@ mod planning;
 mod range_checks;
 
 pub use faults::LayoutFault;
-pub use field_values::{
-    FieldView, counted, field_address, has_value, held_value, is_suffixed, look_beside,
-};
+pub use field_values::{FieldView, counted, field_address, has_value, held_value, look_beside};
 pub use finals::{FinalView, end_value, final_form, laid_value};
 pub use laws::{
     all_else_is_kept, distances_lead_to_labels, fields_hold_their_distances,
-    items_have_room_for_their_values, items_stand_in_row, settled_by_the_ranking,
-    settled_is_placed, settled_items_have_room, sizes_add_up, stretches_keep_distance,
+    items_have_room_for_their_values, items_stand_in_row, layouts_keep_sections, rows_rise,
+    settled_by_the_ranking, settled_is_placed, settled_items_have_room, sizes_add_up,
+    stretches_keep_distance,
 };
 pub use places::{address_in, address_of, section_size};
 pub use plan_states::PlanState;

@@ -3,7 +3,6 @@
 ghost use Rattle.std.specs.Prelude.{◌≡◌};
 
 use crate::faults::LayoutFault;
-use crate::item_rows;
 use crate::laying::lay_all;
 use crate::plan_states::PlanState;
 use crate::range_checks::first_fault;
@@ -79,7 +78,7 @@ impl<'a> Plan<'a> {
     ghost use Rattle.std.specs.Prelude.{◌≡◌, ◌+◌, ◌*◌, ◌≤◌, IfOk, IfErr, OnOk, sum};
     ghost use Rattle.asm_levels.specs.Needs.{several, tops};
     ghost use Rattle.asm_relax.specs.declared.plan_states.PlanState.TheVariants.{Fresh, LaidOut, Refused};
-    ghost use Rattle.asm_relax.specs.ItemRows.{rows_of};
+    ghost use Rattle.item_rows.specs.ItemRows.{rows_of};
     ghost use Rattle.asm_relax.specs.Settling.{plan_of, settled_sections, settled_plan, Settles, IsLaidOut};
 
     /// A plan of the sections, with assigned symbols expanded in their fields. It takes all memory that layout takes.

@@ -104,13 +104,13 @@ fn is_small(field: &Field) -> bool
 /// Whether the section has at most 2^30 plain bytes, and so many stand before neither of these places.
 #[inline(always)]
 fn are_within(section: &Section<Laid>, spot: Spot, field: &Field) -> bool
-    ensures within { result ≡ true → StandWithin section.now spot.offset field.now.offset }
+    ensures within { result ≡ true → StandWithin section.now spot.place.place.offset field.now.offset }
     ensures low { StandLow section.now }
 {
     let bytes = section.bytes();
     let _items = section.items();
     let most = bytes.len();
-    most as u64 <= MOST_BYTES && spot.offset <= most as u64 && field.offset <= most
+    most as u64 <= MOST_BYTES && spot.place.place.offset <= most as u64 && field.offset <= most
 }
 
 /// Whether the field of these two terms leads to a place of its section, and both stand low in it: it holds its value.

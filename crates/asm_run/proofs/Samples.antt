@@ -44,7 +44,7 @@ use Rattle.asm_frags.specs.Fields.{fits, low_bytes}
 use Rattle.asm_values.specs.DataItems.{put_forms}
 use Rattle.asm_uses.specs.Attributes.{say_all}
 use Rattle.asm_operands.specs.NamedTrees.{plain_of}
-use Rattle.asm_place.specs.SymbolWords.{place_said}
+use Rattle.asm_declarations.specs.SymbolWords.{place_said}
 use Rattle.asm_words.specs.Directives.{the_directives, directive_of}
 use Rattle.asm_values.specs.Data.{put_data, place_data}
 use Rattle.asm_place.specs.Coding.{place_instruction}
@@ -52,12 +52,12 @@ use Rattle.asm_place.specs.Placing.{place_by, place_directive, place_body, place
 use Rattle.asm_uses.specs.Labels.{label_symbol}
 use Rattle.asm_place.specs.Sources.{place, pos_at}
 use Rattle.assigned_forms.specs.Expanding.{plus_terms, expanded_within, expanded}
+use Rattle.item_rows.specs.ItemRows.{rows_of, levels_of}
 use Rattle.asm_relax.specs.FieldValues.{told_beside, told_in_field, held_value}
 use Rattle.asm_relax.specs.Final.{shift_in, section_size, address_of, final_told, laid_value, final_form}
 use Rattle.asm_levels.specs.Sizes.{size_at}
 use Rattle.asm_levels.specs.Shifts.{shift_behind, shifts_from, shifts_of}
 use Rattle.asm_levels.specs.Needs.{top}
-use Rattle.asm_relax.specs.ItemRows.{rows_of, levels_of}
 use Rattle.asm_relax.specs.Layout.{laid_by}
 use Rattle.asm_relax.specs.RangeChecks.{first_fault}
 use Rattle.asm_relax.specs.Settling.{planned, settled_sections}

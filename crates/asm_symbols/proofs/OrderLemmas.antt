@@ -6,7 +6,7 @@ use Rattle.asm_symbols.specs.declared.entries.Symbol.{Symbol}
 use Rattle.asm_symbols.specs.declared.entries.Meaning.{Meaning}
 use Rattle.asm_symbols.specs.declared.entries.Definition.{Definition}
 use Rattle.asm_symbols.specs.declared.entries.Binding.{Binding}
-use Rattle.asm_symbols.specs.declared.faults.SymCause.{SymCause}
+use Rattle.asm_base.specs.declared.causes.SymCause.{SymCause}
 use Rattle.asm_symbols.specs.SymbolMap.{SymbolMap, names, changed, with_symbol, with_meaning}
 use Rattle.asm_base.specs.Refusals.{◌>>=◌}
 use Rattle.asm_symbols.specs.Defining.{redefined, with_defined, defined_by, defined}

@@ -6,7 +6,7 @@ use Rattle.asm_expr.specs.Forms.{Form}
 use Rattle.asm_symbols.specs.declared.entries.Spot.{Spot}
 use Rattle.asm_symbols.specs.declared.entries.Definition.TheVariants.{Label, Common}
 use Rattle.asm_symbols.specs.declared.entries.Binding.TheVariants.{Local, Global, Weak}
-use Rattle.asm_symbols.specs.declared.faults.SymCause.TheVariants.{SymbolAlreadyDefined, BadSymbolUse}
+use Rattle.asm_base.specs.declared.causes.SymCause.TheVariants.{SymbolAlreadyDefined, BadSymbolUse}
 use Rattle.asm_symbols.specs.SymbolMap.{SymbolMap, nothing_named, changed, with_symbol}
 use Rattle.asm_base.specs.Refusals.{◌>>=◌}
 use Rattle.asm_symbols.specs.Interning.{with_name, named, interned, number_of}
@@ -24,7 +24,7 @@ abbrev first_instance : Name
 first_instance = naming.Numeric 7 1
 
 abbrev spot : Spot
-spot = record { section = 1; item = 2; offset = 5; stretch = 3; at = 4 }
+spot = record { place = record { section = 1; place = record { item = 2; offset = 5 } }; stretch = 3; at = 4 }
 
 -- the map with one symbol
 abbrev one : Name → SymbolMap

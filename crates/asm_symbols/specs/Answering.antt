@@ -3,7 +3,7 @@ use Rattle.std.specs.Prelude.{◌≡◌, ℕ, Result, Ok, Err}
 use Rattle.asm_base.specs.declared.refusals.Refusal.{Refusal}
 use Rattle.asm_base.specs.declared.refusals.Refusal.TheVariants.{Fault, NoMemory}
 use Rattle.asm_base.specs.Refusals.{FailsLast}
-use Rattle.asm_symbols.specs.declared.faults.SymCause.{SymCause}
+use Rattle.asm_base.specs.declared.causes.SymCause.{SymCause}
 
 -- the call made the due map, or answers the due fault; want of memory comes only where no fault is due
 abbrev pub GivesFaultFirst : {A T : Type 0} → A → Result T (Refusal SymCause) → Result A SymCause → Type 0

@@ -10,8 +10,8 @@ use Rattle.asm_expr.specs.Forms.{Form}
 use Rattle.asm_symbols.specs.declared.entries.Symbol.{Symbol}
 use Rattle.asm_symbols.specs.declared.entries.Meaning.{Meaning}
 use Rattle.asm_symbols.specs.declared.entries.Meaning.TheVariants as meaning
-use Rattle.asm_symbols.specs.declared.faults.SymCause.{SymCause}
-use Rattle.asm_symbols.specs.declared.faults.SymCause.TheVariants.{SymbolAlreadyDefined, BadSymbolUse}
+use Rattle.asm_base.specs.declared.causes.SymCause.{SymCause}
+use Rattle.asm_base.specs.declared.causes.SymCause.TheVariants.{SymbolAlreadyDefined, BadSymbolUse}
 use Rattle.asm_symbols.specs.SymbolMap.{SymbolMap, with_symbol, with_meaning}
 
 -- whether the name is `.`, which is the place of a statement

@@ -12,7 +12,7 @@ use Rattle.asm_symbols.specs.declared.entries.Meaning.{Meaning}
 use Rattle.asm_symbols.specs.declared.entries.Meaning.TheVariants as meaning
 use Rattle.asm_symbols.specs.declared.entries.Definition.{Definition}
 use Rattle.asm_symbols.specs.declared.entries.Definition.TheVariants as definition
-use Rattle.asm_symbols.specs.declared.faults.SymCause.{SymCause}
+use Rattle.asm_base.specs.declared.causes.SymCause.{SymCause}
 use Rattle.asm_symbols.specs.SymbolMap.{SymbolMap, names, index_of}
 use Rattle.asm_symbols.specs.Interning.{named}
 

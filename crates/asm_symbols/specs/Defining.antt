@@ -6,8 +6,8 @@ use Rattle.asm_symbols.specs.declared.entries.Meaning.{Meaning}
 use Rattle.asm_symbols.specs.declared.entries.Meaning.TheVariants as meaning
 use Rattle.asm_symbols.specs.declared.entries.Definition.{Definition}
 use Rattle.asm_symbols.specs.declared.entries.Definition.TheVariants.{Label, Common, Space}
-use Rattle.asm_symbols.specs.declared.faults.SymCause.{SymCause}
-use Rattle.asm_symbols.specs.declared.faults.SymCause.TheVariants.{SymbolAlreadyDefined, BadSymbolUse}
+use Rattle.asm_base.specs.declared.causes.SymCause.{SymCause}
+use Rattle.asm_base.specs.declared.causes.SymCause.TheVariants.{SymbolAlreadyDefined, BadSymbolUse}
 use Rattle.asm_symbols.specs.SymbolMap.{SymbolMap, changed, with_meaning}
 use Rattle.asm_symbols.specs.Counting.{counts_after}
 use Rattle.asm_base.specs.Refusals.{◌>>=◌}

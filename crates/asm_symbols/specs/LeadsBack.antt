@@ -2,8 +2,8 @@
 use Rattle.std.specs.Prelude.{ℕ, zero, suc, ◌+◌, Bool, true, false, List, [], length, Option, None, Some, Result, Ok, Err, slice_get}
 use Rattle.asm_expr.specs.Forms.{Form}
 use Rattle.asm_symbols.specs.declared.entries.Symbol.{Symbol}
-use Rattle.asm_symbols.specs.declared.faults.SymCause.{SymCause}
-use Rattle.asm_symbols.specs.declared.faults.SymCause.TheVariants.{BadSymbolUse}
+use Rattle.asm_base.specs.declared.causes.SymCause.{SymCause}
+use Rattle.asm_base.specs.declared.causes.SymCause.TheVariants.{BadSymbolUse}
 use Rattle.asm_symbols.specs.SymbolMap.{SymbolMap}
 use Rattle.asm_symbols.specs.Assigning.{form_fault_at, form_at, with_form}
 use Rattle.asm_symbols.specs.Searching.{seen_with, seen_behind}

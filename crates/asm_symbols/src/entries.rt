@@ -1,14 +1,13 @@
 //! The symbols, and what is known of each.
 
+use asm_base::SectionPlace;
 use asm_expr::{BoxedForm, Name};
 
-/// The place of a label: its section, how many items and how many plain bytes stand before it, the
-/// stretch that it stands in, and its distance from the beginning of the stretch.
+/// Where a label stands: its place, the stretch that it stands in, and its distance from the
+/// beginning of the stretch.
 #[derive(Clone, Copy, PartialEq, Eq, Debug)]
 pub struct Spot {
-    pub section: u32,
-    pub item: u64,
-    pub offset: u64,
+    pub place: SectionPlace,
     pub stretch: u64,
     pub at: u64,
 }
@@ -60,6 +59,13 @@ pub enum Visibility {
     Internal,
     Hidden,
     Protected,
+}
+
+/// What a directive says of symbols.
+#[derive(Clone, Copy)]
+pub enum SymbolAttribute {
+    Bind(Binding),
+    See(Visibility),
 }
 
 /// A symbol: its name, what it is, and what was said of it.

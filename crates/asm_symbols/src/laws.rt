@@ -10,7 +10,7 @@ ghost use Rattle.asm_symbols.specs.declared.entries.Binding.{Binding as BindingV
 ghost use Rattle.asm_symbols.specs.declared.entries.Binding.TheVariants.{Local, Global, Weak};
 ghost use Rattle.asm_symbols.specs.declared.entries.Kind.{Kind as KindValue};
 ghost use Rattle.asm_symbols.specs.declared.entries.Visibility.{Visibility as VisibilityValue};
-ghost use Rattle.asm_symbols.specs.declared.faults.SymCause.TheVariants.{BadSymbolUse};
+ghost use Rattle.asm_base.specs.declared.causes.SymCause.TheVariants.{BadSymbolUse};
 ghost use Rattle.asm_symbols.specs.SymbolMap.{SymbolMap, names, with_symbol};
 ghost use Rattle.asm_symbols.specs.Interning.{is_within_limits, named, interned, with_file};
 ghost use Rattle.asm_symbols.specs.Counting.{next_named};

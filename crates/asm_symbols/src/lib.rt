@@ -17,7 +17,7 @@ mod symbol_map;
 mod text_index;
 
 pub use asm_expr::SymId;
-pub use entries::{Binding, Definition, Kind, Meaning, Spot, Symbol, Visibility};
+pub use entries::{Binding, Definition, Kind, Meaning, Spot, Symbol, SymbolAttribute, Visibility};
 pub use faults::{SymCause, SymFault};
 pub use laws::{
     counted_are_labels, leads_is_decided, limits_are_kept, names_are_apart, no_form_leads_back,

@@ -1,5 +1,5 @@
 -- Sums of symbols whose forms are the same wherever a statement stands.
-use Rattle.std.proofs.Common.{◌≡◌, ℕ, ◌==◌, ◌||◌, Bool, not, map, true, false, [], ◌∷◌, Option, None, Some, refl, sym, ap, ◌∙◌}
+use Rattle.std.proofs.Common.{◌≡◌, ℕ, ◌==◌, ◌||◌, Bool, map, true, false, [], ◌∷◌, Option, None, Some, refl, sym, ap, ◌∙◌}
 use Rattle.asm_expr.specs.Forms.{Form, term_of, symbol_form, constant_form, joined, signed, wrapped, with_term, with_terms}
 use Rattle.asm_expr.specs.Knowledge.{Told, constant, Knowledge}
 use Rattle.asm_expr.specs.Linear.{form_by, form_of}
@@ -13,8 +13,7 @@ use Rattle.asm_uses.specs.declared.sums.Added.TheVariants.{Nothing, Plus, Minus}
 use Rattle.asm_uses.specs.Places.{uses_place}
 use Rattle.asm_uses.specs.PlainSums.{IsElsewhere, IsPlain}
 use Rattle.asm_uses.specs.SumForms.{stands_for_itself}
-use Rattle.asm_expr.proofs.SettledLemmas.{stays, none_cancel}
-use Rattle.asm_uses.proofs.SumLemmas.{itself_by}
+use Rattle.asm_uses.proofs.SumLemmas.{itself_by, one_stays}
 use Rattle.asm_uses.proofs.SumLemmas as sums
 
 -- a symbol elsewhere that is known as a number is that number
@@ -37,20 +36,20 @@ apart_by told other one second true same first more = rw same refl
 apart_by told other one second false same first more = rw (same, first, more) refl
 
 -- two terms of which some have cancelled stay, and a number that is added to them cancels nothing
-two_still : (told : ℕ → Told) (one other : Term) (first second : Option ℕ) (total number : ℕ) → not (wrapped one.coefficient == 0) ≡ true → not (wrapped other.coefficient == 0) ≡ true
+two_still : (told : ℕ → Told) (one other : Term) (first second : Option ℕ) (total number : ℕ) → (wrapped one.coefficient == 0) ≡ false → (wrapped other.coefficient == 0) ≡ false
     → cancelled_number (map (spot_of told) (one ∷ other ∷ [])) (spot_of told one) ≡ first
     → cancelled_number (map (spot_of told) (one ∷ other ∷ [])) (spot_of told other) ≡ second
     → (let moved = joined false (put_one (put_one (constant_form total) one first) other second) (constant_form number) in moved ≡ settled told moved)
-unfolding with_terms
-two_still told one other None None total number some more here there = none_cancel told _ (rw (here, there) refl)
-two_still told one other None (Some at) total number some more here there = stays told _ some
-two_still told one other (Some at) None total number some more here there = stays told _ more
-two_still told one other (Some at) (Some behind) total number some more here there = stays told _ refl
+unfolding with_terms settled put_all
+two_still told one other None None total number some more here there = rw (here, there) refl
+two_still told one other None (Some at) total number some more here there = one_stays told one _ some
+two_still told one other (Some at) None total number some more here there = one_stays told other _ more
+two_still told one other (Some at) (Some behind) total number some more here there = refl
 
 apart_settled : (told : ℕ → Told) (one second number : ℕ) (b : Bool) → (one == second) ≡ b
     → (let moved = joined false (settled told (joined true (symbol_form one) (symbol_form second))) (constant_form number) in moved ≡ settled told moved)
 unfolding settled put_all with_term with_terms
-apart_settled told one second number true same = rw same (stays told _ refl)
+apart_settled told one second number true same = rw same refl
 apart_settled told one second number false same = rw same (two_still told (term_of one 1) (term_of second _) _ _ _ number refl refl refl refl)
 
 apart_still : (told other : ℕ → Told) (one second number : ℕ) → told one ≡ other one → told second ≡ other second
@@ -73,11 +72,11 @@ apart_free told place one other false same here there = rw same (put_free place 
 
 module _ (map : SymbolMap) where
   pub number_alone : (symbol number : ℕ) → told map symbol ≡ constant number → IsPlain map (Symbol symbol) Nothing (plain.Number number)
-  unfolding with_terms
+  unfolding with_terms settled put_all
   number_alone symbol number is = record {
     form = λ known at more. elsewhere_form map known symbol at ∙ ap (form_by known.told symbol) is;
     free = λ known at more. refl;
-    still = λ known at more by. stays known.told _ refl;
+    still = λ known at more by. refl;
   }
 
   pub symbol_alone : (symbol : ℕ) → stands_for_itself (told map symbol) ≡ true → IsPlain map (Symbol symbol) Nothing (plain.Moved symbol 0)
@@ -85,7 +84,7 @@ module _ (map : SymbolMap) where
   symbol_alone symbol is = record {
     form = λ known at more. itself map known symbol at is;
     free = λ known at more. free_by _ _ at.other refl;
-    still = λ known at more by. stays known.told _ refl;
+    still = λ known at more by. one_stays known.told (term_of symbol 1) _ refl;
   }
 
   pub number_more : (symbol number : ℕ) → stands_for_itself (told map symbol) ≡ true → IsPlain map (Symbol symbol) (Plus (Number number)) (plain.Moved symbol number)
@@ -93,7 +92,7 @@ module _ (map : SymbolMap) where
   number_more symbol number is = record {
     form = λ known at more. ap (λ made. settled known.told (joined false made (constant_form number))) (itself map known symbol at is) ∙ sym (sums.number_more known.told symbol number);
     free = λ known at more. free_by _ _ at.other refl;
-    still = λ known at more by. stays known.told _ refl;
+    still = λ known at more by. one_stays known.told (term_of symbol 1) _ refl;
   }
 
   pub number_less : (symbol number : ℕ) → stands_for_itself (told map symbol) ≡ true
@@ -102,7 +101,7 @@ module _ (map : SymbolMap) where
   number_less symbol number is = record {
     form = λ known at more. ap (λ made. settled known.told (joined true made (constant_form number))) (itself map known symbol at is) ∙ sym (sums.number_less known.told symbol number);
     free = λ known at more. free_by _ _ at.other refl;
-    still = λ known at more by. stays known.told _ refl;
+    still = λ known at more by. one_stays known.told (term_of symbol 1) _ refl;
   }
 
   pub symbol_less : (symbol other : ℕ) → stands_for_itself (told map symbol) ≡ true → stands_for_itself (told map other) ≡ true

@@ -6,8 +6,8 @@ use Rattle.std.proofs.lemmas.List.Sums.{sum_by-append}
 use Rattle.asm_base.specs.Refusals.{◌>>=◌}
 use Rattle.asm_base.specs.declared.positions.Pos.{Pos}
 use Rattle.asm_expr.specs.declared.naming.Name.{Name}
-use Rattle.asm_symbols.specs.declared.faults.SymCause.{SymCause}
-use Rattle.asm_symbols.specs.declared.faults.SymCause.TheVariants as symbol
+use Rattle.asm_base.specs.declared.causes.SymCause.{SymCause}
+use Rattle.asm_base.specs.declared.causes.SymCause.TheVariants as symbol
 use Rattle.asm_operands.specs.declared.place_faults.PlaceCause.{PlaceCause}
 use Rattle.asm_operands.specs.declared.place_faults.PlaceCause.TheVariants.{BadSymbolUse}
 use Rattle.asm_symbols.specs.Interning.{undefined, name_size, names_size, is_within_limits, has_room, with_name, named, interned, number_of}

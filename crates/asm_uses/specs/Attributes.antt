@@ -6,12 +6,12 @@ use Rattle.asm_expr.specs.declared.naming.Name.{Name}
 use Rattle.asm_expr.specs.Forms.{Form, constant_form}
 use Rattle.asm_symbols.specs.declared.entries.Kind.{Kind}
 use Rattle.asm_symbols.specs.declared.entries.Kind.TheVariants.{Object}
-use Rattle.asm_symbols.specs.declared.faults.SymCause.{SymCause}
+use Rattle.asm_base.specs.declared.causes.SymCause.{SymCause}
 use Rattle.asm_symbols.specs.SymbolMap.{SymbolMap, with_symbol}
 use Rattle.asm_symbols.specs.Attributes.{bound, with_kind, with_next_size, with_visibility}
 use Rattle.asm_uses.specs.declared.tables.Naming.{Naming}
-use Rattle.asm_words.specs.declared.directives.SymbolAttribute.{SymbolAttribute}
-use Rattle.asm_words.specs.declared.directives.SymbolAttribute.TheVariants.{Bind, See}
+use Rattle.asm_symbols.specs.declared.entries.SymbolAttribute.{SymbolAttribute}
+use Rattle.asm_symbols.specs.declared.entries.SymbolAttribute.TheVariants.{Bind, See}
 use Rattle.asm_base.specs.Refusals.{◌>>=◌}
 use Rattle.asm_operands.specs.Results.{all_steps}
 use Rattle.asm_uses.specs.Tables.{Table, change_named, with_map, changed_by, allowed}

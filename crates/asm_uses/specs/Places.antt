@@ -26,16 +26,14 @@ abbrev pub spot_in : ℕ → LooseSection → Spot
 spot_in number section =
     let extent = extent_of section.items in
     record {
-      section = number;
-      item = length section.items;
-      offset = length section.bytes;
+      place = record { section = number; place = record { item = length section.items; offset = length section.bytes } };
       stretch = number * 2 ^ 32 + extent.breaks;
       at = length section.bytes + extent.bytes;
     }
 
 -- the beginning of a section that is not there
 abbrev pub no_spot : ℕ → Spot
-no_spot number = record { section = number; item = 0; offset = 0; stretch = 0; at = 0 }
+no_spot number = record { place = record { section = number; place = record { item = 0; offset = 0 } }; stretch = 0; at = 0 }
 
 -- behind the bytes and items of the section of this number
 unfoldable pub spot_at : List LooseSection → ℕ → Spot
@@ -43,7 +41,7 @@ spot_at sections number = option_map_or (spot_in number) (slice_get sections num
 
 -- the name of the place itself
 abbrev pub here_name : Spot → Name
-here_name spot = Place spot.section spot.item spot.offset
+here_name spot = Place spot.place.section spot.place.place.item spot.place.place.offset
 
 -- the place itself is a label, and all else is what the symbol map tells
 abbrev pub told_at : SymbolMap → ℕ → Spot → ℕ → Told

@@ -8,7 +8,7 @@ use Rattle.asm_base.specs.declared.positions.Pos.{Pos}
 use Rattle.asm_expr.specs.declared.naming.Name.{Name}
 use Rattle.asm_expr.specs.Trees.{Tree}
 use Rattle.asm_expr.specs.Trees as expr
-use Rattle.asm_symbols.specs.declared.faults.SymCause.{SymCause}
+use Rattle.asm_base.specs.declared.causes.SymCause.{SymCause}
 use Rattle.asm_symbols.specs.SymbolMap.{SymbolMap, nothing_named}
 use Rattle.asm_symbols.specs.Interning.{is_within_limits, interned, named, with_file}
 use Rattle.asm_symbols.specs.Counting.{meant_name, may_be_meant, next_named}

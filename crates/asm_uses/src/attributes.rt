@@ -4,8 +4,7 @@ use crate::tables::{Naming, SymbolUses};
 use asm_base::Pos;
 use asm_expr::Name;
 use asm_operands::PlaceFault;
-use asm_symbols::{Definition, SymId};
-use asm_words::SymbolAttribute;
+use asm_symbols::{Definition, SymId, SymbolAttribute};
 use std::alloc::Global;
 
 impl SymbolUses {

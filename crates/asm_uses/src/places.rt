@@ -6,6 +6,7 @@ ghost use Rattle.asm_uses.specs.Places.{spot_at, here_name, told_at, uses_place}
 ghost use Rattle.asm_symbols.specs.Interning.{number_of};
 ghost use Rattle.asm_symbols.specs.Counting.{meant_name};
 
+use asm_base::{Place, SectionPlace};
 use asm_expr::{Known, Linear, Look, Name, SymId, Written};
 use asm_frags::Sections;
 use asm_symbols::{Spot, Symbols};
@@ -20,17 +21,22 @@ pub fn spot_at(sections: &Sections, number: u32) -> Spot
         let extent = section.extent();
         let offset = section.bytes().len() as u64;
         Spot {
-            section: number,
-            item: section.items().len() as u64,
-            offset,
+            place: SectionPlace {
+                section: number,
+                place: Place {
+                    item: section.items().len() as u64,
+                    offset,
+                },
+            },
             stretch: number as u64 * (1 << 32) + extent.breaks,
             at: offset + extent.bytes,
         }
     } else {
         Spot {
-            section: number,
-            item: 0,
-            offset: 0,
+            place: SectionPlace {
+                section: number,
+                place: Place { item: 0, offset: 0 },
+            },
             stretch: 0,
             at: 0,
         }
@@ -41,10 +47,11 @@ pub fn spot_at(sections: &Sections, number: u32) -> Spot
 pub fn here_name(spot: Spot) -> Name
     ensures { result ≡ here_name spot }
 {
+    let SectionPlace { section, place } = spot.place;
     Name::Place {
-        section: spot.section,
-        item: spot.item,
-        offset: spot.offset,
+        section,
+        item: place.item,
+        offset: place.offset,
     }
 }
 

@@ -3,8 +3,7 @@
 use asm_base::{NoMemory, Pos};
 use asm_expr::{Linear, Name, Written, constant_form};
 use asm_operands::PlaceFault;
-use asm_symbols::{Definition, Kind, SymFault, SymId, Symbols};
-use asm_words::SymbolAttribute;
+use asm_symbols::{Definition, Kind, SymFault, SymId, SymbolAttribute, Symbols, names_are_apart};
 use std::alloc::Global;
 use std::marker::Model;
 
@@ -221,6 +220,7 @@ impl SymbolUses {
     {
         let before = self.symbols.len();
         let id = self.symbols.intern_text(text)?;
+        names_are_apart(&self.symbols);
         if self.symbols.len() > before {
             self.named.push(pos)?;
         }
@@ -241,6 +241,7 @@ impl SymbolUses {
     {
         let before = self.symbols.len();
         let id = self.symbols.intern_back(number)?;
+        names_are_apart(&self.symbols);
         if self.symbols.len() > before {
             self.named.push(pos)?;
         }
@@ -261,6 +262,7 @@ impl SymbolUses {
     {
         let before = self.symbols.len();
         let id = self.symbols.intern_next(number)?;
+        names_are_apart(&self.symbols);
         if self.symbols.len() > before {
             self.named.push(pos)?;
         }

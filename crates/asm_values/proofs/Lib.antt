@@ -5,7 +5,7 @@ pub mod OperandEnds
 pub mod SetLemmas
 pub mod NamedTreeLemmas
 pub mod PutTwice
-pub mod NameLemmas
+mod NameLemmas
 pub mod SumLemmas
 pub mod PlainLemmas
 pub mod LongSumLemmas

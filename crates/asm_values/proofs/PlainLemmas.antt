@@ -1,5 +1,5 @@
 -- Sums whose names are symbols: their forms, of which none of the names is the place.
-use Rattle.std.proofs.Common.{◌≡◌, ℕ, ◌+◌, ◌==◌, Bool, not, map, true, false, cond, List, [], ◌∷◌, length, Option, None, Some, unwrap_or, Ok, refl, sym, ap, ◌∙◌, arith}
+use Rattle.std.proofs.Common.{◌≡◌, ℕ, suc, ◌+◌, ◌<◌, ◌==◌, Bool, not, map, true, false, cond, List, [], ◌∷◌, length, Option, None, Some, unwrap_or, Ok, refl, sym, ap, ◌∙◌, arith}
 use Rattle.std.specs.Option.{option_map}
 use Rattle.std.proofs.lemmas.Bool.Decides.{nat_tests}
 use Rattle.asm_expr.specs.declared.naming.Name.{Name}
@@ -13,11 +13,11 @@ use Rattle.asm_operands.specs.declared.sums.Summand.TheVariants as summands
 use Rattle.asm_operands.specs.declared.sums.Addend.{Addend}
 use Rattle.asm_operands.specs.declared.sums.Addend.TheVariants as addends
 use Rattle.asm_symbols.specs.declared.entries.Spot.{Spot}
+use Rattle.asm_symbols.specs.declared.entries.Symbol.{Symbol as NamedSymbol}
 use Rattle.asm_symbols.specs.Counting.{meant_name}
 use Rattle.asm_symbols.specs.Interning.{number_of}
 use Rattle.asm_symbols.specs.Looking.{told}
 use Rattle.asm_symbols.specs.SymbolMap.{SymbolMap, names, index_of}
-use Rattle.asm_symbols.proofs.IndexLemmas.{index_of-within}
 use Rattle.asm_uses.specs.declared.plain_sums.Plain.{Plain}
 use Rattle.asm_uses.specs.declared.plain_sums.Plain.TheVariants as plain
 use Rattle.asm_uses.specs.declared.sums.Operand.{Operand}
@@ -84,6 +84,17 @@ found_apart name section item offset plainly (first ∷ ns) at one other =
     first_apart (same_name name first) (same_name (naming.Place section item offset) first) _ _ at (not_both name first section item offset plainly)
     (found_apart name section item offset plainly ns) one other
 
+-- a name that is found stands within the symbols
+first_within : (b : Bool) (found : Option ℕ) (n at : ℕ) → ((i : ℕ) → found ≡ Some i → i < n) → cond b (Some 0) (option_map (λ i. i + 1) found) ≡ Some at → at < suc n
+first_within true found n at within is = let zero : 0 ≡ at = cc in omega arith
+first_within false None n at within is = cc
+first_within false (Some i) n at within is = let low = within i refl in let next : i + 1 ≡ at = cc in omega arith
+
+index_of-within : (name : Name) (symbols : List NamedSymbol) (at : ℕ) → index_of name (names symbols) ≡ Some at → at < length symbols
+index_of-within name [] at is = cc
+index_of-within name (first ∷ symbols) at is =
+    first_within (same_name name first.name) (index_of name (names symbols)) (length symbols) at (index_of-within name symbols) is
+
 differ : (at other : ℕ) → (at ≡ other → ⊥) → (at == other) ≡ false
 differ at other apart = by (at == other) refl
   where
@@ -98,7 +109,7 @@ module _ (map : SymbolMap) (spot : Spot) where
       let inside = index_of-within name map.symbols at is in
       differ at (length map.symbols) (λ same. omega arith)
   number_apart name at (Some place) plainly is there =
-      differ at place (λ same. found_apart name spot.section spot.item spot.offset plainly (names map.symbols) at is (there ∙ ap Some (sym same)))
+      differ at place (λ same. found_apart name spot.place.section spot.place.place.item spot.place.place.offset plainly (names map.symbols) at is (there ∙ ap Some (sym same)))
 
   apart : (name : Name) (at : ℕ) → NamesNoPlace name → index_of name (names map.symbols) ≡ Some at → (at == number_of map (here_name spot)) ≡ false
   unfolding number_of

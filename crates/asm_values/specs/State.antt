@@ -9,7 +9,7 @@ use Rattle.asm_expr.specs.Trees.{Tree}
 use Rattle.asm_expr.specs.Forms.{Form}
 use Rattle.item_contents.specs.declared.contents.Content.{Content}
 use Rattle.item_contents.specs.declared.kinds.Growth.{Growth}
-use Rattle.asm_frags.specs.declared.faults.FragCause.{FragCause}
+use Rattle.asm_base.specs.declared.causes.FragCause.{FragCause}
 use Rattle.asm_frags.specs.declared.fields.FieldSize.{FieldSize}
 use Rattle.asm_frags.specs.Sections.{first_sections, put_into}
 use Rattle.asm_frags.specs.declared.roles.FieldRole.{FieldRole}

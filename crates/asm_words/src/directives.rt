@@ -8,7 +8,7 @@ ghost use Rattle.asm_words.specs.Slots.{row_in};
 
 use crate::slots::slot;
 use asm_frags::FieldSize;
-use asm_symbols::{Binding, Visibility};
+use asm_symbols::{Binding, SymbolAttribute, Visibility};
 
 /// A section that is there from the beginning.
 #[derive(Clone, Copy)]
@@ -16,13 +16,6 @@ pub enum InitialSection {
     Text,
     Data,
     Bss,
-}
-
-/// What is said of symbols.
-#[derive(Clone, Copy)]
-pub enum SymbolAttribute {
-    Bind(Binding),
-    See(Visibility),
 }
 
 /// What an alignment is said by.

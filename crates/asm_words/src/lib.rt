@@ -11,7 +11,7 @@ mod symbol_kinds;
 
 pub use directives::{
     AlignedBy, DIRECTIVE_SLOTS, DIRECTIVES, Directive, DirectiveRow, FrameDirective,
-    InitialSection, SymbolAttribute, Syntax, directive_of, directives_apart, directives_are_whole,
+    InitialSection, Syntax, directive_of, directives_apart, directives_are_whole,
 };
 pub use paddings::{align_of, org_of};
 pub use section_defaults::{DefaultHeader, default_header};

@@ -7,7 +7,7 @@ use Rattle.asm_expr.specs.Forms.{Form, constant_form, wrapped, term_of, is_kept,
 use Rattle.asm_symbols.specs.SymbolMap.{SymbolMap}
 use Rattle.asm_symbols.specs.Assigning.{form_at, IsNamedIn, NoFormLeadsBack}
 use Rattle.assigned_forms.specs.Expanding.{form_or_symbol, replacement, plus_terms, with_replaced, is_assigned, names_assigned, expanded_within, expanded}
-use Rattle.assigned_forms.proofs.RankLemmas.{rank, rank_small, rank_falls}
+use Rattle.assigned_forms.proofs.RankLemmas.{AreDecided, rank, rank_small, rank_falls}
 
 or_parts : (a b : Bool) → (a || b) ≡ false → (a ≡ false) × (b ≡ false)
 or_parts true b is = cc
@@ -105,13 +105,9 @@ module _ (all : SymbolMap) where
   unfolding expanded
   expanded_none form none = within_none (suc (length all.symbols)) form none
 
-  -- a number
-  pub expanded_number : (form : Form) → form.terms ≡ [] → expanded all form ≡ form
-  expanded_number form none = expanded_none form (ap (list_any (is_assigned all)) none)
-
-  module _ (forward : NoFormLeadsBack all.symbols) where
+  module _ (decided : AreDecided) (forward : NoFormLeadsBack all.symbols) where
     falls : (form : Form) (index : ℕ) (next : Form) → IsNamedIn form.terms index → form_at all.symbols index ≡ Some next → rank all.symbols next < rank all.symbols form
-    falls form index next named is = rank_falls all.symbols forward form index next is named
+    falls form index next named is = rank_falls decided all.symbols forward form index next is named
 
     lowest : (form : Form) → rank all.symbols form ≤ 0 → names_assigned all form ≡ false
     lowest form low = names_none form.terms (λ index next named is. let less = falls form index next named is in absurd (omega arith))

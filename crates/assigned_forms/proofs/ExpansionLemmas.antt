@@ -9,10 +9,10 @@ use Rattle.asm_expr.specs.declared.forms.Term.{Term}
 use Rattle.asm_expr.specs.Forms.{Form, constant_form, plus_times}
 use Rattle.asm_symbols.specs.SymbolMap.{SymbolMap}
 use Rattle.asm_symbols.specs.Assigning.{form_at, IsNamedIn, NoFormLeadsBack}
-use Rattle.asm_symbols.proofs.ForwardLemmas.{form_within}
 use Rattle.assigned_forms.specs.Expanding.{form_or_symbol, replacement, plus_terms, is_assigned, names_assigned, names_expanded, expanded, expansion_at, entry_at, awaits, terms_of, Expands, IsAwaited, AreExpansions, ArePartly, KeepsForms}
 use Rattle.assigned_forms.specs.declared.expanding.Expansion.TheVariants.{Absent}
 use Rattle.assigned_forms.specs.Expansions.{form_there}
+use Rattle.assigned_forms.proofs.RankLemmas.{AreDecided, form_within}
 use Rattle.assigned_forms.proofs.ExpandingLemmas.{expanded_none, expanded_some}
 
 -- a store at one place
@@ -78,8 +78,8 @@ module _ (all : SymbolMap) where
       ap (λ rest. plus_terms (replacement (expanded all) all) made rest) none
 
   -- the form of a symbol begins to be expanded
-  pub begun_some : NoFormLeadsBack all.symbols → (at : ℕ) (form made : Form) → form_at all.symbols at ≡ Some form → names_assigned all form ≡ true → made ≡ constant_form form.constant → Expands all at 0 made
-  begun_some forward at form made is some same = rw (is, same) (ap Some (expanded_some all forward form some))
+  pub begun_some : AreDecided → NoFormLeadsBack all.symbols → (at : ℕ) (form made : Form) → form_at all.symbols at ≡ Some form → names_assigned all form ≡ true → made ≡ constant_form form.constant → Expands all at 0 made
+  begun_some decided forward at form made is some same = rw (is, same) (ap Some (expanded_some all decided forward form some))
 
   pub begun_none : (at seen : ℕ) (form made : Form) → form_at all.symbols at ≡ Some form → names_assigned all form ≡ false → made ≡ form → seen ≡ length form.terms → Expands all at seen made
   begun_none at seen form made is none same long =

@@ -1,13 +1,11 @@
 -- The rank of a form, the number of symbols that it leads to: it falls from a form to those of the symbols that it names.
-use Rattle.std.proofs.Common.{◌≡◌, ◌≢◌, ℕ, zero, suc, ◌+◌, ◌<◌, ◌≤◌, Bool, true, false, cond, nat_eq, List, length, Some, refl, subst, arith}
+use Rattle.std.proofs.Common.{◌≡◌, ◌≢◌, ℕ, zero, suc, ◌+◌, ◌<◌, ◌≤◌, Bool, true, false, cond, nat_eq, List, [], ◌∷◌, length, Some, refl, subst, arith}
 use Rattle.std.proofs.lemmas.Bool.{eqb-true}
 use Rattle.std.proofs.lemmas.Bool.Decides.{nat_tests}
 use Rattle.asm_expr.specs.Forms.{Form}
 use Rattle.asm_symbols.specs.declared.entries.Symbol.{Symbol}
-use Rattle.asm_symbols.specs.Assigning.{form_at, NamesSymbol, straight, NoFormLeadsBack}
+use Rattle.asm_symbols.specs.Assigning.{form_at, NamesSymbol, Leads, straight, further, NoFormLeadsBack}
 use Rattle.asm_symbols.specs.LeadsBack.{leads_back}
-use Rattle.asm_symbols.proofs.LeadsBackLemmas.{back_leads, leads_is_back, leads_not_back}
-use Rattle.asm_symbols.proofs.ForwardLemmas.{leads_on, form_within}
 
 -- 1 where the test passes
 abbrev bit : Bool → ℕ
@@ -55,6 +53,30 @@ module _ (one other : ℕ → Bool) (grows : (i : ℕ) → one i ≡ true → ot
           let last = bit_grows (one n) (other n) (grows n) in
           omega arith
 
+-- the program that decides whether a form leads to a symbol is right
+pub record AreDecided : Type 0 where
+  pub back : (symbols : List Symbol) (form : Form) (at : ℕ) → leads_back symbols form at ≡ true → Leads symbols form at
+  pub leads : (symbols : List Symbol) (form : Form) (at : ℕ) → Leads symbols form at → leads_back symbols form at ≡ true
+
+not_back : AreDecided → (symbols : List Symbol) (form : Form) (at : ℕ) → (Leads symbols form at → ⊥) → leads_back symbols form at ≡ false
+not_back decided symbols form at not = by (leads_back symbols form at) refl
+  where
+    by : (b : Bool) → leads_back symbols form at ≡ b → b ≡ false
+    by true is = absurd (not (decided.back symbols form at is))
+    by false is = refl
+
+-- a form goes on to what the form of a symbol leads to
+leads_on : (symbols : List Symbol) (first : Form) (middle : ℕ) (next : Form) (last : ℕ) → Leads symbols first middle → form_at symbols middle ≡ Some next → Leads symbols next last
+    → Leads symbols first last
+leads_on symbols first middle next last leads is (straight index named) = further middle index next leads is named
+leads_on symbols first middle next last leads is (further other index found more has named) = further other index found (leads_on symbols first middle next other leads is more) has named
+
+-- an assigned symbol is one of the symbols
+pub form_within : (symbols : List Symbol) (index : ℕ) (form : Form) → form_at symbols index ≡ Some form → index < length symbols
+form_within [] index form is = cc
+form_within (symbol ∷ symbols) zero form is = omega arith
+form_within (symbol ∷ symbols) (suc index) form is = let later = form_within symbols index form is in omega arith
+
 -- how many symbols the form leads to
 pub rank : List Symbol → Form → ℕ
 rank symbols form = count (leads_back symbols form) (length symbols)
@@ -65,9 +87,9 @@ unfolding rank
 rank_small symbols form = count_small (leads_back symbols form) (length symbols)
 
 -- it falls from a form to those of the symbols that it names
-pub rank_falls : (symbols : List Symbol) → NoFormLeadsBack symbols → (form : Form) (at : ℕ) (next : Form) → form_at symbols at ≡ Some next → NamesSymbol form at
+pub rank_falls : AreDecided → (symbols : List Symbol) → NoFormLeadsBack symbols → (form : Form) (at : ℕ) (next : Form) → form_at symbols at ≡ Some next → NamesSymbol form at
     → rank symbols next < rank symbols form
 unfolding rank
-rank_falls symbols forward form at next is named =
-    count_less (leads_back symbols next) (leads_back symbols form) (λ i leads. leads_is_back symbols form i (leads_on symbols form at next i (straight at named) is (back_leads symbols next i leads)))
-    at (length symbols) (form_within symbols at next is) (leads_not_back symbols next at (forward at next is)) (leads_is_back symbols form at (straight at named))
+rank_falls decided symbols forward form at next is named =
+    count_less (leads_back symbols next) (leads_back symbols form) (λ i leads. decided.leads symbols form i (leads_on symbols form at next i (straight at named) is (decided.back symbols next i leads)))
+    at (length symbols) (form_within symbols at next is) (not_back decided symbols next at (forward at next is)) (decided.leads symbols form at (straight at named))

@@ -5,10 +5,9 @@ use Rattle.std.proofs.lemmas.Option.{same_Some, slice_get_within}
 use Rattle.asm_expr.specs.Forms.{Form}
 use Rattle.asm_symbols.specs.SymbolMap.{SymbolMap}
 use Rattle.asm_symbols.specs.Assigning.{form_at, IsNamedIn, NoFormLeadsBack}
-use Rattle.asm_symbols.proofs.ChainLemmas.{one_of_more}
 use Rattle.assigned_forms.specs.declared.expanding.Visit.{Visit}
 use Rattle.assigned_forms.specs.Expanding.{entry_at, awaits, terms_of, Expands, IsAwaited, ArePartly, KeepsForms}
-use Rattle.assigned_forms.proofs.RankLemmas.{rank, rank_small, rank_falls}
+use Rattle.assigned_forms.proofs.RankLemmas.{AreDecided, rank, rank_small, rank_falls}
 use Rattle.assigned_forms.proofs.ExpansionLemmas.{awaits_parts, awaits_within, expands_done, partly_put, kept_put, there_put, others_put}
 
 last_there : {X : Type 0} (xs : List X) (x : X) → slice_get (xs ++ x ∷ []) (length xs) ≡ Some x
@@ -20,6 +19,12 @@ stays_there [] x y zero is = cc
 stays_there [] x y (suc at) is = cc
 stays_there (first ∷ xs) x y zero is = is
 stays_there (first ∷ xs) x y (suc at) is = stays_there xs x y at is
+
+one_of_more : {X : Type 0} (xs : List X) (x y : X) (at : ℕ) → slice_get (xs ++ x ∷ []) at ≡ Some y → (slice_get xs at ≡ Some y) ⊎ ((at ≡ length xs) × (y ≡ x))
+one_of_more [] x y zero is = inr (refl, cc)
+one_of_more [] x y (suc at) is = inl is
+one_of_more (first ∷ xs) x y zero is = inl is
+one_of_more (first ∷ xs) x y (suc at) is = elim (one_of_more xs x y at is) [ inl there ↦ inl there | inr last ↦ inr (ap suc last.0, last.1) ]
 
 -- how many symbols have no form there
 abbrev pub waiting : List (Option Form) → ℕ
@@ -56,11 +61,11 @@ module _ (all : SymbolMap) where
   rank_of_small None = omega arith
   rank_of_small (Some form) = rank_small all.symbols form
 
-  falls_by : NoFormLeadsBack all.symbols → (one other : Option Form) (index : ℕ) → form_at all.symbols index ≡ other → is_some other ≡ true → IsNamedIn (terms_of one) index
+  falls_by : AreDecided → NoFormLeadsBack all.symbols → (one other : Option Form) (index : ℕ) → form_at all.symbols index ≡ other → is_some other ≡ true → IsNamedIn (terms_of one) index
       → rank_of other < rank_of one
-  falls_by forward None other index is some named = absurd named
-  falls_by forward (Some form) None index is some named = cc
-  falls_by forward (Some form) (Some next) index is some named = rank_falls all.symbols forward form index next is named
+  falls_by decided forward None other index is some named = absurd named
+  falls_by decided forward (Some form) None index is some named = cc
+  falls_by decided forward (Some form) (Some next) index is some named = rank_falls decided all.symbols forward form index next is named
 
   -- each symbol of the way awaits its form, ranks fall along it, and the sums so far are right
   pub record IsWay (forms : List (Option Form)) (way : List Visit) : Type 0 where
@@ -153,10 +158,10 @@ module _ (all : SymbolMap) where
         falls = λ j k one other less first second. let old = old_of j one first in let new = old_of k other second in rw (← old.1.1, ← new.1.1) (on_way.falls j k old.0 new.0 less old.1.0 new.1.0);
       }
 
-      module _ (forward : NoFormLeadsBack all.symbols) (sum : Expands all visit.symbol later.seen later.made) (other : ℕ) (next : Visit) (awaited : IsAwaited all forms visit.symbol other)
+      module _ (decided : AreDecided) (forward : NoFormLeadsBack all.symbols) (sum : Expands all visit.symbol later.seen later.made) (other : ℕ) (next : Visit) (awaited : IsAwaited all forms visit.symbol other)
           (its : next.symbol ≡ other) (begun : Expands all other next.seen next.made) where
         lower : rank_at next.symbol < rank_at later.symbol
-        lower = rw (its, same) (falls_by forward (form_at all.symbols visit.symbol) (form_at all.symbols other) other refl (awaits_parts all forms other awaited.missing).0 awaited.named)
+        lower = rw (its, same) (falls_by decided forward (form_at all.symbols visit.symbol) (form_at all.symbols other) other refl (awaits_parts all forms other awaited.missing).0 awaited.named)
 
         rank_again : rank_at later.symbol ≡ rank_at visit.symbol
         rank_again = ap rank_at same

@@ -8,7 +8,7 @@ ghost use Rattle.asm_expr.specs.Forms.{plus_times};
 
 use asm_base::NoMemory;
 use asm_expr::{Linear, Term, constant_form, copied_form, plus_times, symbol_form};
-use asm_symbols::{Meaning, Symbols, no_form_leads_back};
+use asm_symbols::{Meaning, Symbols, leads_is_decided, no_form_leads_back};
 use std::alloc::Global;
 use std::marker::Model;
 
@@ -92,6 +92,7 @@ fn begun(alloc: Global, symbols: &Symbols, at: usize) -> Result<Visit, NoMemory>
     ensures value { IfOk result (λ visit. Expands symbols.now at visit.seen visit.made) }
 {
     no_form_leads_back(symbols);
+    leads_is_decided();
     // The symbol is an assigned one.
     let form = form_at(symbols, at).unwrap();
     if names_assigned(symbols, form) {
@@ -258,6 +259,7 @@ impl<'a> MadeForms<'a> {
             return Ok(());
         }
         no_form_leads_back(symbols);
+        leads_is_decided();
         let mut way = Vec::new(alloc);
         way.push(begun(alloc, symbols, at)?)?;
         'way: while let Some(visit) = way.pop() {

@@ -7,7 +7,7 @@ ghost use Rattle.assigned_forms.specs.Expanding.{is_plain, stands_for_itself};
 use crate::expanding::{MadeForms, form_at, form_of, names_assigned, plus_replaced};
 use asm_base::NoMemory;
 use asm_expr::{Linear, constant_form};
-use asm_symbols::{SymId, Symbol, Symbols, no_form_leads_back};
+use asm_symbols::{SymId, Symbol, Symbols, leads_is_decided, no_form_leads_back};
 use std::alloc::Global;
 use std::marker::Model;
 
@@ -116,6 +116,7 @@ impl<'a> Expansions<'a> {
         ensures { IfOk result (λ made. made ≡ expanded symbols.now form.now) }
     {
         no_form_leads_back(symbols);
+        leads_is_decided();
         let terms = form.terms();
         let mut made = constant_form(alloc, form.constant());
         for term in terms {

@@ -6,6 +6,8 @@ ghost use Rattle.asm_symbols.specs.SymbolMap.{SymbolMap};
 ghost use Rattle.asm_symbols.specs.Assigning.{NoFormLeadsBack};
 ghost use Rattle.assigned_forms.specs.Expanding.{replacement, with_replaced, names_assigned, expanded};
 
+use asm_symbols::leads_is_decided;
+
 /// Where no form leads back to its symbol, an expanded form names no assigned symbol, and is the
 /// sum of the form's terms with each symbol replaced by the expansion of its own form.
 pub fn expansions_are_exact()
@@ -16,4 +18,6 @@ pub fn expansions_are_exact()
         → expanded symbols form ≡ with_replaced (replacement (expanded symbols) symbols) form }
     ensures none { (symbols : SymbolMap) (form : Form) → names_assigned symbols form ≡ false
         → expanded symbols form ≡ form }
-{}
+{
+    leads_is_decided();
+}

@@ -180,13 +180,13 @@ insn_refused law faults _ _ (unknown tokens headless_so) = headless tokens (head
 insn_refused law faults _ _ (operands named word token text tokens cause heads fails) =
     let front = head_reads named word (token ∷ text) tokens heads in
     ap (insn_by tokens) front.is
-    ∙ ap (λ (read : Result InsnText OperandCause). read >>= (λ insn. sized (ruled named.4 insn)))
-    (all_refused law faults (is_branch named.4) token text tokens front.next (blank named.2 named.3 word) cause fails front.stands)
+    ∙ ap (λ (read : Result InsnText OperandCause). read >>= (λ insn. sized (ruled named.rule insn)))
+    (all_refused law faults (is_branch named.rule) token text tokens front.next (blank named.name named.size word) cause fails front.stands)
 insn_refused law faults _ _ (sizes named word written text tokens heads writes two) =
     let front = head_reads named word text tokens heads in
     ap (insn_by tokens) front.is
-    ∙ ap (λ (read : Result InsnText OperandCause). read >>= (λ insn. sized (ruled named.4 insn)))
-    (all_read law (is_branch named.4) written text tokens front.next (blank named.2 named.3 word) writes front.stands)
+    ∙ ap (λ (read : Result InsnText OperandCause). read >>= (λ insn. sized (ruled named.rule insn)))
+    (all_read law (is_branch named.rule) written text tokens front.next (blank named.name named.size word) writes front.stands)
     ∙ size_refused (meant named word written) two
 
 -- tokens that are refused have the fault
@@ -196,28 +196,28 @@ split_front (token ∷ tokens) zero l = (token, tokens, refl)
 split_front (token ∷ tokens) (suc at) l = split_front tokens at (omega arith)
 
 all_fails_by : OperandsAreSpelled → OperandsFailExactly → (found : Head) (tokens : List SpelledToken) (cause : OperandCause) (insn : InsnText) (b : Bool) → HeadStands tokens found
-    → nat_lt found.next (length tokens) ≡ b → cond b (operands_at 3 (is_branch found.named.4) tokens found.next insn) (Ok insn) ≡ Err cause → HasFault tokens cause
+    → nat_lt found.next (length tokens) ≡ b → cond b (operands_at 3 (is_branch found.named.rule) tokens found.next insn) (Ok insn) ≡ Err cause → HasFault tokens cause
 all_fails_by law faults found tokens cause insn true heads test given =
     let front = split_front tokens found.next (ltb-true found.next (length tokens) test) in
-    let fails = operands_fail law faults 3 (is_branch found.named.4) tokens found.next insn cause given in
+    let fails = operands_fail law faults 3 (is_branch found.named.rule) tokens found.next insn cause given in
     operands found.named found.«prefix» front.0 front.1 tokens cause
     (subst (λ (ts : List SpelledToken). IsHead found.named found.«prefix» ts tokens) front.2 heads.stands)
-    (subst (λ (ts : List SpelledToken). OperandsFail 3 (is_branch found.named.4) ts cause) front.2 fails)
+    (subst (λ (ts : List SpelledToken). OperandsFail 3 (is_branch found.named.rule) ts cause) front.2 fails)
 all_fails_by law faults found tokens cause insn false heads test given = cc
 
 all_fails : OperandsAreSpelled → OperandsFailExactly → (found : Head) (tokens : List SpelledToken) (cause : OperandCause) (insn : InsnText) → HeadStands tokens found
-    → with_all (is_branch found.named.4) tokens found.next insn ≡ Err cause → HasFault tokens cause
+    → with_all (is_branch found.named.rule) tokens found.next insn ≡ Err cause → HasFault tokens cause
 unfolding with_all
 all_fails law faults found tokens cause insn heads given = all_fails_by law faults found tokens cause insn (nat_lt found.next (length tokens)) heads refl given
 
 headed_fails : OperandsAreSpelled → OperandsFailExactly → (found : Head) (tokens : List SpelledToken) (cause : OperandCause) (read : Result InsnText OperandCause) → HeadStands tokens found
-    → with_all (is_branch found.named.4) tokens found.next (blank found.named.2 found.named.3 found.«prefix») ≡ read
-    → (read >>= (λ insn. sized (ruled found.named.4 insn))) ≡ Err cause → HasFault tokens cause
+    → with_all (is_branch found.named.rule) tokens found.next (blank found.named.name found.named.size found.«prefix») ≡ read
+    → (read >>= (λ insn. sized (ruled found.named.rule insn))) ≡ Err cause → HasFault tokens cause
 headed_fails law faults found tokens cause (Err own) heads reads is =
-    all_fails law faults found tokens cause (blank found.named.2 found.named.3 found.«prefix») heads (reads ∙ is)
+    all_fails law faults found tokens cause (blank found.named.name found.named.size found.«prefix») heads (reads ∙ is)
 headed_fails law faults found tokens cause (Ok insn) heads reads is =
-    let all = all_spelled law (is_branch found.named.4) tokens found.next (blank found.named.2 found.named.3 found.«prefix») insn reads in
-    let two = size_fails (meant found.named found.«prefix» all.operands) cause (ap (λ (i : InsnText). sized (ruled found.named.4 i)) (sym all.is) ∙ is) in
+    let all = all_spelled law (is_branch found.named.rule) tokens found.next (blank found.named.name found.named.size found.«prefix») insn reads in
+    let two = size_fails (meant found.named found.«prefix» all.operands) cause (ap (λ (i : InsnText). sized (ruled found.named.rule i)) (sym all.is) ∙ is) in
     subst (HasFault tokens) (sym two.is)
     (sizes found.named found.«prefix» all.operands (drop found.next tokens) tokens heads.stands all.writes two.has)
 
@@ -226,7 +226,7 @@ fails_by_head : OperandsAreSpelled → OperandsFailExactly → (tokens : List Sp
 fails_by_head law faults tokens cause None heads is =
     subst (HasFault tokens) (err_is UnknownMnemonic cause is) (unknown tokens (λ named word text stands. let front = head_reads named word text tokens stands in let bad : None ≡ Some (head named word front.next) = sym heads ∙ front.is in cc))
 fails_by_head law faults tokens cause (Some found) heads is =
-    headed_fails law faults found tokens cause (with_all (is_branch found.named.4) tokens found.next (blank found.named.2 found.named.3 found.«prefix»)) (head_stands tokens found heads) refl is
+    headed_fails law faults found tokens cause (with_all (is_branch found.named.rule) tokens found.next (blank found.named.name found.named.size found.«prefix»)) (head_stands tokens found heads) refl is
 
 insn_fails : OperandsAreSpelled → OperandsFailExactly → (tokens : List SpelledToken) (cause : OperandCause) → insn_of tokens ≡ Err cause → HasFault tokens cause
 unfolding insn_of

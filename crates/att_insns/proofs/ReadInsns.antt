@@ -167,12 +167,12 @@ head_stands (name ∷ text) found is = first_by name text found (mnemonic_of nam
 
 -- what stands behind the head spells the rest
 filled_by : OperandsAreSpelled → (tokens : List SpelledToken) (found : Head) (made : InsnText) (read : Result InsnText OperandCause) → HeadStands tokens found
-    → with_all (is_branch found.named.4) tokens found.next (blank found.named.2 found.named.3 found.«prefix») ≡ read
-    → (read >>= (λ insn. sized (ruled found.named.4 insn))) ≡ Ok made → Spells made tokens
+    → with_all (is_branch found.named.rule) tokens found.next (blank found.named.name found.named.size found.«prefix») ≡ read
+    → (read >>= (λ insn. sized (ruled found.named.rule insn))) ≡ Ok made → Spells made tokens
 filled_by law tokens found made (Err cause) heads reads is = cc
 filled_by law tokens found made (Ok insn) heads reads is =
-    let all = all_spelled law (is_branch found.named.4) tokens found.next (blank found.named.2 found.named.3 found.«prefix») insn reads in
-    let ruled_so : sized (meant found.named found.«prefix» all.operands) ≡ Ok made = ap (λ (i : InsnText). sized (ruled found.named.4 i)) (sym all.is) ∙ is in
+    let all = all_spelled law (is_branch found.named.rule) tokens found.next (blank found.named.name found.named.size found.«prefix») insn reads in
+    let ruled_so : sized (meant found.named found.«prefix» all.operands) ≡ Ok made = ap (λ (i : InsnText). sized (ruled found.named.rule i)) (sym all.is) ∙ is in
     let size = size_has (meant found.named found.«prefix» all.operands) made ruled_so in
     subst (λ (i : InsnText). Spells i tokens) (sym size.is)
     (behind found.named found.«prefix» all.operands size.size (drop found.next tokens) tokens heads.stands all.writes size.has)
@@ -180,7 +180,7 @@ filled_by law tokens found made (Ok insn) heads reads is =
 headed_by : OperandsAreSpelled → (tokens : List SpelledToken) (made : InsnText) (found : Option Head) → head_of tokens ≡ found → insn_by tokens found ≡ Ok made → Spells made tokens
 headed_by law tokens made None heads is = cc
 headed_by law tokens made (Some found) heads is =
-    filled_by law tokens found made (with_all (is_branch found.named.4) tokens found.next (blank found.named.2 found.named.3 found.«prefix»)) (head_stands tokens found heads) refl is
+    filled_by law tokens found made (with_all (is_branch found.named.rule) tokens found.next (blank found.named.name found.named.size found.«prefix»)) (head_stands tokens found heads) refl is
 
 -- an instruction that is read is spelled
 pub insn_spelled : OperandsAreSpelled → (insn : InsnText) (tokens : List SpelledToken) → insn_of tokens ≡ Ok insn → Spells insn tokens

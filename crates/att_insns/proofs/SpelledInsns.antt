@@ -101,10 +101,10 @@ all_read law _ operands text tokens at insn (some branch _ _ writes) stands =
 
 -- what stands behind the mnemonic gives the instruction
 headed_read : OperandsAreRead → (named : Named) (word : Prefix) (operands : List OperandText) (size next : ℕ) (text tokens : List SpelledToken)
-    → WritesAll (is_branch named.4) operands text → HasSize (meant named word operands) size → drop next tokens ≡ text
+    → WritesAll (is_branch named.rule) operands text → HasSize (meant named word operands) size → drop next tokens ≡ text
     → headed_insn tokens (head named word next) ≡ Ok (with_size (meant named word operands) size)
 headed_read law named word operands size next text tokens writes has stands =
-    ap (λ (read : Result InsnText OperandCause). read >>= (λ insn. sized (ruled named.4 insn))) (all_read law (is_branch named.4) operands text tokens next (blank named.2 named.3 word) writes stands)
+    ap (λ (read : Result InsnText OperandCause). read >>= (λ insn. sized (ruled named.rule insn))) (all_read law (is_branch named.rule) operands text tokens next (blank named.name named.size word) writes stands)
     ∙ size_reads (meant named word operands) size has
 
 -- the mnemonic of a text in lower case

@@ -46,9 +46,9 @@ pub record HasTwoSizes (insn : InsnText) : Type 0 where
 pub data HasFault : (tokens : List SpelledToken) (cause : OperandCause) → Type 0 where
   unknown : (tokens : List SpelledToken) → HasNoHead tokens → HasFault tokens UnknownMnemonic
   operands : (named : Named) (word : Prefix) (token : SpelledToken) (text tokens : List SpelledToken) (cause : OperandCause) → IsHead named word (token ∷ text) tokens
-      → OperandsFail 3 (is_branch named.4) (token ∷ text) cause → HasFault tokens cause
+      → OperandsFail 3 (is_branch named.rule) (token ∷ text) cause → HasFault tokens cause
   sizes : (named : Named) (word : Prefix) (written : List OperandText) (text tokens : List SpelledToken) → IsHead named word text tokens
-      → WritesAll (is_branch named.4) written text → HasTwoSizes (meant named word written) → HasFault tokens UnknownOperandSize
+      → WritesAll (is_branch named.rule) written text → HasTwoSizes (meant named word written) → HasFault tokens UnknownOperandSize
 
 -- the reading of the tokens has this fault exactly where they have it
 pub record HasFaultExactly (tokens : List SpelledToken) (cause : OperandCause) : Type 0 where

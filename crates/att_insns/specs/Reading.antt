@@ -29,8 +29,8 @@ with_all branch tokens at insn = if nat_lt at (length tokens) then operands_at 3
 
 -- the instruction that the operands from this place on give the head
 abbrev pub headed_insn : List SpelledToken → Head → Result InsnText OperandCause
-headed_insn tokens head = with_all (is_branch head.named.4) tokens head.next (blank head.named.2 head.named.3 head.«prefix»)
-    >>= (λ insn. sized (ruled head.named.4 insn))
+headed_insn tokens head = with_all (is_branch head.named.rule) tokens head.next (blank head.named.name head.named.size head.«prefix»)
+    >>= (λ insn. sized (ruled head.named.rule insn))
 
 -- the instruction behind what stands in front, if a mnemonic does
 abbrev pub insn_by : List SpelledToken → Option Head → Result InsnText OperandCause

@@ -49,7 +49,7 @@ with_size insn size = record insn { size = size }
 
 -- what the operands mean by the rule of the mnemonic
 abbrev pub meant : Named → Prefix → List OperandText → InsnText
-meant named word operands = ruled named.4 (with_operands operands (blank named.2 named.3 word))
+meant named word operands = ruled named.rule (with_operands operands (blank named.name named.size word))
 
 -- The tokens begin with a mnemonic that has rows, or with a prefix and such a mnemonic, and this text stands behind it.
 pub data IsHead : (named : Named) (word : Prefix) (text tokens : List SpelledToken) → Type 0 where
@@ -61,7 +61,7 @@ pub data IsHead : (named : Named) (word : Prefix) (text tokens : List SpelledTok
 -- The tokens spell the instruction.
 pub data Spells : (insn : InsnText) (tokens : List SpelledToken) → Type 0 where
   behind : (named : Named) (word : Prefix) (operands : List OperandText) (size : ℕ) (text tokens : List SpelledToken) → IsHead named word text tokens
-      → WritesAll (is_branch named.4) operands text → HasSize (meant named word operands) size → Spells (with_size (meant named word operands) size) tokens
+      → WritesAll (is_branch named.rule) operands text → HasSize (meant named word operands) size → Spells (with_size (meant named word operands) size) tokens
 
 -- what the layer below tells: operands that are spelled are read
 abbrev pub OperandsAreRead : Type 0

@@ -59,11 +59,11 @@ fn fill<'a>(
     found: FoundHead,
     insn: &mut Insn<'a>,
 ) -> Result<(), OperandFault>
-    ensures { IsInsnOf insn.old (blank found.named.now.2 found.named.now.3 found.prefix)
+    ensures { IsInsnOf insn.old (blank found.named.now.name found.named.now.size found.prefix)
         → Makes insn.new result (headed_insn (map spelled tokens.now)
         (head found.named.now found.prefix found.next)) }
 {
-    let rule = found.named.4;
+    let rule = found.named.rule;
     match put_all(alloc, tokens, found.next, is_branch(rule), insn) {
         Ok(()) => {
             apply(insn, rule);
@@ -85,7 +85,7 @@ pub fn read_into<'a>(
 {
     match head_of(tokens) {
         Some(found) => {
-            *insn = blank(found.named.2, found.named.3, found.prefix);
+            *insn = blank(found.named.name, found.named.size, found.prefix);
             fill(alloc, tokens, found, insn)
         }
         None => Err(OperandFault::Fault(OperandCause::UnknownMnemonic)),

@@ -24,7 +24,7 @@ use Rattle.att_operands.specs.declared.faults.OperandCause.{OperandCause}
 use Rattle.att_operands.specs.declared.values.ReadAmount.{ReadAmount}
 use Rattle.att_operands.specs.Values.{GivesSo, CountAlike, IsLike, IsAmountOf, stated}
 use Rattle.att_operands.specs.Amounts.{IsAmountRead, in_operand, GivesAmount}
-use Rattle.att_operands.proofs.FrontReadings.{placed_reads, placed_fails, slice_reads, left_at}
+use Rattle.att_operands.proofs.FrontReadings.{TextsAreRead, ReadsAreTexts, placed_reads, placed_fails, slice_reads, left_at}
 
 -- an amount of the tree that is read
 pub amount_is : (tokens : List SpelledToken) (at next : ℕ) (tree : Tree) (held : Amount) → reading_of tokens at ≡ Ok (record { tree = tree; next = next }) → IsAmountOf held tree
@@ -32,10 +32,10 @@ pub amount_is : (tokens : List SpelledToken) (at next : ℕ) (tree : Tree) (held
 amount_is tokens at next tree held is of = rw is (record { amount = of; next = refl })
 
 -- the amount of tokens that are read to their end
-pub sum_is : (tokens : List Token) (at next : ℕ) (tree : Tree) (held : Amount) → at ≤ next → next ≤ length tokens
+pub sum_is : TextsAreRead → ReadsAreTexts → (tokens : List Token) (at next : ℕ) (tree : Tree) (held : Amount) → at ≤ next → next ≤ length tokens
     → reading 1 0 (map spelled (take (next - at) (drop at tokens))) ≡ Ok (read tree []) → operator_follows (spelled_from tokens next) ≡ false → IsAmountOf held tree
     → (let found : Result ReadAmount (Refusal ExprCause) = Ok (record { amount = held; next = next }) in GivesSo IsAmountRead found (reading_of (map spelled tokens) at))
-sum_is tokens at next tree held order within is none of = amount_is (map spelled tokens) at next tree held (slice_reads tokens at next tree order within is none) of
+sum_is text_is_read read_is_text tokens at next tree held order within is none of = amount_is (map spelled tokens) at next tree held (slice_reads text_is_read read_is_text tokens at next tree order within is none) of
 
 constant_alike : (value : ℕ) (tree : Tree) → ((known : Knowledge) → linear known tree ≡ Ok (constant_form value)) → CountAlike (number value) tree
 unfolding linear
@@ -46,22 +46,22 @@ constant_like : (tokens : List SpelledToken) (value : ℕ) (is : IsConstant toke
 constant_like tokens value is = record { counts = constant_alike value is.tree is.counts; names = sym is.names }
 
 -- the amount of numbers alone
-constant_at : (tokens : List Token) (at : ℕ) (found : FrontConstant) → at ≤ length tokens → IsFront (map spelled (drop at tokens)) found
+constant_at : TextsAreRead → ReadsAreTexts → (tokens : List Token) (at : ℕ) (found : FrontConstant) → at ≤ length tokens → IsFront (map spelled (drop at tokens)) found
     → operator_follows (spelled_from tokens (at + found.length)) ≡ false
     → (let held : Result ReadAmount (Refusal ExprCause) = Ok (record { amount = amount.Number found.value; next = at + found.length }) in GivesSo IsAmountRead held (reading_of (map spelled tokens) at))
-constant_at tokens at found order is none =
+constant_at text_is_read read_is_text tokens at found order is none =
     let count : (at + found.length) - at ≡ found.length = omega arith in
     let few = is.within in
     let within : at + found.length ≤ length tokens = omega (arith, length-map (drop at tokens) spelled, length-drop at tokens) in
     let reads : reading 1 0 (map spelled (take ((at + found.length) - at) (drop at tokens))) ≡ Ok (read is.one.tree []) =
     ap (λ (n : ℕ). reading 1 0 (map spelled (take n (drop at tokens)))) count ∙ ap (reading 1 0) (sym (take-map spelled found.length (drop at tokens))) ∙ is.one.reads in
-    sum_is tokens at (at + found.length) is.one.tree (amount.Number found.value) (omega arith) within reads none (constant_like (take found.length (map spelled (drop at tokens))) found.value is.one)
+    sum_is text_is_read read_is_text tokens at (at + found.length) is.one.tree (amount.Number found.value) (omega arith) within reads none (constant_like (take found.length (map spelled (drop at tokens))) found.value is.one)
 
-pub constant_is : (tokens : List Token) (at : ℕ) (found : FrontConstant) → at < length tokens → IsFront (map spelled (take (length tokens - at) (drop at tokens))) found
+pub constant_is : TextsAreRead → ReadsAreTexts → (tokens : List Token) (at : ℕ) (found : FrontConstant) → at < length tokens → IsFront (map spelled (take (length tokens - at) (drop at tokens))) found
     → operator_follows (spelled_from tokens (at + found.length)) ≡ false
     → (let held : Result ReadAmount (Refusal ExprCause) = Ok (record { amount = amount.Number found.value; next = at + found.length }) in GivesSo IsAmountRead held (reading_of (map spelled tokens) at))
-constant_is tokens at found order is none =
-    constant_at tokens at found (omega arith) (subst (λ (ts : List Token). IsFront (map spelled ts) found) (left_at tokens at) is) none
+constant_is text_is_read read_is_text tokens at found order is none =
+    constant_at text_is_read read_is_text tokens at found (omega arith) (subst (λ (ts : List Token). IsFront (map spelled ts) found) (left_at tokens at) is) none
 
 pub constant_within : (tokens : List Token) (at : ℕ) (found : FrontConstant) → at < length tokens → IsFront (map spelled (take (length tokens - at) (drop at tokens))) found
     → at + found.length ≤ length tokens

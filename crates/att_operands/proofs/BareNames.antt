@@ -1,6 +1,7 @@
 -- A name alone counts as the name and 0 more: what is settled is settled.
-use Rattle.std.proofs.Common.{◌≡◌, ℕ, ◌+◌, ◌^◌, ◌<◌, ◌==◌, Bool, true, false, cond, List, [], ◌∷◌, ◌++◌, map, Option, Some, None, is_none, Result, Ok, refl, sym, ap, subst, ◌∙◌, arith, append_assoc}
+use Rattle.std.proofs.Common.{◌≡◌, ℕ, ◌+◌, ◌^◌, ◌<◌, ◌==◌, ◌&&◌, Bool, true, false, cond, List, [], ◌∷◌, ◌++◌, map, Option, Some, None, is_none, Result, Ok, refl, sym, ap, subst, ◌∙◌, arith, append_assoc}
 use Rattle.std.proofs.lemmas.Bool.{eqb-true}
+use Rattle.std.proofs.lemmas.Bool.Decides.{nat_tests}
 use Rattle.std.proofs.lemmas.List.Sums.{sum_by-cons}
 use Rattle.std.proofs.lemmas.List.{append-nil}
 use Rattle.std.proofs.lemmas.List.Elements.{All-head}
@@ -13,9 +14,37 @@ use Rattle.asm_expr.specs.Forms.{Form, wrapped, constant_form, symbol_form, sum_
 use Rattle.asm_expr.specs.Knowledge.{Told, absent, constant, label, form}
 use Rattle.asm_expr.specs.Settled.{spot_by, spot_of, counted_in, stretch_sum, cancelled_number, put_one, put_all, settled, nothing_cancels}
 use Rattle.asm_expr.specs.Linear.{form_by, linear, binary_form}
-use Rattle.asm_expr.proofs.SettledLemmas.{stays, none_cancel}
 use Rattle.x86_insn.specs.Amounts.{named_tree}
 use Rattle.att_operands.specs.Values.{IsFitting, CountAlike}
+
+-- where no label cancels all terms are put, and the form stays
+all_put : (told : ℕ → Told) (all : List Term) (made : Form) (terms : List Term) → list_all (λ (t : Term). is_none (cancelled_number (map (spot_of told) all) (spot_of told t))) terms ≡ true
+    → put_all (map (spot_of told) all) told made terms ≡ (let whole : Form = record { terms = made.terms ++ terms; constant = made.constant } in whole)
+unfolding put_all
+all_put told all made [] none = ap (λ (ts : List Term). let whole : Form = record { terms = ts; constant = made.constant } in whole) (sym (append-nil made.terms))
+all_put told all made (term ∷ terms) none = by_number (cancelled_number (map (spot_of told) all) (spot_of told term)) (λ more. all_put told all more terms) none
+  where
+    by_number : (number : Option ℕ) → ((more : Form) → list_all (λ (t : Term). is_none (cancelled_number (map (spot_of told) all) (spot_of told t))) terms ≡ true
+        → put_all (map (spot_of told) all) told more terms ≡ (let whole : Form = record { terms = more.terms ++ terms; constant = more.constant } in whole))
+        → (is_none number && list_all (λ (t : Term). is_none (cancelled_number (map (spot_of told) all) (spot_of told t))) terms) ≡ true
+        → put_all (map (spot_of told) all) told (put_one made term number) terms ≡ (let whole : Form = record { terms = made.terms ++ term ∷ terms; constant = made.constant } in whole)
+    by_number (Some number) later rest = cc
+    by_number None later rest =
+        later (put_one made term None) rest ∙ ap (λ (ts : List Term). let whole : Form = record { terms = ts; constant = made.constant } in whole) (append_assoc made.terms (term ∷ []) terms)
+
+none_cancel : (told : ℕ → Told) (made : Form) → nothing_cancels told made.terms ≡ true → made ≡ settled told made
+unfolding settled
+none_cancel told made none = sym (all_put told made.terms (constant_form made.constant) made.terms none)
+
+-- a symbol alone does not cancel
+alone : (known : Told) → (is_none (cancelled_number (spot_by known 1 ∷ []) (spot_by known 1)) && true) ≡ true
+alone absent = refl
+alone (constant n) = refl
+alone (form made) = refl
+alone (label stretch at) = let same : (stretch == stretch) ≡ true = grind (arith, nat_tests) in rw same refl
+
+symbol_stays : (told : ℕ → Told) (own : ℕ) → symbol_form own ≡ settled told (symbol_form own)
+symbol_stays told own = none_cancel told (symbol_form own) (alone (told own))
 
 -- the term before others, unless a number stands for it
 abbrev kept_one : Option ℕ → Term → List Term → List Term
@@ -142,9 +171,9 @@ settled_fits told made fits = all_fit made.terms told (constant_form made.consta
 
 bare_form : (told : ℕ → Told) (own : ℕ) (known : Told) → ((n : ℕ) → known ≡ constant n → n < 2 ^ 64) → ((made : Form) → known ≡ form made → made.constant < 2 ^ 64)
     → settled told (sum_of (form_by told own known) (constant_form 0)) ≡ form_by told own known
-bare_form told own absent numbers forms = ap (settled told) (more_none (symbol_form own) (omega arith)) ∙ sym (stays told (symbol_form own) refl)
-bare_form told own (label stretch at) numbers forms = ap (settled told) (more_none (symbol_form own) (omega arith)) ∙ sym (stays told (symbol_form own) refl)
-bare_form told own (constant n) numbers forms = ap (settled told) (more_none (constant_form n) (numbers n refl)) ∙ sym (stays told (constant_form n) refl)
+bare_form told own absent numbers forms = ap (settled told) (more_none (symbol_form own) (omega arith)) ∙ sym (symbol_stays told own)
+bare_form told own (label stretch at) numbers forms = ap (settled told) (more_none (symbol_form own) (omega arith)) ∙ sym (symbol_stays told own)
+bare_form told own (constant n) numbers forms = ap (settled told) (more_none (constant_form n) (numbers n refl)) ∙ sym (none_cancel told (constant_form n) refl)
 bare_form told own (form made) numbers forms = ap (settled told) (more_none (settled told made) (settled_fits told made (forms made refl))) ∙ sym (settled_again told made)
 
 ok_form : Form → Result Form ExprCause

@@ -1,5 +1,5 @@
 -- A `-` and a number are read as the number turned.
-use Rattle.std.proofs.Common.{◌≡◌, ℕ, zero, suc, ◌+◌, ◌-◌, ◌<◌, ◌≤◌, true, false, List, [], ◌∷◌, Some, Result, Ok, length, map, drop, take, get_or, slice_get, refl, sym, ap, subst, ◌∙◌, arith, length-append, drop-cons}
+use Rattle.std.proofs.Common.{◌≡◌, ℕ, zero, suc, ◌+◌, ◌-◌, ◌<◌, ◌≤◌, true, false, List, [], ◌∷◌, ◌++◌, Some, Result, Ok, length, map, drop, take, get_or, slice_get, refl, sym, ap, subst, ◌∙◌, arith, length-append, drop-cons}
 use Rattle.asm_base.specs.declared.tokens.Token.{Token}
 use Rattle.asm_base.specs.Tokens.{SpelledToken, spelled}
 use Rattle.asm_base.specs.Refusals.{◌>>=◌}
@@ -13,18 +13,17 @@ use Rattle.asm_expr.specs.Linear.{linear, unary_form}
 use Rattle.expr_texts.specs.Operators.{mark_of, prefix_of, prefix_by, prefix_level, level_of}
 use Rattle.expr_texts.specs.Leaves.{leaf_of}
 use Rattle.expr_texts.specs.Reading.{read, reading, reading_of}
-use Rattle.expr_texts.specs.Grammar.{Writes, leaf, prefixed, between, enclosed, operator_follows}
-use Rattle.expr_texts.proofs.LeafLemmas.{leaf_height}
+use Rattle.expr_texts.specs.Grammar.{IsTextOf, Writes, leaf, prefixed, between, enclosed, operator_follows}
 use Rattle.asm_base.specs.declared.refusals.Refusal.{Refusal}
 use Rattle.expr_texts.specs.Found.{spelled_from}
 use Rattle.asm_operands.specs.Constants.{IsSingle}
 use Rattle.x86_insn.specs.declared.amounts.Amount.TheVariants as amount
 use Rattle.att_operands.specs.declared.values.ReadAmount.{ReadAmount}
 use Rattle.att_operands.specs.Amounts.{IsAmountRead}
-use Rattle.att_operands.proofs.AmountLemmas.{sum_is}
+use Rattle.att_operands.proofs.AmountLemmas.{amount_is}
 use Rattle.att_operands.specs.Marks.{mark_byte, mark_by, mark_at}
 use Rattle.att_operands.specs.Values.{GivesSo, CountAlike}
-use Rattle.att_operands.proofs.FrontReadings.{text_reads, whole_is_text}
+use Rattle.att_operands.proofs.FrontReadings.{TextsAreRead, ReadsAreTexts, front_at, text_at, whole_is_text}
 use Rattle.att_operands.proofs.SpelledIsRead.{text_some}
 
 -- a text of one token is a number or a name
@@ -47,18 +46,18 @@ minus_prefix : (token : SpelledToken) → mark_by (Some token) ≡ 45 → prefix
 unfolding mark_by
 minus_prefix token is = minus_by (mark_of token) is
 
--- the two tokens are read to their end
-pub negative_reads : (sign token : SpelledToken) (tree : Tree) → mark_by (Some sign) ≡ 45 → reading 1 0 (token ∷ []) ≡ Ok (read tree [])
-    → reading 1 0 (sign ∷ token ∷ []) ≡ Ok (read (unary Minus tree) [])
+-- what a token alone spells is one node
+abbrev pub LeavesAreSingle : Type 0
+LeavesAreSingle = (token : SpelledToken) (tree : Tree) → leaf_of token ≡ Ok tree → height tree ≡ 1
+
+-- the two tokens are a text
+negative_text : ReadsAreTexts → LeavesAreSingle → (sign token : SpelledToken) (tree : Tree) → mark_by (Some sign) ≡ 45 → reading 1 0 (token ∷ []) ≡ Ok (read tree []) → IsTextOf (unary Minus tree) (sign ∷ token ∷ [])
 unfolding height
-negative_reads sign token tree minus reads =
-    let own = whole_is_text tree (token ∷ []) reads in
+negative_text read_is_text single sign token tree minus reads =
+    let own = whole_is_text read_is_text tree (token ∷ []) reads in
     let spells = single_leaf 64 tree 1 (token ∷ []) token own.writes refl in
-    let one = leaf_height token tree spells in
-    text_reads (unary Minus tree) (sign ∷ token ∷ []) [] (record {
-      writes = prefixed 63 1 Minus tree sign (token ∷ []) (minus_prefix sign minus) (leaf 63 prefix_level tree token spells);
-      low = omega arith;
-    }) refl
+    let one = single token tree spells in
+    record { writes = prefixed 63 1 Minus tree sign (token ∷ []) (minus_prefix sign minus) (leaf 63 prefix_level tree token spells); low = omega arith }
 
 -- and count as the number turned
 turned_form : (known : Knowledge) (held : Result Form ExprCause) (value : ℕ) → held ≡ Ok (constant_form value) → held >>= unary_form known.told Minus ≡ Ok (constant_form (wrapped (0 + signed true value)))
@@ -87,12 +86,15 @@ two_tokens tokens at d e within =
     ∙ ap (λ (ts : List Token). get_or tokens at d ∷ take 1 ts) second
 
 -- the amount of a `-` and a number
-pub negative_is : (tokens : List Token) (at value turned : ℕ) (e : Token) → at + 2 ≤ length tokens → mark_at (map spelled tokens) at ≡ 45 → IsSingle (spelled (get_or tokens (at + 1) e)) value
+pub negative_is : TextsAreRead → ReadsAreTexts → LeavesAreSingle → (tokens : List Token) (at value turned : ℕ) (e : Token) → at + 2 ≤ length tokens → mark_at (map spelled tokens) at ≡ 45 → IsSingle (spelled (get_or tokens (at + 1) e)) value
     → operator_follows (spelled_from tokens (at + 2)) ≡ false → turned ≡ signed true value
     → (let found : Result ReadAmount (Refusal ExprCause) = Ok (record { amount = amount.Number turned; next = at + 2 }) in GivesSo IsAmountRead found (reading_of (map spelled tokens) at))
-negative_is tokens at value turned e within minus is none turns =
+negative_is text_is_read read_is_text single tokens at value turned e within minus is none turns =
     let sign : mark_by (Some (spelled (get_or tokens at e))) ≡ 45 = sym (ap mark_by (got tokens at e (omega arith))) ∙ minus in
-    let both = negative_reads (spelled (get_or tokens at e)) (spelled (get_or tokens (at + 1) e)) is.one.tree sign is.one.reads in
-    let reads = ap (λ (ts : List Token). reading 1 0 (map spelled ts)) (two_tokens tokens at e e within) ∙ both in
-    sum_is tokens at (at + 2) (unary Minus is.one.tree) (amount.Number turned) (omega arith) within reads none
+    let text = spelled (get_or tokens at e) ∷ spelled (get_or tokens (at + 1) e) ∷ [] in
+    let both = negative_text read_is_text single (spelled (get_or tokens at e)) (spelled (get_or tokens (at + 1) e)) is.one.tree sign is.one.reads in
+    let stands : drop at (map spelled tokens) ≡ text ++ spelled_from tokens (at + 2) =
+    front_at tokens at (at + 2) (omega arith) ∙ ap (λ (ts : List Token). map spelled ts ++ spelled_from tokens (at + 2)) (two_tokens tokens at e e within) in
+    amount_is (map spelled tokens) at (at + 2) (unary Minus is.one.tree) (amount.Number turned)
+    (text_at text_is_read (map spelled tokens) at (at + 2) (unary Minus is.one.tree) text (spelled_from tokens (at + 2)) stands both none (omega arith))
     (record { counts = negative_counts is.one.tree value turned (omega (arith, turns)) is.one.counts; names = sym is.one.names })

@@ -14,8 +14,8 @@ use Rattle.att_operands.specs.Marks.{mark_byte, mark_by, mark_at, ends_by, begin
 use Rattle.att_operands.specs.Values.{ValueText, ReadText, names_by, numbers_by, before_name, suffix_behind, suffix_at, without_suffix, as_value, value_with, value_at, begun_at}
 use Rattle.att_operands.specs.OperandTexts.{opens_address}
 use Rattle.att_operands.specs.Spells.{IsMark, LeadsName, nothing, number, negative, WritesValue, plain, suffixed, ends}
-use Rattle.att_operands.proofs.FrontReadings.{text_reads, placed_reads}
-use Rattle.att_operands.proofs.SuffixLemmas.{joined_front, joined_length}
+use Rattle.att_operands.proofs.FrontReadings.{TextsAreRead, text_at}
+use Rattle.att_operands.proofs.SuffixLemmas.{joined_front}
 use Rattle.att_operands.proofs.SuffixPlaces.{number_mark, FrontRead, front_read, first_before, no_mark}
 use Rattle.att_operands.proofs.TextEnds.{ends_well, text_ends, parted, name_apart}
 use Rattle.att_operands.proofs.SpelledIsRead.{stands_at, leads, leads_begin, apart_from, first_leads, opened_leads, first_begins, text_some}
@@ -165,23 +165,17 @@ drop_front : (front more : List SpelledToken) (k : ℕ) → drop (length front +
 drop_front [] more k = let same : 0 + k ≡ k = omega arith in rw same refl
 drop_front (token ∷ front) more k = let next : length (token ∷ front) + k ≡ suc (length front + k) = omega arith in rw next (drop_front front more k)
 
-plain_length : (tokens : List SpelledToken) (at : ℕ) (tree : Tree) (text behind : List SpelledToken) → IsTextOf tree text → drop at tokens ≡ text ++ behind → at + length text ≡ length tokens - length behind
-plain_length tokens at tree text behind is stands =
-    let some = text_some 64 tree 1 text is.writes in
-    omega (arith, length-drop at tokens, ap length stands, length-append text behind)
-
 -- a value that is written is read
-pub value_reads : (tokens : List SpelledToken) (at : ℕ) (value : ValueText) (text behind : List SpelledToken) → WritesValue value text → drop at tokens ≡ text ++ behind → IsQuiet behind
+pub value_reads : TextsAreRead → (tokens : List SpelledToken) (at : ℕ) (value : ValueText) (text behind : List SpelledToken) → WritesValue value text → drop at tokens ≡ text ++ behind → IsQuiet behind
     → value_at tokens at ≡ Ok (record { text = value; next = at + length text })
 unfolding value_at read_value
-value_reads tokens at _ text behind (plain tree _ is) stands quiet =
+value_reads text_is_read tokens at _ text behind (plain tree _ is) stands quiet =
     let suffix : suffix_at tokens at ≡ None = plain_quiet tokens at (before_name tokens at) tree text behind (front_read tokens at) is stands quiet in
-    let lengths : at + length text ≡ length tokens - length behind = plain_length tokens at tree text behind is stands in
-    let reads = placed_reads tokens at (at + length text) tree behind (ap (reading 1 0) stands ∙ text_reads tree text behind is quiet.stops) lengths in
+    let reads = text_at text_is_read tokens at (at + length text) tree text behind stands is quiet.stops refl in
     ap (value_with tokens at) suffix
     ∙ ap (as_value None 0) reads
     ∙ ap (read_value (record { tree = tree; suffix = None })) (omega arith)
-value_reads tokens at _ text behind (suffixed tree suffix name mark word front rest _ led named marked words is written) stands quiet =
+value_reads text_is_read tokens at _ text behind (suffixed tree suffix name mark word front rest _ led named marked words is written) stands quiet =
     let n = length front in
     let more = name ∷ mark ∷ word ∷ (rest ++ behind) in
     let whole : drop at tokens ≡ front ++ more = stands ∙ with_behind front name mark word rest text behind written in
@@ -202,10 +196,7 @@ value_reads tokens at _ text behind (suffixed tree suffix name mark word front r
     joined_front tokens at n front name mark word (rest ++ behind) refl whole many ∙ ap (λ (ts : List SpelledToken). front ++ (name ∷ ts)) left ∙ sym (append_assoc front (name ∷ rest) behind) in
     let own = length-append front (name ∷ rest) in
     let written_length : length text ≡ n + length (name ∷ mark ∷ word ∷ rest) = ap length written ∙ length-append front (name ∷ mark ∷ word ∷ rest) in
-    let short = joined_length tokens (at + n) many in
-    let lengths : at + length (front ++ (name ∷ rest)) ≡ length (without_suffix tokens (at + n)) - length behind = omega arith in
-    let reads = placed_reads (without_suffix tokens (at + n)) at (at + length (front ++ (name ∷ rest))) tree behind
-    (ap (reading 1 0) joins ∙ text_reads tree (front ++ (name ∷ rest)) behind is quiet.stops) lengths in
+    let reads = text_at text_is_read (without_suffix tokens (at + n)) at (at + length (front ++ (name ∷ rest))) tree (front ++ (name ∷ rest)) behind joins is quiet.stops refl in
     ap (value_with tokens at) found
     ∙ ap (λ (k : ℕ). as_value (Some suffix) 2 (reading_of (without_suffix tokens (at + k)) at)) before
     ∙ ap (as_value (Some suffix) 2) reads
@@ -220,9 +211,9 @@ value_begins tokens at _ text behind (suffixed tree suffix name mark word front 
     rw here (leads_begin first.token first.leads_here)
 
 -- and so is it where a mark of another operand may stand
-pub begun_reads : (tokens : List SpelledToken) (at : ℕ) (value : ValueText) (text behind : List SpelledToken) → WritesValue value text → drop at tokens ≡ text ++ behind → IsQuiet behind
+pub begun_reads : TextsAreRead → (tokens : List SpelledToken) (at : ℕ) (value : ValueText) (text behind : List SpelledToken) → WritesValue value text → drop at tokens ≡ text ++ behind → IsQuiet behind
     → begun_at tokens at ≡ Ok (record { text = value; next = at + length text })
 unfolding begun_at
-begun_reads tokens at value text behind writes stands quiet =
+begun_reads text_is_read tokens at value text behind writes stands quiet =
     ap (λ (b : Bool). cond b (value_at tokens at) (Err BadOperand)) (value_begins tokens at value text behind writes stands)
-    ∙ value_reads tokens at value text behind writes stands quiet
+    ∙ value_reads text_is_read tokens at value text behind writes stands quiet

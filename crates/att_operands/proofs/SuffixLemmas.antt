@@ -12,13 +12,12 @@ use Rattle.asm_expr.specs.Trees.{Tree}
 use Rattle.expr_texts.specs.Reading.{Reading, Read, read, reading, reading_of}
 use Rattle.expr_texts.specs.Grammar.{operator_follows}
 use Rattle.expr_texts.specs.Found.{spelled_from}
-use Rattle.expr_texts.proofs.Fuel.{reading_takes}
 use Rattle.x86_insn.specs.declared.amounts.Amount.{Amount}
 use Rattle.att_operands.specs.declared.faults.OperandCause.{OperandCause}
 use Rattle.att_operands.specs.declared.values.ReadAmount.{ReadAmount}
 use Rattle.att_operands.specs.Values.{GivesSo, IsAmountOf, without_suffix}
 use Rattle.att_operands.specs.Amounts.{IsAmountRead, in_operand, GivesAmount}
-use Rattle.att_operands.proofs.FrontReadings.{text_reads, whole_is_text, placed_reads, left_at}
+use Rattle.att_operands.proofs.FrontReadings.{TextsAreRead, ReadsAreTexts, text_at, fewer_left, whole_is_text, left_at}
 use Rattle.att_operands.proofs.AmountLemmas.{amount_is}
 
 -- what is left at a place so many tokens before the name: these, the name, and all behind the suffix
@@ -57,22 +56,22 @@ joined_length tokens at within =
     omega (arith, length-append (take (at + 1) tokens) (drop (at + 3) tokens), length-drop (at + 3) tokens)
 
 -- the name alone, where no operator stands behind the suffix
-pub bare_is : (tokens : List Token) (at : ℕ) (tree : Tree) (held : Amount) → at + 2 < length tokens
+pub bare_is : TextsAreRead → ReadsAreTexts → (tokens : List Token) (at : ℕ) (tree : Tree) (held : Amount) → at + 2 < length tokens
     → reading 1 0 (map spelled (take ((at + 1) - at) (drop at tokens))) ≡ Ok (read tree []) → operator_follows (spelled_from tokens (at + 3)) ≡ false → IsAmountOf held tree
     → (let found : Result ReadAmount (Refusal ExprCause) = Ok (record { amount = held; next = at + 1 }) in GivesSo IsAmountRead found (reading_of (without_suffix (map spelled tokens) at) at))
-bare_is tokens at tree held within is none of =
+bare_is text_is_read read_is_text tokens at tree held within is none of =
     let all = map spelled tokens in
     let more : at + 2 < length all = rw (length-map tokens spelled) within in
     let one : (at + 1) - at ≡ 1 = omega arith in
     let text = map spelled (take 1 (drop at tokens)) in
     let reads : reading 1 0 text ≡ Ok (read tree []) = subst (λ (n : ℕ). reading 1 0 (map spelled (take n (drop at tokens))) ≡ Ok (read tree [])) one is in
-    let begins = text_reads tree text (spelled_from tokens (at + 3)) (whole_is_text tree text reads) none in
     let front : take 1 (drop at all) ≡ text = ap (λ (ts : List SpelledToken). take 1 ts) (drop-map spelled at tokens) ∙ take-map spelled 1 (drop at tokens) in
     let behind : drop (at + 3) all ≡ spelled_from tokens (at + 3) = drop-map spelled (at + 3) tokens in
     let stands : drop at (without_suffix all at) ≡ text ++ spelled_from tokens (at + 3) = joined all at more ∙ ap (λ (ts : List SpelledToken). ts ++ drop (at + 3) all) front ∙ ap (λ (ts : List SpelledToken). text ++ ts) behind in
-    let lengths : at + 1 ≡ length (without_suffix all at) - length (spelled_from tokens (at + 3)) =
-    omega (arith, joined_length all at more, length-map tokens spelled, length-map (drop (at + 3) tokens) spelled, length-drop (at + 3) tokens) in
-    amount_is (without_suffix all at) at (at + 1) tree held (placed_reads (without_suffix all at) at (at + 1) tree (spelled_from tokens (at + 3)) (ap (reading 1 0) stands ∙ begins) lengths) of
+    let left = length-drop at tokens in
+    let long = length-take-le 1 (drop at tokens) (omega arith) in
+    amount_is (without_suffix all at) at (at + 1) tree held
+    (text_at text_is_read (without_suffix all at) at (at + 1) tree text (spelled_from tokens (at + 3)) stands (whole_is_text read_is_text tree text reads) none (omega (arith, length-map (take 1 (drop at tokens)) spelled))) of
 
 -- the tokens up to the name, and all behind its suffix
 pub joined_list : (tokens : List Token) (at name : ℕ) → at ≤ name → name + 2 < length tokens
@@ -90,23 +89,23 @@ joined_list tokens at name order within =
     ∙ ap (λ (ts : List SpelledToken). map spelled (take ((name + 1) - at) (drop at tokens)) ++ ts) (drop-map spelled (name + 3) tokens))
 
 -- what is read of a list is read where the list is left
-moved_by : (list tokens : List SpelledToken) (at : ℕ) (found : ReadAmount) (due : Read) → list ≡ drop at tokens → length tokens ≡ at + length list → reading 1 0 list ≡ due
+moved_by : ReadsAreTexts → (list tokens : List SpelledToken) (at : ℕ) (found : ReadAmount) (due : Read) → list ≡ drop at tokens → length tokens ≡ at + length list → reading 1 0 list ≡ due
     → (let held : Result ReadAmount (Refusal OperandCause) = Ok found in GivesSo IsAmountRead held (in_operand (due >>= (λ r. Ok (record { tree = r.tree; next = length list - length r.rest })))))
     → (let held : Result ReadAmount (Refusal OperandCause) = Ok (record { amount = found.amount; next = at + found.next }) in GivesSo IsAmountRead held (in_operand (due >>= (λ r. Ok (record { tree = r.tree; next = length tokens - length r.rest })))))
-moved_by list tokens at found (Ok r) left lengths is given =
-    let few = reading_takes 1 0 list r is in
+moved_by read_is_text list tokens at found (Ok r) left lengths is given =
+    let few = fewer_left read_is_text list r is in
     let next = given.next in
     record { amount = given.amount; next = omega arith }
-moved_by list tokens at found (Err cause) left lengths is given = given
+moved_by read_is_text list tokens at found (Err cause) left lengths is given = given
 
-pub moved_gives : (list tokens : List SpelledToken) (at : ℕ) (found : ReadAmount) → list ≡ drop at tokens → length tokens ≡ at + length list
+pub moved_gives : ReadsAreTexts → (list tokens : List SpelledToken) (at : ℕ) (found : ReadAmount) → list ≡ drop at tokens → length tokens ≡ at + length list
     → (let held : Result ReadAmount (Refusal OperandCause) = Ok found in GivesAmount list 0 held)
     → (let held : Result ReadAmount (Refusal OperandCause) = Ok (record { amount = found.amount; next = at + found.next }) in GivesAmount tokens at held)
 unfolding reading_of
-moved_gives list tokens at found left lengths given =
+moved_gives read_is_text list tokens at found left lengths given =
     subst (λ (ts : List SpelledToken). (let held : Result ReadAmount (Refusal OperandCause) = Ok (record { amount = found.amount; next = at + found.next }) in
     GivesSo IsAmountRead held (in_operand (reading 1 0 ts >>= (λ r. Ok (record { tree = r.tree; next = length tokens - length r.rest })))))) left
-    (moved_by list tokens at found (reading 1 0 list) left lengths refl given)
+    (moved_by read_is_text list tokens at found (reading 1 0 list) left lengths refl given)
 
 fault_moved : (due : Read) (one other : Reading → ℕ) (cause : OperandCause) → in_operand (due >>= (λ r. Ok (record { tree = r.tree; next = one r }))) ≡ Err cause
     → in_operand (due >>= (λ r. Ok (record { tree = r.tree; next = other r }))) ≡ Err cause

@@ -17,8 +17,8 @@ mod values;
 pub use addresses::{base_by, index_by, register_by, scale_by, takes_index};
 pub use faults::{OperandCause, OperandFault};
 pub use laws::{
-    faults_of_a_value, faults_of_an_operand, one_operand, read_is_spelled, spelled_is_read,
-    values_are_read, worked_operands,
+    faults_of_a_value, faults_of_an_operand, one_operand, read_is_spelled, registers_have_slots,
+    spelled_is_read, values_are_read, worked_operands,
 };
 pub use marks::mark_at;
 pub use operands::{FoundOperand, ReadOperand, no_displacement, read_operand};

@@ -14,7 +14,7 @@ use crate::marks::{begins_value, mark_at};
 use crate::suffixes::{NamedSuffix, suffix_at};
 use asm_base::{Token, TokenKind};
 use asm_operands::{Addend, Sum, Summand, front_constant, single_constant, sum_operand};
-use expr_texts::parse_front;
+use expr_texts::{leaves_are_single, parse_front, read_is_written, written_is_read};
 use std::alloc::Global;
 use x86_insn::{Amount, Value};
 
@@ -84,6 +84,8 @@ pub(crate) fn sum_amount<'a>(tokens: &[Token<'a>], at: usize, next: usize) -> Op
     ensures next { IfSome result (λ found. found.next ≡ next) }
     ensures within { IfSome result (λ found. found.next ≤ length tokens.now) }
 {
+    written_is_read();
+    read_is_written();
     if !stops_at(tokens, next) {
         return None;
     }
@@ -106,6 +108,9 @@ fn negative_amount<'a>(tokens: &[Token<'a>], at: usize) -> Option<ReadAmount<'a>
     ensures value { FindsRead (map spelled tokens.now) at result }
     ensures within { IfSome result (λ found. found.next ≤ length tokens.now) }
 {
+    written_is_read();
+    read_is_written();
+    leaves_are_single();
     if mark_at(tokens, at) != b'-' {
         return None;
     }
@@ -126,6 +131,8 @@ fn constant_amount<'a>(tokens: &[Token<'a>], at: usize) -> Option<ReadAmount<'a>
     ensures value { FindsRead (map spelled tokens.now) at result }
     ensures within { IfSome result (λ found. found.next ≤ length tokens.now) }
 {
+    written_is_read();
+    read_is_written();
     let front = front_constant(&tokens[at..])?;
     let next = at + front.length;
     if !stops_at(tokens, next) {
@@ -209,6 +216,8 @@ fn bare_amount<'a>(tokens: &[Token<'a>], at: usize) -> Option<ReadAmount<'a>>
     ensures value { FindsRead (without_suffix (map spelled tokens.now) at) at result }
     ensures next { IfSome result (λ found. found.next ≡ at + 1) }
 {
+    written_is_read();
+    read_is_written();
     if !stops_at(tokens, at + 3) {
         return None;
     }
@@ -252,6 +261,7 @@ fn moved_amount<'a>(
         → length all ≡ at + length list.now → GivesAmount all at result }
     ensures within { IfOk result (λ found. found.next ≤ at + length list.now) }
 {
+    read_is_written();
     match amount_at(alloc, list, 0) {
         Ok(ReadAmount { amount, next }) => Ok(ReadAmount {
             amount,

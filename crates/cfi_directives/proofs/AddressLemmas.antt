@@ -4,7 +4,7 @@ use Rattle.std.specs.Option.{option_and_then}
 use Rattle.cfi_rows.specs.Places as placing
 use Rattle.cfi_rows.specs.Rows.{Rows, common_row, changed, start_rows, ops_after}
 use Rattle.cfi_directives.specs.declared.frames.PlacedOp.{PlacedOp}
-use Rattle.cfi_directives.specs.declared.places.Place.{Place}
+use Rattle.asm_base.specs.declared.places.Place.{Place}
 use Rattle.cfi_directives.specs.Rows.{rows_after, at_addresses}
 
 -- the rows behind one instruction and the others

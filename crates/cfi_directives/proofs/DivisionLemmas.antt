@@ -7,8 +7,8 @@ use Rattle.cfi_directives.specs.declared.frames.PlacedOp.{PlacedOp}
 use Rattle.cfi_directives.specs.declared.lines.CfiLine.{CfiLine}
 use Rattle.cfi_directives.specs.declared.lines.CfiLine.TheVariants.{StartProc, EndProc, Row}
 use Rattle.cfi_directives.specs.declared.lines.RowDirective.{RowDirective}
-use Rattle.cfi_directives.specs.declared.places.Place.{Place}
-use Rattle.cfi_directives.specs.declared.places.SectionPlace.{SectionPlace}
+use Rattle.asm_base.specs.declared.places.Place.{Place}
+use Rattle.asm_base.specs.declared.places.SectionPlace.{SectionPlace}
 use Rattle.cfi_directives.specs.Meanings.{RowLine, Says, Mean, row_line, stop_line, AreOf}
 use Rattle.cfi_directives.specs.Procedures.{Procedures, new_frame, with_stop, cfa_offset}
 use Rattle.cfi_directives.specs.Saying.{said}

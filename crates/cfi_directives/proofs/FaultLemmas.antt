@@ -16,7 +16,7 @@ use Rattle.cfi_directives.specs.declared.lines.CfiLine.{CfiLine}
 use Rattle.cfi_directives.specs.declared.lines.CfiLine.TheVariants.{StartProc, EndProc, Row}
 use Rattle.cfi_directives.specs.declared.lines.RowDirective.{RowDirective}
 use Rattle.cfi_directives.specs.declared.lines.RowDirective.TheVariants.{DefCfa, DefCfaRegister, DefCfaOffset, AdjustCfaOffset, Offset, RelOffset, ValOffset, Register, RememberState, RestoreState, Restore, Undefined, SameValue}
-use Rattle.cfi_directives.specs.declared.places.SectionPlace.{SectionPlace}
+use Rattle.asm_base.specs.declared.places.SectionPlace.{SectionPlace}
 use Rattle.cfi_directives.specs.Faults.{depth_after, IsUnbalanced, IsStuck, IsElsewhere, IsRefused}
 use Rattle.cfi_directives.specs.Procedures.{Procedures, new_frame, with_stop, cfa_offset}
 use Rattle.cfi_directives.specs.Rows.{rows_after}

@@ -8,7 +8,7 @@ use Rattle.cfi_directives.specs.declared.faults.CfiCause.TheVariants.{Unbalanced
 use Rattle.cfi_directives.specs.declared.frames.Frame.{Frame}
 use Rattle.cfi_directives.specs.declared.frames.PlacedOp.{PlacedOp}
 use Rattle.cfi_directives.specs.declared.lines.CfiLine.TheVariants.{EndProc, Row}
-use Rattle.cfi_directives.specs.declared.places.Place.{Place}
+use Rattle.asm_base.specs.declared.places.Place.{Place}
 use Rattle.cfi_directives.specs.Meanings.{RowLine, Says, Mean, start_line, row_line, stop_line, AreOf}
 use Rattle.cfi_directives.specs.Procedures.{Procedures, with_stop}
 use Rattle.cfi_directives.specs.Rows.{rows_after}

@@ -9,8 +9,8 @@ use Rattle.cfi_rows.specs.Places as placing
 use Rattle.cfi_rows.specs.Rows.{Rows, common_row, changed, start_rows, ops_after}
 use Rattle.cfi_directives.specs.declared.frames.Frame.{Frame}
 use Rattle.cfi_directives.specs.declared.frames.PlacedOp.{PlacedOp}
-use Rattle.cfi_directives.specs.declared.places.Place.{Place}
-use Rattle.cfi_directives.specs.declared.places.SectionPlace.{SectionPlace}
+use Rattle.asm_base.specs.declared.places.Place.{Place}
+use Rattle.asm_base.specs.declared.places.SectionPlace.{SectionPlace}
 use Rattle.cfi_directives.specs.Meant.{stop_of, from_start, ops_up_to, row_meant, AreSplit, KeepsOrder}
 use Rattle.cfi_directives.specs.Order.{IsUpTo, NeverFall, op_places}
 use Rattle.cfi_directives.specs.Rows.{rows_after, at_addresses}

@@ -8,8 +8,8 @@ use Rattle.cfi_directives.specs.declared.frames.Frame.{Frame}
 use Rattle.cfi_directives.specs.declared.frames.PlacedOp.{PlacedOp}
 use Rattle.cfi_directives.specs.declared.lines.CfiLine.{CfiLine}
 use Rattle.cfi_directives.specs.declared.lines.CfiLine.TheVariants.{StartProc, EndProc, Row}
-use Rattle.cfi_directives.specs.declared.places.Place.{Place}
-use Rattle.cfi_directives.specs.declared.places.SectionPlace.{SectionPlace}
+use Rattle.asm_base.specs.declared.places.Place.{Place}
+use Rattle.asm_base.specs.declared.places.SectionPlace.{SectionPlace}
 use Rattle.cfi_directives.specs.Order.{IsUpTo, NeverFall, op_places, last_of, last_place, IsInOrder, AreInOrder, IsReached, HasComeTo, LinesNeverFall}
 use Rattle.cfi_directives.specs.Procedures.{Procedures, no_procedures, with_stop, cfa_offset}
 use Rattle.cfi_directives.specs.Saying.{said}

@@ -14,7 +14,7 @@ use Rattle.cfi_directives.specs.declared.frames.PlacedOp.{PlacedOp}
 use Rattle.cfi_directives.specs.declared.lines.CfiLine.TheVariants.{Row}
 use Rattle.cfi_directives.specs.declared.lines.RowDirective.{RowDirective}
 use Rattle.cfi_directives.specs.declared.lines.RowDirective.TheVariants.{DefCfa, DefCfaRegister, DefCfaOffset, AdjustCfaOffset, Offset, RelOffset, ValOffset, Register, RememberState, RestoreState, Restore, Undefined, SameValue}
-use Rattle.cfi_directives.specs.declared.places.SectionPlace.{SectionPlace}
+use Rattle.asm_base.specs.declared.places.SectionPlace.{SectionPlace}
 use Rattle.cfi_directives.specs.Meanings.{IsOfRegister}
 use Rattle.cfi_directives.specs.Procedures.{Procedures, no_procedures, cfa_offset}
 use Rattle.cfi_directives.specs.Rows.{rows_after}

@@ -3,8 +3,8 @@ use Rattle.std.specs.Prelude.{ℤ, List, [], ◌++◌, Option, Some, None, optio
 use Rattle.std.specs.Option.{option_map, option_and_then}
 use Rattle.asm_base.specs.declared.positions.Pos.{Pos}
 use Rattle.cfi_directives.specs.declared.frames.Frame.{Frame}
-use Rattle.cfi_directives.specs.declared.places.Place.{Place}
-use Rattle.cfi_directives.specs.declared.places.SectionPlace.{SectionPlace}
+use Rattle.asm_base.specs.declared.places.Place.{Place}
+use Rattle.asm_base.specs.declared.places.SectionPlace.{SectionPlace}
 use Rattle.cfi_directives.specs.Rows.{rows_after}
 
 -- those that have ended, and the one that is open

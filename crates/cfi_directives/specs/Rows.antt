@@ -3,7 +3,7 @@ use Rattle.std.specs.Prelude.{ℕ, List, map, Option}
 use Rattle.cfi_rows.specs.Rows.{Rows, start_rows, common_row, ops_after}
 use Rattle.cfi_rows.specs.Places.{Placed}
 use Rattle.cfi_directives.specs.declared.frames.PlacedOp.{PlacedOp}
-use Rattle.cfi_directives.specs.declared.places.Place.{Place}
+use Rattle.asm_base.specs.declared.places.Place.{Place}
 
 -- the row and the remembered ones behind the instructions of a procedure, which begins with the row of the common entry; none where they can't be run
 abbrev pub rows_after : List PlacedOp → Option Rows

@@ -10,7 +10,7 @@ use Rattle.cfi_directives.specs.declared.frames.Frame.{Frame}
 use Rattle.cfi_directives.specs.declared.frames.PlacedOp.{PlacedOp}
 use Rattle.cfi_directives.specs.declared.lines.CfiLine.{CfiLine}
 use Rattle.cfi_directives.specs.declared.lines.CfiLine.TheVariants.{StartProc, EndProc, Row}
-use Rattle.cfi_directives.specs.declared.places.SectionPlace.{SectionPlace}
+use Rattle.asm_base.specs.declared.places.SectionPlace.{SectionPlace}
 use Rattle.cfi_directives.specs.Rows.{rows_after}
 use Rattle.cfi_directives.specs.Saying.{said}
 use Rattle.cfi_directives.specs.Procedures.{Procedures, no_procedures, new_frame, with_stop, cfa_offset}

@@ -16,8 +16,8 @@ use Rattle.cfi_directives.specs.declared.lines.CfiLine.{CfiLine}
 use Rattle.cfi_directives.specs.declared.lines.CfiLine.TheVariants.{StartProc, EndProc, Row}
 use Rattle.cfi_directives.specs.declared.lines.RowDirective.{RowDirective}
 use Rattle.cfi_directives.specs.declared.lines.RowDirective.TheVariants.{DefCfa, DefCfaRegister, DefCfaOffset, AdjustCfaOffset, Offset, RelOffset, ValOffset, Register, RememberState, RestoreState, Restore, Undefined, SameValue}
-use Rattle.cfi_directives.specs.declared.places.Place.{Place}
-use Rattle.cfi_directives.specs.declared.places.SectionPlace.{SectionPlace}
+use Rattle.asm_base.specs.declared.places.Place.{Place}
+use Rattle.asm_base.specs.declared.places.SectionPlace.{SectionPlace}
 use Rattle.cfi_directives.specs.declared.registers.DwarfRegister.{DwarfRegister}
 use Rattle.cfi_directives.specs.Meant.{row_meant}
 use Rattle.cfi_directives.specs.Taking.{PlacedLine, procedures_of}

@@ -2,8 +2,7 @@
 
 ghost use Rattle.std.specs.Prelude.{◌≡◌, [], ◌∷◌, ◌++◌, OnOk, OnErr};
 
-use crate::places::Place;
-use asm_base::{NoMemory, Pos};
+use asm_base::{NoMemory, Place, Pos};
 use cfi_rows::CfiOp;
 use std::alloc::Global;
 use std::marker::Model;

@@ -8,7 +8,6 @@ mod instructions;
 mod laws;
 mod lines;
 mod offsets;
-mod places;
 mod procedures;
 mod registers;
 
@@ -21,5 +20,4 @@ pub use laws::{
     procedures_are_sound, rows_are_meant, worked_directives,
 };
 pub use lines::{CfiLine, RowDirective};
-pub use places::{Place, SectionPlace};
 pub use registers::DwarfRegister;

@@ -11,8 +11,7 @@ ghost use Rattle.cfi_directives.specs.Writable.{is_writable};
 use crate::faults::{CfiCause, CfiFault};
 use crate::frames::{Frame, PlacedOp, PlacedOps};
 use crate::offsets::CfaOffsets;
-use crate::places::{Place, SectionPlace};
-use asm_base::Pos;
+use asm_base::{Place, Pos, SectionPlace};
 use std::alloc::Global;
 use std::marker::Model;
 

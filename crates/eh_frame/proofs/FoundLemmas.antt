@@ -19,7 +19,7 @@ use Rattle.item_contents.specs.declared.contents.Content.TheVariants.{Run, Align
 use Rattle.item_contents.specs.declared.kinds.Growth.TheVariants as growth
 use Rattle.item_contents.specs.ItemParts.{zeros_up_to}
 use Rattle.cfi_directives.specs.declared.frames.Frame.{Frame}
-use Rattle.cfi_directives.specs.declared.places.SectionPlace.{SectionPlace}
+use Rattle.asm_base.specs.declared.places.SectionPlace.{SectionPlace}
 use Rattle.eh_frame.specs.declared.ends.SectionEnd.{SectionEnd}
 use Rattle.eh_frame.specs.Marks.{distance_form}
 use Rattle.eh_frame.specs.Pieces as piece

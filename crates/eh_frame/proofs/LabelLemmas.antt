@@ -5,12 +5,12 @@ use Rattle.asm_expr.specs.declared.naming.Name.{Name}
 use Rattle.asm_symbols.specs.declared.entries.Symbol.{Symbol}
 use Rattle.asm_symbols.specs.declared.entries.Definition.TheVariants as definition
 use Rattle.asm_symbols.specs.declared.entries.Meaning.TheVariants as meaning
-use Rattle.asm_symbols.specs.declared.faults.SymCause.{SymCause}
-use Rattle.asm_symbols.specs.declared.faults.SymCause.TheVariants.{BadSymbolUse}
+use Rattle.asm_base.specs.declared.causes.SymCause.{SymCause}
+use Rattle.asm_base.specs.declared.causes.SymCause.TheVariants.{BadSymbolUse}
 use Rattle.asm_symbols.specs.Defining.{defined, defined_by}
 use Rattle.asm_symbols.specs.Interning.{undefined, has_room, with_name, added, named, number_of}
 use Rattle.asm_symbols.specs.SymbolMap.{SymbolMap, names, index_of, changed, with_meaning}
-use Rattle.cfi_directives.specs.declared.places.SectionPlace.{SectionPlace}
+use Rattle.asm_base.specs.declared.places.SectionPlace.{SectionPlace}
 use Rattle.eh_frame.specs.Marks.{place_name, spot_of, label_symbol, with_label, IsNew}
 
 get_last : {X : Type 0} (xs : List X) (x : X) → slice_get (xs ++ x ∷ []) (length xs) ≡ Some x

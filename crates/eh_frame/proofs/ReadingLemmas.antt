@@ -8,15 +8,15 @@ use Rattle.std.proofs.lemmas.List.Elements.{All-head, All-tail}
 use Rattle.asm_expr.specs.Forms.{wrapped}
 use Rattle.asm_frags.specs.declared.fields.FieldSize.TheVariants.{Four}
 use Rattle.asm_frags.specs.Fields.{low_bytes}
-use Rattle.asm_levels.specs.Needs.{AdvanceHolds, advance_level}
-use Rattle.asm_levels.specs.Sizes.{advance_size}
+use Rattle.item_bytes.specs.Levels.{AdvanceHolds, advance_level}
+use Rattle.item_bytes.specs.Levels.{advance_size}
 use Rattle.item_bytes.specs.Advances as item
 use Rattle.item_contents.specs.declared.kinds.Growth.TheVariants as growth
 use Rattle.item_contents.specs.Contents.{grown_bytes}
 use Rattle.cfi_directives.specs.declared.frames.Frame.{Frame}
 use Rattle.cfi_directives.specs.declared.frames.PlacedOp.{PlacedOp}
-use Rattle.cfi_directives.specs.declared.places.Place.{Place}
-use Rattle.cfi_directives.specs.declared.places.SectionPlace.{SectionPlace}
+use Rattle.asm_base.specs.declared.places.Place.{Place}
+use Rattle.asm_base.specs.declared.places.SectionPlace.{SectionPlace}
 use Rattle.cfi_rows.specs.declared.rows.CfaRow.{CfaRow}
 use Rattle.cfi_rows.specs.declared.rows.CfiOp.{CfiOp}
 use Rattle.cfi_directives.specs.Meant.{from_start, ops_up_to, row_meant, stands_at, stop_of}

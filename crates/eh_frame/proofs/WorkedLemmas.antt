@@ -2,7 +2,7 @@
 use Rattle.std.proofs.Common.{refl}
 use Rattle.asm_expr.specs.Forms.{plus_times, with_terms, with_term}
 use Rattle.asm_frags.specs.Fields.{low_bytes}
-use Rattle.asm_levels.specs.Needs.{advance_level}
+use Rattle.item_bytes.specs.Levels.{advance_level}
 use Rattle.asm_symbols.specs.Interning.{number_of}
 use Rattle.cfi_rows.specs.Written.{uleb_bytes, sleb_bytes}
 use Rattle.item_bytes.specs.Advances.{advance_bytes}

@@ -11,7 +11,7 @@ use Rattle.asm_frags.specs.SectionOf.{section_number}
 use Rattle.asm_frags.specs.Writing.{LooseItem, LooseSection}
 use Rattle.asm_symbols.specs.SymbolMap.{SymbolMap}
 use Rattle.cfi_directives.specs.declared.frames.Frame.{Frame}
-use Rattle.cfi_directives.specs.declared.places.SectionPlace.{SectionPlace}
+use Rattle.asm_base.specs.declared.places.SectionPlace.{SectionPlace}
 use Rattle.cfi_rows.specs.Entries.{common_bytes}
 use Rattle.item_contents.specs.declared.contents.Content.{Content}
 use Rattle.item_contents.specs.declared.contents.Content.TheVariants.{Run, Align, Growing}

@@ -4,14 +4,14 @@ use Rattle.asm_symbols.specs.declared.entries.Meaning.TheVariants.{Label}
 use Rattle.asm_symbols.specs.declared.entries.Spot.{Spot}
 use Rattle.asm_symbols.specs.declared.entries.Symbol.{Symbol}
 use Rattle.asm_symbols.specs.SymbolMap.{SymbolMap}
-use Rattle.cfi_directives.specs.declared.places.SectionPlace.{SectionPlace}
+use Rattle.asm_base.specs.declared.places.SectionPlace.{SectionPlace}
 use Rattle.eh_frame.specs.Marks.{place_name}
 
 -- the spot is at the place
 pub record IsSpot (at : SectionPlace) (spot : Spot) : Type 0 where
-  pub section : spot.section ≡ at.section
-  pub item : spot.item ≡ at.place.item
-  pub offset : spot.offset ≡ at.place.offset
+  pub section : spot.place.section ≡ at.section
+  pub item : spot.place.place.item ≡ at.place.item
+  pub offset : spot.place.place.offset ≡ at.place.offset
 
 -- the symbol is a label at the place, and is local
 pub record IsLabelAt (at : SectionPlace) (symbol : Symbol) : Type 0 where

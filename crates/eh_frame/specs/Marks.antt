@@ -9,7 +9,7 @@ use Rattle.asm_symbols.specs.declared.entries.Spot.{Spot}
 use Rattle.asm_symbols.specs.declared.entries.Symbol.{Symbol}
 use Rattle.asm_symbols.specs.Interning.{number_of, undefined}
 use Rattle.asm_symbols.specs.SymbolMap.{SymbolMap, names, index_of}
-use Rattle.cfi_directives.specs.declared.places.SectionPlace.{SectionPlace}
+use Rattle.asm_base.specs.declared.places.SectionPlace.{SectionPlace}
 use Rattle.eh_frame.specs.declared.marks.Distance.{Distance}
 use Rattle.eh_frame.specs.declared.marks.Mark.{Mark}
 use Rattle.eh_frame.specs.declared.marks.Mark.TheVariants.{Here, At}
@@ -20,7 +20,7 @@ place_name at = naming.Place at.section at.place.item at.place.offset
 
 -- the spot of a label that is made when all statements stand: no statement counts its distance to another label, so that its stretch is its own
 abbrev pub spot_of : SectionPlace → ℕ → Spot
-spot_of at number = record { section = at.section; item = at.place.item; offset = at.place.offset; stretch = 2 ^ 63 + number; at = 0 }
+spot_of at number = record { place = at; stretch = 2 ^ 63 + number; at = 0 }
 
 -- the label of a place, which is the symbol of this number
 abbrev pub label_symbol : SectionPlace → ℕ → Symbol

@@ -7,7 +7,7 @@ use Rattle.asm_frags.specs.Addresses.{changed_at}
 use Rattle.asm_frags.specs.Fields.{data_role}
 use Rattle.asm_frags.specs.Writing.{LooseSection, new_item, takes_zeros_alone, with_bytes, with_field, with_growing, with_item}
 use Rattle.asm_symbols.specs.SymbolMap.{SymbolMap}
-use Rattle.cfi_directives.specs.declared.places.SectionPlace.{SectionPlace}
+use Rattle.asm_base.specs.declared.places.SectionPlace.{SectionPlace}
 use Rattle.item_contents.specs.declared.contents.Content.TheVariants.{Align}
 use Rattle.item_contents.specs.declared.kinds.Growth.TheVariants as growth
 use Rattle.item_contents.specs.ItemParts.{zeros_up_to}

@@ -2,13 +2,13 @@
 use Rattle.std.specs.Prelude.{ℕ, true, List, [], ◌∷◌, ◌++◌, codes, length, Option, None, Some, Result, Ok, Err, slice_get, if◌then◌else◌}
 use Rattle.std.specs.Option.{option_map_or}
 use Rattle.asm_base.specs.declared.positions.Pos.{Pos}
-use Rattle.asm_frags.specs.declared.faults.FragCause.{FragCause}
-use Rattle.asm_frags.specs.declared.faults.FragCause.TheVariants.{BadSection}
+use Rattle.asm_base.specs.declared.causes.FragCause.{FragCause}
+use Rattle.asm_base.specs.declared.causes.FragCause.TheVariants.{BadSection}
 use Rattle.asm_frags.specs.SectionOf.{new_section, section_number}
 use Rattle.asm_frags.specs.Sections.{section_flags}
 use Rattle.asm_frags.specs.Writing.{LooseSection, takes_zeros_alone}
 use Rattle.cfi_directives.specs.declared.frames.Frame.{Frame}
-use Rattle.cfi_directives.specs.declared.places.SectionPlace.{SectionPlace}
+use Rattle.asm_base.specs.declared.places.SectionPlace.{SectionPlace}
 use Rattle.cfi_rows.specs.Entries.{common_bytes}
 use Rattle.eh_frame.specs.declared.ends.SectionEnd.{SectionEnd}
 use Rattle.eh_frame.specs.Pieces.{Tables, tables_of, plain, piece_put, pieces_put}

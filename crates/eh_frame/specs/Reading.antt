@@ -3,12 +3,12 @@ use Rattle.std.specs.Prelude.{◌≡◌, ℕ, ◌+◌, ◌^◌, ◌<◌, ◌≤�
 use Rattle.asm_expr.specs.Forms.{wrapped}
 use Rattle.asm_frags.specs.declared.fields.FieldSize.TheVariants.{Four}
 use Rattle.asm_frags.specs.Fields.{low_bytes}
-use Rattle.asm_levels.specs.Needs.{AdvanceHolds}
-use Rattle.asm_levels.specs.Sizes.{advance_size}
+use Rattle.item_bytes.specs.Levels.{AdvanceHolds}
+use Rattle.item_bytes.specs.Levels.{advance_size}
 use Rattle.cfi_directives.specs.declared.frames.Frame.{Frame}
 use Rattle.cfi_directives.specs.declared.frames.PlacedOp.{PlacedOp}
-use Rattle.cfi_directives.specs.declared.places.Place.{Place}
-use Rattle.cfi_directives.specs.declared.places.SectionPlace.{SectionPlace}
+use Rattle.asm_base.specs.declared.places.Place.{Place}
+use Rattle.asm_base.specs.declared.places.SectionPlace.{SectionPlace}
 use Rattle.cfi_directives.specs.Meant.{from_start, row_meant, stands_at, stop_of}
 use Rattle.cfi_directives.specs.Sound.{IsWhole}
 use Rattle.cfi_rows.specs.Entries.{common_bytes, row_of}

@@ -25,7 +25,7 @@ pub record FrameStands (sections : List LooseSection) (frame : Frame) : Type 0 w
 
 -- the symbol is a label whose place stands in its section
 abbrev pub LabelStands : List LooseSection → Symbol → Type 0
-LabelStands sections symbol = (spot : Spot) × (symbol.meaning ≡ Label spot) × HoldsItems sections spot.section spot.item
+LabelStands sections symbol = (spot : Spot) × (symbol.meaning ≡ Label spot) × HoldsItems sections spot.place.section spot.place.place.item
 
 -- labels whose places stand in the sections are put last in the map
 pub record GetsStanding (sections : List LooseSection) (before after : SymbolMap) : Type 0 where

@@ -1,8 +1,8 @@
 -- Frame tables worked out by hand, for sources that stand at the beginning of `.text`.
 use Rattle.std.specs.Prelude.{◌≡◌, ℕ, pos, neg_ℤ, List, [], ◌∷◌, ◌++◌, codes, map, replicate, Option, None, Some, Result, Ok, Err, slice_get}
 use Rattle.std.specs.Option.{option_map}
-use Rattle.asm_frags.specs.declared.faults.FragCause.{FragCause}
-use Rattle.asm_frags.specs.declared.faults.FragCause.TheVariants.{BadSection}
+use Rattle.asm_base.specs.declared.causes.FragCause.{FragCause}
+use Rattle.asm_base.specs.declared.causes.FragCause.TheVariants.{BadSection}
 use Rattle.asm_frags.specs.Alignments.{alignment_of_all}
 use Rattle.asm_frags.specs.SectionOf.{new_section}
 use Rattle.asm_frags.specs.Sections.{section_flags}
@@ -10,8 +10,8 @@ use Rattle.asm_frags.specs.Writing.{LooseSection}
 use Rattle.asm_symbols.specs.SymbolMap.{nothing_named}
 use Rattle.cfi_directives.specs.declared.frames.Frame.{Frame}
 use Rattle.cfi_directives.specs.declared.frames.PlacedOp.{PlacedOp}
-use Rattle.cfi_directives.specs.declared.places.Place.{Place}
-use Rattle.cfi_directives.specs.declared.places.SectionPlace.{SectionPlace}
+use Rattle.asm_base.specs.declared.places.Place.{Place}
+use Rattle.asm_base.specs.declared.places.SectionPlace.{SectionPlace}
 use Rattle.cfi_rows.specs.declared.rows.CfiOp.{CfiOp}
 use Rattle.cfi_rows.specs.declared.rows.CfiOp.TheVariants.{DefCfa, DefCfaRegister, DefCfaOffset, Set}
 use Rattle.cfi_rows.specs.declared.rows.Rule.TheVariants.{Offset}

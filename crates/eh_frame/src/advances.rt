@@ -1,14 +1,14 @@
 //! Advances by distances that are known before layout (DWARF 5, section 6.4.2.1).
 
 ghost use Rattle.std.specs.Prelude.{◌≡◌, ◌≤◌};
-ghost use Rattle.asm_levels.specs.Needs.{advance_level as level_of};
+ghost use Rattle.item_bytes.specs.Levels.{advance_level as level_of};
 ghost use Rattle.eh_frame.specs.Entries as spec;
 
 use arrayvec::ArrayVec;
 use item_bytes::advance;
 
 /// The least level of an advance that holds the distance.
-#[tactic(auto, unfolding(asm_levels::specs::Needs::advance_level))]
+#[tactic(auto, unfolding(item_bytes::specs::Levels::advance_level))]
 fn advance_level(distance: u64) -> u8
     ensures level { result ≡ level_of distance }
     ensures within { result ≤ 4 }

@@ -4,8 +4,8 @@ ghost use Rattle.std.specs.Prelude.{◌≡◌, IfSome, ◌<◌, length};
 ghost use Rattle.eh_frame.specs.Entries as spec;
 ghost use Rattle.eh_frame.specs.Placing as placing;
 
+use asm_base::{Place, SectionPlace};
 use asm_frags::Sections;
-use cfi_directives::{Place, SectionPlace};
 
 /// The end of a section: how many items and plain bytes it has, and whether its last item is a run, so that plain bytes go
 /// on with it.

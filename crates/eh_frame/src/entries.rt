@@ -2,7 +2,7 @@
 
 ghost use Rattle.std.specs.Prelude.{◌≡◌, ◌≤◌, ℕ, List, ◌∷◌, OnOk, IfOk, IfErr, IfSome};
 ghost use Rattle.asm_base.specs.declared.refusals.Refusal.TheVariants.{NoMemory};
-ghost use Rattle.cfi_directives.specs.declared.places.SectionPlace.{SectionPlace as SectionPlaceValue};
+ghost use Rattle.asm_base.specs.declared.places.SectionPlace.{SectionPlace as SectionPlaceValue};
 ghost use Rattle.cfi_directives.specs.Meant as meant;
 ghost use Rattle.eh_frame.specs.Entries as spec;
 ghost use Rattle.eh_frame.specs.Pieces.{Piece, Takes, piece_put, pieces_put, tables_of, padding};
@@ -12,9 +12,10 @@ use crate::ends::SectionEnd;
 use crate::marks::{Distance, Mark};
 use crate::putting::{Table, put_advance, put_number, put_padding, put_plain, put_pointer};
 use arrayvec::ArrayVec;
+use asm_base::{Place, SectionPlace};
 use asm_frags::{FragFault, Sections};
 use asm_symbols::Symbols;
-use cfi_directives::{Frame, Place, PlacedOp, SectionPlace};
+use cfi_directives::{Frame, PlacedOp};
 use cfi_rows::{CfiBytes, CfiOp, op_bytes};
 use std::alloc::Global;
 

@@ -4,11 +4,11 @@ ghost use Rattle.std.specs.Prelude.{◌≡◌, ◌↔◌, ℕ, List, [], ◌∷�
 ghost use Rattle.asm_frags.specs.Writing.{LooseSection};
 ghost use Rattle.eh_frame.specs.Found.{IsWithin, IsPlaced, IsReady, PiecesStand};
 ghost use Rattle.asm_base.specs.declared.positions.Pos.{Pos as PosValue};
-ghost use Rattle.asm_frags.specs.declared.faults.FragCause.TheVariants.{BadSection};
+ghost use Rattle.asm_base.specs.declared.causes.FragCause.TheVariants.{BadSection};
 ghost use Rattle.asm_symbols.specs.Interning.{number_of};
 ghost use Rattle.asm_symbols.specs.SymbolMap.{SymbolMap};
 ghost use Rattle.cfi_directives.specs.declared.frames.Frame.{Frame as FrameValue};
-ghost use Rattle.cfi_directives.specs.declared.places.SectionPlace.{SectionPlace as PlaceValue};
+ghost use Rattle.asm_base.specs.declared.places.SectionPlace.{SectionPlace as PlaceValue};
 ghost use Rattle.cfi_rows.specs.Entries.{common_bytes};
 ghost use Rattle.eh_frame.specs.declared.ends.SectionEnd.{SectionEnd as EndValue};
 ghost use Rattle.eh_frame.specs.Entries.{behind_pieces};
@@ -22,8 +22,8 @@ ghost use Rattle.eh_frame.specs.Standing.{OneExtends, Reaches};
 ghost use Rattle.eh_frame.specs.StandingPlaces.{LabelsStand};
 ghost use Rattle.eh_frame.specs.Reading.{EntriesRead, RowsAreMeant};
 
-use asm_levels::advances_hold_their_distance;
 use cfi_rows::entries_read_back;
+use item_bytes::advances_hold_their_distance;
 
 /// Wherever places stand, and whatever sizes layout gives to the advances and the padding, if each advance holds its
 /// distance: the bytes of the common entry and of an entry read, at each place, as the row that the directives of the

@@ -5,10 +5,10 @@ ghost use Rattle.asm_base.specs.declared.refusals.Refusal.TheVariants.{NoMemory}
 ghost use Rattle.asm_symbols.specs.Interning.{number_of};
 ghost use Rattle.eh_frame.specs.Marks as spec;
 
+use asm_base::SectionPlace;
 use asm_expr::{Linear, Name, plus_times, symbol_and_number, symbol_form};
 use asm_frags::{FragFault, own_place};
 use asm_symbols::{Definition, Spot, SymId, Symbols};
-use cfi_directives::SectionPlace;
 use std::alloc::Global;
 
 /// What a distance leads from or to.
@@ -56,9 +56,7 @@ fn spot_of(at: SectionPlace, number: u32) -> Spot
     ensures { result ≡ spec.spot_of at number }
 {
     Spot {
-        section: at.section,
-        item: at.place.item,
-        offset: at.place.offset,
+        place: at,
         stretch: (1 << 63) + number as u64,
         at: 0,
     }

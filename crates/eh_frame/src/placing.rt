@@ -4,7 +4,7 @@ ghost use Rattle.std.specs.Prelude.{◌≡◌, ◌<◌, ◌≤◌, true, false, 
 ghost use Rattle.asm_base.specs.declared.refusals.Refusal.TheVariants.{NoMemory};
 ghost use Rattle.asm_base.specs.Refusals.{Gives};
 ghost use Rattle.asm_base.specs.declared.positions.Pos.{Pos as PosValue};
-ghost use Rattle.asm_frags.specs.declared.faults.FragCause.TheVariants.{BadSection};
+ghost use Rattle.asm_base.specs.declared.causes.FragCause.TheVariants.{BadSection};
 ghost use Rattle.asm_frags.specs.SectionOf.{section_number};
 ghost use Rattle.cfi_directives.specs.declared.frames.Frame.{Frame as FrameValue};
 ghost use Rattle.eh_frame.specs.Pieces.{Takes, Tables, tables_of};
@@ -13,10 +13,10 @@ ghost use Rattle.eh_frame.specs.Placing as spec;
 use crate::ends::SectionEnd;
 use crate::entries::put_entry;
 use crate::putting::{Table, put_plain};
-use asm_base::{Pos, Text};
+use asm_base::{Pos, SectionPlace, Text};
 use asm_frags::{FragCause, FragFault, SHT_NOBITS, SHT_PROGBITS, SectionFlags, Sections};
 use asm_symbols::Symbols;
-use cfi_directives::{Frame, Frames, SectionPlace};
+use cfi_directives::{Frame, Frames};
 use std::alloc::Global;
 
 /// The name of the section of frame tables (psABI for AMD64, section 4.2.4).

@@ -5,10 +5,9 @@ ghost use Rattle.asm_base.specs.declared.refusals.Refusal.TheVariants.{NoMemory}
 ghost use Rattle.eh_frame.specs.Pieces as spec;
 
 use crate::marks::{Distance, Mark, distance_form};
-use asm_base::Pos;
+use asm_base::{Pos, SectionPlace};
 use asm_frags::{FieldRole, FieldSize, Frag, FragFault, Sections, Suffix};
 use asm_symbols::Symbols;
-use cfi_directives::SectionPlace;
 use item_contents::{Align, Content, Growth};
 use std::alloc::Global;
 

@@ -1,16 +1,12 @@
 -- Where the bodies of sections stand in the file, and pieces in their bodies.
-use Rattle.std.proofs.Common.{◌≡◌, ℕ, zero, suc, ◌+◌, ◌-◌, List, [], ◌∷◌, ◌++◌, Some, length, drop, refl, sym, ap, ◌∙◌, arith, append_assoc, length-append}
-use Rattle.std.proofs.lemmas.List.{drop_at, length-replicate}
+use Rattle.std.proofs.Common.{◌≡◌, ℕ, zero, suc, ◌+◌, ◌-◌, List, [], ◌∷◌, ◌++◌, Some, length, refl, sym, ap, ◌∙◌, arith, append_assoc, length-append}
+use Rattle.std.proofs.lemmas.List.{length-replicate}
 use Rattle.std.specs.Prelude.{slice_get, codes}
 use Rattle.elf_file.specs.Fields.{half, word, xword}
 use Rattle.elf_file.specs.StringTable.{name_offsets, string_table_of}
 use Rattle.elf_file.specs.Sections.{SectionEntry, file_bytes, string_section}
 use Rattle.elf_file.specs.Image.{next_multiple, gap, body_from, bodies_from, header_end, header_table, elf_header, file_of, all_names, with_names, file_with}
 use Rattle.elf_file.specs.Places.{PieceAt, body_offset}
-
--- from the place on, the bytes begin with what stands there
-pub drop_stands : (bytes : List ℕ) (at : ℕ) (piece : List ℕ) (there : PieceAt bytes at piece) → drop at bytes ≡ piece ++ there.rest
-drop_stands bytes at piece there = ap (drop at) there.whole ∙ drop_at there.front (piece ++ there.rest) at there.long
 
 -- what stands in a part stands in the whole
 pub stands_in : (bytes part piece : List ℕ) (at more : ℕ) → PieceAt bytes at part → PieceAt part more piece → PieceAt bytes (at + more) piece

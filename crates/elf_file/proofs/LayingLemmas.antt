@@ -4,7 +4,7 @@ use Rattle.std.proofs.lemmas.List.{drop_more, length-map}
 use Rattle.std.specs.Global.{Vec}
 use Rattle.std.specs.Prelude.{codes}
 use Rattle.item_contents.specs.Contents.{repeated}
-use Rattle.item_contents.proofs.Repeats.{repeated-one, length-repeated}
+use Rattle.elf_file.proofs.Repeats.{repeated-one, length-repeated}
 use Rattle.elf_file.specs.declared.sections.FileSection.{FileSection}
 use Rattle.elf_file.specs.Fields.{half, word, xword}
 use Rattle.elf_file.specs.Image.{null_header, next_multiple, gap, body_from, bodies_from, header_from, headers_from, header_end, header_table, elf_header, file_of, all_names, with_names, file_with}

@@ -1,6 +1,7 @@
 -- Lemmas, in reading order.
 mod WritingLemmas
 mod LoopSteps
+mod Repeats
 mod PieceLemmas
 mod MixedLemmas
 mod LayingLemmas

@@ -5,9 +5,9 @@ use Rattle.std.proofs.Math.Seq.{take-append_seam}
 use Rattle.std.proofs.lemmas.List.{length-take-le, take-take}
 use Rattle.std.proofs.lemmas.Nat.{div-add-mod'}
 use Rattle.item_contents.specs.Contents.{repeated}
-use Rattle.item_contents.proofs.Repeats.{length-repeated, repeated_alone}
 use Rattle.elf_file.specs.declared.file_pieces.Piece.{Piece}
 use Rattle.elf_file.specs.Pieces.{piece_bytes, flat}
+use Rattle.elf_file.proofs.Repeats.{length-repeated, repeated_sum, repeated_alone}
 
 -- a piece more
 pub flat_push : (pieces : List Piece) (piece : Piece) → flat (pieces ++ piece ∷ []) ≡ flat pieces ++ piece_bytes piece
@@ -38,14 +38,6 @@ filled_alone n count block unit alone long is =
 pub filled_once : (count : ℕ) (block unit : List ℕ) → count ≡ 1 → block ≡ unit → block ≡ repeated count unit
 unfolding repeated
 filled_once count block unit once is = rw once (is ∙ sym (append-nil unit))
-
--- so many units, and then so many more
-repeated_sum : (first more : ℕ) (unit : List ℕ) → repeated (first + more) unit ≡ repeated first unit ++ repeated more unit
-unfolding repeated
-repeated_sum zero more unit = let none : zero + more ≡ more = omega arith in rw none refl
-repeated_sum (suc first) more unit =
-    let next : suc first + more ≡ suc (first + more) = omega arith in
-    rw next (ap (λ (bytes : List ℕ). unit ++ bytes) (repeated_sum first more unit) ∙ sym (append_assoc unit (repeated first unit) (repeated more unit)))
 
 -- blocks of units are so many units
 repeated_blocks : (blocks size : ℕ) (unit : List ℕ) → repeated blocks (repeated size unit) ≡ repeated (blocks * size) unit

@@ -1,8 +1,8 @@
 -- What holds of the bytes of each object: names and sections stand where the tables say.
 use Rattle.std.specs.Prelude.{◌≡◌, ℕ, ◌+◌, ◌*◌, true, List, Some, slice_get, slice_index_or}
 use Rattle.std.specs.List.{list_all}
-use Rattle.elf_file.specs.Image.{elf_header, with_names, file_with}
-use Rattle.elf_file.specs.Places.{PieceAt}
+use Rattle.elf_file.specs.Image.{header_end, elf_header, with_names, file_with}
+use Rattle.elf_file.specs.Places.{PieceAt, body_offset}
 use Rattle.elf_file.specs.Sections.{SectionEntry, file_bytes, section_header}
 use Rattle.elf_file.specs.StringTable.{is_no_end, name_offsets, string_at, string_table_of}
 
@@ -24,3 +24,7 @@ pub record SectionStands (file : List ℕ) (index : ℕ) (s : SectionEntry) : Ty
 -- so for each section of a file, the tables at its end too
 abbrev pub SectionsStand : Type 0
 SectionsStand = (entries : List SectionEntry) (index : ℕ) (s : SectionEntry) → slice_get (with_names entries) index ≡ Some s → SectionStands (file_with entries) index s
+
+-- and the bytes of each of the given sections stand behind those before it
+abbrev pub BodiesStand : Type 0
+BodiesStand = (entries : List SectionEntry) (index : ℕ) (s : SectionEntry) → slice_get entries index ≡ Some s → PieceAt (file_with entries) (body_offset header_end entries index) (file_bytes s.content)

@@ -15,7 +15,7 @@ mod writing;
 
 pub use file_pieces::{Between, Mixed, Repetition};
 pub use image::{ElfFile, laid_file};
-pub use laws::{names_stand, sections_stand};
+pub use laws::{bodies_stand, names_stand, sections_stand};
 pub use offsets::{RELA_SIZE, SYM_SIZE};
 pub use reader::{
     HeaderTable, RelocationRecord, SectionHeader, SymbolRecord, header_table, relocation_at,

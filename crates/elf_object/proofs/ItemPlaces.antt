@@ -25,11 +25,11 @@ use Rattle.elf_object.specs.Image.{before_names, file_sections, image_with, imag
 use Rattle.elf_object.specs.Naming.{named_of}
 use Rattle.elf_symbols.specs.Numbers.{NumbersOf, numbers_of, first_other}
 use Rattle.elf_file.specs.Places.{PieceAt}
+use Rattle.elf_file.specs.FileLaws.{BodiesStand}
 use Rattle.elf_object.specs.Places.{section_offset, moved, IsBetween, IsFiled, BytesStand, ValuesStand, ItemsStand, PlacesAreAddresses}
 use Rattle.elf_file.specs.Sections.{SectionEntry, file_bytes, symbol_section, string_section}
 use Rattle.elf_object.specs.Sections.{source_section, with_relocations, header_count, next_header, entries_from, header_indices_from, header_indices}
 use Rattle.elf_file.specs.StringTable.{string_table_of}
-use Rattle.elf_file.proofs.FilePlaces.{stands_in, file_stands}
 use Rattle.elf_object.proofs.ItemBytes.{held_length, plain_long}
 use Rattle.elf_object.proofs.PlainPlaces.{piece_is, inside, plain_stands, value_stands, bytes_between, item_stands, placed_get}
 
@@ -106,21 +106,22 @@ section_there symbols sections number section is =
     (length-map sections (source_section symbols sections) ∙ sym (found_long symbols sections 0 sections)))
 
 -- the bytes of a section that takes bytes stand in the object
-section_stands : (symbols : SymbolMap) (sections : LaidSections) (number : ℕ) (section : SectionOf LaidItem) → IsFiled sections number section
+section_stands : BodiesStand → (symbols : SymbolMap) (sections : LaidSections) (number : ℕ) (section : SectionOf LaidItem) → IsFiled sections number section
     → PieceAt (image_of symbols sections) (section_offset symbols sections number) (section_bytes symbols sections section)
 unfolding image_of image_with section_offset
-section_stands symbols sections number section filed =
+section_stands bodies symbols sections number section filed =
     let found = relocations_of symbols sections in
     let entry = source_section symbols sections section in
     let body : file_bytes entry.content ≡ section_bytes symbols sections section = rw filed.takes_bytes refl in
-    rw (← body) (file_stands (file_sections symbols sections found) (slice_index_or (header_indices found) number 0 - 1) entry (section_there symbols sections number section filed.found))
+    rw (← body) (bodies (file_sections symbols sections found) (slice_index_or (header_indices found) number 0 - 1) entry (section_there symbols sections number section filed.found))
 
 -- the items of a laid out section have their addresses
 items_laid : (section : SectionOf LaidItem) → placed_section section ≡ section → placed_from 0 section.items ≡ section.items
 items_laid section laid = ap (λ (s : SectionOf LaidItem). s.items) laid
 
--- items have as many bytes as their sizes say, whatever value they hold
-module _ (sized : (content : Content) (size value : ℕ) → MayHave content size → length (bytes_of content size value) ≡ size) where
+-- items have as many bytes as their sizes say, whatever value they hold; the bodies of sections stand in the file, and so do pieces of them
+module _ (sized : (content : Content) (size value : ℕ) → MayHave content size → length (bytes_of content size value) ≡ size) (bodies : BodiesStand)
+    (pieces : (bytes part piece : List ℕ) (at more : ℕ) → PieceAt bytes at part → PieceAt part more piece → PieceAt bytes (at + more) piece) where
   sized_in : (symbols : SymbolMap) (sections : LaidSections) (section : SectionOf LaidItem) (content : Content) (size : ℕ) → MayHave content size
       → length (item_bytes symbols sections section content size) ≡ size
   sized_in symbols sections section content size has = sized content size (item_value symbols sections section content) has
@@ -131,8 +132,8 @@ module _ (sized : (content : Content) (size value : ℕ) → MayHave content siz
       → PieceAt (image_of symbols sections) (section_offset symbols sections number + place) piece
   unfolding section_bytes
   in_section symbols sections number place section piece filed inner =
-      let outer = section_stands symbols sections number section filed in
-      stands_in (image_of symbols sections) (section_bytes symbols sections section) piece (section_offset symbols sections number) place outer
+      let outer = section_stands bodies symbols sections number section filed in
+      pieces (image_of symbols sections) (section_bytes symbols sections section) piece (section_offset symbols sections number) place outer
       (subst (λ (items : List LaidItem). PieceAt (interleaved (item_bytes symbols sections section) (plain_bytes symbols sections section) 0 items) place piece) (items_laid section filed.laid) inner)
 
   -- a piece of the plain bytes that no item parts stands in the object

@@ -1,12 +1,11 @@
 -- A symbol alone, or one less another one, stays as it is where it has no value.
-use Rattle.std.proofs.Common.{◌≡◌, ℕ, ◌+◌, ◌-◌, ◌*◌, ◌^◌, ◌==◌, Bool, true, false, not, List, [], ◌∷◌, Option, Some, None, refl, sym, ap, ◌∙◌, arith}
+use Rattle.std.proofs.Common.{◌≡◌, ℕ, ◌+◌, ◌-◌, ◌*◌, ◌^◌, ◌==◌, Bool, true, false, List, [], ◌∷◌, Option, Some, None, refl, sym, ap, ◌∙◌, arith}
 use Rattle.std.specs.Prelude.{option_map}
 use Rattle.std.proofs.lemmas.Bool.Decides.{nat_tests}
 use Rattle.asm_expr.specs.declared.forms.Term.{Term}
 use Rattle.asm_expr.specs.Forms.{Form, wrapped, term_of, constant_form}
 use Rattle.asm_expr.specs.Knowledge.{Told, absent, constant, label, form}
-use Rattle.asm_expr.specs.Settled.{put_all, settled, nothing_cancels, cannot_cancel, constant_left}
-use Rattle.asm_expr.proofs.SettledLemmas.{none_cancel, stays as nothing_left}
+use Rattle.asm_expr.specs.Settled.{spot_by, cancelled_number, put_all, settled, constant_left}
 use Rattle.asm_symbols.specs.SymbolMap.{SymbolMap}
 use Rattle.asm_frags.specs.declared.fields.Field.{Field}
 use Rattle.asm_relax.specs.FieldValues.{told_in_field, counted, held_value}
@@ -17,8 +16,16 @@ use Rattle.elf_object.specs.Relocations.{is_plus, is_minus, stays, reference_of,
 is_number : (coefficient n : ℕ) → (coefficient == n) ≡ true → coefficient ≡ n
 is_number coefficient n e = grind (arith, nat_tests)
 
-stands_alone : (term : Term) → is_plus term ≡ true → cannot_cancel (term ∷ []) ≡ true
-stands_alone term e = ap (λ n. not (wrapped n == 0)) (is_number term.coefficient 1 e)
+-- a symbol that stands alone has no number
+no_number : (told : Told) (coefficient : ℕ) → coefficient ≡ 1 → cancelled_number (spot_by told coefficient ∷ []) (spot_by told coefficient) ≡ None
+no_number (label stretch at) coefficient one =
+    let same : (stretch == stretch) ≡ true = grind (arith, nat_tests) in
+    rw (one, same) refl
+no_number _ coefficient one = refl
+
+stands_alone : (told : ℕ → Told) (term : Term) (total : ℕ) → is_plus term ≡ true → (let made : Form = record { terms = term ∷ []; constant = total } in made ≡ settled told made)
+unfolding settled put_all
+stands_alone told term total is = rw (no_number (told term.symbol) term.coefficient (is_number term.coefficient 1 is))
 
 -- a symbol and a number, another one taken away
 abbrev pair_of : ℕ → ℕ → ℕ → Form
@@ -48,7 +55,8 @@ no_stretch told stretch others at origin one other total is also none = by (othe
         some_left n e = cc
 
 both_stay : (told : ℕ → Told) (one other total : ℕ) (a b : Told) → told one ≡ a → told other ≡ b → constant_left (settled told (pair_of one other total)) ≡ None
-    → nothing_cancels told (term_of one 1 ∷ term_of other (2 ^ 64 - 1) ∷ []) ≡ true
+    → pair_of one other total ≡ settled told (pair_of one other total)
+unfolding settled put_all
 both_stay told one other total absent absent is also none = rw (is, also) refl
 both_stay told one other total absent (constant number) is also none = rw (is, also) refl
 both_stay told one other total absent (form made) is also none = rw (is, also) refl
@@ -84,7 +92,7 @@ both_stay told one other total (label stretch at) (label others origin) is also 
     rw (is, also, same, equal, differ, back) refl
 
 pair_stays : (told : ℕ → Told) (one other total : ℕ) → constant_left (settled told (pair_of one other total)) ≡ None → pair_of one other total ≡ settled told (pair_of one other total)
-pair_stays told one other total none = none_cancel told (pair_of one other total) (both_stay told one other total (told one) (told other) refl refl none)
+pair_stays told one other total none = both_stay told one other total (told one) (told other) refl refl none
 
 pair_of_terms : (told : ℕ → Told) (one other : Term) (total : ℕ) → one.coefficient ≡ 1 → other.coefficient ≡ 2 ^ 64 - 1
     → (let made : Form = record { terms = one ∷ other ∷ []; constant = total } in constant_left (settled told made) ≡ None → made ≡ settled told made)
@@ -97,7 +105,7 @@ pair_of_terms told one other total first second none =
 stays_by : (told : ℕ → Told) (terms : List Term) (total : ℕ) → stays terms ≡ true
     → (let made : Form = record { terms = terms; constant = total } in constant_left (settled told made) ≡ None → made ≡ settled told made)
 stays_by told [] total is none = absurd cc
-stays_by told (term ∷ []) total is none = nothing_left told (record { terms = term ∷ []; constant = total }) (stands_alone term is)
+stays_by told (term ∷ []) total is none = stands_alone told term total is
 stays_by told (one ∷ other ∷ []) total is none =
     let both = both_true (is_plus one) (is_minus other) is in
     pair_of_terms told one other total (is_number one.coefficient 1 both.0) (is_number other.coefficient (2 ^ 64 - 1) both.1) none

@@ -21,7 +21,6 @@ use Rattle.elf_object.specs.Contents.{field_bytes, fits_behind, filled, reached,
 use Rattle.elf_file.specs.Places.{PieceAt}
 use Rattle.elf_object.specs.Places.{IsBetween}
 use Rattle.elf_object.proofs.FieldLemmas.{filled_one}
-use Rattle.elf_file.proofs.FilePlaces.{behind_front}
 use Rattle.elf_object.proofs.ItemBytes.{one_of, both_true, le_from, held_length}
 
 length-slice : (bytes : List ℕ) (from to : ℕ) → from ≤ to → to ≤ length bytes → length (slice_range bytes from to) ≡ to - from
@@ -64,6 +63,10 @@ begins_inside bytes at piece some is =
     let taken = take_least ((at + length piece) - at) (drop at bytes) in
     let same : length (slice_range bytes at (at + length piece)) ≡ length piece = ap length is in
     omega arith
+
+-- a piece stands where the front before it ends
+behind_front : (bytes front piece rest : List ℕ) (at : ℕ) → bytes ≡ front ++ (piece ++ rest) → length front ≡ at → PieceAt bytes at piece
+behind_front bytes front piece rest at e long = record { front = front; rest = rest; long = long; whole = e }
 
 -- the bytes from one offset to another stand behind those before them
 cut : (bytes whole front : List ℕ) (at offset to : ℕ) → whole ≡ front ++ drop at bytes → length front ≡ at → at ≤ offset → offset ≤ to → to ≤ length bytes

@@ -4,9 +4,8 @@ use Rattle.std.specs.Prelude.{slice_get, option_map}
 use Rattle.std.specs.Option.{option_map_or}
 use Rattle.std.proofs.lemmas.Bool.Decides.{nat_tests}
 use Rattle.asm_expr.specs.declared.forms.Term.{Term}
-use Rattle.asm_expr.specs.Forms.{wrapped}
-use Rattle.asm_expr.specs.FormValues.{value_by, terms_value}
-use Rattle.asm_expr.proofs.KeptValues.{keeps_value}
+use Rattle.asm_expr.specs.Forms.{Form, wrapped}
+use Rattle.asm_expr.specs.FormValues.{value_by, terms_value, KeepsValue}
 use Rattle.asm_expr.specs.Knowledge.{Told, absent, constant, label, form}
 use Rattle.asm_expr.specs.Settled.{settled}
 use Rattle.asm_frags.specs.declared.fields.Field.{Field}
@@ -24,7 +23,8 @@ use Rattle.asm_symbols.specs.declared.entries.Meaning.{Meaning}
 use Rattle.asm_symbols.specs.declared.entries.Meaning.TheVariants as meaning
 use Rattle.asm_symbols.specs.declared.entries.Spot.{Spot}
 use Rattle.asm_symbols.specs.SymbolMap.{SymbolMap}
-use Rattle.asm_relax.specs.FieldValues.{is_suffixed, is_linked, field_address, place_label, place_told, told_beside, told_in_field, less, counted_bytes, counted}
+use Rattle.item_rows.specs.Links.{is_suffixed, is_linked}
+use Rattle.asm_relax.specs.FieldValues.{field_address, place_label, place_told, told_beside, told_in_field, less, counted_bytes, counted}
 use Rattle.asm_relax.specs.Final.{address_in, address_of, spot_told, final_meaning, final_told}
 use Rattle.asm_relax.specs.Settling.{LaidItem, LaidSections}
 use Rattle.elf_symbols.specs.SymbolValues.{has_flag}
@@ -124,10 +124,10 @@ module _ (begins given : ℕ → ℕ) (map : SymbolMap) (sections : LaidSections
   spot_stands : (itself : Bool) (index : ℕ) (local : Bool) (spot : Spot) (got : SymbolReference) → final_told map sections index ≡ spot_told sections spot
       → label_reference itself sections index local spot ≡ Some got → Stands index got
   spot_stands itself index local spot got told is =
-      let by_section = symbol_reference local (OfSection spot.section) (address_of sections spot.section spot.item spot.offset) in
+      let by_section = symbol_reference local (OfSection spot.place.section) (address_of sections spot.place.section spot.place.place.item spot.place.place.offset) in
       let by_itself = symbol_reference local (OfSymbol index) 0 in
       mapped (λ (section : SectionOf LaidItem). cond (local && not (itself || has_flag merge section)) by_section by_itself)
-      (slice_get sections spot.section) got is (λ section there made.
+      (slice_get sections spot.place.section) got is (λ section there made.
       subst (Stands index) made
       (chosen (Stands index) (local && not (itself || has_flag merge section)) by_section by_itself
       (sym (ap (value_by begins given index) told)) (itself_stands local index)))
@@ -215,8 +215,8 @@ module _ (begins given : ℕ → ℕ) (map : SymbolMap) (sections : LaidSections
 
     meaning_low : (what : Meaning) → Low (final_meaning sections what)
     meaning_low meaning.Undefined = tt
-    meaning_low (meaning.Label spot) = address_low spot.section spot.item spot.offset
-    meaning_low (meaning.Space spot) = address_low spot.section spot.item spot.offset
+    meaning_low (meaning.Label spot) = address_low spot.place.section spot.place.place.item spot.place.place.offset
+    meaning_low (meaning.Space spot) = address_low spot.place.section spot.place.place.item spot.place.place.offset
     meaning_low (meaning.Common size align) = tt
     meaning_low (meaning.Assigned made) = tt
 
@@ -302,9 +302,10 @@ puts : (value place target addend counts given worth : ℕ) → wrapped (value +
     → wrapped (target + addend) ≡ wrapped (worth + place) → wrapped (value + counts) ≡ wrapped worth
 puts value place target addend counts given worth first second third = omega arith
 
-pub relocations_mean : RelocationsMeanForms
+-- settling keeps the value of a form
+pub relocations_mean : ((told : ℕ → Told) (made : Form) → KeepsValue told made) → RelocationsMeanForms
 unfolding field_relocation
-relocations_mean begins given map sections number value section field r few bare low stands is linked =
+relocations_mean keeps_value begins given map sections number value section field r few bare low stands is linked =
     let place = field_place section field in
     let told = told_in_field map sections field in
     let made = settled told field.form in

@@ -11,7 +11,8 @@ use Rattle.asm_symbols.specs.declared.entries.Meaning.{Meaning}
 use Rattle.asm_symbols.specs.declared.entries.Meaning.TheVariants as meaning
 use Rattle.asm_symbols.specs.declared.entries.Spot.{Spot}
 use Rattle.asm_symbols.specs.SymbolMap.{SymbolMap}
-use Rattle.asm_relax.specs.FieldValues.{is_suffixed, told_beside, told_in_field, less}
+use Rattle.item_rows.specs.Links.{is_suffixed}
+use Rattle.asm_relax.specs.FieldValues.{told_beside, told_in_field, less}
 use Rattle.asm_relax.specs.Final.{address_of}
 use Rattle.asm_relax.specs.Settling.{LaidItem, LaidSections}
 use Rattle.elf_object.specs.declared.references.SymbolReference.{SymbolReference}
@@ -50,13 +51,13 @@ chosen P false x y first second = second
 spot_sits : (map : SymbolMap) (sections : LaidSections) (itself : Bool) (index : ℕ) (local : Bool) (spot : Spot) (got : SymbolReference) → Sits map sections (OfSymbol index)
     → label_reference itself sections index local spot ≡ Some got → Sits map sections got.target
 spot_sits map sections itself index local spot got own is =
-    let by_section = symbol_reference local (OfSection spot.section) (address_of sections spot.section spot.item spot.offset) in
+    let by_section = symbol_reference local (OfSection spot.place.section) (address_of sections spot.place.section spot.place.place.item spot.place.place.offset) in
     let by_itself = symbol_reference local (OfSymbol index) 0 in
     mapped (λ (section : SectionOf LaidItem). cond (local && not (itself || has_flag merge section)) by_section by_itself)
-    (slice_get sections spot.section) got is (λ section there made.
+    (slice_get sections spot.place.section) got is (λ section there made.
     subst (λ (a : SymbolReference). Sits map sections a.target) made
     (chosen (λ (a : SymbolReference). Sits map sections a.target) (local && not (itself || has_flag merge section)) by_section by_itself
-    (got_inside sections spot.section section there) own))
+    (got_inside sections spot.place.section section there) own))
 
 meaning_sits : (map : SymbolMap) (sections : LaidSections) (itself : Bool) (index : ℕ) (local : Bool) (symbol : Symbol) (what : Meaning) (got : SymbolReference) → slice_get map.symbols index ≡ Some symbol
     → symbol.meaning ≡ what → meaning_reference itself sections index local what ≡ Some got → Sits map sections got.target

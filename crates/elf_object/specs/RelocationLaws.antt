@@ -6,7 +6,8 @@ use Rattle.asm_frags.specs.declared.fields.Field.{Field}
 use Rattle.asm_frags.specs.Fields.{own_place}
 use Rattle.asm_frags.specs.SectionOf.{SectionOf}
 use Rattle.asm_symbols.specs.SymbolMap.{SymbolMap}
-use Rattle.asm_relax.specs.FieldValues.{is_suffixed, field_address, told_in_field, counted_bytes}
+use Rattle.item_rows.specs.Links.{is_suffixed}
+use Rattle.asm_relax.specs.FieldValues.{field_address, told_in_field, counted_bytes}
 use Rattle.asm_relax.specs.Final.{final_told}
 use Rattle.asm_relax.specs.Settling.{LaidItem, LaidSections}
 use Rattle.elf_object.specs.declared.relocations.Relocation.{Relocation}

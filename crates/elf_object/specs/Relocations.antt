@@ -19,7 +19,8 @@ use Rattle.asm_symbols.specs.declared.entries.Meaning.{Meaning}
 use Rattle.asm_symbols.specs.declared.entries.Meaning.TheVariants as meaning
 use Rattle.asm_symbols.specs.declared.entries.Spot.{Spot}
 use Rattle.asm_symbols.specs.SymbolMap.{SymbolMap}
-use Rattle.asm_relax.specs.FieldValues.{is_suffixed, told_beside, told_in_field, less, counted}
+use Rattle.item_rows.specs.Links.{is_suffixed}
+use Rattle.asm_relax.specs.FieldValues.{told_beside, told_in_field, less, counted}
 use Rattle.asm_relax.specs.Final.{address_in, address_of}
 use Rattle.asm_relax.specs.Settling.{LaidItem, LaidSections}
 use Rattle.elf_object.specs.declared.relocations.RelocationKind.{RelocationKind}
@@ -138,8 +139,8 @@ symbol_reference local target addend = record { target = target; addend = addend
 abbrev pub label_reference : Bool → LaidSections → ℕ → Bool → Spot → Option SymbolReference
 label_reference itself sections index local spot =
     option_map (λ section. if local && not (itself || has_flag merge section)
-    then symbol_reference local (OfSection spot.section) (address_of sections spot.section spot.item spot.offset)
-    else symbol_reference local (OfSymbol index) 0) (slice_get sections spot.section)
+    then symbol_reference local (OfSection spot.place.section) (address_of sections spot.place.section spot.place.place.item spot.place.place.offset)
+    else symbol_reference local (OfSymbol index) 0) (slice_get sections spot.place.section)
 
 -- what a relocation names for a symbol of this meaning
 abbrev pub meaning_reference : Bool → LaidSections → ℕ → Bool → Meaning → Option SymbolReference

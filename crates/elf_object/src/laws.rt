@@ -4,6 +4,8 @@ ghost use Rattle.elf_object.specs.Places.{BytesStand, ValuesStand, ItemsStand, P
 ghost use Rattle.elf_object.specs.RelocationLaws.{RelocationsMeanForms};
 ghost use Rattle.elf_object.specs.TableLaws.{LocalsFirst, TargetsStand};
 
+use asm_expr::cancelled_labels_keep_the_value;
+use elf_file::bodies_stand;
 use item_contents::bytes_are_sized;
 
 /// Where a section is laid out, plain bytes beside all fields, and between items, stand in the object as
@@ -12,6 +14,7 @@ pub fn bytes_stand()
     ensures { BytesStand }
 {
     bytes_are_sized();
+    bodies_stand();
 }
 
 /// Where a section is laid out, the value of a field stands in the object at its place.
@@ -19,6 +22,7 @@ pub fn values_stand()
     ensures { ValuesStand }
 {
     bytes_are_sized();
+    bodies_stand();
 }
 
 /// Where a section is laid out, the bytes of an item stand in the object at its address behind the
@@ -27,6 +31,7 @@ pub fn items_stand()
     ensures { ItemsStand }
 {
     bytes_are_sized();
+    bodies_stand();
 }
 
 /// The place of a plain byte of a laid out section is the address that labels and relocations have,
@@ -50,4 +55,6 @@ pub fn targets_stand()
 /// without a suffix is the value of the field's form, less what its kind counts from.
 pub fn relocations_mean_forms()
     ensures { RelocationsMeanForms }
-{}
+{
+    cancelled_labels_keep_the_value();
+}

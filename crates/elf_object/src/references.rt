@@ -10,9 +10,10 @@ use crate::relocations::{Relocation, kind_for};
 use asm_base::NoMemory;
 use asm_expr::{Linear, Look, SymId, Term, copied_form, settled};
 use asm_frags::{Field, Laid, Section, SectionFlags};
-use asm_relax::{FieldView, address_in, address_of, counted, is_suffixed, look_beside};
+use asm_relax::{FieldView, address_in, address_of, counted, look_beside};
 use asm_symbols::{Meaning, Spot, Symbol};
 use elf_symbols::{Placement, Target, binding_of, has_flag, is_local};
+use item_rows::is_suffixed;
 use std::alloc::{AllocError, Global};
 
 /// What a relocation names for a symbol, and what that lacks of the symbol's address.
@@ -46,12 +47,17 @@ fn label_reference(
 ) -> Option<SymbolReference>
     ensures { result ≡ spec.label_reference itself at.entry.sections.now index local spot }
 {
-    match at.sections.as_slice().get(spot.section as usize) {
+    match at.sections.as_slice().get(spot.place.section as usize) {
         Some(section) => {
             if local && !(itself || has_flag(section, SectionFlags::MERGE)) {
                 Some(SymbolReference {
-                    target: Target::OfSection(spot.section as usize),
-                    addend: address_of(at.sections, spot.section, spot.item, spot.offset),
+                    target: Target::OfSection(spot.place.section as usize),
+                    addend: address_of(
+                        at.sections,
+                        spot.place.section,
+                        spot.place.place.item,
+                        spot.place.place.offset,
+                    ),
                     local,
                 })
             } else {

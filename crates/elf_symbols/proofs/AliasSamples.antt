@@ -31,7 +31,7 @@ symbol name meaning kind size = record {
 
 -- `base` is an object of 4 bytes
 labelled : Symbol
-labelled = symbol (codes "base") (Label (record { section = 1; item = 0; offset = 0; stretch = 0; at = 0 })) (Some Object) (Some (constant_form 4))
+labelled = symbol (codes "base") (Label (record { place = record { section = 1; place = record { item = 0; offset = 0 } }; stretch = 0; at = 0 })) (Some Object) (Some (constant_form 4))
 
 -- `.set middle,base`, `.type middle,@function`
 between : Symbol

@@ -40,7 +40,7 @@ final_value map sections made = form_value map sections made.terms made.constant
 
 -- where a place of the source stands
 abbrev pub spot_value : LaidSections → Spot → SymbolValue
-spot_value sections spot = symbol_value (InSection spot.section) (address_of sections spot.section spot.item spot.offset)
+spot_value sections spot = symbol_value (InSection spot.place.section) (address_of sections spot.place.section spot.place.place.item spot.place.place.offset)
 
 -- where a symbol stands, by what it is; one that is assigned what is neither a number nor a label and a number has no entry
 abbrev pub symbol_value_of : SymbolMap → LaidSections → Meaning → Option SymbolValue

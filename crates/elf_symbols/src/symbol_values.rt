@@ -81,8 +81,13 @@ fn spot_value(at: Placement, spot: Spot) -> SymbolValue
     ensures { result ≡ spec.spot_value at.entry.sections.now spot }
 {
     SymbolValue {
-        section: SymbolSection::InSection(u64::from(spot.section)),
-        value: address_of(at.sections, spot.section, spot.item, spot.offset),
+        section: SymbolSection::InSection(u64::from(spot.place.section)),
+        value: address_of(
+            at.sections,
+            spot.place.section,
+            spot.place.place.item,
+            spot.place.place.offset,
+        ),
     }
 }
 

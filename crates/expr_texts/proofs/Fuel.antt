@@ -10,7 +10,7 @@ use Rattle.asm_base.specs.Refusals.{◌>>=◌}
 use Rattle.expr_texts.specs.Operators.{opens, prefix_of, level_of, prefix_level}
 use Rattle.expr_texts.specs.Leaves.{leaf_of}
 use Rattle.expr_texts.specs.Reading.{Reading, Read, read, whole, closed, deeper, unopened, operand_of, operator_at, follow, read_at, read_more, reading, reading_more}
-use Rattle.asm_expr.proofs.RefusedSteps.{steps}
+use Rattle.expr_texts.proofs.Steps.{steps}
 use Rattle.expr_texts.proofs.ReadingLemmas.{whole_rest, closed_rest, deeper_is}
 
 -- what reads an expression takes some of the tokens

@@ -17,7 +17,7 @@ use Rattle.expr_texts.specs.Leaves.{character_code, between_quotes, is_symbol_na
 use Rattle.expr_texts.specs.Reading.{ReadTree, reading_of}
 use Rattle.expr_texts.specs.Grammar.{Writes, leaf, prefixed, between, enclosed}
 use Rattle.expr_texts.specs.Shown.{is_byte, IsWritable, IsShowable, IsReadBack}
-use Rattle.asm_expr.proofs.RefusedSteps.{steps}
+use Rattle.expr_texts.proofs.Steps.{steps}
 use Rattle.expr_texts.proofs.GrammarLaws.{read_is_text}
 use Rattle.expr_texts.proofs.ShownLeaves.{OnlyValue}
 use Rattle.expr_texts.proofs.ShownIsRead.{shown_is_read}

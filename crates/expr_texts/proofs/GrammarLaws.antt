@@ -6,7 +6,7 @@ use Rattle.asm_expr.specs.Trees.{Tree}
 use Rattle.asm_base.specs.Refusals.{◌>>=◌}
 use Rattle.expr_texts.specs.Reading.{Reading, Read, read, reading, reading_of, ReadTree}
 use Rattle.expr_texts.specs.Grammar.{IsTextOf, IsFoundIn, IsReadAs, operator_follows}
-use Rattle.asm_expr.proofs.RefusedSteps.{steps}
+use Rattle.expr_texts.proofs.Steps.{steps}
 use Rattle.expr_texts.proofs.ParsingLemmas.{stops}
 use Rattle.expr_texts.proofs.Marks.{in_one, one_in, in_higher}
 use Rattle.expr_texts.proofs.Fuel.{reading_takes}

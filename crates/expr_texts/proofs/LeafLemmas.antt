@@ -14,8 +14,7 @@ use Rattle.asm_expr.specs.Trees.{Tree, number, name, here, height}
 use Rattle.asm_base.specs.Refusals.{◌>>=◌}
 use Rattle.expr_texts.specs.Numbers.{numeral, spelled_number}
 use Rattle.expr_texts.specs.Leaves.{character_code, between_quotes, is_symbol_name, last_byte, without_last, is_numeric_label, label_written, digits_leaf, leaf_by, leaf_of}
-use Rattle.asm_expr.proofs.RefusedSteps.{steps, Broken, broken}
-use Rattle.asm_expr.proofs.RefusedSteps.{at_first, at_next}
+use Rattle.expr_texts.proofs.Steps.{steps, Broken, at_first, at_next, broken}
 
 -- no operator stands in it
 pub data IsLeaf : Tree → Type 0 where

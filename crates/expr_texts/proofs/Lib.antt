@@ -1,25 +1,26 @@
 -- The proofs of this crate.
-pub mod NumberLemmas
-pub mod ReadingLemmas
-pub mod Fuel
-pub mod TokenLists
-pub mod LeafLemmas
-pub mod ParsingLemmas
-pub mod ReadTreeLemmas
-pub mod Marks
-pub mod WrittenIsRead
-pub mod ReadIsWritten
-pub mod GrammarLaws
-pub mod FailsIsRefused
-pub mod RefusedFails
-pub mod ShownFolds
-pub mod Lexing
-pub mod NumberTexts
-pub mod QuotedTexts
-pub mod ShownLeaves
-pub mod ShownIsRead
-pub mod ByteLists
-pub mod FittingNumbers
-pub mod NamedTokens
-pub mod StringBytes
-pub mod GoodTokens
+mod NumberLemmas
+mod Steps
+mod ReadingLemmas
+mod Fuel
+mod TokenLists
+mod LeafLemmas
+mod ParsingLemmas
+mod ReadTreeLemmas
+mod Marks
+mod WrittenIsRead
+mod ReadIsWritten
+mod GrammarLaws
+mod FailsIsRefused
+mod RefusedFails
+mod ShownFolds
+mod Lexing
+mod NumberTexts
+mod QuotedTexts
+mod ShownLeaves
+mod ShownIsRead
+mod ByteLists
+mod FittingNumbers
+mod NamedTokens
+mod StringBytes
+mod GoodTokens

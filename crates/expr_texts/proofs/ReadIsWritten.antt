@@ -12,7 +12,7 @@ use Rattle.expr_texts.specs.Leaves.{leaf_of}
 use Rattle.expr_texts.specs.Reading.{Reading, read, whole, closed_by, closed, deeper, unopened, operand_of, operator_from, operator_at, follow, reading, reading_more}
 use Rattle.expr_texts.specs.Grammar.{Writes, leaf, prefixed, between, enclosed}
 use Rattle.expr_texts.specs.Found.{operator_in}
-use Rattle.asm_expr.proofs.RefusedSteps.{steps}
+use Rattle.expr_texts.proofs.Steps.{steps}
 use Rattle.expr_texts.proofs.ReadingLemmas.{whole_rest, deeper_is}
 use Rattle.expr_texts.proofs.Fuel.{right_of, reading_takes, operand_takes_reading, reading_none, reading_step, reading_more_step, reading_more_none}
 use Rattle.expr_texts.proofs.LeafLemmas.{leaf_height}

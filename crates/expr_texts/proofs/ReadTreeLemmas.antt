@@ -10,7 +10,7 @@ use Rattle.expr_texts.specs.declared.parsing.Found.{Found}
 use Rattle.asm_expr.specs.Trees.{tree_of}
 use Rattle.expr_texts.specs.Reading.{Reading, Read, ReadTree, reading, reading_of}
 use Rattle.expr_texts.specs.Found.{spelled_from, read_tree, IsFound}
-use Rattle.asm_expr.proofs.RefusedSteps.{fails_after}
+use Rattle.expr_texts.proofs.Steps.{fails_after}
 
 placing : List SpelledToken → Reading → Result ReadTree ExprCause
 placing tokens found = Ok (record { tree = found.tree; next = length tokens - length found.rest })

@@ -14,8 +14,7 @@ use Rattle.expr_texts.specs.Reading.{Reading, Read, read, whole, closed_by, clos
 use Rattle.expr_texts.specs.Grammar.{Writes, between}
 use Rattle.expr_texts.specs.Found.{operator_in}
 use Rattle.expr_texts.specs.Failing.{closing_follows, opens_more, Fails, ended, no_operand, too_wide, too_open, after_prefix, prefix_high, in_parentheses, unclosed, after_operator, operator_high, HasFaultExactly}
-use Rattle.asm_expr.proofs.RefusedSteps.{Broken, broken}
-use Rattle.asm_expr.proofs.RefusedSteps.{at_first, at_next}
+use Rattle.expr_texts.proofs.Steps.{Broken, at_first, at_next, broken}
 use Rattle.expr_texts.proofs.ReadingLemmas.{whole_rest}
 use Rattle.expr_texts.proofs.Fuel.{right_of, reading_takes, operand_takes_reading, reading_none, reading_step, reading_more_step, reading_more_none}
 use Rattle.expr_texts.proofs.LeafLemmas.{IsLeafFault, leaf_fault}

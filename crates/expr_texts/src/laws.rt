@@ -3,7 +3,8 @@
 ghost use Rattle.std.specs.Prelude.{◌≡◌, ℕ, true, false, List, Ok};
 ghost use Rattle.std.specs.List.{list_all};
 ghost use Rattle.asm_base.specs.Tokens.{SpelledToken, tokens_of};
-ghost use Rattle.asm_expr.specs.Trees.{Tree};
+ghost use Rattle.asm_expr.specs.Trees.{Tree, height};
+ghost use Rattle.expr_texts.specs.Leaves.{leaf_of};
 ghost use Rattle.expr_texts.specs.Reading.{ReadTree, reading_of};
 ghost use Rattle.expr_texts.specs.Grammar.{IsTextOf, IsFoundIn, IsReadAs, operator_follows};
 ghost use Rattle.expr_texts.specs.Failing.{HasFaultExactly};
@@ -32,6 +33,12 @@ pub fn read_is_written()
 pub fn one_tree()
     ensures { (one other : Tree) (text : List SpelledToken)
         → IsTextOf one text → IsTextOf other text → one ≡ other }
+{}
+
+/// What a token alone spells is a tree of one node.
+#[tactic(auto, using(crate::proofs::LeafLemmas::leaf_height))]
+pub fn leaves_are_single()
+    ensures { (token : SpelledToken) (tree : Tree) → leaf_of token ≡ Ok tree → height tree ≡ 1 }
 {}
 
 /// The reading of an expression has a fault exactly where the expression fails for it: at the first

@@ -10,7 +10,8 @@ mod showing;
 mod spelling;
 
 pub use laws::{
-    faults_of_an_expression, one_tree, read_is_written, shown_is_read, written_is_read,
+    faults_of_an_expression, leaves_are_single, one_tree, read_is_written, shown_is_read,
+    written_is_read,
 };
 pub use leaves::{between_quotes, character_code, is_symbol_name};
 pub use numbers::{all_digits, decimal_number, spelled_number};

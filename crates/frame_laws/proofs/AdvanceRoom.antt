@@ -4,6 +4,7 @@ use Rattle.std.specs.Prelude.{◌==◌, slice_get, option_map}
 use Rattle.std.specs.Option.{option_map_or}
 use Rattle.std.proofs.lemmas.List.{length-map}
 use Rattle.std.proofs.lemmas.Option.{none-some, same_Some, slice_get-map}
+use Rattle.asm_base.specs.declared.places.SectionPlace.{SectionPlace}
 use Rattle.asm_base.specs.declared.positions.Pos.{Pos}
 use Rattle.asm_expr.specs.Coefficients.{is_among}
 use Rattle.asm_expr.specs.Forms.{Form}
@@ -18,23 +19,22 @@ use Rattle.asm_frags.specs.Writing.{LooseSection}
 use Rattle.assigned_forms.specs.Expanding.{expanded}
 use Rattle.item_contents.specs.declared.contents.Content.TheVariants.{Growing}
 use Rattle.item_contents.specs.declared.kinds.Growth.TheVariants as growth
-use Rattle.row_distances.specs.declared.places.Place.{Place}
 use Rattle.row_distances.specs.Places.{meant_place, place_of}
-use Rattle.asm_relax.specs.ItemRows.{own_of}
+use Rattle.item_rows.specs.ItemRows.{own_of}
 use Rattle.asm_relax.specs.ItemValues.{StandsIn, IsInItem}
 use Rattle.asm_relax.specs.SettledRoom.{HasRoomFor}
 use Rattle.asm_relax.specs.Settling.{LaidItem, LaidSections, planned, settled_sections}
 use Rattle.eh_frame.specs.declared.ends.SectionEnd.{SectionEnd}
 use Rattle.eh_frame.specs.Found.{advance_field}
 use Rattle.eh_frame.specs.StandingPlaces.{HoldsItems}
-use Rattle.frame_distances.specs.HeldDistances.{IsBetweenPlaces}
+use Rattle.frame_laws.specs.HeldDistances.{IsBetweenPlaces}
 use Rattle.frame_laws.specs.PlacedTables.{SymbolHolds}
-use Rattle.frame_laws.proofs.LaidItems.{all_there, layout_is}
+use Rattle.frame_laws.proofs.Lists.{all_there}
 use Rattle.frame_laws.proofs.SectionInFile as section_in_file
 use Rattle.frame_laws.proofs.TableSections.{PieceFacts, TableSection, kept}
 
 -- a section keeps its items where it is laid out
-planned_stands : (symbols : SymbolMap) (sections : List LooseSection) (place : Place) → HoldsItems sections place.section place.item → StandsIn (planned symbols sections) place
+planned_stands : (symbols : SymbolMap) (sections : List LooseSection) (place : SectionPlace) → HoldsItems sections place.section place.place.item → StandsIn (planned symbols sections) place
 unfolding planned
 planned_stands symbols sections place has =
     let count = length-map has.held.items laid_item in
@@ -46,32 +46,32 @@ planned_stands symbols sections place has =
     }
 
 module _ (symbols : SymbolMap) (sections : List LooseSection) (stand : All (SymbolHolds sections) symbols.symbols) where
-  by_meaning : (symbol : Symbol) (meant : Meaning) (place : Place) → symbol.meaning ≡ meant → SymbolHolds sections symbol → meant_place meant ≡ Some place
+  by_meaning : (symbol : Symbol) (meant : Meaning) (place : SectionPlace) → symbol.meaning ≡ meant → SymbolHolds sections symbol → meant_place meant ≡ Some place
       → StandsIn (planned symbols sections) place
   by_meaning symbol meaning.Undefined place means holds is = absurd (none-some place is)
   by_meaning symbol (meaning.Label spot) place means holds is =
-      let own : Place = record { section = spot.section; item = spot.item; offset = spot.offset } in
+      let own : SectionPlace = spot.place in
       subst (StandsIn (planned symbols sections)) (same_Some own place is) (planned_stands symbols sections own (holds spot (inl means)))
   by_meaning symbol (meaning.Common size align) place means holds is = absurd (none-some place is)
   by_meaning symbol (meaning.Space spot) place means holds is =
-      let own : Place = record { section = spot.section; item = spot.item; offset = spot.offset } in
+      let own : SectionPlace = spot.place in
       subst (StandsIn (planned symbols sections)) (same_Some own place is) (planned_stands symbols sections own (holds spot (inr means)))
   by_meaning symbol (meaning.Assigned form) place means holds is = absurd (none-some place is)
 
-  by_symbol : (index : ℕ) (found : Option Symbol) (place : Place) → slice_get symbols.symbols index ≡ found
+  by_symbol : (index : ℕ) (found : Option Symbol) (place : SectionPlace) → slice_get symbols.symbols index ≡ found
       → option_map_or (λ (symbol : Symbol). meant_place symbol.meaning) found None ≡ Some place → StandsIn (planned symbols sections) place
   by_symbol index None place there is = absurd (none-some place is)
   by_symbol index (Some symbol) place there is =
       by_meaning symbol symbol.meaning place refl (all_there (SymbolHolds sections) symbols.symbols index symbol there stand) is
 
   module _ (field : Field) (own_stands : StandsIn (planned symbols sections) (own_of field).place) where
-    by_test : (test : Bool) (index : ℕ) (place : Place)
+    by_test : (test : Bool) (index : ℕ) (place : SectionPlace)
         → cond test (Some (own_of field).place) (option_map_or (λ (symbol : Symbol). meant_place symbol.meaning) (slice_get symbols.symbols index) None) ≡ Some place
         → StandsIn (planned symbols sections) place
     by_test true index place is = subst (StandsIn (planned symbols sections)) (same_Some _ place is) own_stands
     by_test false index place is = by_symbol index (slice_get symbols.symbols index) place refl is
 
-    places_stand : (index : ℕ) (place : Place) → place_of symbols (own_of field) index ≡ Some place → StandsIn (planned symbols sections) place
+    places_stand : (index : ℕ) (place : SectionPlace) → place_of symbols (own_of field) index ≡ Some place → StandsIn (planned symbols sections) place
     unfolding place_of
     places_stand index place is = by_test (index == own_place) index place is
 
@@ -84,7 +84,7 @@ pub advance_room : (facts : PieceFacts) (t : TableSection) (pos : Pos) (end : Se
 advance_room facts t pos end form index found same apart enough there content has =
     let field : Field = substituted_field (expanded t.symbols) (advance_field t.number pos end form) in
     let all = planned t.symbols t.sections in
-    let settled_is : t.laid ≡ settled_sections t.symbols all = layout_is t.symbols t.sections t.laid t.is in
+    let settled_is : t.laid ≡ settled_sections t.symbols all = facts.file.layouts.settled t.symbols t.sections t.laid t.is in
     let own : StandsIn all (own_of field).place =
     planned_stands t.symbols t.sections (own_of field).place (record { held = t.held; there = t.found; enough = enough }) in
     let in_item : IsInItem t.symbols all field = record {

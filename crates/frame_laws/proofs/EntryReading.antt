@@ -12,7 +12,7 @@ use Rattle.assigned_forms.specs.Expanding.{expanded}
 use Rattle.elf_file.specs.Places.{PieceAt}
 use Rattle.elf_object.specs.Image.{image_of}
 use Rattle.cfi_directives.specs.declared.frames.Frame.{Frame}
-use Rattle.cfi_directives.specs.declared.places.SectionPlace.{SectionPlace}
+use Rattle.asm_base.specs.declared.places.SectionPlace.{SectionPlace}
 use Rattle.cfi_directives.specs.Meant.{place_in, stands_at, stop_of}
 use Rattle.cfi_rows.specs.Instructions.{four_bytes_of}
 use Rattle.eh_frame.specs.declared.ends.SectionEnd.{SectionEnd}

@@ -1,6 +1,11 @@
 -- Lemmas, in reading order.
-pub mod LaidItems
-pub mod Shifts
+mod NumberForms
+mod ToldMarks
+mod HeldValues
+mod WrittenBytes
+mod LabelSteps
+mod Lists
+mod Shifts
 mod Parts
 mod SectionInFile
 mod MarkSymbols

@@ -5,14 +5,14 @@ use Rattle.asm_frags.specs.declared.fields.Field.{Field}
 use Rattle.asm_frags.specs.Fields.{own_place}
 use Rattle.asm_symbols.specs.Interning.{number_of}
 use Rattle.asm_symbols.specs.SymbolMap.{SymbolMap}
-use Rattle.cfi_directives.specs.declared.places.SectionPlace.{SectionPlace}
+use Rattle.asm_base.specs.declared.places.SectionPlace.{SectionPlace}
 use Rattle.eh_frame.specs.declared.marks.Distance.{Distance}
 use Rattle.eh_frame.specs.declared.marks.Mark.{Mark}
 use Rattle.eh_frame.specs.declared.marks.Mark.TheVariants.{Here, At}
 use Rattle.eh_frame.specs.Labels.{GetsLabels, NamesPlace, PlacesAreLabels}
 use Rattle.eh_frame.specs.Marks.{place_name, with_label, with_mark, with_marks, mark_number, distance_form}
 use Rattle.eh_frame.specs.Pieces.{Piece, number, Tables, tables_of, pieces_put}
-use Rattle.frame_distances.specs.HeldDistances.{IsMarkOf, HasDistance}
+use Rattle.frame_laws.specs.HeldDistances.{IsMarkOf, HasDistance}
 
 -- what is known of the labels of places
 pub record LabelFacts : Type 0 where

@@ -1,6 +1,7 @@
 -- Each piece of a frame table stands in the file, as the layout makes it.
 use Rattle.std.proofs.Common.{◌≡◌, ℕ, suc, ◌+◌, ◌^◌, ◌<◌, ◌≤◌, ◌%◌, inl, inr, true, List, IfSome, Option, Some, length, refl, sym, ap, ◌∙◌, subst, arith}
 use Rattle.std.specs.Prelude.{slice_get, unwrap_or}
+use Rattle.std.proofs.lemmas.Option.{slice_get_within}
 use Rattle.asm_base.specs.declared.positions.Pos.{Pos}
 use Rattle.asm_expr.specs.Forms.{Form, wrapped}
 use Rattle.asm_symbols.specs.SymbolMap.{SymbolMap}
@@ -21,7 +22,7 @@ use Rattle.asm_relax.specs.Settling.{LaidItem}
 use Rattle.elf_file.specs.Places.{PieceAt}
 use Rattle.elf_object.specs.Contents.{value_or_zero, item_bytes}
 use Rattle.elf_object.specs.Places.{moved}
-use Rattle.cfi_directives.specs.declared.places.SectionPlace.{SectionPlace}
+use Rattle.asm_base.specs.declared.places.SectionPlace.{SectionPlace}
 use Rattle.eh_frame.specs.declared.ends.SectionEnd.{SectionEnd}
 use Rattle.eh_frame.specs.declared.marks.Distance.{Distance}
 use Rattle.eh_frame.specs.declared.marks.Mark.{Mark}
@@ -33,12 +34,12 @@ use Rattle.eh_frame.specs.Marks.{with_marks, distance_form}
 use Rattle.eh_frame.specs.Pieces.{Piece, plain, number, pointer, advance, padding, from_here, Tables, piece_put}
 use Rattle.eh_frame.specs.Reading.{Made, piece_bytes, mark_address, IsMade}
 use Rattle.eh_frame.specs.StandingPlaces.{HoldsItems}
-use Rattle.frame_distances.specs.HeldDistances.{mark_section, laid_mark}
+use Rattle.frame_laws.specs.HeldDistances.{mark_section, laid_mark}
 use Rattle.frame_laws.specs.TableReads.{place_address}
 use Rattle.frame_laws.proofs.MarkSymbols.{NamesStay, has_distance}
 use Rattle.frame_laws.proofs.Parts.{four_long, four_bytes}
 use Rattle.frame_laws.proofs.SectionInFile as section_in_file
-use Rattle.frame_laws.proofs.LaidItems.{all_there, inside}
+use Rattle.frame_laws.proofs.Lists.{all_there}
 use Rattle.frame_laws.proofs.TableSections.{PieceFacts, TableSection, image, base, kept, at_end}
 use Rattle.frame_laws.proofs.AdvanceRoom.{advance_room}
 
@@ -87,7 +88,7 @@ module _ (facts : PieceFacts) (t : TableSection) where
   pub run_enough : (pos : Pos) (end : SectionEnd) (count : ℕ) → end.items ≤ length t.held.items → RunAt t.held pos end count → count ≤ length t.held.items
   run_enough pos end count enough (inl same) = omega (arith, enough, same)
   run_enough pos end count enough (inr (next, item)) =
-      let some = inside t.held.items end.items (item_at pos end Run) item.there in omega (arith, some, next)
+      let some = slice_get_within t.held.items end.items (item_at pos end Run) item.there in omega (arith, some, next)
 
   -- the section has so many items and plain bytes
   pub record StandsTo (end : SectionEnd) : Type 0 where
@@ -107,9 +108,9 @@ module _ (facts : PieceFacts) (t : TableSection) where
   piece_stays map pos end (number distance) stands at = field_stays pos end (distance_form map distance) stands at
   piece_stays map pos end (pointer place) stands at = field_stays pos end (distance_form map (from_here place)) stands at
   piece_stays map pos end (advance distance) stands at =
-      record { items = (let some = inside t.held.items end.items _ at.item.there in omega (arith, some)); bytes = stands.bytes }
+      record { items = (let some = slice_get_within t.held.items end.items _ at.item.there in omega (arith, some)); bytes = stands.bytes }
   piece_stays map pos end (padding log) stands at =
-      record { items = (let some = inside t.held.items end.items _ at.there in omega (arith, some)); bytes = stands.bytes }
+      record { items = (let some = slice_get_within t.held.items end.items _ at.there in omega (arith, some)); bytes = stands.bytes }
 
   -- the end behind plain bytes, or a field, is as many bytes on
   pub plain_reach : (pos : Pos) (end : SectionEnd) (count : ℕ) → RunAt t.held pos end (behind_plain count end).items
@@ -209,7 +210,7 @@ module _ (facts : PieceFacts) (t : TableSection) where
       ap (λ (n : ℕ). moved (kept facts t).items n end.bytes) one in
       let long : length (bytes there.found.size) ≡ there.found.size =
       sym (ap length (known there.found.size)) ∙ facts.sized content there.found.size value there.may in
-      let some = inside t.held.items end.items (item_at pos end content) at.there in (
+      let some = slice_get_within t.held.items end.items (item_at pos end content) at.there in (
         there.found,
         there.there,
         there.content,

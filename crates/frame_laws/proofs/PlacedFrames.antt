@@ -10,15 +10,16 @@ use Rattle.asm_symbols.specs.SymbolMap.{SymbolMap}
 use Rattle.asm_frags.specs.SectionOf.{SectionOf}
 use Rattle.asm_frags.specs.Substituting.{laid_item}
 use Rattle.asm_frags.specs.Writing.{LooseSection}
+use Rattle.asm_relax.specs.KeptSections.{kept_section, LayoutsKeepSections}
 use Rattle.asm_relax.specs.Settling.{LaidItem}
 use Rattle.cfi_directives.specs.declared.frames.Frame.{Frame}
 use Rattle.cfi_directives.specs.declared.frames.PlacedOp.{PlacedOp}
-use Rattle.cfi_directives.specs.declared.places.Place.{Place}
+use Rattle.asm_base.specs.declared.places.Place.{Place}
 use Rattle.cfi_directives.specs.Meant.{stop_of}
 use Rattle.eh_frame.specs.Standing.{Extends}
 use Rattle.eh_frame.specs.StandingPlaces.{HoldsItems, FrameStands, LabelStands, GetsStanding}
 use Rattle.frame_laws.specs.PlacedTables.{IsInSection, IsCovered, SymbolHolds, IsSmall}
-use Rattle.frame_laws.proofs.LaidItems.{all_there, kept_section, section_kept}
+use Rattle.frame_laws.proofs.Lists.{all_there}
 use Rattle.frame_laws.proofs.LaidMarks.{laid_long}
 use Rattle.frame_laws.proofs.Shifts.{shift_rises}
 use Rattle.frame_laws.proofs.TableSections.{TableSection}
@@ -58,14 +59,14 @@ module _ (before after : List LooseSection) (extend : AllExtend before after) wh
   }
 
   symbol_grows : (symbol : Symbol) → SymbolHolds before symbol → SymbolHolds after symbol
-  symbol_grows symbol holds spot means = items_grow spot.section spot.item (holds spot means)
+  symbol_grows symbol holds spot means = items_grow spot.place.section spot.place.place.item (holds spot means)
 
   -- a label stands where it is said to
   label_holds : (symbol : Symbol) → LabelStands after symbol → SymbolHolds after symbol
   label_holds symbol label spot (inl means) =
       let same : Label label.0 ≡ Label spot = sym label.1 ∙ means in
       let is : label.0 ≡ spot = cc in
-      subst (λ (s : Spot). HoldsItems after s.section s.item) is label.2
+      subst (λ (s : Spot). HoldsItems after s.place.section s.place.place.item) is label.2
   label_holds symbol label spot (inr means) =
       let same : Label label.0 ≡ Space spot = sym label.1 ∙ means in
       absurd cc
@@ -77,12 +78,12 @@ module _ (before after : List LooseSection) (extend : AllExtend before after) wh
       (All-append (SymbolHolds after) map.symbols gets.labels (All-weaker (SymbolHolds before) (SymbolHolds after) symbol_grows map.symbols hold)
       (All-weaker (LabelStands after) (SymbolHolds after) label_holds gets.labels gets.each))
 
-module _ (t : TableSection) (before : List LooseSection) (extend : AllExtend before t.sections) (small : All IsSmall t.laid) where
+module _ (layouts : LayoutsKeepSections) (t : TableSection) (before : List LooseSection) (extend : AllExtend before t.sections) (small : All IsSmall t.laid) where
   -- a procedure rises in the layout
   pub frame_rising : (frame : Frame) → IsCovered before frame → IsRising t frame
   frame_rising frame covered =
       let stop = place_grows before t.sections extend frame.section (stop_of frame) covered.stop in
-      let own = section_kept t.symbols t.sections t.laid frame.section stop.held t.is stop.there in
+      let own = layouts.section t.symbols t.sections t.laid frame.section stop.held t.is stop.there in
       let kept : SectionOf LaidItem = kept_section t.symbols own.0 stop.held in
       let all = (all_there IsSmall t.laid frame.section kept own.1 small).size in
       let long = laid_long own.0 (map laid_item stop.held.items) ∙ length-map stop.held.items laid_item in

@@ -7,8 +7,8 @@ use Rattle.asm_frags.specs.SectionOf.{SectionOf}
 use Rattle.asm_relax.specs.Settling.{LaidItem, LaidSections}
 use Rattle.cfi_directives.specs.declared.frames.Frame.{Frame}
 use Rattle.cfi_directives.specs.declared.frames.PlacedOp.{PlacedOp}
-use Rattle.cfi_directives.specs.declared.places.Place.{Place}
-use Rattle.cfi_directives.specs.declared.places.SectionPlace.{SectionPlace}
+use Rattle.asm_base.specs.declared.places.Place.{Place}
+use Rattle.asm_base.specs.declared.places.SectionPlace.{SectionPlace}
 use Rattle.cfi_directives.specs.Meant.{place_in, stands_at, stop_of}
 use Rattle.cfi_directives.specs.Order.{IsUpTo, NeverFall, op_places, IsInOrder}
 use Rattle.eh_frame.specs.Entries.{advance_piece, op_pieces}

@@ -1,5 +1,5 @@
 -- What stands in a section stands in the file.
-use Rattle.std.proofs.Common.{◌≡◌, ℕ, suc, ◌+◌, ◌≤◌, inl, inr, false, List, Some, Ok, length, refl, sym, ap, ◌∙◌, subst, arith}
+use Rattle.std.proofs.Common.{◌≡◌, ℕ, suc, ◌+◌, inl, inr, false, List, Some, Ok, length, refl, sym, ap, ◌∙◌, subst, arith}
 use Rattle.std.specs.Prelude.{slice_get, option_map}
 use Rattle.std.specs.Option.{option_map_or}
 use Rattle.std.proofs.lemmas.Option.{same_Some, slice_get-map}
@@ -14,22 +14,25 @@ use Rattle.asm_frags.specs.Writing.{LooseItem, LooseSection, takes_zeros_alone}
 use Rattle.assigned_forms.specs.Expanding.{expanded}
 use Rattle.item_contents.specs.declared.contents.Content.TheVariants.{Run}
 use Rattle.item_contents.specs.Contents.{MayHave}
+use Rattle.asm_relax.specs.KeptSections.{kept_section, LayoutsKeepSections}
 use Rattle.asm_relax.specs.Placing.{placed_from, shift_of}
 use Rattle.asm_relax.specs.Settling.{LaidItem, LaidSections, layout_of}
 use Rattle.elf_file.specs.Places.{PieceAt}
 use Rattle.elf_object.specs.Contents.{field_bytes, item_bytes}
 use Rattle.elf_object.specs.Image.{image_of}
-use Rattle.elf_object.specs.Places.{section_offset, moved, IsFiled, IsBetween, ItemsStand}
+use Rattle.elf_object.specs.Places.{section_offset, moved, BytesStand, ValuesStand, IsFiled, IsBetween, ItemsStand}
 use Rattle.eh_frame.specs.declared.ends.SectionEnd.{SectionEnd}
 use Rattle.eh_frame.specs.Entries.{end_place}
 use Rattle.eh_frame.specs.Found.{IsWithin, AreBetween, PlainAt, FieldAt, ItemAt, RunAt, item_at}
 use Rattle.frame_laws.specs.TableReads.{place_address}
-use Rattle.frame_laws.proofs.LaidItems.{all_there, AreSettled, kept_section, section_kept, laid_stays, laid_sized, first_kept, others_kept, beside_kept, stand_kept, item_kept}
+use Rattle.frame_laws.proofs.Lists.{all_there}
 use Rattle.frame_laws.proofs.Shifts.{shift_next}
 
 -- what is known of the bytes of all objects
 pub record FileFacts : Type 0 where
-  pub settled : AreSettled
+  pub layouts : LayoutsKeepSections
+  pub bytes : BytesStand
+  pub values : ValuesStand
   pub items : ItemsStand
   pub addresses : (items : List LaidItem) (index : ℕ) → slice_get (placed_from 0 items) index
       ≡ option_map (λ item. item_laid_at (item.offset + shift_of index 0 items) item.size item) (slice_get items index)
@@ -38,21 +41,21 @@ module _ (facts : FileFacts) (symbols : SymbolMap) (sections : List LooseSection
     (is : layout_of symbols sections ≡ Ok laid) (holds_it : slice_get sections n ≡ Some held) (takes : takes_zeros_alone held ≡ false) (low : IsWithin held) where
   -- how far its rows are moved
   abbrev own : List ℕ
-  own = (section_kept symbols sections laid n held is holds_it).0
+  own = (facts.layouts.section symbols sections laid n held is holds_it).0
 
   -- the section as it is laid out
   abbrev pub kept : SectionOf LaidItem
   kept = kept_section symbols own held
 
   pub kept_there : slice_get laid n ≡ Some kept
-  kept_there = (section_kept symbols sections laid n held is holds_it).1
+  kept_there = (facts.layouts.section symbols sections laid n held is holds_it).1
 
   filed : IsFiled laid n kept
   filed = record {
     found = kept_there;
     takes_bytes = takes;
-    laid = laid_stays facts.settled symbols sections laid n kept is kept_there;
-    sized = laid_sized facts.settled symbols sections laid n kept is kept_there;
+    laid = facts.layouts.placed symbols sections laid n kept is kept_there;
+    sized = facts.layouts.sized symbols sections laid n kept is kept_there;
   }
 
   -- where an end of the section stands in the layout
@@ -75,10 +78,10 @@ module _ (facts : FileFacts) (symbols : SymbolMap) (sections : List LooseSection
   -- each item that is found in the section is laid out so
   pub laid_there : (index : ℕ) (item : LooseItem) → ItemAt held index item → LaidThere index item
   laid_there index item has =
-      let got = item_kept held.items own index item has.there in
+      let got = facts.layouts.item held.items own index item has.there in
       let settled_item = item_laid_at got.0 got.1 (laid_item item) in
       let stays : slice_get (placed_from 0 kept.items) index ≡ Some settled_item =
-      ap (λ (s : SectionOf LaidItem). slice_get s.items index) (laid_stays facts.settled symbols sections laid n kept is kept_there) ∙ got.2 in
+      ap (λ (s : SectionOf LaidItem). slice_get s.items index) (facts.layouts.placed symbols sections laid n kept is kept_there) ∙ got.2 in
       let moves : slice_get (placed_from 0 kept.items) index ≡ Some (item_laid_at (item.offset + shift_of index 0 kept.items) got.1 settled_item) =
       facts.addresses kept.items index
       ∙ ap (option_map (λ (i : LaidItem). item_laid_at (i.offset + shift_of index 0 kept.items) i.size i)) got.2 in
@@ -88,11 +91,11 @@ module _ (facts : FileFacts) (symbols : SymbolMap) (sections : List LooseSection
         there = got.2;
         content = refl;
         may = all_there (λ (i : LaidItem). MayHave i.content i.size) kept.items index settled_item got.2
-            (laid_sized facts.settled symbols sections laid n kept is kept_there);
+            (facts.layouts.sized symbols sections laid n kept is kept_there);
         next = shift_next kept.items index 0 settled_item got.2;
         stands = subst (λ at. PieceAt (image_of symbols laid) (section_offset symbols laid n + at) (item_bytes symbols laid kept item.content got.1)) address
             (facts.items symbols laid n index kept settled_item filed got.2 has.within
-            (first_kept (λ at. at ≤ item.offset) index held.items own has.first));
+            (facts.layouts.first item.offset index held.items own has.first));
       }
 
   -- a run that begins has no bytes of its own, and so what stands in it is moved no farther
@@ -108,8 +111,8 @@ module _ (facts : FileFacts) (symbols : SymbolMap) (sections : List LooseSection
   -- the first items stand before these bytes and the others behind them, where they are laid out too
   between_kept : (count from to : ℕ) → AreBetween held count from to → IsBetween kept.items count from to
   between_kept count from to between = record {
-    before = first_kept (λ at. at ≤ from) count held.items own between.before;
-    behind = others_kept (λ at. to ≤ at) count held.items own between.behind;
+    before = facts.layouts.first from count held.items own between.before;
+    behind = facts.layouts.others to count held.items own between.behind;
   }
 
   -- plain bytes stand in the file
@@ -117,8 +120,8 @@ module _ (facts : FileFacts) (symbols : SymbolMap) (sections : List LooseSection
       → PieceAt (image_of symbols laid) (section_offset symbols laid n + moved kept.items count offset) bytes
   plain_stands count offset bytes at =
       let within = at.within in
-      facts.settled.bytes symbols laid n count offset kept bytes filed (omega (arith, within)) at.there
-      (beside_kept (expanded symbols) offset (offset + length bytes) held.fields at.apart) (between_kept count offset (offset + length bytes) at.between)
+      facts.bytes symbols laid n count offset kept bytes filed (omega (arith, within)) at.there
+      (facts.layouts.beside symbols offset (offset + length bytes) held.fields at.apart) (between_kept count offset (offset + length bytes) at.between)
 
   -- a field, with assigned symbols expanded in its form
   pub field_there : (index : ℕ) (field : Field) → slice_get held.fields index ≡ Some field → slice_get kept.fields index ≡ Some (substituted_field (expanded symbols) field)
@@ -130,6 +133,6 @@ module _ (facts : FileFacts) (symbols : SymbolMap) (sections : List LooseSection
       → PieceAt (image_of symbols laid) (section_offset symbols laid n + moved kept.items field.item field.offset)
       (field_bytes symbols laid (substituted_field (expanded symbols) field))
   field_stands index field at =
-      facts.settled.values symbols laid n index kept (substituted_field (expanded symbols) field) filed
-      (stand_kept (expanded symbols) held.bytes 0 held.fields low.apart) (field_there index field at.there)
+      facts.values symbols laid n index kept (substituted_field (expanded symbols) field) filed
+      (facts.layouts.stand symbols held.bytes 0 held.fields low.apart) (field_there index field at.there)
       (between_kept field.item field.offset (field_end field) at.between)

@@ -10,21 +10,20 @@ use Rattle.asm_frags.specs.Substituting.{laid_item}
 use Rattle.asm_frags.specs.Writing.{LooseSection, takes_zeros_alone}
 use Rattle.item_contents.specs.declared.contents.Content.{Content}
 use Rattle.item_contents.specs.Contents.{MayHave, bytes_of}
+use Rattle.item_rows.specs.ItemRows.{rows_of, levels_of}
 use Rattle.asm_relax.specs.Final.{address_of}
-use Rattle.asm_relax.specs.ItemRows.{rows_of, levels_of}
 use Rattle.asm_relax.specs.ItemValues.{AreLow}
 use Rattle.asm_relax.specs.SettledRoom.{SettledHaveRoom}
 use Rattle.asm_relax.specs.Settling.{LaidItem, LaidSections, planned, layout_of}
 use Rattle.elf_object.specs.Image.{image_of}
 use Rattle.elf_object.specs.Places.{section_offset, moved}
-use Rattle.cfi_directives.specs.declared.places.SectionPlace.{SectionPlace}
+use Rattle.asm_base.specs.declared.places.SectionPlace.{SectionPlace}
 use Rattle.eh_frame.specs.declared.ends.SectionEnd.{SectionEnd}
 use Rattle.eh_frame.specs.Found.{IsWithin}
 use Rattle.eh_frame.specs.StandingPlaces.{HoldsItems}
-use Rattle.frame_distances.specs.HeldDistances.{DistancesAreHeld, FormsAreExpanded, PlacesAreApart}
+use Rattle.frame_laws.specs.HeldDistances.{DistancesAreHeld, FormsAreExpanded, PlacesAreApart}
 use Rattle.frame_laws.specs.PlacedTables.{SymbolHolds, IsSmall}
 use Rattle.frame_laws.specs.TableReads.{place_address}
-use Rattle.frame_laws.proofs.LaidItems.{section_kept}
 use Rattle.frame_laws.proofs.LaidMarks.{laid_long}
 use Rattle.frame_laws.proofs.MarkSymbols.{LabelFacts}
 use Rattle.frame_laws.proofs.SectionInFile as section_in_file
@@ -80,7 +79,7 @@ module _ (facts : PieceFacts) (t : TableSection) where
   kept_long = laid_long own_shifts (map laid_item t.held.items) ∙ length-map t.held.items laid_item
     where
       own_shifts : List ℕ
-      own_shifts = (section_kept t.symbols t.sections t.laid t.number t.held t.is t.found).0
+      own_shifts = (facts.file.layouts.section t.symbols t.sections t.laid t.number t.held t.is t.found).0
 
   -- it is not too large
   pub kept_small : IsSmall kept

@@ -14,6 +14,7 @@ use Rattle.asm_frags.specs.SectionOf.{SectionOf, is_section_named}
 use Rattle.asm_frags.specs.Addresses.{changed_there}
 use Rattle.asm_frags.specs.Writing.{LooseSection, takes_zeros_alone, with_bytes}
 use Rattle.asm_relax.specs.Final.{shift_in}
+use Rattle.asm_relax.specs.KeptSections.{kept_section}
 use Rattle.asm_relax.specs.Placing.{placed_from, shift_of}
 use Rattle.asm_relax.specs.Settling.{LaidItem, LaidSections, layout_of}
 use Rattle.elf_file.specs.Places.{PieceAt}
@@ -21,7 +22,7 @@ use Rattle.elf_object.specs.Image.{image_of}
 use Rattle.elf_object.specs.Places.{moved}
 use Rattle.cfi_directives.specs.declared.frames.Frame.{Frame}
 use Rattle.cfi_directives.specs.declared.frames.PlacedOp.{PlacedOp}
-use Rattle.cfi_directives.specs.declared.places.SectionPlace.{SectionPlace}
+use Rattle.asm_base.specs.declared.places.SectionPlace.{SectionPlace}
 use Rattle.cfi_rows.specs.Entries.{common_bytes}
 use Rattle.cfi_rows.specs.Written.{written}
 use Rattle.eh_frame.specs.declared.ends.SectionEnd.{SectionEnd}
@@ -34,10 +35,10 @@ use Rattle.eh_frame.specs.Placing.{padded_log, entries_put, run_end, no_end, end
 use Rattle.eh_frame.specs.Reading.{EntriesRead}
 use Rattle.eh_frame.specs.Standing.{Extends, OneExtends, HasEnd, Reaches}
 use Rattle.eh_frame.specs.StandingPlaces.{FrameStands, LabelsStand}
-use Rattle.frame_distances.specs.LabelCounts.{AreWritten, BringsFew, LabelsAreFew}
+use Rattle.frame_laws.specs.LabelCounts.{AreWritten, BringsFew, LabelsAreFew}
 use Rattle.frame_laws.specs.PlacedTables.{IsCovered, AreReady, IsSmall, IsLow}
 use Rattle.frame_laws.specs.TableReads.{EntriesFill, IsTableSection, TableReads, FrameTablesRead}
-use Rattle.frame_laws.proofs.LaidItems.{all_there, kept_section, section_kept}
+use Rattle.frame_laws.proofs.Lists.{all_there}
 use Rattle.frame_laws.proofs.LaidMarks.{told_is}
 use Rattle.frame_laws.proofs.MarkSymbols.{LabelFacts, NamesStay}
 use Rattle.frame_laws.proofs.Parts.{stands_behind}
@@ -166,7 +167,7 @@ module _ (facts : TableFacts) (frame : Frame) (frames : List Frame) (tables afte
   module _ (before held : LooseSection) (was : slice_get put.first.sections put.section ≡ Some before) (there : slice_get after.sections put.section ≡ Some held)
       (takes : takes_zeros_alone before ≡ false) (more : Extends before held) where
     own : (shifts : List ℕ) × (slice_get laid put.section ≡ Some (kept_section after.symbols shifts held))
-    own = section_kept after.symbols after.sections laid put.section held is there
+    own = facts.pieces.file.layouts.section after.symbols after.sections laid put.section held is there
 
     few_bytes : length held.bytes ≤ 2 ^ 30
     few_bytes =
@@ -203,7 +204,7 @@ module _ (facts : TableFacts) (frame : Frame) (frames : List Frame) (tables afte
           (facts.labels frame frames tables after ready.within
           (All-weaker (IsCovered tables.sections) (FrameStands tables.sections) (λ one is_covered. is_covered.stands) (frame ∷ frames) covered) made);
       rows = low.rows;
-      told = told_is facts.pieces.file.settled facts.shift after.symbols after.sections laid is put.within low.small;
+      told = told_is facts.pieces.file.layouts facts.shift after.symbols after.sections laid is put.within low.small;
     }
 
     abbrev pieces : PieceFacts
@@ -286,7 +287,7 @@ module _ (facts : TableFacts) (frame : Frame) (frames : List Frame) (tables afte
             entries = subst (λ (offset : ℕ). EntriesFill (image_of after.symbols laid) after.symbols laid put.section (at_end pieces section start) offset (frame ∷ frames)) place
                 (all_read facts section start start_stands behind (frame ∷ frames) with_common nothing_behind behind_stands (omega (arith, place)) known
                 (λ symbol at there. subst (λ (t : Tables). NamesPlace t.symbols symbol at) (sym put.put) there)
-                (All-weaker (IsCovered tables.sections) (IsRising section) (frame_rising section tables.sections put.grows low.small) (frame ∷ frames) covered)
+                (All-weaker (IsCovered tables.sections) (IsRising section) (frame_rising facts.pieces.file.layouts section tables.sections put.grows low.small) (frame ∷ frames) covered)
                 table.entries (facts.common_reaches put.section frame.pos put.first put.takes) (ap (λ (t : Tables). t.sections) (sym put.put)));
           }
 

@@ -1,15 +1,15 @@
 -- What holds before a frame table is put, and of the layout with it.
-use Rattle.std.specs.Prelude.{◌≡◌, ℕ, ◌+◌, ◌^◌, ◌≤◌, ◌⊎◌, List, length, All, Some, slice_get}
+use Rattle.std.specs.Prelude.{◌≡◌, ℕ, ◌^◌, ◌≤◌, ◌⊎◌, List, length, All, Some, slice_get}
 use Rattle.asm_frags.specs.SectionOf.{SectionOf}
 use Rattle.asm_frags.specs.Writing.{LooseSection}
-use Rattle.asm_relax.specs.ItemRows.{rows_of, levels_of}
+use Rattle.item_rows.specs.ItemRows.{rows_of, levels_of}
 use Rattle.asm_relax.specs.ItemValues.{AreLow}
 use Rattle.asm_relax.specs.Settling.{LaidItem, LaidSections, planned}
 use Rattle.asm_symbols.specs.declared.entries.Meaning.TheVariants.{Label, Space}
 use Rattle.asm_symbols.specs.declared.entries.Spot.{Spot}
 use Rattle.asm_symbols.specs.declared.entries.Symbol.{Symbol}
 use Rattle.cfi_directives.specs.declared.frames.Frame.{Frame}
-use Rattle.cfi_directives.specs.declared.places.Place.{Place}
+use Rattle.asm_base.specs.declared.places.Place.{Place}
 use Rattle.cfi_directives.specs.Meant.{stop_of}
 use Rattle.cfi_directives.specs.Order.{IsInOrder}
 use Rattle.cfi_directives.specs.Sound.{IsWhole}
@@ -35,7 +35,7 @@ pub record IsCovered (sections : List LooseSection) (frame : Frame) : Type 0 whe
 
 -- a symbol that has a place stands in a section that is there, behind some of its items
 abbrev pub SymbolHolds : List LooseSection → Symbol → Type 0
-SymbolHolds sections symbol = (spot : Spot) → (symbol.meaning ≡ Label spot) ⊎ (symbol.meaning ≡ Space spot) → HoldsItems sections spot.section spot.item
+SymbolHolds sections symbol = (spot : Spot) → (symbol.meaning ≡ Label spot) ⊎ (symbol.meaning ≡ Space spot) → HoldsItems sections spot.place.section spot.place.place.item
 
 -- before a table is put, items and fields stand within their sections, there are at most 2^24 symbols, those with the name of a place are labels there,
 -- and all that have a place stand in a section

@@ -9,7 +9,7 @@ use Rattle.asm_frags.specs.SectionOf.{SectionOf, is_section_named}
 use Rattle.asm_symbols.specs.SymbolMap.{SymbolMap}
 use Rattle.asm_relax.specs.Settling.{LaidItem, LaidSections, layout_of}
 use Rattle.cfi_directives.specs.declared.frames.Frame.{Frame}
-use Rattle.cfi_directives.specs.declared.places.SectionPlace.{SectionPlace}
+use Rattle.asm_base.specs.declared.places.SectionPlace.{SectionPlace}
 use Rattle.cfi_directives.specs.Meant.{from_start, place_in, row_meant, stop_of}
 use Rattle.cfi_rows.specs.Entries.{common_bytes, entry_of, row_of}
 use Rattle.cfi_rows.specs.Instructions.{four_bytes_of}

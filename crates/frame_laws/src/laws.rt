@@ -2,13 +2,13 @@
 
 ghost use Rattle.frame_laws.specs.TableReads.{FrameTablesRead};
 
-use asm_relax::{settled_is_placed, settled_items_have_room, sizes_add_up};
+use crate::distances::{distances_are_held, labels_are_few};
+use asm_relax::{layouts_keep_sections, settled_items_have_room, sizes_add_up};
 use eh_frame::{
     distances_have_two_terms, ends_are_counted, entries_read, labels_stand, pieces_are_found,
     pieces_stand_behind, places_are_named,
 };
 use elf_object::{bytes_stand, items_stand, values_stand};
-use frame_distances::{distances_are_held, labels_are_few};
 use item_contents::bytes_are_sized;
 
 /// In the file of every layout in which no section is too large, the CIE stands in `.eh_frame`, and directly behind it, up to
@@ -18,7 +18,7 @@ use item_contents::bytes_are_sized;
 pub fn frame_tables_read()
     ensures { FrameTablesRead }
 {
-    settled_is_placed();
+    layouts_keep_sections();
     settled_items_have_room();
     sizes_add_up();
     bytes_stand();

@@ -257,18 +257,18 @@ insn_refused law faults _ _ (operands named word token text tokens cause heads f
     let front = head_reads named word (token ∷ text) tokens heads in
     ap (insn_by tokens) front.is
     ∙ ap (λ (read : Result FilledText OperandCause). read >>= finished (head named word front.next))
-    (all_refused law faults (is_branch named.4) token text tokens front.next (unfilled (blank named.2 named.3 word)) cause fails front.stands)
+    (all_refused law faults (is_branch named.rule) token text tokens front.next (unfilled (blank named.name named.size word)) cause fails front.stands)
 insn_refused law faults _ _ (sources named word written text tokens heads writes two) =
     let front = head_reads named word text tokens heads in
     ap (insn_by tokens) front.is
     ∙ ap (λ (read : Result FilledText OperandCause). read >>= finished (head named word front.next))
-    (all_read law (is_branch named.4) written text tokens front.next (unfilled (blank named.2 named.3 word)) writes front.stands)
-    ∙ ap (λ (read : Result InsnText OperandCause). read >>= (λ insn. sized (filled_by named word written).bits insn)) (source_refused named.4 (filled_by named word written) two)
+    (all_read law (is_branch named.rule) written text tokens front.next (unfilled (blank named.name named.size word)) writes front.stands)
+    ∙ ap (λ (read : Result InsnText OperandCause). read >>= (λ insn. sized (filled_by named word written).bits insn)) (source_refused named.rule (filled_by named word written) two)
 insn_refused law faults _ _ (sizes named word written insn text tokens heads writes means two) =
     let front = head_reads named word text tokens heads in
     ap (insn_by tokens) front.is
     ∙ ap (λ (read : Result FilledText OperandCause). read >>= finished (head named word front.next))
-    (all_read law (is_branch named.4) written text tokens front.next (unfilled (blank named.2 named.3 word)) writes front.stands)
+    (all_read law (is_branch named.rule) written text tokens front.next (unfilled (blank named.name named.size word)) writes front.stands)
     ∙ ap (λ (read : Result InsnText OperandCause). read >>= (λ insn. sized (filled_by named word written).bits insn)) means
     ∙ size_refused (filled_by named word written).bits insn two
 
@@ -279,46 +279,46 @@ split_front (token ∷ tokens) zero l = (token, tokens, refl)
 split_front (token ∷ tokens) (suc at) l = split_front tokens at (omega arith)
 
 all_fails_by : OperandsAreSpelled → OperandsFailExactly → (found : Head) (tokens : List SpelledToken) (cause : OperandCause) (insn : FilledText) (b : Bool) → HeadStands tokens found
-    → nat_lt found.next (length tokens) ≡ b → cond b (operands_at 3 (is_branch found.named.4) tokens found.next insn) (Ok insn) ≡ Err cause → HasFault tokens cause
+    → nat_lt found.next (length tokens) ≡ b → cond b (operands_at 3 (is_branch found.named.rule) tokens found.next insn) (Ok insn) ≡ Err cause → HasFault tokens cause
 all_fails_by law faults found tokens cause insn true heads test given =
     let front = split_front tokens found.next (ltb-true found.next (length tokens) test) in
-    let fails = operands_fail law faults 3 (is_branch found.named.4) tokens found.next insn cause given in
+    let fails = operands_fail law faults 3 (is_branch found.named.rule) tokens found.next insn cause given in
     operands found.named found.«prefix» front.0 front.1 tokens cause
     (subst (λ (ts : List SpelledToken). IsHead found.named found.«prefix» ts tokens) front.2 heads.stands)
-    (subst (λ (ts : List SpelledToken). OperandsFail 3 (is_branch found.named.4) ts cause) front.2 fails)
+    (subst (λ (ts : List SpelledToken). OperandsFail 3 (is_branch found.named.rule) ts cause) front.2 fails)
 all_fails_by law faults found tokens cause insn false heads test given = cc
 
 all_fails : OperandsAreSpelled → OperandsFailExactly → (found : Head) (tokens : List SpelledToken) (cause : OperandCause) (insn : FilledText) → HeadStands tokens found
-    → with_all (is_branch found.named.4) tokens found.next insn ≡ Err cause → HasFault tokens cause
+    → with_all (is_branch found.named.rule) tokens found.next insn ≡ Err cause → HasFault tokens cause
 unfolding with_all
 all_fails law faults found tokens cause insn heads given = all_fails_by law faults found tokens cause insn (nat_lt found.next (length tokens)) heads refl given
 
 meant_fails : (named : Named) (word : Prefix) (written : List SizedText) (text tokens : List SpelledToken) (cause : OperandCause) (read : Result InsnText OperandCause) → IsHead named word text tokens
-    → WritesAll (is_branch named.4) written text → meant_by named.4 (filled_by named word written) ≡ read
+    → WritesAll (is_branch named.rule) written text → meant_by named.rule (filled_by named word written) ≡ read
     → (read >>= (λ insn. sized (filled_by named word written).bits insn)) ≡ Err cause → HasFault tokens cause
 meant_fails named word written text tokens cause (Err own) heads writes means is =
-    let two = ruled_fails named.4 (filled_by named word written) cause (means ∙ is) in
+    let two = ruled_fails named.rule (filled_by named word written) cause (means ∙ is) in
     subst (HasFault tokens) (sym two.is) (sources named word written text tokens heads writes two.has)
 meant_fails named word written text tokens cause (Ok insn) heads writes means is =
     let two = size_fails (filled_by named word written).bits insn cause is in
     subst (HasFault tokens) (sym two.is) (sizes named word written insn text tokens heads writes means two.has)
 
 headed_fails : OperandsAreSpelled → OperandsFailExactly → (found : Head) (tokens : List SpelledToken) (cause : OperandCause) (read : Result FilledText OperandCause) → HeadStands tokens found
-    → with_all (is_branch found.named.4) tokens found.next (unfilled (blank found.named.2 found.named.3 found.«prefix»)) ≡ read
+    → with_all (is_branch found.named.rule) tokens found.next (unfilled (blank found.named.name found.named.size found.«prefix»)) ≡ read
     → (read >>= finished found) ≡ Err cause → HasFault tokens cause
 headed_fails law faults found tokens cause (Err own) heads reads is =
-    all_fails law faults found tokens cause (unfilled (blank found.named.2 found.named.3 found.«prefix»)) heads (reads ∙ ap Err (err_is own cause is))
+    all_fails law faults found tokens cause (unfilled (blank found.named.name found.named.size found.«prefix»)) heads (reads ∙ ap Err (err_is own cause is))
 headed_fails law faults found tokens cause (Ok filled) heads reads is =
-    let all = all_spelled law (is_branch found.named.4) tokens found.next (unfilled (blank found.named.2 found.named.3 found.«prefix»)) filled reads in
+    let all = all_spelled law (is_branch found.named.rule) tokens found.next (unfilled (blank found.named.name found.named.size found.«prefix»)) filled reads in
     let own : finished found (filled_by found.named found.«prefix» all.operands) ≡ Err cause = ap (finished found) (sym all.is) ∙ is in
-    meant_fails found.named found.«prefix» all.operands (drop found.next tokens) tokens cause (meant_by found.named.4 (filled_by found.named found.«prefix» all.operands)) heads.stands all.writes refl own
+    meant_fails found.named found.«prefix» all.operands (drop found.next tokens) tokens cause (meant_by found.named.rule (filled_by found.named found.«prefix» all.operands)) heads.stands all.writes refl own
 
 fails_by_head : OperandsAreSpelled → OperandsFailExactly → (tokens : List SpelledToken) (cause : OperandCause) (found : Option Head) → head_of tokens ≡ found
     → insn_by tokens found ≡ Err cause → HasFault tokens cause
 fails_by_head law faults tokens cause None heads is =
     subst (HasFault tokens) (err_is UnknownMnemonic cause is) (unknown tokens (λ named word text stands. let front = head_reads named word text tokens stands in let bad : None ≡ Some (head named word front.next) = sym heads ∙ front.is in cc))
 fails_by_head law faults tokens cause (Some found) heads is =
-    headed_fails law faults found tokens cause (with_all (is_branch found.named.4) tokens found.next (unfilled (blank found.named.2 found.named.3 found.«prefix»))) (head_stands tokens found heads) refl is
+    headed_fails law faults found tokens cause (with_all (is_branch found.named.rule) tokens found.next (unfilled (blank found.named.name found.named.size found.«prefix»))) (head_stands tokens found heads) refl is
 
 insn_fails : OperandsAreSpelled → OperandsFailExactly → (tokens : List SpelledToken) (cause : OperandCause) → insn_of tokens ≡ Err cause → HasFault tokens cause
 unfolding insn_of

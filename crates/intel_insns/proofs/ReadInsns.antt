@@ -168,25 +168,25 @@ head_stands (name ∷ text) found is = first_by name text found (mnemonic_of nam
 
 -- what stands behind the head spells the rest
 meant_so : (named : Named) (word : Prefix) (operands : List SizedText) (made : InsnText) (text tokens : List SpelledToken) (read : Result InsnText OperandCause) → IsHead named word text tokens
-    → WritesAll (is_branch named.4) operands text → meant_by named.4 (filled_by named word operands) ≡ read
+    → WritesAll (is_branch named.rule) operands text → meant_by named.rule (filled_by named word operands) ≡ read
     → (read >>= (λ insn. sized (filled_by named word operands).bits insn)) ≡ Ok made → Spells made tokens
 meant_so named word operands made text tokens (Err cause) heads writes means is = cc
 meant_so named word operands made text tokens (Ok insn) heads writes means is =
     behind named word operands insn made text tokens heads writes means (size_has (filled_by named word operands).bits insn made is)
 
 filled_so : OperandsAreSpelled → (tokens : List SpelledToken) (found : Head) (made : InsnText) (read : Result FilledText OperandCause) → HeadStands tokens found
-    → with_all (is_branch found.named.4) tokens found.next (unfilled (blank found.named.2 found.named.3 found.«prefix»)) ≡ read
+    → with_all (is_branch found.named.rule) tokens found.next (unfilled (blank found.named.name found.named.size found.«prefix»)) ≡ read
     → (read >>= finished found) ≡ Ok made → Spells made tokens
 filled_so law tokens found made (Err cause) heads reads is = cc
 filled_so law tokens found made (Ok filled) heads reads is =
-    let all = all_spelled law (is_branch found.named.4) tokens found.next (unfilled (blank found.named.2 found.named.3 found.«prefix»)) filled reads in
+    let all = all_spelled law (is_branch found.named.rule) tokens found.next (unfilled (blank found.named.name found.named.size found.«prefix»)) filled reads in
     let own : finished found (filled_by found.named found.«prefix» all.operands) ≡ Ok made = ap (finished found) (sym all.is) ∙ is in
-    meant_so found.named found.«prefix» all.operands made (drop found.next tokens) tokens (meant_by found.named.4 (filled_by found.named found.«prefix» all.operands)) heads.stands all.writes refl own
+    meant_so found.named found.«prefix» all.operands made (drop found.next tokens) tokens (meant_by found.named.rule (filled_by found.named found.«prefix» all.operands)) heads.stands all.writes refl own
 
 headed_by : OperandsAreSpelled → (tokens : List SpelledToken) (made : InsnText) (found : Option Head) → head_of tokens ≡ found → insn_by tokens found ≡ Ok made → Spells made tokens
 headed_by law tokens made None heads is = cc
 headed_by law tokens made (Some found) heads is =
-    filled_so law tokens found made (with_all (is_branch found.named.4) tokens found.next (unfilled (blank found.named.2 found.named.3 found.«prefix»))) (head_stands tokens found heads) refl is
+    filled_so law tokens found made (with_all (is_branch found.named.rule) tokens found.next (unfilled (blank found.named.name found.named.size found.«prefix»))) (head_stands tokens found heads) refl is
 
 -- an instruction that is read is spelled
 pub insn_spelled : OperandsAreSpelled → (insn : InsnText) (tokens : List SpelledToken) → insn_of tokens ≡ Ok insn → Spells insn tokens

@@ -91,10 +91,10 @@ all_read law _ operands text tokens at insn (some branch _ _ writes) stands =
 
 -- what stands behind the mnemonic gives the instruction
 headed_read : OperandsAreRead → (named : Named) (word : Prefix) (operands : List SizedText) (insn made : InsnText) (next : ℕ) (text tokens : List SpelledToken)
-    → WritesAll (is_branch named.4) operands text → meant_by named.4 (filled_by named word operands) ≡ Ok insn → GetsSize (filled_by named word operands).bits insn made → drop next tokens ≡ text
+    → WritesAll (is_branch named.rule) operands text → meant_by named.rule (filled_by named word operands) ≡ Ok insn → GetsSize (filled_by named word operands).bits insn made → drop next tokens ≡ text
     → headed_insn tokens (head named word next) ≡ Ok made
 headed_read law named word operands insn made next text tokens writes means has stands =
-    ap (λ (read : Result FilledText OperandCause). read >>= finished (head named word next)) (all_read law (is_branch named.4) operands text tokens next (unfilled (blank named.2 named.3 word)) writes stands)
+    ap (λ (read : Result FilledText OperandCause). read >>= finished (head named word next)) (all_read law (is_branch named.rule) operands text tokens next (unfilled (blank named.name named.size word)) writes stands)
     ∙ ap (λ (read : Result InsnText OperandCause). read >>= (λ insn. sized (filled_by named word operands).bits insn)) means
     ∙ size_reads (filled_by named word operands).bits insn made has
 

@@ -61,11 +61,11 @@ pub record HasTwoSources (rule : Rule) (filled : FilledText) : Type 0 where
 pub data HasFault : (tokens : List SpelledToken) (cause : OperandCause) → Type 0 where
   unknown : (tokens : List SpelledToken) → HasNoHead tokens → HasFault tokens UnknownMnemonic
   operands : (named : Named) (word : Prefix) (token : SpelledToken) (text tokens : List SpelledToken) (cause : OperandCause) → IsHead named word (token ∷ text) tokens
-      → OperandsFail 3 (is_branch named.4) (token ∷ text) cause → HasFault tokens cause
+      → OperandsFail 3 (is_branch named.rule) (token ∷ text) cause → HasFault tokens cause
   sources : (named : Named) (word : Prefix) (written : List SizedText) (text tokens : List SpelledToken) → IsHead named word text tokens
-      → WritesAll (is_branch named.4) written text → HasTwoSources named.4 (filled_by named word written) → HasFault tokens UnknownOperandSize
+      → WritesAll (is_branch named.rule) written text → HasTwoSources named.rule (filled_by named word written) → HasFault tokens UnknownOperandSize
   sizes : (named : Named) (word : Prefix) (written : List SizedText) (insn : InsnText) (text tokens : List SpelledToken) → IsHead named word text tokens
-      → WritesAll (is_branch named.4) written text → meant_by named.4 (filled_by named word written) ≡ Ok insn
+      → WritesAll (is_branch named.rule) written text → meant_by named.rule (filled_by named word written) ≡ Ok insn
       → HasTwoSizes (filled_by named word written).bits insn → HasFault tokens UnknownOperandSize
 
 -- the reading of the tokens has this fault exactly where they have it

@@ -37,12 +37,12 @@ unfilled insn = record { insn = insn; bits = 0 }
 
 -- the instruction that its operands mean by the rule of the mnemonic, and its size
 abbrev pub finished : Head → FilledText → Result InsnText OperandCause
-finished head filled = meant_by head.named.4 filled >>= (λ insn. sized filled.bits insn)
+finished head filled = meant_by head.named.rule filled >>= (λ insn. sized filled.bits insn)
 
 -- the instruction that the operands from this place on give the head
 abbrev pub headed_insn : List SpelledToken → Head → Result InsnText OperandCause
 headed_insn tokens head =
-    with_all (is_branch head.named.4) tokens head.next (unfilled (blank head.named.2 head.named.3 head.«prefix»)) >>= finished head
+    with_all (is_branch head.named.rule) tokens head.next (unfilled (blank head.named.name head.named.size head.«prefix»)) >>= finished head
 
 -- the instruction behind what stands in front, if a mnemonic does
 abbrev pub insn_by : List SpelledToken → Option Head → Result InsnText OperandCause

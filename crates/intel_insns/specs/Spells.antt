@@ -48,7 +48,7 @@ pub data GetsSize : (bits : ℕ) (insn made : InsnText) → Type 0 where
 
 -- the operands of the instruction behind its mnemonic and prefix
 abbrev pub filled_by : Named → Prefix → List SizedText → FilledText
-filled_by named word operands = with_operands operands (unfilled (blank named.2 named.3 word))
+filled_by named word operands = with_operands operands (unfilled (blank named.name named.size word))
 
 -- The tokens begin with a mnemonic that has rows, or with a prefix and such a mnemonic, and this text stands behind it.
 pub data IsHead : (named : Named) (word : Prefix) (text tokens : List SpelledToken) → Type 0 where
@@ -60,7 +60,7 @@ pub data IsHead : (named : Named) (word : Prefix) (text tokens : List SpelledTok
 -- The tokens spell the instruction: what their operands mean by the rule of the mnemonic, with its size.
 pub data Spells : (made : InsnText) (tokens : List SpelledToken) → Type 0 where
   behind : (named : Named) (word : Prefix) (operands : List SizedText) (insn made : InsnText) (text tokens : List SpelledToken) → IsHead named word text tokens
-      → WritesAll (is_branch named.4) operands text → meant_by named.4 (filled_by named word operands) ≡ Ok insn
+      → WritesAll (is_branch named.rule) operands text → meant_by named.rule (filled_by named word operands) ≡ Ok insn
       → GetsSize (filled_by named word operands).bits insn made → Spells made tokens
 
 -- what the layer below tells: operands that are spelled are read

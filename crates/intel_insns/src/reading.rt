@@ -25,7 +25,7 @@ fn finish(insn: &mut Insn, found: FoundHead, bits: u8) -> Result<(), OperandFaul
     ensures { (due : FilledText) → IsFilled insn.old bits due
         → Makes insn.new result (finished (head found.named.now found.prefix found.next) due) }
 {
-    match mean(insn, found.named.4, bits) {
+    match mean(insn, found.named.rule, bits) {
         Ok(()) => give_size(insn, bits),
         Err(refusal) => Err(refusal),
     }
@@ -39,11 +39,11 @@ fn fill<'a>(
     found: FoundHead,
     insn: &mut Insn<'a>,
 ) -> Result<(), OperandFault>
-    ensures { IsInsnOf insn.old (blank found.named.now.2 found.named.now.3 found.prefix)
+    ensures { IsInsnOf insn.old (blank found.named.now.name found.named.now.size found.prefix)
         → Makes insn.new result (headed_insn (map spelled tokens.now)
         (head found.named.now found.prefix found.next)) }
 {
-    match put_all(alloc, tokens, found.next, is_branch(found.named.4), insn) {
+    match put_all(alloc, tokens, found.next, is_branch(found.named.rule), insn) {
         Ok(bits) => finish(insn, found, bits),
         Err(refusal) => Err(refusal),
     }
@@ -61,7 +61,7 @@ pub fn read_into<'a>(
 {
     match head_of(tokens) {
         Some(found) => {
-            *insn = blank(found.named.2, found.named.3, found.prefix);
+            *insn = blank(found.named.name, found.named.size, found.prefix);
             fill(alloc, tokens, found, insn)
         }
         None => Err(OperandFault::Fault(OperandCause::UnknownMnemonic)),

@@ -10,6 +10,7 @@ use Rattle.att_operands.specs.declared.faults.OperandCause.TheVariants.{BadOpera
 use Rattle.att_operands.specs.Values.{ValueText, ReadText, value_at, stated}
 use Rattle.att_operands.specs.Failing.{ValueFails}
 use Rattle.att_operands.specs.WholeValues.{ValuesAreRead, ValuesAreWritten, RefusedValuesFail, FailingValuesAreRefused}
+use Rattle.intel_sums.specs.SumLaws.{SumsAreRead, SumsAreWritten}
 use Rattle.intel_operands.specs.Symbols.{has_symbol, names_place}
 use Rattle.intel_operands.specs.OperandTexts.{SizedText, Outline, lone, held, bare, stands, moved, ending, value_of, as_immediate, as_memory, bare_operand, as_bare, with_value, outlined, outline_of, operand_of, up_to_comma, ended, operand_at}
 use Rattle.intel_operands.specs.Spells.{HasNoComma}
@@ -30,10 +31,10 @@ held_fails law branch _ _ (of_offset text own fails) = ap as_immediate (value_fa
 held_fails law branch _ _ (of_value text own fails) = ap (as_bare branch (names_place text) (has_symbol text)) (value_fails law text own fails)
 held_fails law branch _ _ (of_displacement bits address text own fails) = ap (as_memory bits address) (value_fails law text own fails)
 
-expression_fails : FailingValuesAreRefused → (branch : Bool) (text : List SpelledToken) (own : ExprCause) → ExpressionFails text own → operand_of branch text ≡ Err (stated own)
-expression_fails law branch text own fails =
+expression_fails : SumsAreRead → FailingValuesAreRefused → (branch : Bool) (text : List SpelledToken) (own : ExprCause) → ExpressionFails text own → operand_of branch text ≡ Err (stated own)
+expression_fails sums law branch text own fails =
     read_by_outline branch text fails.some
-    ∙ ap (outlined branch) (outline_reads fails.outline text fails.round)
+    ∙ ap (outlined branch) (outline_reads sums fails.outline text fails.round)
     ∙ held_fails law branch fails.outline own fails.fails
 
 -- A REFUSED OPERAND
@@ -99,19 +100,19 @@ held_refused law branch (bare text) fault is = bare_by law branch text fault (va
 held_refused law branch (stands bits address) fault is = cc
 held_refused law branch (moved bits address text) fault is = memory_by law bits address text fault (value_of text) refl is
 
-outlined_refused : RefusedValuesFail → (branch : Bool) (text : List SpelledToken) (fault : OperandCause) (found : Option Outline) → nat_lt 0 (length text) ≡ true → outline_of text ≡ found
+outlined_refused : SumsAreWritten → RefusedValuesFail → (branch : Bool) (text : List SpelledToken) (fault : OperandCause) (found : Option Outline) → nat_lt 0 (length text) ≡ true → outline_of text ≡ found
     → outlined branch found ≡ Err fault → Refused (ExpressionFails text) fault
-outlined_refused law branch text fault None some round is = bad (ExpressionFails text) fault is
-outlined_refused law branch text fault (Some outline) some round is =
+outlined_refused sums_written law branch text fault None some round is = bad (ExpressionFails text) fault is
+outlined_refused sums_written law branch text fault (Some outline) some round is =
     lifted (HoldsFault outline) (ExpressionFails text) fault
-    (λ own fails. record { outline = outline; some = some; round = outline_written outline text round; fails = fails })
+    (λ own fails. record { outline = outline; some = some; round = outline_written sums_written outline text round; fails = fails })
     (held_refused law branch outline fault is)
 
-text_refused : RefusedValuesFail → (branch : Bool) (text : List SpelledToken) (fault : OperandCause) → operand_of branch text ≡ Err fault → Refused (ExpressionFails text) fault
+text_refused : SumsAreWritten → RefusedValuesFail → (branch : Bool) (text : List SpelledToken) (fault : OperandCause) → operand_of branch text ≡ Err fault → Refused (ExpressionFails text) fault
 unfolding operand_of
-text_refused law branch [] fault is = bad (ExpressionFails []) fault is
-text_refused law branch (token ∷ rest) fault is =
-    outlined_refused law branch (token ∷ rest) fault (outline_of (token ∷ rest)) (lt-ltb 0 (length (token ∷ rest)) (omega arith)) refl is
+text_refused sums_written law branch [] fault is = bad (ExpressionFails []) fault is
+text_refused sums_written law branch (token ∷ rest) fault is =
+    outlined_refused sums_written law branch (token ∷ rest) fault (outline_of (token ∷ rest)) (lt-ltb 0 (length (token ∷ rest)) (omega arith)) refl is
 
 -- THE FAULT OF A TEXT
 
@@ -126,32 +127,32 @@ stated_apart cause.NotASumOfSymbols is = cc
 not_both : (operand : SizedText) (fault : OperandCause) → (let given : Result SizedText OperandCause = Ok operand in given ≡ Err fault) → ⊥
 not_both operand fault is = cc
 
-nothing : ValuesAreRead → FailingValuesAreRefused → (branch : Bool) (text : List SpelledToken) → operand_of branch text ≡ Err BadOperand → SpellsNothing branch text
-nothing read law branch text is = record {
-  fails = λ own fails. stated_apart own (err_is (sym (expression_fails law branch text own fails) ∙ is));
-  spells = λ operand spells. not_both operand BadOperand (sym (text_reads read branch operand text spells) ∙ is);
+nothing : SumsAreRead → ValuesAreRead → FailingValuesAreRefused → (branch : Bool) (text : List SpelledToken) → operand_of branch text ≡ Err BadOperand → SpellsNothing branch text
+nothing sums read law branch text is = record {
+  fails = λ own fails. stated_apart own (err_is (sym (expression_fails sums law branch text own fails) ∙ is));
+  spells = λ operand spells. not_both operand BadOperand (sym (text_reads sums read branch operand text spells) ∙ is);
 }
 
-fault_by : ValuesAreRead → FailingValuesAreRefused → (branch : Bool) (text : List SpelledToken) (fault : OperandCause) → operand_of branch text ≡ Err fault → Refused (ExpressionFails text) fault
+fault_by : SumsAreRead → ValuesAreRead → FailingValuesAreRefused → (branch : Bool) (text : List SpelledToken) (fault : OperandCause) → operand_of branch text ≡ Err fault → Refused (ExpressionFails text) fault
     → HasFault branch text fault
-fault_by read law branch text fault is (inl same) =
-    subst (HasFault branch text) (sym same) (bad_operand branch text (nothing read law branch text (is ∙ ap Err same)))
-fault_by read law branch text fault is (inr failed) = subst (HasFault branch text) (sym failed.2) (expression branch text failed.0 failed.1)
+fault_by sums read law branch text fault is (inl same) =
+    subst (HasFault branch text) (sym same) (bad_operand branch text (nothing sums read law branch text (is ∙ ap Err same)))
+fault_by sums read law branch text fault is (inr failed) = subst (HasFault branch text) (sym failed.2) (expression branch text failed.0 failed.1)
 
 refused_by : (branch : Bool) (text : List SpelledToken) (fault : OperandCause) → SpellsNothing branch text → operand_of branch text ≡ Err fault → Refused (ExpressionFails text) fault
     → operand_of branch text ≡ Err BadOperand
 refused_by branch text fault none is (inl same) = is ∙ ap Err same
 refused_by branch text fault none is (inr failed) = absurd (none.fails failed.0 failed.1)
 
-nothing_refused : ValuesAreWritten → RefusedValuesFail → (branch : Bool) (text : List SpelledToken) (read : Result SizedText OperandCause) → HasNoComma text → SpellsNothing branch text → operand_of branch text ≡ read
+nothing_refused : SumsAreWritten → ValuesAreWritten → RefusedValuesFail → (branch : Bool) (text : List SpelledToken) (read : Result SizedText OperandCause) → HasNoComma text → SpellsNothing branch text → operand_of branch text ≡ read
     → operand_of branch text ≡ Err BadOperand
-nothing_refused written law branch text (Ok operand) apart none is = absurd (none.spells operand (text_spelled written branch text operand apart is))
-nothing_refused written law branch text (Err fault) apart none is = refused_by branch text fault none is (text_refused law branch text fault is)
+nothing_refused sums_written written law branch text (Ok operand) apart none is = absurd (none.spells operand (text_spelled sums_written written branch text operand apart is))
+nothing_refused sums_written written law branch text (Err fault) apart none is = refused_by branch text fault none is (text_refused sums_written law branch text fault is)
 
-has_refused : ValuesAreWritten → RefusedValuesFail → FailingValuesAreRefused → (branch : Bool) (text : List SpelledToken) (fault : OperandCause) → HasNoComma text → HasFault branch text fault
+has_refused : SumsAreRead → SumsAreWritten → ValuesAreWritten → RefusedValuesFail → FailingValuesAreRefused → (branch : Bool) (text : List SpelledToken) (fault : OperandCause) → HasNoComma text → HasFault branch text fault
     → operand_of branch text ≡ Err fault
-has_refused written refused law _ _ _ apart (expression branch text own fails) = expression_fails law branch text own fails
-has_refused written refused law _ _ _ apart (bad_operand branch text none) = nothing_refused written refused branch text (operand_of branch text) apart none refl
+has_refused sums sums_written written refused law _ _ _ apart (expression branch text own fails) = expression_fails sums law branch text own fails
+has_refused sums sums_written written refused law _ _ _ apart (bad_operand branch text none) = nothing_refused sums_written written refused branch text (operand_of branch text) apart none refl
 
 -- AMONG OTHER TOKENS
 
@@ -160,15 +161,15 @@ ended_refused next fault (Ok operand) is = cc
 ended_refused next fault (Err own) is = ap Err (err_is is)
 
 -- an operand has a fault exactly where it is refused for it
-pub has_fault_exactly : ValuesAreRead → ValuesAreWritten → RefusedValuesFail → FailingValuesAreRefused → (branch : Bool) (tokens : List SpelledToken) (at : ℕ) (fault : OperandCause)
+pub has_fault_exactly : SumsAreRead → SumsAreWritten → ValuesAreRead → ValuesAreWritten → RefusedValuesFail → FailingValuesAreRefused → (branch : Bool) (tokens : List SpelledToken) (at : ℕ) (fault : OperandCause)
     → HasFaultExactly branch tokens at fault
 unfolding operand_at
-has_fault_exactly read written refused law branch tokens at fault =
+has_fault_exactly sums sums_written read written refused law branch tokens at fault =
     let text = front_of (drop at tokens) in
     let next = at + up_to_comma (drop at tokens) in
     record {
       fails = λ is.
           let own = ended_refused next fault (operand_of branch text) is in
-          fault_by read law branch text fault own (text_refused refused branch text fault own);
-      refused = λ has. ap (ended next) (has_refused written refused law branch text fault (front_of_tokens (drop at tokens)).apart has);
+          fault_by sums read law branch text fault own (text_refused sums_written refused branch text fault own);
+      refused = λ has. ap (ended next) (has_refused sums sums_written written refused law branch text fault (front_of_tokens (drop at tokens)).apart has);
     }

@@ -1,8 +1,5 @@
 pub mod TextLemmas
 pub mod SpelledTests
-pub mod PartTexts
-pub mod SumTexts
-pub mod LoneSums
 pub mod OutlineTexts
 pub mod SpelledIsRead
 pub mod ReadIsSpelled

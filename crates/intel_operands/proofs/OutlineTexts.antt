@@ -1,7 +1,8 @@
 -- What stands round a value is read as it is written.
-use Rattle.std.proofs.Common.{◌≡◌, ℕ, zero, suc, ◌≤◌, ◌==◌, ◌&&◌, nat_lt, Bool, true, false, cond, List, [], ◌∷◌, ◌++◌, Option, Some, None, Result, Ok, Err, length, drop, slice_get, codes, refl, sym, ap, subst, ◌∙◌, arith}
+use Rattle.std.proofs.Common.{◌≡◌, ℕ, zero, suc, ◌≤◌, ◌==◌, ◌&&◌, nat_lt, Bool, true, false, cond, List, [], ◌∷◌, ◌++◌, Option, Some, None, Result, Ok, Err, length, map, drop, slice_get, codes, refl, sym, ap, subst, ◌∙◌, arith}
 use Rattle.std.proofs.lemmas.Bool.{eqb-true, and_parts, ltb-false}
-use Rattle.asm_base.specs.Tokens.{SpelledToken}
+use Rattle.asm_base.specs.declared.tokens.Token.{Token}
+use Rattle.asm_base.specs.Tokens.{SpelledToken, spelled}
 use Rattle.x86_insn.specs.declared.registers.Reg.{Reg}
 use Rattle.x86_insn.specs.declared.insns.Segment.{Segment}
 use Rattle.x86_insn.specs.declared.insns.Base.TheVariants as base
@@ -14,24 +15,27 @@ use Rattle.att_operands.specs.Registers.{register_of}
 use Rattle.att_operands.specs.Marks.{mark_by, mark_at}
 use Rattle.att_operands.specs.Addresses.{register_by}
 use Rattle.att_operands.specs.Spells.{IsMark, in_segment}
-use Rattle.intel_operands.specs.declared.parts.Parts.TheVariants.{Nothing}
+use Rattle.intel_sums.specs.declared.parts.Part.TheVariants.{Plain}
+use Rattle.intel_sums.specs.declared.parts.Parts.TheVariants.{One}
+use Rattle.intel_sums.specs.declared.lone_sums.LoneSum.{LoneSum}
+use Rattle.intel_sums.specs.Parts.{address_of}
+use Rattle.intel_sums.specs.Sums.{SumSoFar, no_sum, sum_of, is_whole, but_last}
+use Rattle.intel_sums.specs.LoneSums.{left_in, IsFoundIn}
+use Rattle.intel_sums.specs.SumLaws.{SumsAreRead, SumsAreWritten}
 use Rattle.intel_operands.specs.Words.{is_word, bits_by, bits_in, offset_words}
-use Rattle.intel_operands.specs.Parts.{address_of}
-use Rattle.intel_operands.specs.Sums.{SumSoFar, no_sum, sum_of, is_whole}
-use Rattle.intel_operands.specs.OperandTexts.{Outline, lone, held, bare, moved, register_in, segment_in, lone_register, segment_of, has_register, has_bracket, closes_bracket, but_last, is_nested, is_memory, summed_at, summed_by, summed, bracketed, is_placed, placed, segmented, sized, memory_of, bare_of, held_of, other_of, outline_by, outline_of}
+use Rattle.intel_operands.specs.OperandTexts.{Outline, lone, held, bare, moved, register_in, segment_in, lone_register, segment_of, has_register, has_bracket, closes_bracket, is_nested, is_memory, summed_by, summed, bracketed, is_placed, placed, segmented, sized, memory_of, bare_of, held_of, other_of, outline_by, outline_of}
 use Rattle.intel_operands.specs.Spells.{PlacesMemory, displacement, bracket, SegmentsMemory, plain, behind_segment, SizesMemory, unsaid, said, IsOutline, alone, offset, place, nested, value}
 use Rattle.intel_operands.proofs.TextLemmas.{some_is, closed, without_last, Closed, closing_apart}
-use Rattle.intel_operands.proofs.SumTexts.{sum_reads, sum_written}
 
 -- WRITTEN IS READ
 
-places_reads : (bits : ℕ) (segment : Option Segment) (outline : Outline) (text : List SpelledToken) → PlacesMemory bits segment outline text → placed bits segment text ≡ Some outline
+places_reads : SumsAreRead → (bits : ℕ) (segment : Option Segment) (outline : Outline) (text : List SpelledToken) → PlacesMemory bits segment outline text → placed bits segment text ≡ Some outline
 unfolding bracketed
-places_reads _ _ _ _ (displacement bits segment text none apart placed_there) = rw (none, apart, placed_there) refl
-places_reads _ _ _ text (bracket bits segment address parts closing left before _ has writes is closes split) =
+places_reads sums _ _ _ _ (displacement bits segment text none apart placed_there) = rw (none, apart, placed_there) refl
+places_reads sums _ _ _ text (bracket bits segment address parts closing left before _ has writes is closes split) =
     let ends = closed before text closing closes split in
     let inside = without_last before text closing split in
-    let reads = sum_reads false 0 Nothing parts left before [] writes in
+    let reads = sums parts left before writes in
     rw (has, ends)
     (ap (λ (ts : List SpelledToken). summed bits (mark_at text 0) segment (sum_of (Ok no_sum) ts)) inside
     ∙ ap (summed bits (mark_at text 0) segment) reads
@@ -42,17 +46,17 @@ segment_reads : (word colon : SpelledToken) (text : List SpelledToken) (segment 
 unfolding segment_of
 segment_reads word colon text segment names is = rw (is, names) refl
 
-segments_reads : (bits : ℕ) (outline : Outline) (text : List SpelledToken) → SegmentsMemory bits outline text → segmented bits text (segment_of text) ≡ Some outline
-segments_reads _ _ _ (plain bits outline text none places) = ap (segmented bits text) none ∙ places_reads bits None outline text places
-segments_reads _ _ _ (behind_segment bits segment outline word colon text names is places) =
-    ap (segmented bits (word ∷ colon ∷ text)) (segment_reads word colon text segment names is) ∙ places_reads bits (Some segment) outline text places
+segments_reads : SumsAreRead → (bits : ℕ) (outline : Outline) (text : List SpelledToken) → SegmentsMemory bits outline text → segmented bits text (segment_of text) ≡ Some outline
+segments_reads sums _ _ _ (plain bits outline text none places) = ap (segmented bits text) none ∙ places_reads sums bits None outline text places
+segments_reads sums _ _ _ (behind_segment bits segment outline word colon text names is places) =
+    ap (segmented bits (word ∷ colon ∷ text)) (segment_reads word colon text segment names is) ∙ places_reads sums bits (Some segment) outline text places
 
-sizes_reads : (outline : Outline) (text : List SpelledToken) → SizesMemory outline text → sized text ≡ Some outline
+sizes_reads : SumsAreRead → (outline : Outline) (text : List SpelledToken) → SizesMemory outline text → sized text ≡ Some outline
 unfolding sized
-sizes_reads _ _ (unsaid outline text none segments) = rw none (segments_reads 0 outline text segments)
-sizes_reads _ _ (said bits outline size pointer text says some points segments) =
+sizes_reads sums _ _ (unsaid outline text none segments) = rw none (segments_reads sums 0 outline text segments)
+sizes_reads sums _ _ (said bits outline size pointer text says some points segments) =
     let front : bits_in (size ∷ pointer ∷ text) ≡ bits = rw points says in
-    rw (front, some) (segments_reads bits outline text segments)
+    rw (front, some) (segments_reads sums bits outline text segments)
 
 lone_reads : (word : SpelledToken) (reg : Reg) → register_of word.bytes ≡ Some (named.Plain reg) → lone_register (word ∷ []) ≡ Some reg
 unfolding lone_register
@@ -66,59 +70,63 @@ other_reads : (all : List SpelledToken) (outline : Outline) → lone_register al
 unfolding outline_of
 other_reads all outline none is = ap (outline_by all) none ∙ is
 
-nested_reads : (outline : Outline) (opening closing : SpelledToken) (text all : List SpelledToken) → IsMark 91 opening → nat_lt 0 (bits_in (text ++ (closing ∷ []))) ≡ true → IsMark 93 closing
+nested_reads : SumsAreRead → (outline : Outline) (opening closing : SpelledToken) (text all : List SpelledToken) → IsMark 91 opening → nat_lt 0 (bits_in (text ++ (closing ∷ []))) ≡ true → IsMark 93 closing
     → SizesMemory outline text → all ≡ opening ∷ (text ++ (closing ∷ [])) → memory_of all ≡ Some outline
-nested_reads outline opening closing text all opens says closes sizes split =
+nested_reads sums outline opening closing text all opens says closes sizes split =
     let ends = closed (opening ∷ text) all closing closes split in
     let inside = without_last (opening ∷ text) all closing split in
     let nests : is_nested all ≡ true = rw (split, opens) says in
-    rw (nests, ends) (ap (λ (ts : List SpelledToken). sized (drop 1 ts)) inside ∙ sizes_reads outline text sizes)
+    rw (nests, ends) (ap (λ (ts : List SpelledToken). sized (drop 1 ts)) inside ∙ sizes_reads sums outline text sizes)
+
+-- a register alone
+pub lone_outline : (reg : Reg) (word : SpelledToken) → register_of word.bytes ≡ Some (named.Plain reg) → outline_of (word ∷ []) ≡ Some (lone reg)
+unfolding outline_of
+lone_outline reg word names = ap (outline_by (word ∷ [])) (lone_reads word reg names)
+
+-- a value alone
+pub bare_outline : (text : List SpelledToken) → lone_register text ≡ None → offset_words text ≡ 0 → is_memory text ≡ false → has_register text ≡ false → outline_of text ≡ Some (bare text)
+bare_outline text none words memory apart = other_reads text (bare text) none (rw (words, memory, apart) refl)
 
 -- what is written round a value is read
-pub outline_reads : (outline : Outline) (text : List SpelledToken) → IsOutline outline text → outline_of text ≡ Some outline
+pub outline_reads : SumsAreRead → (outline : Outline) (text : List SpelledToken) → IsOutline outline text → outline_of text ≡ Some outline
 unfolding outline_of
-outline_reads _ _ (alone reg word names) = ap (outline_by (word ∷ [])) (lone_reads word reg names)
-outline_reads _ all (offset front text _ none some words apart split) =
+outline_reads sums _ _ (alone reg word names) = lone_outline reg word names
+outline_reads sums _ all (offset front text _ none some words apart split) =
     let left : drop (length front) all ≡ text = ap (drop (length front)) split ∙ dropped front text in
     other_reads all (held text) none (rw (words, some) (ap held_of left ∙ rw apart refl))
-outline_reads _ _ (place outline text none words memory unnested sizes) = other_reads text outline none (rw (words, memory, unnested) (sizes_reads outline text sizes))
-outline_reads _ all (nested outline opening closing text _ none words memory opens says closes sizes split) =
-    other_reads all outline none (rw (words, memory) (nested_reads outline opening closing text all opens says closes sizes split))
-outline_reads _ _ (value text none words memory apart) = other_reads text (bare text) none (rw (words, memory, apart) refl)
+outline_reads sums _ _ (place outline text none words memory unnested sizes) = other_reads text outline none (rw (words, memory, unnested) (sizes_reads sums outline text sizes))
+outline_reads sums _ all (nested outline opening closing text _ none words memory opens says closes sizes split) =
+    other_reads all outline none (rw (words, memory) (nested_reads sums outline opening closing text all opens says closes sizes split))
+outline_reads sums _ _ (value text none words memory apart) = bare_outline text none words memory apart
 
 -- READ IS WRITTEN
 
-whole_parts : (sum : SumSoFar) → is_whole sum ≡ true → (sum.opened ≡ true) × (sum.depth ≡ 0)
-whole_parts sum is = let both = and_parts sum.opened (sum.depth == 0) is in (both.0, eqb-true sum.depth 0 both.1)
-
-summed_written : (bits : ℕ) (segment : Option Segment) (outline : Outline) (text : List SpelledToken) (ending : Closed text) (sum : SumSoFar) (address : Option Address) → has_bracket text ≡ true
+summed_written : SumsAreWritten → (bits : ℕ) (segment : Option Segment) (outline : Outline) (text : List SpelledToken) (ending : Closed text) (sum : SumSoFar) (address : Option Address) → has_bracket text ≡ true
     → sum_of (Ok no_sum) ending.before ≡ Ok sum → is_whole sum ≡ true → address_of segment sum.parts ≡ address → summed_by bits (mark_at text 0) sum.text address ≡ Some outline
     → PlacesMemory bits segment outline text
-summed_written bits segment outline text ending sum None has reads whole addresses is = cc
-summed_written bits segment outline text ending sum (Some address) has reads whole addresses is =
-    let both = whole_parts sum whole in
-    let read = sum_written sum false 0 Nothing ending.before reads both.0 both.1 in
-    let same : summed_at bits (mark_at text 0) address read.left ≡ outline = ap (summed_at bits (mark_at text 0) address) (sym read.is) ∙ some_is is in
-    subst (λ (o : Outline). PlacesMemory bits segment o text) same
-    (bracket bits segment address sum.parts ending.closing read.left ending.before text has read.writes addresses ending.is ending.stands)
+summed_written sums bits segment outline text ending sum None has reads whole addresses is = cc
+summed_written sums bits segment outline text ending sum (Some address) has reads whole addresses is =
+    let writes = sums sum ending.before reads whole in
+    subst (λ (o : Outline). PlacesMemory bits segment o text) (some_is is)
+    (bracket bits segment address sum.parts ending.closing sum.text ending.before text has writes addresses ending.is ending.stands)
 
-whole_written : (bits : ℕ) (segment : Option Segment) (outline : Outline) (text : List SpelledToken) (ending : Closed text) (sum : SumSoFar) (b : Bool) → has_bracket text ≡ true
+whole_written : SumsAreWritten → (bits : ℕ) (segment : Option Segment) (outline : Outline) (text : List SpelledToken) (ending : Closed text) (sum : SumSoFar) (b : Bool) → has_bracket text ≡ true
     → sum_of (Ok no_sum) ending.before ≡ Ok sum → is_whole sum ≡ b
     → cond b (summed_by bits (mark_at text 0) sum.text (address_of segment sum.parts)) None ≡ Some outline → PlacesMemory bits segment outline text
-whole_written bits segment outline text ending sum true has reads whole is = summed_written bits segment outline text ending sum (address_of segment sum.parts) has reads whole refl is
-whole_written bits segment outline text ending sum false has reads whole is = cc
+whole_written sums bits segment outline text ending sum true has reads whole is = summed_written sums bits segment outline text ending sum (address_of segment sum.parts) has reads whole refl is
+whole_written sums bits segment outline text ending sum false has reads whole is = cc
 
-sum_by_result : (bits : ℕ) (segment : Option Segment) (outline : Outline) (text : List SpelledToken) (ending : Closed text) (read : Result SumSoFar OperandCause) → has_bracket text ≡ true
+sum_by_result : SumsAreWritten → (bits : ℕ) (segment : Option Segment) (outline : Outline) (text : List SpelledToken) (ending : Closed text) (read : Result SumSoFar OperandCause) → has_bracket text ≡ true
     → sum_of (Ok no_sum) ending.before ≡ read → summed bits (mark_at text 0) segment read ≡ Some outline → PlacesMemory bits segment outline text
-sum_by_result bits segment outline text ending (Err fault) has reads is = cc
-sum_by_result bits segment outline text ending (Ok sum) has reads is = whole_written bits segment outline text ending sum (is_whole sum) has reads refl is
+sum_by_result sums bits segment outline text ending (Err fault) has reads is = cc
+sum_by_result sums bits segment outline text ending (Ok sum) has reads is = whole_written sums bits segment outline text ending sum (is_whole sum) has reads refl is
 
-bracketed_by : (bits : ℕ) (segment : Option Segment) (outline : Outline) (text : List SpelledToken) (b : Bool) → has_bracket text ≡ true → closes_bracket text ≡ b
+bracketed_by : SumsAreWritten → (bits : ℕ) (segment : Option Segment) (outline : Outline) (text : List SpelledToken) (b : Bool) → has_bracket text ≡ true → closes_bracket text ≡ b
     → cond b (summed bits (mark_at text 0) segment (sum_of (Ok no_sum) (but_last text))) None ≡ Some outline → PlacesMemory bits segment outline text
-bracketed_by bits segment outline text false has closes is = cc
-bracketed_by bits segment outline text true has closes is =
+bracketed_by sums bits segment outline text false has closes is = cc
+bracketed_by sums bits segment outline text true has closes is =
     let ending = closing_apart text closes in
-    sum_by_result bits segment outline text ending (sum_of (Ok no_sum) ending.before) has refl
+    sum_by_result sums bits segment outline text ending (sum_of (Ok no_sum) ending.before) has refl
     (ap (λ (ts : List SpelledToken). summed bits (mark_at text 0) segment (sum_of (Ok no_sum) ts)) (sym (without_last ending.before text ending.closing ending.stands)) ∙ is)
 
 unbracketed_at : (bits : ℕ) (segment : Option Segment) (outline : Outline) (text : List SpelledToken) (b : Bool) → has_bracket text ≡ false → has_register text ≡ false
@@ -132,15 +140,15 @@ unbracketed_by : (bits : ℕ) (segment : Option Segment) (outline : Outline) (te
 unbracketed_by bits segment outline text true none apart is = cc
 unbracketed_by bits segment outline text false none apart is = unbracketed_at bits segment outline text (is_placed segment text) none apart refl is
 
-placed_by : (bits : ℕ) (segment : Option Segment) (outline : Outline) (text : List SpelledToken) (b : Bool) → has_bracket text ≡ b
+placed_by : SumsAreWritten → (bits : ℕ) (segment : Option Segment) (outline : Outline) (text : List SpelledToken) (b : Bool) → has_bracket text ≡ b
     → cond b (bracketed bits segment text) (cond (has_register text) None (cond (is_placed segment text) (Some (moved bits (in_segment segment base.Absent index.Absent) text)) None)) ≡ Some outline
     → PlacesMemory bits segment outline text
 unfolding bracketed
-placed_by bits segment outline text true has is = bracketed_by bits segment outline text (closes_bracket text) has refl is
-placed_by bits segment outline text false has is = unbracketed_by bits segment outline text (has_register text) has refl is
+placed_by sums bits segment outline text true has is = bracketed_by sums bits segment outline text (closes_bracket text) has refl is
+placed_by sums bits segment outline text false has is = unbracketed_by bits segment outline text (has_register text) has refl is
 
-places_written : (bits : ℕ) (segment : Option Segment) (outline : Outline) (text : List SpelledToken) → placed bits segment text ≡ Some outline → PlacesMemory bits segment outline text
-places_written bits segment outline text is = placed_by bits segment outline text (has_bracket text) refl is
+places_written : SumsAreWritten → (bits : ℕ) (segment : Option Segment) (outline : Outline) (text : List SpelledToken) → placed bits segment text ≡ Some outline → PlacesMemory bits segment outline text
+places_written sums bits segment outline text is = placed_by sums bits segment outline text (has_bracket text) refl is
 
 -- a segment stands in front
 record SegmentFront (text : List SpelledToken) (segment : Segment) : Type 0 where
@@ -169,16 +177,16 @@ segment_front : (text : List SpelledToken) (segment : Segment) → segment_of te
 unfolding segment_of
 segment_front text segment is = segment_by text segment (mark_at text 1 == 58) refl is
 
-segmented_by : (bits : ℕ) (outline : Outline) (text : List SpelledToken) (found : Option Segment) → segment_of text ≡ found → segmented bits text found ≡ Some outline → SegmentsMemory bits outline text
-segmented_by bits outline text None segments is = plain bits outline text segments (places_written bits None outline text is)
-segmented_by bits outline text (Some segment) segments is =
+segmented_by : SumsAreWritten → (bits : ℕ) (outline : Outline) (text : List SpelledToken) (found : Option Segment) → segment_of text ≡ found → segmented bits text found ≡ Some outline → SegmentsMemory bits outline text
+segmented_by sums bits outline text None segments is = plain bits outline text segments (places_written sums bits None outline text is)
+segmented_by sums bits outline text (Some segment) segments is =
     let front = segment_front text segment segments in
     let inside : placed bits (Some segment) front.rest ≡ Some outline = sym (ap (λ (ts : List SpelledToken). placed bits (Some segment) (drop 2 ts)) front.splits) ∙ is in
     subst (SegmentsMemory bits outline) (sym front.splits)
-    (behind_segment bits segment outline front.word front.colon front.rest front.names front.is (places_written bits (Some segment) outline front.rest inside))
+    (behind_segment bits segment outline front.word front.colon front.rest front.names front.is (places_written sums bits (Some segment) outline front.rest inside))
 
-segments_written : (bits : ℕ) (outline : Outline) (text : List SpelledToken) → segmented bits text (segment_of text) ≡ Some outline → SegmentsMemory bits outline text
-segments_written bits outline text is = segmented_by bits outline text (segment_of text) refl is
+segments_written : SumsAreWritten → (bits : ℕ) (outline : Outline) (text : List SpelledToken) → segmented bits text (segment_of text) ≡ Some outline → SegmentsMemory bits outline text
+segments_written sums bits outline text is = segmented_by sums bits outline text (segment_of text) refl is
 
 -- a size stands in front
 pub record SizeFront (text : List SpelledToken) : Type 0 where
@@ -201,25 +209,25 @@ size_front text is = size_by text (is_word (codes "ptr") (slice_get text 1)) ref
 pub nothing_said : (n : ℕ) → nat_lt 0 n ≡ false → n ≡ 0
 nothing_said n is = let most = ltb-false 0 n is in omega arith
 
-said_written : (outline : Outline) (size pointer : SpelledToken) (rest : List SpelledToken) → is_word (codes "ptr") (Some pointer) ≡ true → nat_lt 0 (bits_in (size ∷ pointer ∷ rest)) ≡ true
+said_written : SumsAreWritten → (outline : Outline) (size pointer : SpelledToken) (rest : List SpelledToken) → is_word (codes "ptr") (Some pointer) ≡ true → nat_lt 0 (bits_in (size ∷ pointer ∷ rest)) ≡ true
     → segmented (bits_in (size ∷ pointer ∷ rest)) rest (segment_of rest) ≡ Some outline → SizesMemory outline (size ∷ pointer ∷ rest)
-said_written outline size pointer rest points some is =
+said_written sums outline size pointer rest points some is =
     let says : bits_in (size ∷ pointer ∷ rest) ≡ bits_by (Some size) = rw points refl in
     said (bits_by (Some size)) outline size pointer rest refl (rw says at some) points
-    (segments_written (bits_by (Some size)) outline rest (ap (λ (n : ℕ). segmented n rest (segment_of rest)) (sym says) ∙ is))
+    (segments_written sums (bits_by (Some size)) outline rest (ap (λ (n : ℕ). segmented n rest (segment_of rest)) (sym says) ∙ is))
 
-sized_by : (outline : Outline) (text : List SpelledToken) (b : Bool) → nat_lt 0 (bits_in text) ≡ b
+sized_by : SumsAreWritten → (outline : Outline) (text : List SpelledToken) (b : Bool) → nat_lt 0 (bits_in text) ≡ b
     → cond b (segmented (bits_in text) (drop 2 text) (segment_of (drop 2 text))) (segmented 0 text (segment_of text)) ≡ Some outline → SizesMemory outline text
-sized_by outline text false says is = unsaid outline text (nothing_said (bits_in text) says) (segments_written 0 outline text is)
-sized_by outline text true says is =
+sized_by sums outline text false says is = unsaid outline text (nothing_said (bits_in text) says) (segments_written sums 0 outline text is)
+sized_by sums outline text true says is =
     let front = size_front text says in
     subst (SizesMemory outline) (sym front.splits)
-    (said_written outline front.size front.pointer front.rest front.points (subst (λ (ts : List SpelledToken). nat_lt 0 (bits_in ts) ≡ true) front.splits says)
+    (said_written sums outline front.size front.pointer front.rest front.points (subst (λ (ts : List SpelledToken). nat_lt 0 (bits_in ts) ≡ true) front.splits says)
     (subst (λ (ts : List SpelledToken). segmented (bits_in ts) (drop 2 ts) (segment_of (drop 2 ts)) ≡ Some outline) front.splits is))
 
-sizes_written : (outline : Outline) (text : List SpelledToken) → sized text ≡ Some outline → SizesMemory outline text
+sizes_written : SumsAreWritten → (outline : Outline) (text : List SpelledToken) → sized text ≡ Some outline → SizesMemory outline text
 unfolding sized
-sizes_written outline text is = sized_by outline text (nat_lt 0 (bits_in text)) refl is
+sizes_written sums outline text is = sized_by sums outline text (nat_lt 0 (bits_in text)) refl is
 
 -- a bracket opens round memory
 record Opened (text : List SpelledToken) : Type 0 where
@@ -243,37 +251,37 @@ record Front (outline : Outline) (text : List SpelledToken) : Type 0 where
   words : offset_words text ≡ 0
   memory : is_memory text ≡ true
 
-nested_written : (outline : Outline) (text : List SpelledToken) (opened : Opened text) → lone_register text ≡ None → offset_words text ≡ 0 → is_memory text ≡ true → is_nested text ≡ true
+nested_written : SumsAreWritten → (outline : Outline) (text : List SpelledToken) (opened : Opened text) → lone_register text ≡ None → offset_words text ≡ 0 → is_memory text ≡ true → is_nested text ≡ true
     → sized (drop 1 (but_last text)) ≡ Some outline → IsOutline outline text
-nested_written outline text opened none words memory nests is =
+nested_written sums outline text opened none words memory nests is =
     let both = and_parts (mark_at text 0 == 91) (nat_lt 0 (bits_in (drop 1 text))) nests in
     let says : nat_lt 0 (bits_in (opened.inside ++ (opened.closing ∷ []))) ≡ true = subst (λ (ts : List SpelledToken). nat_lt 0 (bits_in (drop 1 ts)) ≡ true) opened.splits both.1 in
     let front = without_last (opened.opening ∷ opened.inside) text opened.closing opened.splits in
     let inner : sized opened.inside ≡ Some outline = sym (ap (λ (ts : List SpelledToken). sized (drop 1 ts)) front) ∙ is in
-    nested outline opened.opening opened.closing opened.inside text none words memory opened.opens says opened.closes (sizes_written outline opened.inside inner) opened.splits
+    nested outline opened.opening opened.closing opened.inside text none words memory opened.opens says opened.closes (sizes_written sums outline opened.inside inner) opened.splits
 
-nested_by : (outline : Outline) (text : List SpelledToken) (b : Bool) → lone_register text ≡ None → offset_words text ≡ 0 → is_memory text ≡ true → is_nested text ≡ true → closes_bracket text ≡ b
+nested_by : SumsAreWritten → (outline : Outline) (text : List SpelledToken) (b : Bool) → lone_register text ≡ None → offset_words text ≡ 0 → is_memory text ≡ true → is_nested text ≡ true → closes_bracket text ≡ b
     → cond b (sized (drop 1 (but_last text))) None ≡ Some outline → IsOutline outline text
-nested_by outline text false none words memory nests closes is = cc
-nested_by outline text true none words memory nests closes is =
+nested_by sums outline text false none words memory nests closes is = cc
+nested_by sums outline text true none words memory nests closes is =
     let ending = closing_apart text closes in
     let both = and_parts (mark_at text 0 == 91) (nat_lt 0 (bits_in (drop 1 text))) nests in
-    nested_written outline text (opened_by text ending.before ending.closing ending.stands ending.is both.0) none words memory nests is
+    nested_written sums outline text (opened_by text ending.before ending.closing ending.stands ending.is both.0) none words memory nests is
 
-memory_by : (outline : Outline) (text : List SpelledToken) (b : Bool) → lone_register text ≡ None → offset_words text ≡ 0 → is_memory text ≡ true → is_nested text ≡ b
+memory_by : SumsAreWritten → (outline : Outline) (text : List SpelledToken) (b : Bool) → lone_register text ≡ None → offset_words text ≡ 0 → is_memory text ≡ true → is_nested text ≡ b
     → cond b (cond (closes_bracket text) (sized (drop 1 (but_last text))) None) (sized text) ≡ Some outline → IsOutline outline text
-memory_by outline text true none words memory nests is = nested_by outline text (closes_bracket text) none words memory nests refl is
-memory_by outline text false none words memory nests is = place outline text none words memory nests (sizes_written outline text is)
+memory_by sums outline text true none words memory nests is = nested_by sums outline text (closes_bracket text) none words memory nests refl is
+memory_by sums outline text false none words memory nests is = place outline text none words memory nests (sizes_written sums outline text is)
 
 bare_by : (outline : Outline) (text : List SpelledToken) (b : Bool) → lone_register text ≡ None → offset_words text ≡ 0 → is_memory text ≡ false → has_register text ≡ b
     → cond b None (Some (bare text)) ≡ Some outline → IsOutline outline text
 bare_by outline text true none words memory apart is = cc
 bare_by outline text false none words memory apart is = subst (λ (o : Outline). IsOutline o text) (some_is is) (value text none words memory apart)
 
-unheld_by : (outline : Outline) (text : List SpelledToken) (b : Bool) → lone_register text ≡ None → offset_words text ≡ 0 → is_memory text ≡ b
+unheld_by : SumsAreWritten → (outline : Outline) (text : List SpelledToken) (b : Bool) → lone_register text ≡ None → offset_words text ≡ 0 → is_memory text ≡ b
     → cond b (memory_of text) (bare_of text) ≡ Some outline → IsOutline outline text
-unheld_by outline text true none words memory is = memory_by outline text (is_nested text) none words memory refl is
-unheld_by outline text false none words memory is = bare_by outline text (has_register text) none words memory refl is
+unheld_by sums outline text true none words memory is = memory_by sums outline text (is_nested text) none words memory refl is
+unheld_by sums outline text false none words memory is = bare_by outline text (has_register text) none words memory refl is
 
 -- so many tokens in front
 record Taken (n : ℕ) (text : List SpelledToken) : Type 0 where
@@ -313,10 +321,10 @@ held_written outline text false none some apart is =
     subst (λ (o : Outline). IsOutline o text) (some_is is)
     (offset front.front (drop (offset_words text) text) text none (rw front.size some) (sym front.size) apart front.splits)
 
-other_by : (outline : Outline) (text : List SpelledToken) (b : Bool) → lone_register text ≡ None → nat_lt 0 (offset_words text) ≡ b
+other_by : SumsAreWritten → (outline : Outline) (text : List SpelledToken) (b : Bool) → lone_register text ≡ None → nat_lt 0 (offset_words text) ≡ b
     → cond b (held_of (drop (offset_words text) text)) (cond (is_memory text) (memory_of text) (bare_of text)) ≡ Some outline → IsOutline outline text
-other_by outline text true none words is = held_written outline text (has_register (drop (offset_words text) text)) none words refl is
-other_by outline text false none words is = unheld_by outline text (is_memory text) none (nothing_said (offset_words text) words) refl is
+other_by sums outline text true none words is = held_written outline text (has_register (drop (offset_words text) text)) none words refl is
+other_by sums outline text false none words is = unheld_by sums outline text (is_memory text) none (nothing_said (offset_words text) words) refl is
 
 register_named : (found : Option NamedRegister) (reg : Reg) → register_in found ≡ Some reg → found ≡ Some (named.Plain reg)
 register_named None reg is = cc
@@ -330,11 +338,16 @@ lone_written [] reg is = cc
 lone_written (word ∷ []) reg is = alone reg word (register_named (register_of word.bytes) reg is)
 lone_written (word ∷ second ∷ rest) reg is = cc
 
-outline_written_by : (outline : Outline) (text : List SpelledToken) (found : Option Reg) → lone_register text ≡ found → outline_by text found ≡ Some outline → IsOutline outline text
-outline_written_by outline text (Some reg) names is = subst (λ (o : Outline). IsOutline o text) (some_is is) (lone_written text reg names)
-outline_written_by outline text None names is = other_by outline text (nat_lt 0 (offset_words text)) names refl is
+outline_written_by : SumsAreWritten → (outline : Outline) (text : List SpelledToken) (found : Option Reg) → lone_register text ≡ found → outline_by text found ≡ Some outline → IsOutline outline text
+outline_written_by sums outline text (Some reg) names is = subst (λ (o : Outline). IsOutline o text) (some_is is) (lone_written text reg names)
+outline_written_by sums outline text None names is = other_by sums outline text (nat_lt 0 (offset_words text)) names refl is
 
 -- what is read round a value is written
-pub outline_written : (outline : Outline) (text : List SpelledToken) → outline_of text ≡ Some outline → IsOutline outline text
+pub outline_written : SumsAreWritten → (outline : Outline) (text : List SpelledToken) → outline_of text ≡ Some outline → IsOutline outline text
 unfolding outline_of
-outline_written outline text is = outline_written_by outline text (lone_register text) refl is
+outline_written sums outline text is = outline_written_by sums outline text (lone_register text) refl is
+
+-- memory as a usual sum
+pub lone_summed : (tokens : List Token) (found : LoneSum) (bits mark : ℕ) (segment : Option Segment) → IsFoundIn tokens found
+    → summed bits mark segment (sum_of (Ok no_sum) (but_last (map spelled tokens))) ≡ summed_by bits mark (left_in tokens found) (address_of segment (One (Plain found.named)))
+lone_summed tokens found bits mark segment is = ap (summed bits mark segment) is.sum

@@ -8,6 +8,7 @@ use Rattle.att_operands.specs.declared.faults.OperandCause.TheVariants.{BadOpera
 use Rattle.att_operands.specs.Values.{ValueText, ReadText, value_at}
 use Rattle.att_operands.specs.Spells.{WritesValue}
 use Rattle.att_operands.specs.WholeValues.{ValuesAreWritten}
+use Rattle.intel_sums.specs.SumLaws.{SumsAreWritten}
 use Rattle.intel_operands.specs.Symbols.{has_symbol, names_place}
 use Rattle.intel_operands.specs.OperandTexts.{SizedText, Outline, lone, held, bare, stands, moved, ending, value_of, as_immediate, as_memory, bare_operand, as_bare, with_value, outlined, outline_of, operand_of, up_to_comma, part, ReadPart, ended, operand_at}
 use Rattle.intel_operands.specs.Spells.{HoldsValue, of_register, of_offset, of_target, of_symbol, of_number, of_address, of_displacement, SpellsOperand, HasNoComma, IsSpelledIn}
@@ -60,24 +61,24 @@ holds law branch (bare text) operand is = bare_by law branch text operand (value
 holds law branch (stands bits address) operand is = subst (HoldsValue branch (stands bits address)) (ok_is is) (of_address branch bits address)
 holds law branch (moved bits address text) operand is = memory_by law branch bits address text operand (value_of text) refl is
 
-outlined_by : ValuesAreWritten → (branch : Bool) (text : List SpelledToken) (operand : SizedText) (found : Option Outline) → nat_lt 0 (length text) ≡ true → HasNoComma text → outline_of text ≡ found
+outlined_by : SumsAreWritten → ValuesAreWritten → (branch : Bool) (text : List SpelledToken) (operand : SizedText) (found : Option Outline) → nat_lt 0 (length text) ≡ true → HasNoComma text → outline_of text ≡ found
     → outlined branch found ≡ Ok operand → SpellsOperand branch operand text
-outlined_by law branch text operand None some apart round is = cc
-outlined_by law branch text operand (Some outline) some apart round is =
-    record { outline = outline; some = some; apart = apart; round = outline_written outline text round; holds = holds law branch outline operand is }
+outlined_by sums law branch text operand None some apart round is = cc
+outlined_by sums law branch text operand (Some outline) some apart round is =
+    record { outline = outline; some = some; apart = apart; round = outline_written sums outline text round; holds = holds law branch outline operand is }
 
 -- an operand that is read from a whole text without a comma is spelled
-pub text_spelled : ValuesAreWritten → (branch : Bool) (text : List SpelledToken) (operand : SizedText) → HasNoComma text → operand_of branch text ≡ Ok operand → SpellsOperand branch operand text
+pub text_spelled : SumsAreWritten → ValuesAreWritten → (branch : Bool) (text : List SpelledToken) (operand : SizedText) → HasNoComma text → operand_of branch text ≡ Ok operand → SpellsOperand branch operand text
 unfolding operand_of
-text_spelled law branch [] operand apart is = cc
-text_spelled law branch (token ∷ rest) operand apart is =
+text_spelled sums law branch [] operand apart is = cc
+text_spelled sums law branch (token ∷ rest) operand apart is =
     let some : nat_lt 0 (length (token ∷ rest)) ≡ true = lt-ltb 0 (length (token ∷ rest)) (omega arith) in
-    outlined_by law branch (token ∷ rest) operand (outline_of (token ∷ rest)) some apart refl is
+    outlined_by sums law branch (token ∷ rest) operand (outline_of (token ∷ rest)) some apart refl is
 
-part_by : ValuesAreWritten → (branch : Bool) (tokens : List SpelledToken) (at : ℕ) (found : ReadPart) (read : Result SizedText OperandCause)
+part_by : SumsAreWritten → ValuesAreWritten → (branch : Bool) (tokens : List SpelledToken) (at : ℕ) (found : ReadPart) (read : Result SizedText OperandCause)
     → operand_of branch (take (up_to_comma (drop at tokens)) (drop at tokens)) ≡ read → ended (at + up_to_comma (drop at tokens)) read ≡ Ok found → IsSpelledIn branch tokens at found
-part_by law branch tokens at found (Err fault) reads is = cc
-part_by law branch tokens at found (Ok operand) reads is =
+part_by sums law branch tokens at found (Err fault) reads is = cc
+part_by sums law branch tokens at found (Ok operand) reads is =
     let front = front_of_tokens (drop at tokens) in
     let same : part (at + up_to_comma (drop at tokens)) operand ≡ found = ok_is is in
     subst (IsSpelledIn branch tokens at) same (record {
@@ -85,12 +86,12 @@ part_by law branch tokens at found (Ok operand) reads is =
       behind = front.behind;
       stands = front.stands;
       next = ap (λ (n : ℕ). at + n) (sym front.size);
-      spells = text_spelled law branch (take (up_to_comma (drop at tokens)) (drop at tokens)) operand front.apart reads;
+      spells = text_spelled sums law branch (take (up_to_comma (drop at tokens)) (drop at tokens)) operand front.apart reads;
       ended = front.ended;
     })
 
 -- an operand that is read is spelled
-pub read_is_spelled : ValuesAreWritten → (branch : Bool) (tokens : List SpelledToken) (at : ℕ) (found : ReadPart) → operand_at branch tokens at ≡ Ok found → IsSpelledIn branch tokens at found
+pub read_is_spelled : SumsAreWritten → ValuesAreWritten → (branch : Bool) (tokens : List SpelledToken) (at : ℕ) (found : ReadPart) → operand_at branch tokens at ≡ Ok found → IsSpelledIn branch tokens at found
 unfolding operand_at
-read_is_spelled law branch tokens at found is =
-    part_by law branch tokens at found (operand_of branch (take (up_to_comma (drop at tokens)) (drop at tokens))) refl is
+read_is_spelled sums law branch tokens at found is =
+    part_by sums law branch tokens at found (operand_of branch (take (up_to_comma (drop at tokens)) (drop at tokens))) refl is

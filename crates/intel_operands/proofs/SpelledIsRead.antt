@@ -6,6 +6,7 @@ use Rattle.att_operands.specs.declared.faults.OperandCause.TheVariants.{BadOpera
 use Rattle.att_operands.specs.Values.{ValueText}
 use Rattle.att_operands.specs.Spells.{WritesValue}
 use Rattle.att_operands.specs.WholeValues.{ValuesAreRead}
+use Rattle.intel_sums.specs.SumLaws.{SumsAreRead}
 use Rattle.intel_operands.specs.Symbols.{has_symbol, names_place}
 use Rattle.intel_operands.specs.OperandTexts.{SizedText, Outline, ending, value_of, as_immediate, as_memory, as_bare, with_value, outlined, outline_of, operand_of, up_to_comma, ended, operand_at}
 use Rattle.intel_operands.specs.Spells.{HoldsValue, of_register, of_offset, of_target, of_symbol, of_number, of_address, of_displacement, SpellsOperand, ends, IsReadWhole}
@@ -38,24 +39,24 @@ unfolding operand_of
 read_by_outline branch [] some = cc
 read_by_outline branch (token ∷ rest) some = refl
 
-pub text_reads : ValuesAreRead → (branch : Bool) (operand : SizedText) (text : List SpelledToken) → SpellsOperand branch operand text → operand_of branch text ≡ Ok operand
-text_reads law branch operand text spells =
+pub text_reads : SumsAreRead → ValuesAreRead → (branch : Bool) (operand : SizedText) (text : List SpelledToken) → SpellsOperand branch operand text → operand_of branch text ≡ Ok operand
+text_reads sums law branch operand text spells =
     read_by_outline branch text spells.some
-    ∙ ap (outlined branch) (outline_reads spells.outline text spells.round)
+    ∙ ap (outlined branch) (outline_reads sums spells.outline text spells.round)
     ∙ value_held law branch spells.outline operand spells.holds
 
 -- an operand that is spelled among other tokens is read
-pub operand_reads : ValuesAreRead → (branch : Bool) (operand : SizedText) (tokens : List SpelledToken) (at : ℕ) (text behind : List SpelledToken) → SpellsOperand branch operand text
+pub operand_reads : SumsAreRead → ValuesAreRead → (branch : Bool) (operand : SizedText) (tokens : List SpelledToken) (at : ℕ) (text behind : List SpelledToken) → SpellsOperand branch operand text
     → drop at tokens ≡ text ++ behind → ends behind ≡ true → IsReadWhole branch operand tokens at text
 unfolding operand_at
-operand_reads law branch operand tokens at text behind spells stands ended_here =
+operand_reads sums law branch operand tokens at text behind spells stands ended_here =
     let count : up_to_comma (drop at tokens) ≡ length text = ap up_to_comma stands ∙ all_before text behind spells.apart ended_here in
     let front : take (up_to_comma (drop at tokens)) (drop at tokens) ≡ text =
     ap (λ (n : ℕ). take n (drop at tokens)) count ∙ ap (take (length text)) stands ∙ taken text behind in
     ap (λ (n : ℕ). ended (at + n) (operand_of branch (take (up_to_comma (drop at tokens)) (drop at tokens)))) count
     ∙ ap (λ (ts : List SpelledToken). ended (at + length text) (operand_of branch ts)) front
-    ∙ ap (ended (at + length text)) (text_reads law branch operand text spells)
+    ∙ ap (ended (at + length text)) (text_reads sums law branch operand text spells)
 
 -- a text spells one operand
-pub one_operand : ValuesAreRead → (branch : Bool) (one other : SizedText) (text : List SpelledToken) → SpellsOperand branch one text → SpellsOperand branch other text → one ≡ other
-one_operand law branch one other text spells also = ok_is (sym (text_reads law branch one text spells) ∙ text_reads law branch other text also)
+pub one_operand : SumsAreRead → ValuesAreRead → (branch : Bool) (one other : SizedText) (text : List SpelledToken) → SpellsOperand branch one text → SpellsOperand branch other text → one ≡ other
+one_operand sums law branch one other text spells also = ok_is (sym (text_reads sums law branch one text spells) ∙ text_reads sums law branch other text also)

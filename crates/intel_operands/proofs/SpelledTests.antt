@@ -4,7 +4,8 @@ use Rattle.std.proofs.lemmas.List.{length-map, drop-map}
 use Rattle.std.specs.List.{list_any, list_all, prefix_len}
 use Rattle.asm_base.specs.declared.tokens.Token.{Token}
 use Rattle.asm_base.specs.Tokens.{SpelledToken, spelled}
-use Rattle.intel_operands.specs.OperandTexts.{but_last, up_to_comma}
+use Rattle.intel_sums.specs.Sums.{but_last}
+use Rattle.intel_operands.specs.OperandTexts.{up_to_comma}
 
 -- a test that some token passes
 pub any_spelled : (p : SpelledToken → Bool) (tokens : List Token) (b : Bool) → b ≡ list_any (λ token. p (spelled token)) tokens → b ≡ list_any p (map spelled tokens)

@@ -5,7 +5,8 @@ use Rattle.std.specs.List.{list_all}
 use Rattle.asm_base.specs.Tokens.{SpelledToken}
 use Rattle.att_operands.specs.Marks.{mark_by, ends_by}
 use Rattle.att_operands.specs.Spells.{IsMark}
-use Rattle.intel_operands.specs.OperandTexts.{closes_bracket, but_last, is_no_comma, up_to_comma}
+use Rattle.intel_sums.specs.Sums.{but_last}
+use Rattle.intel_operands.specs.OperandTexts.{closes_bracket, is_no_comma, up_to_comma}
 use Rattle.intel_operands.specs.Spells.{HasNoComma, ends}
 
 pub some_is : {A : Type 0} {m n : A} → Some m ≡ Some n → m ≡ n

@@ -7,20 +7,19 @@ use Rattle.x86_insn.specs.declared.amounts.Value.{Value}
 use Rattle.att_operands.specs.declared.faults.OperandCause.{OperandCause}
 use Rattle.att_operands.specs.Marks.{mark_by, ends_by, ends_at}
 use Rattle.att_operands.specs.Registers.{register_of}
-use Rattle.att_operands.specs.Slots.{number_of}
+use Rattle.att_operands.specs.Slots.{number_of, key_of, held_by}
 use Rattle.att_operands.specs.Values.{GivesSo, ValueText, IsValueOf}
 use Rattle.att_operands.specs.OperandTexts.{register}
-use Rattle.att_operands.proofs.RegisterLookups.{register_found}
+use Rattle.intel_sums.specs.OtherRegisters.{is_other_register}
+use Rattle.intel_sums.specs.Sums.{is_register}
 use Rattle.intel_operands.specs.declared.operands.SizedOperand.{SizedOperand}
 use Rattle.intel_operands.specs.Words.{is_word, offset_words}
-use Rattle.intel_operands.specs.OtherRegisters.{is_other_register}
-use Rattle.intel_operands.specs.Sums.{is_register}
 use Rattle.intel_operands.specs.Symbols.{is_symbol, has_symbol, is_numeric, names_place}
 use Rattle.intel_operands.specs.Usual.{NamesRegister, NamesNone, IsLoneWord, IsWordAt}
-use Rattle.intel_operands.specs.OperandTexts.{SizedText, unsized, lone, bare, lone_register, segment_of, has_bracket, has_register, is_memory, value_of, bare_operand, as_bare, outlined, operand_of, is_no_comma, up_to_comma, ReadPart, part, ended, operand_at, IsSized, IsPartRead}
-use Rattle.intel_operands.specs.Spells.{HasNoComma, ends, alone, value}
+use Rattle.intel_operands.specs.OperandTexts.{SizedText, unsized, lone_register, segment_of, has_bracket, has_register, is_memory, value_of, bare_operand, as_bare, outlined, operand_of, is_no_comma, up_to_comma, ReadPart, part, ended, operand_at, IsSized, IsPartRead}
+use Rattle.intel_operands.specs.Spells.{HasNoComma, ends}
 use Rattle.intel_operands.proofs.TextLemmas.{all_before, taken}
-use Rattle.intel_operands.proofs.OutlineTexts.{outline_reads}
+use Rattle.intel_operands.proofs.OutlineTexts.{lone_outline, bare_outline}
 
 pub front_is : (tokens : List SpelledToken) (at : ℕ) (token : SpelledToken) → slice_get tokens at ≡ Some token → drop at tokens ≡ token ∷ drop (at + 1) tokens
 front_is [] at token is = cc
@@ -53,7 +52,7 @@ one_token branch tokens at token there own ended_here =
 
 lone_of : (branch : Bool) (token : SpelledToken) (reg : Reg) → NamesRegister token reg → operand_of branch (token ∷ []) ≡ Ok (unsized (register reg))
 unfolding operand_of
-lone_of branch token reg is = ap (outlined branch) (outline_reads (lone reg) (token ∷ []) (alone reg token is.names))
+lone_of branch token reg is = ap (outlined branch) (lone_outline reg token is.names)
 
 -- the name of a register, behind which an operand ends
 pub register_is : (tokens : List SpelledToken) (at : ℕ) (token : SpelledToken) (reg : Reg) → slice_get tokens at ≡ Some token → NamesRegister token reg → ends_at tokens (at + 1) ≡ true
@@ -62,23 +61,27 @@ register_is tokens at token reg there is ended_here branch = one_token branch to
 
 -- NUMBERS AND NAMES
 
+-- what a text names as a register is in the slot of its lower-case bytes
+abbrev pub RegistersHaveSlots : Type 0
+RegistersHaveSlots = (text : List ℕ) → ((i : ℕ) → get_or text i 0 < 256) → held_by (key_of text) ≡ register_of text
+
 -- a text that is shorter than all names of registers
-pub short_none : (text : List ℕ) → ((i : ℕ) → get_or text i 0 < 256) → nat_lt (length text) 2 ≡ true → NamesNone text
+pub short_none : RegistersHaveSlots → (text : List ℕ) → ((i : ℕ) → get_or text i 0 < 256) → nat_lt (length text) 2 ≡ true → NamesNone text
 unfolding number_of is_other_register
-short_none [] fits is = record { own = sym (register_found [] fits); other = refl }
-short_none (a ∷ []) fits is = record { own = sym (register_found (a ∷ []) fits); other = refl }
-short_none (a ∷ b ∷ more) fits is = let under = ltb-true (length (a ∷ b ∷ more)) 2 is in absurd (omega arith)
+short_none found [] fits is = record { own = sym (found [] fits); other = refl }
+short_none found (a ∷ []) fits is = record { own = sym (found (a ∷ []) fits); other = refl }
+short_none found (a ∷ b ∷ more) fits is = let under = ltb-true (length (a ∷ b ∷ more)) 2 is in absurd (omega arith)
 
 -- a text that is longer than all names of registers
-pub long_none : (text : List ℕ) → ((i : ℕ) → get_or text i 0 < 256) → nat_lt 5 (length text) ≡ true → NamesNone text
+pub long_none : RegistersHaveSlots → (text : List ℕ) → ((i : ℕ) → get_or text i 0 < 256) → nat_lt 5 (length text) ≡ true → NamesNone text
 unfolding number_of is_other_register
-long_none [] fits is = let over = ltb-true 5 0 is in absurd (omega arith)
-long_none (a ∷ []) fits is = let over = ltb-true 5 (length (a ∷ [])) is in absurd (omega arith)
-long_none (a ∷ b ∷ []) fits is = let over = ltb-true 5 (length (a ∷ b ∷ [])) is in absurd (omega arith)
-long_none (a ∷ b ∷ c ∷ []) fits is = let over = ltb-true 5 (length (a ∷ b ∷ c ∷ [])) is in absurd (omega arith)
-long_none (a ∷ b ∷ c ∷ d ∷ []) fits is = let over = ltb-true 5 (length (a ∷ b ∷ c ∷ d ∷ [])) is in absurd (omega arith)
-long_none (a ∷ b ∷ c ∷ d ∷ e ∷ []) fits is = let over = ltb-true 5 (length (a ∷ b ∷ c ∷ d ∷ e ∷ [])) is in absurd (omega arith)
-long_none (a ∷ b ∷ c ∷ d ∷ e ∷ f ∷ more) fits is = record { own = sym (register_found (a ∷ b ∷ c ∷ d ∷ e ∷ f ∷ more) fits); other = refl }
+long_none found [] fits is = let over = ltb-true 5 0 is in absurd (omega arith)
+long_none found (a ∷ []) fits is = let over = ltb-true 5 (length (a ∷ [])) is in absurd (omega arith)
+long_none found (a ∷ b ∷ []) fits is = let over = ltb-true 5 (length (a ∷ b ∷ [])) is in absurd (omega arith)
+long_none found (a ∷ b ∷ c ∷ []) fits is = let over = ltb-true 5 (length (a ∷ b ∷ c ∷ [])) is in absurd (omega arith)
+long_none found (a ∷ b ∷ c ∷ d ∷ []) fits is = let over = ltb-true 5 (length (a ∷ b ∷ c ∷ d ∷ [])) is in absurd (omega arith)
+long_none found (a ∷ b ∷ c ∷ d ∷ e ∷ []) fits is = let over = ltb-true 5 (length (a ∷ b ∷ c ∷ d ∷ e ∷ [])) is in absurd (omega arith)
+long_none found (a ∷ b ∷ c ∷ d ∷ e ∷ f ∷ more) fits is = record { own = sym (found (a ∷ b ∷ c ∷ d ∷ e ∷ f ∷ more) fits); other = refl }
 
 no_register : (token : SpelledToken) → register_of token.bytes ≡ None → lone_register (token ∷ []) ≡ None
 unfolding lone_register
@@ -125,8 +128,7 @@ word_of : (branch : Bool) (token : SpelledToken) → IsLoneWord token → is_wor
     → operand_of branch (token ∷ []) ≡ as_bare branch (is_symbol token) (is_symbol token) (value_of (token ∷ []))
 unfolding operand_of
 word_of branch token is shown =
-    ap (outlined branch) (outline_reads (bare (token ∷ [])) (token ∷ [])
-    (value (token ∷ []) (no_register token is.own) (no_offset token shown) (no_memory token is.unopened) (no_name token is.wild)))
+    ap (outlined branch) (bare_outline (token ∷ []) (no_register token is.own) (no_offset token shown) (no_memory token is.unopened) (no_name token is.wild))
     ∙ ap (λ (b : Bool). as_bare branch b (has_symbol (token ∷ [])) (value_of (token ∷ []))) (places_by token (is_symbol token) (is_numeric token) refl refl)
     ∙ ap (λ (b : Bool). as_bare branch (is_symbol token) b (value_of (token ∷ []))) (holds_by token (is_symbol token) refl)
 

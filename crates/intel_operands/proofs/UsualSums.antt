@@ -13,19 +13,19 @@ use Rattle.att_operands.specs.Registers.{register_of}
 use Rattle.att_operands.specs.Marks.{mark_byte, mark_by, mark_at, ends_by, ends_at}
 use Rattle.att_operands.specs.Addresses.{register_by, base_by, scale_by}
 use Rattle.att_operands.specs.Spells.{in_segment}
-use Rattle.intel_operands.specs.declared.parts.Part.{Part}
-use Rattle.intel_operands.specs.declared.parts.Part.TheVariants.{Plain, Scaled}
-use Rattle.intel_operands.specs.declared.parts.Parts.{Parts}
-use Rattle.intel_operands.specs.declared.parts.Parts.TheVariants.{Nothing, One, Two}
+use Rattle.intel_sums.specs.declared.parts.Part.{Part}
+use Rattle.intel_sums.specs.declared.parts.Part.TheVariants.{Plain, Scaled}
+use Rattle.intel_sums.specs.declared.parts.Parts.{Parts}
+use Rattle.intel_sums.specs.declared.parts.Parts.TheVariants.{Nothing, One, Two}
+use Rattle.intel_sums.specs.Parts.{part_ends, address_of}
+use Rattle.intel_sums.specs.Sums.{adds}
+use Rattle.intel_sums.specs.Spells.{WritesPart, alone, times, WritesSum, done, register_next}
+use Rattle.intel_sums.specs.LoneSums.{is_calm, is_calm_by}
 use Rattle.intel_operands.specs.declared.usual.FoundAddress.{FoundAddress}
 use Rattle.intel_operands.specs.Words.{is_word}
-use Rattle.intel_operands.specs.Parts.{part_ends, address_of}
-use Rattle.intel_operands.specs.Sums.{adds}
-use Rattle.intel_operands.specs.LoneSums.{is_calm, is_calm_by}
 use Rattle.intel_operands.specs.OperandTexts.{is_no_comma}
-use Rattle.intel_operands.specs.Spells.{WritesPart, alone, times, WritesSum, done, register_next, HasNoComma, ends}
+use Rattle.intel_operands.specs.Spells.{HasNoComma, ends}
 use Rattle.intel_operands.specs.Usual.{OpensBehind, bare_bracket, one_before, two_before, ClosesAt, HoldsAddress, of_base, of_pair, of_scaled}
-use Rattle.intel_operands.proofs.LoneSums.{nothing_ends, bracketed}
 use Rattle.intel_operands.proofs.UsualOperands.{front_is, behind_is}
 
 pub behind_none : (text : List SpelledToken) → mark_at text 0 ≡ 91 → OpensBehind text 0
@@ -200,6 +200,17 @@ pub plus_ends : (token : SpelledToken) → mark_by (Some token) ≡ 43 → part_
 unfolding part_ends
 plus_ends token is = rw is refl
 
+nothing_ends : part_ends None ≡ true
+unfolding part_ends
+nothing_ends = refl
+
+-- one register
+one_write : (opening word : SpelledToken) (named : NamedRegister) → mark_by (Some opening) ≡ 91 → register_of word.bytes ≡ Some named
+    → WritesSum false 0 Nothing (One (Plain named)) [] (opening ∷ word ∷ [])
+one_write opening word named opens names =
+    let signs : adds false (mark_by (Some opening)) ≡ true = rw opens refl in
+    register_next false opening (Plain named) Nothing (One (Plain named)) [] (word ∷ []) [] (opening ∷ word ∷ []) signs (alone named word names) nothing_ends (done (One (Plain named))) refl
+
 -- two registers, of which the second is written so
 pub two_write : (opening word plus : SpelledToken) (first : NamedRegister) (part : Part) (written : List SpelledToken) → mark_by (Some opening) ≡ 91 → register_of word.bytes ≡ Some first
     → mark_by (Some plus) ≡ 43 → WritesPart part written → written ++ [] ≡ written
@@ -244,7 +255,7 @@ parted text count _ opens (of_base _ _ base is) =
         unmarked = word.marks;
         plain = refl;
         parts = One (Plain register.named);
-        writes = bracketed first.token word.token register.named [] [] first.marks word.names nothing_ends (done (One (Plain register.named)));
+        writes = one_write first.token word.token register.named first.marks word.names;
         makes = addresses register.named base register.based;
       };
       wordless = bracket_no_word last.token last.marks;

@@ -14,11 +14,11 @@ use Rattle.att_operands.specs.Registers.{register_names, register_of}
 use Rattle.att_operands.specs.Marks.{mark_by, ends_by}
 use Rattle.att_operands.specs.Addresses.{scale_by}
 use Rattle.att_operands.specs.Values.{suffix_by, names_by, numbers_by, before_name, without_suffix, value_at}
+use Rattle.intel_sums.specs.Parts.{part_ends, part_in, address_of}
+use Rattle.intel_sums.specs.Sums.{is_loose, is_register, kept, with_token}
+use Rattle.intel_sums.specs.OtherRegisters.{is_other_register}
 use Rattle.intel_operands.specs.Words.{is_word, bits_of}
-use Rattle.intel_operands.specs.Parts.{part_ends, part_in, address_of}
-use Rattle.intel_operands.specs.Sums.{is_loose, is_register, kept, with_token}
 use Rattle.intel_operands.specs.OperandTexts.{value_of, has_register, lone_register, segment_of, has_bracket, closes_bracket, bracketed, sized, outline_of, operand_of as text_operand, is_no_comma, operand_at}
-use Rattle.intel_operands.specs.OtherRegisters.{is_other_register}
 use Rattle.intel_operands.specs.Symbols.{is_symbol, has_symbol, is_numeric, are_numbers, names_place}
 use Rattle.intel_operands.specs.WorkedOperands.{WorkedSums, WorkedPlain, WorkedRefusals, WorkedOperands}
 

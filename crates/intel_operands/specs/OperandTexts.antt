@@ -16,11 +16,11 @@ use Rattle.att_operands.specs.Addresses.{register_by}
 use Rattle.att_operands.specs.Values.{ValueText, ReadText, value_at}
 use Rattle.att_operands.specs.OperandTexts.{OperandText, register, immediate, memory, target, no_displacement, IsOperandOf}
 use Rattle.att_operands.specs.Spells.{in_segment}
+use Rattle.intel_sums.specs.Parts.{address_of}
+use Rattle.intel_sums.specs.Sums.{SumSoFar, no_sum, sum_of, is_whole, is_register, but_last}
 use Rattle.intel_operands.specs.declared.operands.SizedOperand.{SizedOperand}
 use Rattle.intel_operands.specs.declared.operands.FoundOperand.{FoundOperand}
 use Rattle.intel_operands.specs.Words.{bits_in, offset_words}
-use Rattle.intel_operands.specs.Parts.{address_of}
-use Rattle.intel_operands.specs.Sums.{SumSoFar, no_sum, sum_of, is_whole, is_register}
 use Rattle.intel_operands.specs.Symbols.{has_symbol, names_place}
 
 -- an operand as its text, and how many bits of memory it says, or 0
@@ -101,10 +101,6 @@ has_bracket text = list_any (λ token. mark_by (Some token) == 91) text
 -- the text closes by `]`
 unfoldable pub closes_bracket : List SpelledToken → Bool
 closes_bracket text = mark_at text (length text - 1) == 93
-
--- the text without its last token
-abbrev pub but_last : List SpelledToken → List SpelledToken
-but_last text = take (length text - 1) text
 
 -- the text is memory in the brackets of an indirect branch, as `[SIZE PTR ..]`
 abbrev pub is_nested : List SpelledToken → Bool

@@ -6,7 +6,7 @@ use Rattle.asm_base.specs.declared.tokens.TokenKind.{TokenKind}
 use Rattle.asm_base.specs.declared.tokens.TokenKind.TheVariants.{Name, Digits, Character, String, Operator, Other}
 use Rattle.expr_texts.specs.Leaves.{is_numeric_label}
 use Rattle.att_operands.specs.Marks.{mark_by, mark_at}
-use Rattle.intel_operands.specs.Sums.{is_loose}
+use Rattle.intel_sums.specs.Sums.{is_loose}
 
 -- the token is a symbol, a numeric label or the place
 abbrev pub is_symbol_of : TokenKind → List ℕ → Bool

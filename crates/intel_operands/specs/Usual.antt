@@ -10,18 +10,18 @@ use Rattle.x86_insn.specs.declared.insns.Index.TheVariants as index
 use Rattle.x86_insn.specs.declared.insns.Address.{Address}
 use Rattle.att_operands.specs.declared.registers.NamedRegister.{NamedRegister}
 use Rattle.att_operands.specs.Addresses.{register_by, base_by, scale_by}
-use Rattle.intel_operands.specs.declared.parts.Part.TheVariants.{Plain, Scaled}
-use Rattle.intel_operands.specs.declared.parts.Parts.TheVariants.{Two}
+use Rattle.intel_sums.specs.declared.parts.Part.TheVariants.{Plain, Scaled}
+use Rattle.intel_sums.specs.declared.parts.Parts.TheVariants.{Two}
+use Rattle.intel_sums.specs.Parts.{address_of}
+use Rattle.intel_sums.specs.OtherRegisters.{is_other_register}
+use Rattle.intel_sums.specs.Sums.{is_register}
+use Rattle.intel_sums.specs.LoneSums.{is_calm_by}
 use Rattle.intel_operands.specs.declared.usual.FoundAddress.{FoundAddress}
-use Rattle.intel_operands.specs.Parts.{address_of}
 use Rattle.att_operands.specs.Values.{GivesSo}
 use Rattle.att_operands.specs.Spells.{in_segment}
 use Rattle.intel_operands.specs.declared.operands.SizedOperand.{SizedOperand}
 use Rattle.intel_operands.specs.declared.operands.FoundOperand.{FoundOperand}
 use Rattle.intel_operands.specs.Words.{is_word}
-use Rattle.intel_operands.specs.OtherRegisters.{is_other_register}
-use Rattle.intel_operands.specs.Sums.{is_register}
-use Rattle.intel_operands.specs.LoneSums.{is_calm_by}
 use Rattle.intel_operands.specs.OperandTexts.{summed_at, outlined, is_no_comma, IsSized}
 
 -- the token is the name of the register, and no comma

@@ -17,6 +17,7 @@ pub fn spelled_is_read()
         → IsReadWhole branch operand tokens at text }
 {
     att_operands::values_are_read();
+    intel_sums::sums_are_read();
 }
 
 /// What is read as an operand begins with a text of it, behind which a comma or nothing stands.
@@ -25,6 +26,7 @@ pub fn read_is_spelled()
         → operand_at branch tokens at ≡ Ok found → IsSpelledIn branch tokens at found }
 {
     att_operands::values_are_read();
+    intel_sums::sums_are_read();
 }
 
 /// A text spells one operand.
@@ -33,6 +35,7 @@ pub fn one_operand()
         → SpellsOperand branch one text → SpellsOperand branch other text → one ≡ other }
 {
     att_operands::values_are_read();
+    intel_sums::sums_are_read();
 }
 
 /// An operand is refused exactly for the fault that it has: that of its expression where that fails,
@@ -42,6 +45,7 @@ pub fn faults_of_an_operand()
         → HasFaultExactly branch tokens at cause }
 {
     att_operands::values_are_read();
+    intel_sums::sums_are_read();
     att_operands::faults_of_a_value();
 }
 

@@ -3,12 +3,8 @@
 #![tactic(auto)]
 
 mod laws;
-mod lone_sums;
 mod operands;
-mod other_registers;
 mod outlines;
-mod parts;
-mod sums;
 mod symbols;
 mod usual;
 mod values;

@@ -12,12 +12,12 @@ ghost use Rattle.intel_operands.specs.Symbols.{is_symbol, has_symbol, names_plac
 ghost use Rattle.intel_operands.specs.OperandTexts.{unsized, bare_operand, bare_of, held_of, other_of, outline_of, outlined, operand_of, is_no_comma, up_to_comma, operand_at, IsSized, IsPartRead};
 
 use crate::outlines::{is_memory, lone_register, memory_of, refused, says_size, sized_by};
-use crate::sums::mark_of;
 use crate::symbols::{has_symbol, is_symbol, names_place};
 use crate::values::{has_register, value_of};
 use crate::words::{bits_in, offset_words};
 use asm_base::Token;
 use att_operands::{OperandFault, ReadOperand};
+use intel_sums::mark_of;
 use std::alloc::Global;
 use x86_insn::{Address, Base, Index, Value};
 

@@ -7,16 +7,13 @@ ghost use Rattle.asm_base.specs.Tokens.{spelled};
 ghost use Rattle.att_operands.specs.declared.faults.OperandCause.TheVariants.{BadOperand};
 ghost use Rattle.att_operands.specs.Values.{GivesSo, ValueText, IsValueOf};
 ghost use Rattle.att_operands.specs.OperandTexts.{no_displacement};
+ghost use Rattle.intel_sums.specs.Parts.{address_of};
+ghost use Rattle.intel_sums.specs.Sums.{no_sum, sum_of, sum_by, but_last};
 ghost use Rattle.intel_operands.specs.Words.{bits_in};
 ghost use Rattle.att_operands.specs.Marks.{mark_by, mark_at};
-ghost use Rattle.intel_operands.specs.Parts.{address_of};
-ghost use Rattle.intel_operands.specs.Sums.{no_sum, sum_of, sum_by};
-ghost use Rattle.intel_operands.specs.OperandTexts.{lone_register, segment_of, has_bracket, closes_bracket, but_last, is_nested, is_memory, displacement_in, summed_at, summed_by, summed, bracketed, is_placed, placed, segmented, sized, memory_of, value_of, as_memory, outlined, IsSized};
+ghost use Rattle.intel_operands.specs.OperandTexts.{lone_register, segment_of, has_bracket, closes_bracket, is_nested, is_memory, displacement_in, summed_at, summed_by, summed, bracketed, is_placed, placed, segmented, sized, memory_of, value_of, as_memory, outlined, IsSized};
 
-use crate::lone_sums::lone_sum;
 use crate::operands::SizedOperand;
-use crate::parts::{Part, Parts, address_of};
-use crate::sums::{ReadSum, is_whole, mark_of, read_sum};
 use crate::symbols::names_place;
 use crate::values::{has_register, value_of};
 use crate::words::bits_in;
@@ -24,6 +21,7 @@ use asm_base::Token;
 use att_operands::{
     NamedRegister, OperandCause, OperandFault, ReadOperand, mark_at, no_displacement, register_by,
 };
+use intel_sums::{Part, Parts, ReadSum, address_of, is_whole, lone_sum, mark_of, read_sum};
 use std::alloc::Global;
 use x86_insn::{Address, Base, Index, Reg, Segment, Value};
 
@@ -242,7 +240,7 @@ fn summed_any<'a>(
 
 /// The same, with a short way for usual sums.
 #[inline(always)]
-#[tactic(auto, using(crate::proofs::LoneSums::lone_summed))]
+#[tactic(auto, using(crate::proofs::OutlineTexts::lone_summed))]
 fn summed_text<'a>(
     alloc: Global,
     text: &[Token<'a>],

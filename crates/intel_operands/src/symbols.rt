@@ -5,10 +5,9 @@ ghost use Rattle.std.specs.List.{list_any, list_all, prefix_len};
 ghost use Rattle.asm_base.specs.Tokens.{spelled};
 ghost use Rattle.intel_operands.specs.Symbols.{is_symbol, has_symbol, is_numeric, numbers_in_front, are_numbers, unsuffixed, adds_numbers, is_added, adds_to_symbol, names_place};
 
-use crate::sums::{is_loose, mark_of};
-use crate::words::token_at;
 use asm_base::{Token, TokenKind};
 use att_operands::{is_numeric_label, mark_at};
+use intel_sums::{is_loose, mark_of, token_at};
 
 /// Whether the token is a symbol, a numeric label or the place.
 #[tactic(auto, unfolding(crate::specs::Symbols::is_symbol))]

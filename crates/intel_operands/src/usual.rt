@@ -10,16 +10,18 @@ ghost use Rattle.att_operands.specs.Values.{GivesSo, IsValueOf};
 ghost use Rattle.intel_operands.specs.Usual.{NamesRegister, NamesNone, IsLoneWord, IsWordAt, OpensBehind, ClosesAt, HoldsAddress, ShowsMemory, said_words, SaysPlainly};
 ghost use Rattle.intel_operands.specs.OperandTexts.{unsized, part, value_of, operand_at, IsPartRead};
 
-use crate::lone_sums::is_calm_at;
 use crate::operands::{FoundOperand, SizedOperand, word_by};
-use crate::other_registers::is_other_register;
 use crate::outlines::summed_at;
-use crate::parts::{Part, Parts, address_of};
-use crate::sums::mark_of;
 use crate::values::value_of;
-use crate::words::{bits_in, is_offset, token_at};
+use crate::words::{bits_in, is_offset};
 use asm_base::{Token, TokenKind};
-use att_operands::{NamedRegister, base_by, mark_at, register_by, register_named, scale_by};
+use att_operands::{
+    NamedRegister, base_by, mark_at, register_by, register_named, registers_have_slots, scale_by,
+};
+use intel_sums::{
+    Part, Parts, address_of, calm_tokens_stay, is_calm_at, is_other_register, mark_of,
+    sums_are_read, token_at,
+};
 use std::alloc::Global;
 use x86_insn::{Address, Base, Index, Reg, Value};
 
@@ -81,6 +83,7 @@ pub fn whole_register(tokens: &[Token], at: usize) -> Option<Reg>
 fn is_odd_size(text: &[u8]) -> bool
     ensures { IsTrue result → NamesNone text.now }
 {
+    registers_have_slots();
     text.len() < 2 || text.len() > 5
 }
 
@@ -100,7 +103,7 @@ fn names_none(text: &[u8]) -> bool
 
 /// Whether the token is a number or a name, and no register.
 #[inline(always)]
-#[tactic(auto, unfolding(crate::specs::OperandTexts::is_no_comma, crate::specs::Sums::is_register, att_operands::specs::Marks::mark_by))]
+#[tactic(auto, unfolding(crate::specs::OperandTexts::is_no_comma, intel_sums::specs::Sums::is_register, att_operands::specs::Marks::mark_by))]
 fn is_lone_word(token: &Token) -> bool
     ensures { IsTrue result → IsLoneWord (spelled token.now) }
 {
@@ -420,6 +423,8 @@ fn whole_in_front<'a>(alloc: Global, tokens: &[Token<'a>]) -> Option<FoundOperan
         → GivesSo IsPartRead (Ok found) (operand_at branch (map spelled tokens.now) 0)) }
     ensures within { IfSome result (λ found. found.next ≤ length tokens.now) }
 {
+    sums_are_read();
+    calm_tokens_stay();
     if is_offset(tokens, 0) {
         return None;
     }

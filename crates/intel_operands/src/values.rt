@@ -3,13 +3,13 @@
 ghost use Rattle.std.specs.Prelude.{◌≡◌, ◌≤◌, map, length};
 ghost use Rattle.std.specs.List.{list_any};
 ghost use Rattle.asm_base.specs.Tokens.{spelled};
-ghost use Rattle.intel_operands.specs.Sums.{is_register};
+ghost use Rattle.intel_sums.specs.Sums.{is_register};
 ghost use Rattle.att_operands.specs.Values.{GivesSo, IsValueOf};
 ghost use Rattle.intel_operands.specs.OperandTexts.{value_of, has_register};
 
-use crate::sums::is_register;
 use asm_base::Token;
 use att_operands::{OperandCause, OperandFault, ReadValue, value_at};
+use intel_sums::is_register;
 use std::alloc::Global;
 use x86_insn::Value;
 

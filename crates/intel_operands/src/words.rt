@@ -7,16 +7,7 @@ ghost use Rattle.intel_operands.specs.Words.{is_word, bits_of, bits_in, offset_w
 
 use asm_base::Token;
 use att_operands::mark_at;
-
-/// The token at this place, if one stands there.
-#[inline(always)]
-pub(crate) fn token_at<'t, 'a>(text: &'t [Token<'a>], at: usize) -> Option<&'t Token<'a>>
-    ensures value { let due = slice_get (map spelled text.now) at in
-        option_map (λ token. spelled token.now) result ≡ due }
-    ensures within { IsSome result → at < length text.now }
-{
-    text.get(at)
-}
+use intel_sums::token_at;
 
 /// How many bits memory has by a word, and 0 where the word says no size.
 #[inline(never)]

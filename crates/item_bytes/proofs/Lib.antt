@@ -1,4 +1,5 @@
 -- Lemmas, a file for each subject.
+mod LimitLemmas
 pub mod PushingLemmas
 pub mod ReadingLemmas
 pub mod FillingLemmas

@@ -3,8 +3,8 @@ use Rattle.std.proofs.Common.{◌≡◌, ℕ, ◌+◌, ◌-◌, ◌*◌, ◌/◌
 use Rattle.std.proofs.lemmas.Bool.{cases_lt, lt-ltb, le-ltb, le-leb, lt-leb}
 use Rattle.std.proofs.lemmas.Nat.{pow-add}
 use Rattle.std.proofs.lemmas.List.Elements.{All-nil, All-cons}
-use Rattle.asm_levels.specs.Needs.{leb128_level, IsSignedWithin}
-use Rattle.asm_levels.proofs.LimitLemmas.{unsigned_holds, signed_holds}
+use Rattle.item_bytes.specs.Levels.{leb128_level, IsSignedWithin}
+use Rattle.item_bytes.proofs.LimitLemmas.{unsigned_holds, signed_holds}
 use Rattle.item_bytes.specs.Leb128.{groups_above, leb128_bytes, last_group, read_leb128}
 
 -- a byte without bit 7 is the last one

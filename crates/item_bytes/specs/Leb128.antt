@@ -1,6 +1,6 @@
 -- Numbers in groups of 7 bits, the lowest first (DWARF 5, section 7.6).
 use Rattle.std.specs.Prelude.{ℕ, zero, suc, ◌+◌, ◌-◌, ◌*◌, ◌/◌, ◌%◌, ◌^◌, ◌&&◌, nat_le, nat_lt, Bool, Option, Some, None, List, [], ◌∷◌, option_map, if◌then◌else◌}
-use Rattle.asm_levels.specs.Needs.{leb128_level}
+use Rattle.item_bytes.specs.Levels.{leb128_level}
 
 -- what fills up a number modulo 2^64 from bit 57 on: its sign, where it has one
 abbrev pub filling : Bool → ℕ → ℕ

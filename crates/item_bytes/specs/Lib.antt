@@ -1,4 +1,5 @@
 -- The definitions that contracts cite, in reading order.
+pub mod Levels
 pub mod Leb128
 pub mod NoOperations
 pub mod Jumps

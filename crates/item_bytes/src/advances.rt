@@ -1,8 +1,8 @@
 //! Advances of a frame table.
 
 ghost use Rattle.std.specs.Prelude.{◌≡◌, ◌<◌, ◌≤◌, ◌^◌, ◌++◌, ℕ, List, All, Some, length};
-ghost use Rattle.asm_levels.specs.Sizes.{advance_size};
-ghost use Rattle.asm_levels.specs.Needs.{AdvanceHolds};
+ghost use Rattle.item_bytes.specs.Levels.{advance_size};
+ghost use Rattle.item_bytes.specs.Levels.{AdvanceHolds};
 ghost use Rattle.item_bytes.specs.Advances as spec;
 
 use crate::low_bytes::{low_byte, push_four, push_two};

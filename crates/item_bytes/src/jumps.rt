@@ -1,8 +1,8 @@
 //! Jumps, in their short and their near form.
 
 ghost use Rattle.std.specs.Prelude.{◌≡◌, ◌<◌, ◌^◌, ℕ, Bool, Option, Some, All, length, true, false, if◌then◌else◌};
-ghost use Rattle.asm_levels.specs.Sizes.{jump_size};
-ghost use Rattle.asm_levels.specs.Needs.{IsSignedWithin};
+ghost use Rattle.item_bytes.specs.Levels.{jump_size};
+ghost use Rattle.item_bytes.specs.Levels.{IsSignedWithin};
 ghost use Rattle.item_bytes.specs.Jumps as spec;
 ghost use Rattle.item_bytes.specs.declared.jumps.Condition.{Condition as TheCondition};
 

@@ -1,11 +1,11 @@
 //! Numbers in groups of seven bits.
 
 ghost use Rattle.std.specs.Prelude.{◌≡◌, ◌-◌, ◌^◌, ◌<◌, ◌≤◌, ◌++◌, ℕ, Bool, List, All, Some, length};
-ghost use Rattle.asm_levels.specs.Needs.{leb128_level};
+ghost use Rattle.item_bytes.specs.Levels.{leb128_level};
 ghost use Rattle.item_bytes.specs.Leb128 as spec;
 
+use crate::levels::leb128_level;
 use arrayvec::ArrayVec;
-use asm_levels::leb128_level;
 
 /// The highest seven bits, which a negative number is filled up with.
 const SIGN_GROUP: u64 = 0x7f << 57;

@@ -5,7 +5,7 @@ use Rattle.std.specs.Int.{w32, to_le_bytes}
 use Rattle.std.specs.List.{list_all}
 use Rattle.std.proofs.lemmas.Bool.Decides.{nat_tests}
 use Rattle.std.proofs.lemmas.List.{length-take, length-replicate}
-use Rattle.asm_levels.specs.Sizes.{jump_size, advance_size}
+use Rattle.item_bytes.specs.Levels.{jump_size, advance_size}
 use Rattle.item_bytes.specs.declared.jumps.Condition.{Condition}
 use Rattle.item_bytes.specs.Jumps.{number_of, is_conditional, jump_bytes}
 use Rattle.item_bytes.specs.Leb128.{leb128_bytes}

@@ -1,6 +1,6 @@
 -- The proofs of this crate.
 pub mod Units
-pub mod Repeats
+mod Repeats
 pub mod BytesGiven
 pub mod ContentLemmas
 pub mod Samples

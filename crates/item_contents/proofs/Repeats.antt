@@ -1,7 +1,6 @@
 -- Units that are repeated.
-use Rattle.std.proofs.Common.{◌≡◌, ℕ, zero, suc, ◌+◌, ◌*◌, ◌==◌, ◌&&◌, ◌||◌, Bool, true, false, List, [], ◌∷◌, ◌++◌, length, replicate, refl, ap, sym, ◌∙◌, arith, append_assoc, add-one, get_or, length-append}
+use Rattle.std.proofs.Common.{◌≡◌, ℕ, zero, suc, ◌+◌, ◌*◌, ◌==◌, ◌&&◌, ◌||◌, Bool, true, false, List, [], ◌∷◌, ◌++◌, length, replicate, refl, ap, sym, ◌∙◌, arith, length-append}
 use Rattle.std.specs.List.{list_all, concat}
-use Rattle.std.proofs.lemmas.List.{append-nil}
 use Rattle.std.proofs.lemmas.Bool.Decides.{nat_tests}
 use Rattle.std.proofs.lemmas.List.Folds.{list_all-append}
 use Rattle.item_contents.specs.Contents.{repeated}
@@ -40,23 +39,3 @@ list_all-repeated p (suc count) unit =
 pub list_all-replicate : (p : ℕ → Bool) (count byte : ℕ) → p byte ≡ true → list_all p (replicate count byte) ≡ true
 list_all-replicate p zero byte is = refl
 list_all-replicate p (suc count) byte is = rw (is, list_all-replicate p count byte is) refl
-
-more_last : (count : ℕ) (unit : List ℕ) → repeated (suc count) unit ≡ repeated count unit ++ unit
-unfolding repeated
-more_last zero unit = append-nil unit
-more_last (suc count) unit = rw append_assoc (ap (λ (bytes : List ℕ). unit ++ bytes) (more_last count unit))
-
--- one unit more goes last as well as first
-pub repeated_more : (count : ℕ) (unit : List ℕ) → repeated (count + 1) unit ≡ repeated count unit ++ unit
-repeated_more count unit = rw add-one (more_last count unit)
-
--- no unit
-pub repeated_none : (unit : List ℕ) → repeated 0 unit ≡ []
-unfolding repeated
-repeated_none unit = refl
-
--- a unit of one byte, repeated, is that byte repeated
-pub repeated_alone : (count : ℕ) (unit : List ℕ) → length unit ≡ 1 → replicate count (get_or unit 0 0) ≡ repeated count unit
-repeated_alone count [] alone = absurd (omega arith)
-repeated_alone count (byte ∷ []) alone = sym (repeated-one count byte)
-repeated_alone count (byte ∷ next ∷ unit) alone = absurd (omega arith)

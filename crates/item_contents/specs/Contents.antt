@@ -2,7 +2,7 @@
 use Rattle.std.specs.Prelude.{◌≡◌, ℕ, zero, suc, ◌+◌, ◌-◌, ◌*◌, ◌%◌, ◌^◌, ◌≤◌, ◌==◌, ◌||◌, not, min, Bool, true, false, List, [], ◌++◌, take, replicate, Option, None, Some}
 use Rattle.std.specs.Int.{w32, to_le_bytes}
 use Rattle.std.specs.List.{list_all}
-use Rattle.asm_levels.specs.Sizes.{jump_size, advance_size}
+use Rattle.item_bytes.specs.Levels.{jump_size, advance_size}
 use Rattle.item_bytes.specs.Jumps.{is_conditional, jump_bytes}
 use Rattle.item_bytes.specs.Leb128.{leb128_bytes}
 use Rattle.item_bytes.specs.Advances.{advance_bytes}

@@ -3,12 +3,12 @@ use Rattle.std.proofs.Common.{◌≡◌, ℕ, ◌+◌, ◌*◌, ◌^◌, ◌<◌
 use Rattle.std.specs.Prelude.{◌==◌, option_map, slice_index}
 use Rattle.std.proofs.lemmas.Nat.{mul-mod_first}
 use Rattle.std.proofs.lemmas.List.Sums.{sum_by-cons}
+use Rattle.asm_base.specs.declared.places.SectionPlace.{SectionPlace}
 use Rattle.asm_expr.specs.declared.forms.Term.{Term}
 use Rattle.asm_expr.specs.Forms.{Form, wrapped, constant_form}
 use Rattle.asm_expr.specs.Knowledge.{Told}
 use Rattle.asm_expr.specs.Settled.{spot_by, spot_of, counted_in, stretch_sum, cancelled_number, put_one, put_all, settled, constant_by, constant_left}
 use Rattle.asm_symbols.specs.SymbolMap.{SymbolMap}
-use Rattle.row_distances.specs.declared.places.Place.{Place}
 use Rattle.row_distances.specs.declared.places.OwnPlace.{OwnPlace}
 use Rattle.row_distances.specs.Places.{place_of, row_at, address_at, place_told, row_told}
 use Rattle.row_distances.specs.FormDistances.{value_among, term_moved, terms_moved}
@@ -51,7 +51,7 @@ module _ (map' : SymbolMap) (own : OwnPlace) (starts shifts : List ℕ) where
   abbrev moved : ℕ → Told
   moved = row_told map' own starts shifts
 
-  counted_same : (stretch coefficient : ℕ) (place : Option Place)
+  counted_same : (stretch coefficient : ℕ) (place : Option SectionPlace)
       → counted_in stretch (spot_by (place_told starts shifts place) coefficient) ≡ counted_in stretch (spot_by (place_told starts [] place) coefficient)
   counted_same stretch coefficient None = refl
   counted_same stretch coefficient (Some place) = refl
@@ -86,25 +86,25 @@ module _ (map' : SymbolMap) (own : OwnPlace) (starts shifts : List ℕ) where
         left_behind all moved other.terms term other.constant terms
         ∙ ap (option_map (λ n. wrapped (n + (sum + amount)))) (sym (left_behind all still made.terms term made.constant terms))
 
-    both_put : (made other : Form) (sum amount : ℕ) (term : Term) (terms : List Term) (place : Place) → AreMoved terms → other.terms ≡ made.terms
+    both_put : (made other : Form) (sum amount : ℕ) (term : Term) (terms : List Term) (place : SectionPlace) → AreMoved terms → other.terms ≡ made.terms
         → other.constant ≡ wrapped (made.constant + sum)
         → amount ≡ term.coefficient * slice_index shifts (row_at starts place) + terms_moved map' own starts shifts terms
         → IsStep made other sum amount term terms (Some (address_at starts shifts place)) (Some (address_at starts [] place))
     both_put made other sum amount term terms place go same is total =
         let shift = slice_index shifts (row_at starts place) in
-        let times = moved_times term.coefficient place.offset shift in
-        let still_times = moved_times term.coefficient place.offset 0 in
+        let times = moved_times term.coefficient place.place.offset shift in
+        let still_times = moved_times term.coefficient place.place.offset 0 in
         let none = mul-zero term.coefficient in
-        let next : wrapped (other.constant + wrapped (term.coefficient * wrapped (place.offset + shift)))
-        ≡ wrapped (wrapped (made.constant + wrapped (term.coefficient * wrapped (place.offset + 0))) + (sum + term.coefficient * shift)) =
+        let next : wrapped (other.constant + wrapped (term.coefficient * wrapped (place.place.offset + shift)))
+        ≡ wrapped (wrapped (made.constant + wrapped (term.coefficient * wrapped (place.place.offset + 0))) + (sum + term.coefficient * shift)) =
         rw (is, times, still_times) (omega (arith, none)) in
-        let done = go (record { terms = made.terms; constant = wrapped (made.constant + wrapped (term.coefficient * wrapped (place.offset + 0))) })
-        (record { terms = other.terms; constant = wrapped (other.constant + wrapped (term.coefficient * wrapped (place.offset + shift))) })
+        let done = go (record { terms = made.terms; constant = wrapped (made.constant + wrapped (term.coefficient * wrapped (place.place.offset + 0))) })
+        (record { terms = other.terms; constant = wrapped (other.constant + wrapped (term.coefficient * wrapped (place.place.offset + shift))) })
         (sum + term.coefficient * shift) same next in
         let sums_up : sum + amount ≡ sum + term.coefficient * shift + terms_moved map' own starts shifts terms = omega arith in
         rw sums_up done
 
-    by_test : (made other : Form) (sum amount : ℕ) (term : Term) (terms : List Term) (place : Place) → place_of map' own term.symbol ≡ Some place → AreMoved terms
+    by_test : (made other : Form) (sum amount : ℕ) (term : Term) (terms : List Term) (place : SectionPlace) → place_of map' own term.symbol ≡ Some place → AreMoved terms
         → other.terms ≡ made.terms → other.constant ≡ wrapped (made.constant + sum)
         → amount ≡ term.coefficient * slice_index shifts (row_at starts place) + terms_moved map' own starts shifts terms
         → (test : Bool) → (wrapped (stretch_sum place.section (map (spot_of still) all)) == 0) ≡ test
@@ -117,7 +117,7 @@ module _ (map' : SymbolMap) (own : OwnPlace) (starts shifts : List ℕ) where
         rw (there, sums, passes) (both_put made other sum amount term terms place go same is total)
 
     by_place : (made other : Form) (sum amount : ℕ) (term : Term) (terms : List Term) → AreMoved terms → other.terms ≡ made.terms → other.constant ≡ wrapped (made.constant + sum)
-        → amount ≡ term_moved map' own starts shifts term + terms_moved map' own starts shifts terms → (place : Option Place) → place_of map' own term.symbol ≡ place
+        → amount ≡ term_moved map' own starts shifts term + terms_moved map' own starts shifts terms → (place : Option SectionPlace) → place_of map' own term.symbol ≡ place
         → IsStep made other sum amount term terms (cancelled_number (map (spot_of moved) all) (spot_of moved term)) (cancelled_number (map (spot_of still) all) (spot_of still term))
     by_place made other sum amount term terms go same is total None none = rw none (both_left made other sum amount term terms)
     by_place made other sum amount term terms go same is total (Some place) there =

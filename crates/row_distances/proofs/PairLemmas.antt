@@ -2,6 +2,7 @@
 use Rattle.std.proofs.Common.{◌≡◌, ◌≢◌, ◌⊎◌, inl, inr, ℕ, ◌+◌, ◌-◌, ◌^◌, ◌<◌, ◌==◌, ◌&&◌, Bool, true, false, cond, List, [], ◌∷◌, Option, Some, None, refl, sym, ap, ◌∙◌, arith}
 use Rattle.std.specs.Prelude.{option_map}
 use Rattle.std.proofs.lemmas.Bool.Decides.{nat_tests}
+use Rattle.asm_base.specs.declared.places.SectionPlace.{SectionPlace}
 use Rattle.asm_expr.specs.declared.forms.Term.{Term}
 use Rattle.asm_expr.specs.Forms.{Form, wrapped, term_of}
 use Rattle.asm_expr.specs.Settled.{settled, put_all}
@@ -9,7 +10,6 @@ use Rattle.asm_symbols.specs.SymbolMap.{SymbolMap}
 use Rattle.asm_levels.specs.declared.distances.Distance.{Distance}
 use Rattle.asm_levels.specs.declared.distances.Distance.TheVariants.{Sum}
 use Rattle.row_distances.specs.declared.pairs.Pair.{Pair}
-use Rattle.row_distances.specs.declared.places.Place.{Place}
 use Rattle.row_distances.specs.declared.places.OwnPlace.{OwnPlace}
 use Rattle.row_distances.specs.Pairs.{pair_of}
 use Rattle.row_distances.specs.Places.{place_of, row_among}
@@ -52,7 +52,7 @@ are_pair (one ∷ other ∷ []) pair is =
     by false first false second found = absurd cc
 
 -- a place stands in its own section
-same_section : (place : Place) → (place.section == place.section) ≡ true
+same_section : (place : SectionPlace) → (place.section == place.section) ≡ true
 same_section place = grind (arith, nat_tests)
 
 -- the number that is left where both cancel
@@ -65,7 +65,7 @@ module _ (map' : SymbolMap) (own : OwnPlace) (starts : List ℕ) (count : ℕ) (
   value = value_among map' own starts [] made
 
   -- nothing cancels where the symbol ahead has no place
-  none_ahead : ArePair made.terms pair → place_of map' own pair.ahead ≡ None → (there : Option Place) → place_of map' own pair.behind ≡ there → value ≡ None
+  none_ahead : ArePair made.terms pair → place_of map' own pair.ahead ≡ None → (there : Option SectionPlace) → place_of map' own pair.behind ≡ there → value ≡ None
   unfolding settled put_all
   none_ahead (inl is) none None there = rw (is, none, there) refl
   none_ahead (inl is) none (Some place) there = let one = same_section place in rw (is, none, there, one) refl
@@ -73,14 +73,14 @@ module _ (map' : SymbolMap) (own : OwnPlace) (starts : List ℕ) (count : ℕ) (
   none_ahead (inr is) none (Some place) there = let one = same_section place in rw (is, none, there, one) refl
 
   -- nor where the one behind has none
-  none_behind : ArePair made.terms pair → place_of map' own pair.behind ≡ None → (there : Option Place) → place_of map' own pair.ahead ≡ there → value ≡ None
+  none_behind : ArePair made.terms pair → place_of map' own pair.behind ≡ None → (there : Option SectionPlace) → place_of map' own pair.ahead ≡ there → value ≡ None
   unfolding settled put_all
   none_behind (inl is) none None there = rw (is, none, there) refl
   none_behind (inl is) none (Some place) there = let one = same_section place in rw (is, none, there, one) refl
   none_behind (inr is) none None there = rw (is, none, there) refl
   none_behind (inr is) none (Some place) there = let one = same_section place in rw (is, none, there, one) refl
 
-  module _ (place other : Place) (there : place_of map' own pair.ahead ≡ Some place) (also : place_of map' own pair.behind ≡ Some other) where
+  module _ (place other : SectionPlace) (there : place_of map' own pair.ahead ≡ Some place) (also : place_of map' own pair.behind ≡ Some other) where
     -- nor where the two stand in two sections
     none_apart : ArePair made.terms pair → place.section ≢ other.section → value ≡ None
     unfolding settled put_all
@@ -103,15 +103,15 @@ module _ (map' : SymbolMap) (own : OwnPlace) (starts : List ℕ) (count : ℕ) (
         by (inr is) = rw (is, there, also, apart, turned, one, two) refl
 
     -- in one section both cancel
-    both_cancel : ArePair made.terms pair → other.section ≡ place.section → other.offset < 2 ^ 64
-        → value ≡ Some (left_of made.constant place.offset other.offset)
+    both_cancel : ArePair made.terms pair → other.section ≡ place.section → other.place.offset < 2 ^ 64
+        → value ≡ Some (left_of made.constant place.place.offset other.place.offset)
     unfolding settled put_all
     both_cancel are same small = by are
       where
         one : (place.section == place.section) ≡ true
         one = same_section place
 
-        by : ArePair made.terms pair → value ≡ Some (left_of made.constant place.offset other.offset)
+        by : ArePair made.terms pair → value ≡ Some (left_of made.constant place.place.offset other.place.offset)
         by (inl is) = rw (is, there, also, same, one) (ap (λ (n : ℕ). Some n) (omega arith))
         by (inr is) = rw (is, there, also, same, one) (ap (λ (n : ℕ). Some n) (omega arith))
 
@@ -123,13 +123,13 @@ module _ (map' : SymbolMap) (own : OwnPlace) (starts : List ℕ) (count : ℕ) (
     apart_by number (inr is) = rw (is, there, also) refl
 
     -- where both stand in one section
-    one_section : pair_of made.terms ≡ Some pair → place.section ≡ other.section → other.offset < 2 ^ 64 → (found : Option Distance)
-        → between_rows (left_of made.constant place.offset other.offset) (row_among starts place count) (row_among starts other count) ≡ found
+    one_section : pair_of made.terms ≡ Some pair → place.section ≡ other.section → other.place.offset < 2 ^ 64 → (found : Option Distance)
+        → between_rows (left_of made.constant place.place.offset other.place.offset) (row_among starts place count) (row_among starts other count) ≡ found
         → distance_of map' own starts count made
-        ≡ Some (or_else found (Sum (left_of made.constant place.offset other.offset) (moved_terms map' own starts count made.terms)))
+        ≡ Some (or_else found (Sum (left_of made.constant place.place.offset other.place.offset) (moved_terms map' own starts count made.terms)))
     unfolding distance_of
     one_section is same small found rows =
-        let number = left_of made.constant place.offset other.offset in
+        let number = left_of made.constant place.place.offset other.place.offset in
         let are = are_pair made.terms pair is in
         ap (option_map (λ number. moved_distance map' own starts count number made.terms)) (both_cancel are (sym same) small)
         ∙ ap (λ (d : Distance). Some d) (apart_by number are ∙ ap (λ (found : Option Distance). or_else found (Sum number (moved_terms map' own starts count made.terms))) rows)
@@ -148,20 +148,20 @@ module _ (map' : SymbolMap) (own : OwnPlace) (starts : List ℕ) (count : ℕ) (
   no_place_behind is none = no_value (none_behind (are_pair made.terms pair is) none (place_of map' own pair.ahead) refl)
 
   -- nor has one in two sections
-  pub two_sections : (place other : Place) → pair_of made.terms ≡ Some pair → place_of map' own pair.ahead ≡ Some place
+  pub two_sections : (place other : SectionPlace) → pair_of made.terms ≡ Some pair → place_of map' own pair.ahead ≡ Some place
       → place_of map' own pair.behind ≡ Some other → place.section ≢ other.section → distance_of map' own starts count made ≡ None
   two_sections place other is there also differ = no_value (none_apart place other there also (are_pair made.terms pair is) differ)
 
   -- a pair in one section has the distance of its rows
-  pub rows_between : (place other : Place) (found : Distance) → pair_of made.terms ≡ Some pair → place_of map' own pair.ahead ≡ Some place
-      → place_of map' own pair.behind ≡ Some other → place.section ≡ other.section → other.offset < 2 ^ 64
-      → between_rows (left_of made.constant place.offset other.offset) (row_among starts place count) (row_among starts other count) ≡ Some found
+  pub rows_between : (place other : SectionPlace) (found : Distance) → pair_of made.terms ≡ Some pair → place_of map' own pair.ahead ≡ Some place
+      → place_of map' own pair.behind ≡ Some other → place.section ≡ other.section → other.place.offset < 2 ^ 64
+      → between_rows (left_of made.constant place.place.offset other.place.offset) (row_among starts place count) (row_among starts other count) ≡ Some found
       → distance_of map' own starts count made ≡ Some found
   rows_between place other found is there also same small rows = one_section place other there also is same small (Some found) rows
 
   -- and where one of them has no row, a sum
-  pub no_rows_between : (place other : Place) → pair_of made.terms ≡ Some pair → place_of map' own pair.ahead ≡ Some place
-      → place_of map' own pair.behind ≡ Some other → place.section ≡ other.section → other.offset < 2 ^ 64
-      → between_rows (left_of made.constant place.offset other.offset) (row_among starts place count) (row_among starts other count) ≡ None
-      → distance_of map' own starts count made ≡ Some (Sum (left_of made.constant place.offset other.offset) (moved_terms map' own starts count made.terms))
+  pub no_rows_between : (place other : SectionPlace) → pair_of made.terms ≡ Some pair → place_of map' own pair.ahead ≡ Some place
+      → place_of map' own pair.behind ≡ Some other → place.section ≡ other.section → other.place.offset < 2 ^ 64
+      → between_rows (left_of made.constant place.place.offset other.place.offset) (row_among starts place count) (row_among starts other count) ≡ None
+      → distance_of map' own starts count made ≡ Some (Sum (left_of made.constant place.place.offset other.place.offset) (moved_terms map' own starts count made.terms))
   no_rows_between place other is there also same small rows = one_section place other there also is same small None rows

@@ -5,6 +5,7 @@ use Rattle.std.proofs.lemmas.Bool.Decides.{nat_tests}
 use Rattle.std.proofs.lemmas.List.{get_or_past}
 use Rattle.std.proofs.lemmas.List.Sums.{sum_by-cons}
 use Rattle.std.proofs.lemmas.List.Elements.{All-cons}
+use Rattle.asm_base.specs.declared.places.SectionPlace.{SectionPlace}
 use Rattle.asm_expr.specs.declared.forms.Term.{Term}
 use Rattle.asm_expr.specs.Forms.{Form, wrapped}
 use Rattle.asm_symbols.specs.SymbolMap.{SymbolMap}
@@ -12,7 +13,6 @@ use Rattle.asm_levels.specs.declared.distances.Distance.{Distance}
 use Rattle.asm_levels.specs.declared.distances.Distance.TheVariants.{Between, Sum}
 use Rattle.asm_levels.specs.declared.distances.RowTerm.{RowTerm}
 use Rattle.asm_levels.specs.Distances.{distance_value, times_shift, DistanceStands}
-use Rattle.row_distances.specs.declared.places.Place.{Place}
 use Rattle.row_distances.specs.declared.places.OwnPlace.{OwnPlace}
 use Rattle.row_distances.specs.Places.{place_of, row_at, row_for, moved_by}
 use Rattle.row_distances.specs.FormDistances.{value_among, term_moved, terms_moved, IsMovedBy, IsDistanceOf, NamesFew, with_row, between_rows, or_else, row_of, moved_terms, moved_distance, distance_of}
@@ -20,7 +20,7 @@ use Rattle.row_distances.proofs.LinearLemmas.{value_moved}
 
 module _ (starts shifts : List ℕ) (count : ℕ) where
   -- a place with a row is moved as far as the row
-  pub row_moves : (place : Option Place) (row : ℕ) → row_for starts place count ≡ Some row → moved_by starts shifts place ≡ slice_index shifts row
+  pub row_moves : (place : Option SectionPlace) (row : ℕ) → row_for starts place count ≡ Some row → moved_by starts shifts place ≡ slice_index shifts row
   row_moves None row is = absurd cc
   row_moves (Some place) row is = by_test (nat_lt (row_at starts place) count) is
     where
@@ -29,7 +29,7 @@ module _ (starts shifts : List ℕ) (count : ℕ) where
       by_test false is = absurd cc
 
   -- and the row is one of so many
-  pub row_inside : (place : Option Place) (row : ℕ) → row_for starts place count ≡ Some row → row < count
+  pub row_inside : (place : Option SectionPlace) (row : ℕ) → row_for starts place count ≡ Some row → row < count
   row_inside None row is = absurd cc
   row_inside (Some place) row is = by_test (nat_lt (row_at starts place) count) refl is
     where
@@ -38,7 +38,7 @@ module _ (starts shifts : List ℕ) (count : ℕ) where
       by_test false outside is = absurd cc
 
   -- one that has none is not moved
-  pub none_moves : (place : Option Place) → row_for starts place count ≡ None → length shifts ≡ count → moved_by starts shifts place ≡ 0
+  pub none_moves : (place : Option SectionPlace) → row_for starts place count ≡ None → length shifts ≡ count → moved_by starts shifts place ≡ 0
   none_moves None none long = refl
   none_moves (Some place) none long = by_test (nat_lt (row_at starts place) count) refl none
     where

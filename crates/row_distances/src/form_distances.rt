@@ -10,8 +10,8 @@ ghost use Rattle.row_distances.specs.Pairs as pairs;
 ghost use Rattle.row_distances.specs.Places.{row_among};
 
 use crate::pairs::{Pair, pair_of};
-use crate::places::{Place, RowView, place_of, row_at};
-use asm_base::NoMemory;
+use crate::places::{RowView, place_of, row_at};
+use asm_base::{NoMemory, SectionPlace};
 use asm_expr::{Linear, SymId, Term, settled_value};
 use asm_levels::{Distance, RowTerm, RowTerms};
 use std::alloc::Global;
@@ -93,8 +93,8 @@ fn between_places(
     starts: &[u32],
     count: u32,
     number: u64,
-    ahead: Place,
-    behind: Place,
+    ahead: SectionPlace,
+    behind: SectionPlace,
 ) -> Option<Distance>
     ensures { result ≡ spec.between_rows number (row_among starts.now ahead count)
         (row_among starts.now behind count) }
@@ -130,7 +130,7 @@ fn pair_distance(
     if ahead.section != behind.section {
         return Ok(None);
     }
-    let apart = ahead.offset.wrapping_sub(behind.offset);
+    let apart = ahead.place.offset.wrapping_sub(behind.place.offset);
     let number = form.constant().wrapping_add(apart);
     match between_places(view.starts, count, number, ahead, behind) {
         Some(distance) => Ok(Some(distance)),
@@ -198,7 +198,7 @@ pub fn rows_apart(
     if behind.section != ahead.section {
         return None;
     }
-    let apart = ahead.offset.wrapping_sub(behind.offset);
+    let apart = ahead.place.offset.wrapping_sub(behind.place.offset);
     Some(RowsApart {
         number: form.constant().wrapping_add(apart),
         ahead: row_at(view.starts, ahead, count)?,

@@ -6,4 +6,4 @@ mod pairs;
 mod places;
 
 pub use form_distances::{RowsApart, distance_of, distances_are_values, rows_apart};
-pub use places::{OwnPlace, Place, RowView};
+pub use places::{OwnPlace, RowView};

@@ -4,22 +4,15 @@ ghost use Rattle.std.specs.Prelude.{◌≡◌};
 ghost use Rattle.asm_expr.specs.Knowledge.{told_by};
 ghost use Rattle.row_distances.specs.Places as spec;
 
+use asm_base::SectionPlace;
 use asm_expr::{Known, Look, SymId, Written};
 use asm_symbols::{Meaning, Symbols};
-
-/// A place: its section, and how many items and how many plain bytes of it stand before it.
-#[derive(Clone, Copy)]
-pub struct Place {
-    pub section: u32,
-    pub item: u64,
-    pub offset: u64,
-}
 
 /// The place of an item, and the number of the symbol that stands for it in forms.
 #[derive(Clone, Copy)]
 pub struct OwnPlace {
     pub symbol: u32,
-    pub place: Place,
+    pub place: SectionPlace,
 }
 
 /// Where symbols stand: the symbols, the first row of each section, and the place of the item itself.
@@ -31,22 +24,18 @@ pub struct RowView<'a> {
 }
 
 /// Where a symbol of this meaning stands.
-fn meant_place(meaning: &Meaning) -> Option<Place>
+fn meant_place(meaning: &Meaning) -> Option<SectionPlace>
     ensures { result ≡ spec.meant_place meaning.now }
 {
     match meaning {
-        Meaning::Label(spot) | Meaning::Space(spot) => Some(Place {
-            section: spot.section,
-            item: spot.item,
-            offset: spot.offset,
-        }),
+        Meaning::Label(spot) | Meaning::Space(spot) => Some(spot.place),
         Meaning::Undefined | Meaning::Common { .. } | Meaning::Assigned(_) => None,
     }
 }
 
 /// Where a symbol stands.
 #[tactic(auto, unfolding(crate::specs::Places::place_of))]
-pub(crate) fn place_of(view: RowView, symbol: SymId) -> Option<Place>
+pub(crate) fn place_of(view: RowView, symbol: SymId) -> Option<SectionPlace>
     ensures { result ≡ spec.place_of view.entry.symbols.now view.entry.own symbol }
 {
     if symbol.index() == view.own.symbol {
@@ -73,7 +62,7 @@ impl Known for RowView<'_> {
         match place_of(*self, symbol) {
             Some(place) => Look::Label {
                 stretch: u64::from(place.section),
-                at: place.offset,
+                at: place.place.offset,
             },
             None => Look::Absent,
         }
@@ -89,14 +78,14 @@ impl Known for RowView<'_> {
 }
 
 /// The row that moves a place, if it is one of so many.
-pub(crate) fn row_at(starts: &[u32], place: Place, count: u32) -> Option<u32>
+pub(crate) fn row_at(starts: &[u32], place: SectionPlace, count: u32) -> Option<u32>
     ensures { result ≡ spec.row_among starts.now place count }
 {
     let first = match starts.get(place.section as usize) {
         Some(first) => u64::from(*first),
         None => 0,
     };
-    let row = first.checked_add(place.item)?;
+    let row = first.checked_add(place.place.item)?;
     if row < u64::from(count) {
         Some(row as u32)
     } else {

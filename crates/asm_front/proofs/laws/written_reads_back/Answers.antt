@@ -3,15 +3,15 @@ use Rattle.asm_front.proofs.FramedSections.{TableFacts}
 use Rattle.asm_front.proofs.FramesInObject.{FrameFacts}
 use Rattle.asm_front.proofs.HandedStatements.{handed_makes}
 use Rattle.asm_front.proofs.JumpsInObject.{JumpFacts}
-use Rattle.frame_laws.proofs.LaidItems.{AreSettled}
-use Rattle.asm_front.proofs.PlacedItems.{PlaceFacts}
+use Rattle.asm_front.proofs.PlacedFacts.{PlaceFacts}
+use Rattle.asm_front.proofs.SettledObjects.{AreSettled}
 use Rattle.asm_front.proofs.laws.written_reads_back.Goals as goal
 
 pub returns : goal.returns
 returns c flags contents name source made files is =
     let settled : AreSettled = record {
+      layouts = c.layouts_keep_sections.ensures;
       placed = c.settled_is_placed.ensures.placed;
-      sized = c.settled_is_placed.ensures.sized;
       bytes = c.bytes_stand.ensures;
       values = c.values_stand.ensures;
     } in
@@ -19,10 +19,7 @@ returns c flags contents name source made files is =
     let placing : PlaceFacts = record {
       begins = c.placing_within.ensures.begins;
       within = c.placing_within.ensures.kept;
-      grows = c.placing_grows.ensures;
-      bare_put = c.instruction_stands.ensures;
       bare_stands = c.instruction_items.ensures;
-      code_put = c.encoding_stands.ensures.put;
       code_stands = c.encoding_items.ensures;
     } in
     let jumps : JumpFacts = record {
@@ -33,7 +30,9 @@ returns c flags contents name source made files is =
       near = c.jump_reads_back.ensures.near;
       short = c.jump_reads_back.ensures.short;
       room = c.settled_items_have_room.ensures;
-      ranked = c.settled_by_the_ranking.ensures;
+      rise = c.rows_rise.ensures.rise;
+      count = c.rows_rise.ensures.count;
+      adds = c.coefficients_add.ensures;
       starts = c.places_stand.ensures.begins;
       places = c.places_stand.ensures.kept;
       few = c.places_stand.ensures.few;
@@ -41,5 +40,5 @@ returns c flags contents name source made files is =
     } in
     let frames : FrameFacts = record { read = c.frame_tables_read.ensures; ordered = c.procedures_stand_in_order.ensures } in
     reads_back settled c.read_one_way.ensures c.bare_codes_read.ensures.read c.encodings_are_codes.ensures.fields
-    c.encodings_are_codes.ensures.notes table placing jumps frames flags _ made
+    c.fields_stand_apart.ensures.places c.fields_stand_apart.ensures.values table placing jumps frames flags _ made
     (handed_makes c.handed_statements_are_placed.ensures c.placing_in_order.ensures flags contents name source made files is)

@@ -29,7 +29,7 @@ returns-in-Whole c =
     let fits = sym (c.is_too_long.ensures known.closed known.short) ∙ c.if-is_too_long.false in
     let Stands : List Token → Type 0 = λ tokens. (count ≤ length tokens) × IsNext c.args.source.now c.args.from (take count tokens) c.in-Some.point.line c.in-Whole.next c.in-Whole.there in
     subst Stands (sym (written c.loop-next.tokens.len slots c.loop-next.tokens.items (c.in-Whole.ensures.len ∙ c.as_mut_slice.ensures.len)))
-    (read.0, next_whole c.args.source.now c.args.from c.in-Some.point (take count slots) c.in-Whole.next c.in-Whole.there c.in-Some.ensures c.if-point-source.false known (ltb-false _ _ fits))
+    (read.0, next_whole (record { some = c.one_division.ensures.some; only = c.one_division.ensures.only }) c.args.source.now c.args.from c.in-Some.point (take count slots) c.in-Whole.next c.in-Whole.there c.in-Some.ensures c.if-point-source.false known (ltb-false _ _ fits))
 
 pub returns-in-Unclosed : goal.returns-in-Unclosed
 returns-in-Unclosed c = next_unclosed c.args.source.now c.args.from c.in-Some.point c.in-Some.ensures c.in-Unclosed.ensures.read

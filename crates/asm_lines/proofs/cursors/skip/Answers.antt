@@ -33,7 +33,7 @@ loop-at-preserved-in-LineEnd c =
     let kind = c.in-LineEnd.ensures.stands in
     let one = one_length _ _ piece.LineFeed kind (feed_one _) in
     skip_over s c.args.from at (at + 1) c.loop-at.line _ _ (one_off s _ _ _ 1 front one (omega arith)) (record { closes = ap is_unclosed kind; which = inl (ap ends_statement kind) })
-    (line_over_feed s _ _ _ c.loop-at.line _ front kind c.line_after-line.ensures c.loop-at.invariant.line) (omega arith) (omega arith) c.loop-at.invariant
+    (line_over_feed c.one_division.ensures.some s _ _ _ c.loop-at.line _ front kind c.line_after-line.ensures c.loop-at.invariant.line) (omega arith) (omega arith) c.loop-at.invariant
 
 pub loop-at-preserved-in-StatementEnd : goal.loop-at-preserved-in-StatementEnd
 loop-at-preserved-in-StatementEnd c =
@@ -43,7 +43,7 @@ loop-at-preserved-in-StatementEnd c =
     let kind = c.in-StatementEnd.ensures.stands in
     let one = one_length _ _ piece.Semicolon kind (semicolon_one _) in
     skip_over s c.args.from at (at + 1) c.loop-at.line _ _ (one_off s _ _ _ 1 front one (omega arith)) (record { closes = ap is_unclosed kind; which = inl (ap ends_statement kind) })
-    (line_over_piece s _ _ _ 1 c.loop-at.line front (ap is_on_line kind) one c.loop-at.invariant.line) (omega arith) (omega arith) c.loop-at.invariant
+    (line_over_piece c.one_division.ensures.some s _ _ _ 1 c.loop-at.line front (ap is_on_line kind) one c.loop-at.invariant.line) (omega arith) (omega arith) c.loop-at.invariant
 
 pub loop-at-preserved-in-Blank : goal.loop-at-preserved-in-Blank
 loop-at-preserved-in-Blank c =
@@ -53,7 +53,7 @@ loop-at-preserved-in-Blank c =
     let kind = c.in-Blank.ensures.stands in
     let one = one_length _ _ piece.Blank kind (blank_one _) in
     skip_over s c.args.from at (at + 1) c.loop-at.line _ _ (one_off s _ _ _ 1 front one (omega arith)) (record { closes = ap is_unclosed kind; which = inr (ap ends_statement kind, ap is_space kind) })
-    (line_over_piece s _ _ _ 1 c.loop-at.line front (ap is_on_line kind) one c.loop-at.invariant.line) (omega arith) (omega arith) c.loop-at.invariant
+    (line_over_piece c.one_division.ensures.some s _ _ _ 1 c.loop-at.line front (ap is_on_line kind) one c.loop-at.invariant.line) (omega arith) (omega arith) c.loop-at.invariant
 
 pub loop-at-preserved-in-LineComment : goal.loop-at-preserved-in-LineComment
 loop-at-preserved-in-LineComment c =
@@ -63,7 +63,7 @@ loop-at-preserved-in-LineComment c =
     let stands = c.in-LineComment.ensures.stands in
     let fits = c.in-LineComment.ensures.fits in
     skip_over s c.args.from at (at + c.in-LineComment.length) c.loop-at.line _ _ (one_off s _ _ _ _ front stands.1 fits.0) (record { closes = ap is_unclosed stands.0; which = inr (ap ends_statement stands.0, ap is_space stands.0) })
-    (line_over_piece s _ _ _ _ c.loop-at.line front (ap is_on_line stands.0) stands.1 c.loop-at.invariant.line) (omega (arith, fits.1)) (omega arith) c.loop-at.invariant
+    (line_over_piece c.one_division.ensures.some s _ _ _ _ c.loop-at.line front (ap is_on_line stands.0) stands.1 c.loop-at.invariant.line) (omega (arith, fits.1)) (omega arith) c.loop-at.invariant
 
 pub loop-at-preserved : goal.loop-at-preserved
 loop-at-preserved c =

@@ -1,6 +1,5 @@
 -- No statement is left, or the lines have a fault.
 use Rattle.std.proofs.Common.{◌≡◌, ℕ, IfOk, List, Option, Some, None, Result, Ok, Err, refl, sym, ap, subst, ◌∙◌, arith}
-use Rattle.std.specs.declared.alloc.AllocError.{AllocError}
 use Rattle.asm_lines.specs.declared.faults.LineCause.{LineCause}
 use Rattle.asm_lines.specs.LineNumbers.{line_of}
 use Rattle.asm_lines.specs.Statements.{StatementAt, statements_of}

@@ -25,7 +25,7 @@ returns-in-LineEnd c =
       later = sym stop.later ∙ known.later;
       closed = sym known.closed ∙ stop.closed;
       own = sym (stop.owns c.loop-at.own _) ∙ known.owns ∙ own_whole _;
-      line = line_over_feed s _ _ _ c.loop-at.line _ front kind c.line_after.ensures known.line;
+      line = line_over_feed c.one_division.ensures.some s _ _ _ c.loop-at.line _ front kind c.line_after.ensures known.line;
       within = omega arith;
       more = omega arith;
     }
@@ -43,7 +43,7 @@ returns-in-StatementEnd c =
       later = sym stop.later ∙ known.later;
       closed = sym known.closed ∙ stop.closed;
       own = sym (stop.owns c.loop-at.own _) ∙ known.owns ∙ own_whole _;
-      line = line_over_piece s _ _ _ 1 c.loop-at.line front (ap is_on_line kind) one known.line;
+      line = line_over_piece c.one_division.ensures.some s _ _ _ 1 c.loop-at.line front (ap is_on_line kind) one known.line;
       within = omega arith;
       more = omega arith;
     }
@@ -59,7 +59,7 @@ loop-at-preserved-in-Blank c =
     record {
       within = omega arith;
       begins = omega (arith, known.begins);
-      line = line_over_piece s _ _ _ 1 _ front (ap is_on_line kind) (one_length _ _ piece.Blank kind (blank_one _)) known.line;
+      line = line_over_piece c.one_division.ensures.some s _ _ _ 1 _ front (ap is_on_line kind) (one_length _ _ piece.Blank kind (blank_one _)) known.line;
       later = sym move.later ∙ known.later;
       closed = sym move.closed ∙ known.closed;
       owns = own_step _ _ _ _ _ _ (omega arith) move.owns known.owns;
@@ -77,7 +77,7 @@ loop-at-preserved-in-LineComment c =
     record {
       within = omega (arith, fits.1);
       begins = omega (arith, known.begins);
-      line = line_over_piece s _ _ _ _ _ front (ap is_on_line stands.0) stands.1 known.line;
+      line = line_over_piece c.one_division.ensures.some s _ _ _ _ _ front (ap is_on_line stands.0) stands.1 known.line;
       later = sym move.later ∙ known.later;
       closed = sym move.closed ∙ known.closed;
       owns = own_step _ _ _ _ _ _ (omega arith) move.owns known.owns;
@@ -119,7 +119,7 @@ loop-at-preserved c =
     record {
       within = omega (arith, fits.1);
       begins = omega (arith, known.begins);
-      line = line_over_token s _ _ _ _ _ front (token_on_line _ stands.0) (token_run s _ _ _ _ front stands.0 stands.2) known.line;
+      line = line_over_token c.one_division.ensures.some s _ _ _ _ _ front (token_on_line _ stands.0) (token_run s _ _ _ _ front stands.0 stands.2) known.line;
       later = sym move.later ∙ known.later;
       closed = sym move.closed ∙ known.closed;
       owns = own_with_token _ _ _ _ _ owned move.owns known.owns;

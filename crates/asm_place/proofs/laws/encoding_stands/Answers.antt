@@ -6,4 +6,4 @@ pub returns-clause-told : goal.returns-clause-told
 returns-clause-told c = tokens_told
 
 pub returns-clause-put : goal.returns-clause-put
-returns-clause-put c = tokens_put c.encodings_are_codes.ensures.notes
+returns-clause-put c = tokens_put c.fields_stand_apart.ensures.places

@@ -34,8 +34,8 @@ returns c =
     let near : IsNearPair all field one other = c.is_near_pair.ensures (search rules) in
     let spot = c.in_ok-spot.spot in
     let there : slice_get sections field.section ≡ Some c.in_ok-section.section.now = grind (arith, common_steps, gets, c.in_ok-section.ensures.lookup, c.as_slice.ensures.sections) in
-    let at : address_of sections field.section spot.item spot.offset ≡ c.address_in-at.result =
-    address_there sections field.section spot.item spot.offset c.in_ok-section.section.now there ∙ sym c.address_in-at.ensures in
+    let at : address_of sections field.section spot.place.place.item spot.place.place.offset ≡ c.address_in-at.result =
+    address_there sections field.section spot.place.place.item spot.place.place.offset c.in_ok-section.section.now there ∙ sym c.address_in-at.ensures in
     let first : told one.symbol ≡ label field.section c.address_in-at.result =
     told_else all sections field one.symbol near.symbol ∙ c.in_ok-spot.ensures sections ∙ ap (label field.section) at in
     let second : told other.symbol ≡ label field.section c.address_within.result =

@@ -2,7 +2,7 @@
 use Rattle.std.proofs.Common.{◌≡◌, ℕ, suc, ◌+◌, ◌<◌, Some, length, drop, ap, ◌∙◌, arith}
 use Rattle.std.specs.Prelude.{slice_get}
 use Rattle.asm_frags.specs.Addresses.{changed_at}
-use Rattle.asm_relax.specs.ItemRows.{row_count}
+use Rattle.item_rows.specs.ItemRows.{row_count}
 use Rattle.asm_relax.specs.Layout.{laid_out_section}
 use Rattle.asm_relax.specs.Settling.{LaidSections}
 use Rattle.asm_relax.proofs.LayingLemmas.{there_is, first_row, laid_front, front_next, front_get, front_all, row_next, row_inside}

@@ -22,5 +22,5 @@ returns-then-are_within c = λ is.
     let small : IsSmall field = c.is_small.ensures is in
     let there : slice_get sections field.section ≡ Some section = grind (arith, common_steps, gets, c.in-Some-get.ensures.lookup, c.as_slice.ensures.sections) in
     let keeps : KeepsLow section = all_get (λ (one : SectionOf LaidItem). KeepsLow one) sections field.section section there c.requires.low in
-    near_misfit all sections field section there keeps c.are_within.ensures.low c.args.one.now c.args.other.now spot.item spot.offset c.requires.terms near (c.in-Some.ensures sections)
+    near_misfit all sections field section there keeps c.are_within.ensures.low c.args.one.now c.args.other.now spot.place.place.item spot.place.place.offset c.requires.terms near (c.in-Some.ensures sections)
     (c.are_within.ensures.within (search rules)) small

@@ -7,7 +7,7 @@ use Rattle.assigned_forms.proofs.expanding.begun.Goals as goal
 pub returns-then-names_assigned-clause-value : goal.returns-then-names_assigned-clause-value
 returns-then-names_assigned-clause-value c =
     let is = sym c.form_at.ensures ∙ ap (option_map (λ f. f.now)) c.unwrap-form.ensures in
-    begun_some c.args.symbols.now c.no_form_leads_back.ensures c.args.at c.unwrap-form.result.now c.constant_form.result is
+    begun_some c.args.symbols.now (record { back = c.leads_is_decided.ensures.back; leads = c.leads_is_decided.ensures.leads }) c.no_form_leads_back.ensures c.args.at c.unwrap-form.result.now c.constant_form.result is
     (sym c.names_assigned.ensures ∙ c.if-names_assigned.true) (rw c.constant.ensures at c.constant_form.ensures)
 
 pub returns-clause-value : goal.returns-clause-value

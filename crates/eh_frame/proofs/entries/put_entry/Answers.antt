@@ -1,7 +1,7 @@
 -- The head, the instructions and the padding are put one behind the other.
 use Rattle.std.proofs.Common.{List, ◌∷◌, ◌∙◌, ap}
 use Rattle.cfi_directives.specs.declared.frames.PlacedOp.{PlacedOp}
-use Rattle.cfi_directives.specs.declared.places.SectionPlace.{SectionPlace}
+use Rattle.asm_base.specs.declared.places.SectionPlace.{SectionPlace}
 use Rattle.eh_frame.specs.Entries.{end_place, op_pieces, counted_pieces, length_piece}
 use Rattle.eh_frame.specs.Pieces.{pieces_put, tables_of}
 use Rattle.eh_frame.proofs.entries.put_entry.Goals as goal

@@ -3,7 +3,7 @@ use Rattle.std.proofs.Common.{◌+◌, ◌-◌, arith, List, ℕ, option_map, sy
 use Rattle.std.proofs.lemmas.Grind.{common_steps}
 use Rattle.asm_base.specs.Output.{after_write}
 use Rattle.item_contents.specs.Contents.{repeated}
-use Rattle.item_contents.proofs.Repeats.{repeated_more, repeated_none}
+use Rattle.elf_file.proofs.Repeats.{repeated_more, repeated_none}
 use Rattle.elf_file.proofs.WritingLemmas.{written_none, written-append}
 use Rattle.elf_file.proofs.ObjectLemmas.{front_written}
 use Rattle.elf_file.proofs.PieceLemmas.{repeated_cut}

@@ -10,7 +10,7 @@ use Rattle.expr_texts.specs.Reading.{Read, read, whole, closed, reading, reading
 use Rattle.expr_texts.specs.Found.{spelled_from, operand_in}
 use Rattle.expr_texts.proofs.Fuel.{right_of}
 use Rattle.expr_texts.proofs.LeafLemmas.{leaf_height}
-use Rattle.asm_expr.proofs.RefusedSteps.{fails_after}
+use Rattle.expr_texts.proofs.Steps.{fails_after}
 use Rattle.expr_texts.proofs.ParsingLemmas.{node_fails, node_done, reading_is, more_end, more_at, operand_end, opened_at, opened_deep, prefix_at, prefix_deep, leaf_at, finds_after, finds_node}
 use Rattle.expr_texts.proofs.parsing.+parsing.Goals as goal
 

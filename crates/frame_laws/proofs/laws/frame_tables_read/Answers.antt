@@ -7,12 +7,9 @@ returns c =
     tables_read (record {
       pieces = record {
         file = record {
-          settled = record {
-            placed = c.settled_is_placed.ensures.placed;
-            sized = c.settled_is_placed.ensures.sized;
-            bytes = c.bytes_stand.ensures;
-            values = c.values_stand.ensures;
-          };
+          layouts = c.layouts_keep_sections.ensures;
+          bytes = c.bytes_stand.ensures;
+          values = c.values_stand.ensures;
           items = c.items_stand.ensures;
           addresses = c.sizes_add_up.ensures.item;
         };

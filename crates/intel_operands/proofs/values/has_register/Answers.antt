@@ -1,5 +1,5 @@
 -- A test of the program's tokens is one of what they spell.
-use Rattle.intel_operands.specs.Sums.{is_register}
+use Rattle.intel_sums.specs.Sums.{is_register}
 use Rattle.intel_operands.specs.OperandTexts.{has_register}
 use Rattle.intel_operands.proofs.SpelledTests.{any_spelled}
 use Rattle.intel_operands.proofs.values.has_register.Goals as goal

@@ -1,7 +1,7 @@
 -- The rounds of the rows give the layout, and rows look at no address.
 use Rattle.std.proofs.Common.{◌≡◌, List, Some, None, length, refl, ◌∙◌, sym, ap}
 use Rattle.asm_levels.specs.declared.rows.Row.{Row}
-use Rattle.asm_relax.specs.ItemRows.{rows_of}
+use Rattle.item_rows.specs.ItemRows.{rows_of}
 use Rattle.asm_relax.specs.RangeChecks.{first_fault}
 use Rattle.asm_relax.specs.Settling.{LaidSections, settled_sections}
 use Rattle.asm_relax.proofs.LowPlaceLemmas.{settled_moves}

@@ -1,7 +1,7 @@
 -- The symbol is written, and the count of its name raised.
 use Rattle.std.proofs.Common.{◌≡◌, ◌∙◌, Ok, sym}
 use Rattle.asm_base.specs.declared.refusals.Refusal.{Refusal}
-use Rattle.asm_symbols.specs.declared.faults.SymCause.{SymCause}
+use Rattle.asm_base.specs.declared.causes.SymCause.{SymCause}
 use Rattle.asm_symbols.specs.Defining.{redefined}
 use Rattle.asm_symbols.proofs.DefineLemmas.{there_before, define_sound, define_gives}
 use Rattle.asm_symbols.proofs.symbol_map.Symbols.define.Goals as goal

@@ -18,7 +18,7 @@ returns-clause-counts c =
 
 pub returns-clause-found : goal.returns-clause-found
 returns-clause-found c =
-    let found = meant_found _ _ (Next c.args.number) _ c.in_ok-id.ensures.ok c.in_ok-id.ensures.id in
+    let found = meant_found _ _ (Next c.args.number) _ c.in_ok-id.ensures.ok c.in_ok-id.ensures.id c.names_are_apart.ensures.found in
     elim c.if-len-before.branch [
       | then-len-before+in_ok-push w ↦ subst (λ (table : Table). index_of (meant_name table.symbols.counts (Next c.args.number)) (names table.symbols.symbols) ≡ Some c.in_ok-id.id) (sym w.self-is) found
       | else-len-before w ↦ subst (λ (table : Table). index_of (meant_name table.symbols.counts (Next c.args.number)) (names table.symbols.symbols) ≡ Some c.in_ok-id.id) (sym w.self-is) found

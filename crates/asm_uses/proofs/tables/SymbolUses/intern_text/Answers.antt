@@ -26,7 +26,7 @@ returns-clause-grows c =
 
 pub returns-clause-found : goal.returns-clause-found
 returns-clause-found c =
-    let found = interned_found _ (Plain c.args.text.now) _ _ c.in_ok-id.ensures.ok c.in_ok-id.ensures.id in
+    let found = interned_found _ (Plain c.args.text.now) _ _ c.in_ok-id.ensures.ok c.in_ok-id.ensures.id c.names_are_apart.ensures.found in
     elim c.if-len-before.branch [
       | then-len-before+in_ok-push w ↦ subst (λ (table : Table). index_of (Plain c.args.text.now) (names table.symbols.symbols) ≡ Some c.in_ok-id.id) (sym w.self-is) found
       | else-len-before w ↦ subst (λ (table : Table). index_of (Plain c.args.text.now) (names table.symbols.symbols) ≡ Some c.in_ok-id.id) (sym w.self-is) found

@@ -26,7 +26,7 @@ pub way-smaller-in_ok-push-in-Some-awaited-2 : goal.way-smaller-in_ok-push-in-So
 way-smaller-in_ok-push-in-Some-awaited-2 c =
     let awaited = rw c.in-Some-awaited.is at c.in_ok-visit.ensures.awaited in
     less_more c.args.symbols.now c.args.self.now c.way.self c.way.way.items c.pop.new.self.items c.in-Some.visit c.args.at c.way.invariant c.in-Some.ensures.items
-    c.in_ok-visit.visit c.in_ok-visit.ensures.symbol c.no_form_leads_back.ensures c.in_ok-visit.ensures.value c.in-Some-awaited.other c.in_ok-begun-in-Some-awaited.field-0
+    c.in_ok-visit.visit c.in_ok-visit.ensures.symbol (record { back = c.leads_is_decided.ensures.back; leads = c.leads_is_decided.ensures.leads }) c.no_form_leads_back.ensures c.in_ok-visit.ensures.value c.in-Some-awaited.other c.in_ok-begun-in-Some-awaited.field-0
     awaited c.in_ok-begun-in-Some-awaited.ensures.symbol c.in_ok-begun-in-Some-awaited.ensures.value c.push-in-Some-awaited-2.new.self.items
     (c.in_ok-push-in-Some-awaited-2.ensures.items ∙ ap (λ way. way ++ c.in_ok-begun-in-Some-awaited.field-0 ∷ []) c.in_ok-push-in-Some-awaited.ensures.items)
 
@@ -34,7 +34,7 @@ pub way-preserved-in_ok-push-in-Some-awaited-2 : goal.way-preserved-in_ok-push-i
 way-preserved-in_ok-push-in-Some-awaited-2 c =
     let awaited = rw c.in-Some-awaited.is at c.in_ok-visit.ensures.awaited in
     filling_more c.args.symbols.now c.args.self.now c.way.self c.way.way.items c.pop.new.self.items c.in-Some.visit c.args.at c.way.invariant c.in-Some.ensures.items
-    c.in_ok-visit.visit c.in_ok-visit.ensures.symbol c.no_form_leads_back.ensures c.in_ok-visit.ensures.value c.in-Some-awaited.other c.in_ok-begun-in-Some-awaited.field-0
+    c.in_ok-visit.visit c.in_ok-visit.ensures.symbol (record { back = c.leads_is_decided.ensures.back; leads = c.leads_is_decided.ensures.leads }) c.no_form_leads_back.ensures c.in_ok-visit.ensures.value c.in-Some-awaited.other c.in_ok-begun-in-Some-awaited.field-0
     awaited c.in_ok-begun-in-Some-awaited.ensures.symbol c.in_ok-begun-in-Some-awaited.ensures.value c.push-in-Some-awaited-2.new.self.items
     (c.in_ok-push-in-Some-awaited-2.ensures.items ∙ ap (λ way. way ++ c.in_ok-begun-in-Some-awaited.field-0 ∷ []) c.in_ok-push-in-Some-awaited.ensures.items)
 

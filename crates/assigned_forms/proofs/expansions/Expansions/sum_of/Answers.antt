@@ -7,7 +7,7 @@ use Rattle.assigned_forms.proofs.expansions.Expansions.sum_of.Goals as goal
 pub loop-term-init : goal.loop-term-init
 loop-term-init c =
     rw (c.constant_form-made.ensures, c.constant.ensures, c.terms-terms.ensures.terms)
-    (sym (expanded_some c.args.symbols.now c.no_form_leads_back.ensures c.args.form.now c.requires.assigned))
+    (sym (expanded_some c.args.symbols.now (record { back = c.leads_is_decided.ensures.back; leads = c.leads_is_decided.ensures.leads }) c.no_form_leads_back.ensures c.args.form.now c.requires.assigned))
 
 pub loop-term-preserved : goal.loop-term-preserved
 loop-term-preserved c =

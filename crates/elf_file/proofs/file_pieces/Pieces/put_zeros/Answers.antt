@@ -1,7 +1,7 @@
 -- No zeros are no bytes.
 use Rattle.std.proofs.Common.{[], ◌∷◌, ◌++◌, List, ℕ, sym, ap, ◌∙◌, append-nil}
 use Rattle.item_contents.specs.Contents.{repeated}
-use Rattle.item_contents.proofs.Repeats.{repeated_none}
+use Rattle.elf_file.proofs.Repeats.{repeated_none}
 use Rattle.elf_file.proofs.file_pieces.Pieces.put_zeros.Goals as goal
 
 pub returns-then-count-eq0 : goal.returns-then-count-eq0

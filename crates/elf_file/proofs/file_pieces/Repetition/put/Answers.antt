@@ -1,6 +1,6 @@
 -- The block is as long as its units together.
 use Rattle.std.proofs.Common.{length, take, sym, ap, ◌∙◌}
-use Rattle.item_contents.proofs.Repeats.{length-repeated}
+use Rattle.elf_file.proofs.Repeats.{length-repeated}
 use Rattle.elf_file.proofs.file_pieces.Repetition.put.Goals as goal
 
 pub fill_units-requires-clause-room : goal.fill_units-requires-clause-room

@@ -1,0 +1,264 @@
+//! Which section statements put into (GNU as manual, ".section", ".pushsection", ".popsection", ".previous").
+
+ghost use Rattle.std.specs.Prelude.{◌≡◌, map, option_map, Ok};
+ghost use Rattle.asm_expr.specs.Trees.{tree_of};
+ghost use Rattle.asm_base.specs.Refusals.{GivesBy, Gives};
+ghost use Rattle.asm_uses.specs.KnownIn.{known_in};
+ghost use Rattle.asm_operands.specs.Results.{if_some};
+ghost use Rattle.asm_words.specs.SectionWords as words;
+ghost use Rattle.asm_declarations.specs.SectionChanges as spec;
+ghost use Rattle.asm_words.specs.SaidWords.{words_in};
+ghost use Rattle.asm_base.specs.Tokens.{spelled};
+ghost use Rattle.asm_declarations.specs.SectionChanges.{bare, with_current, enter_words, place_section, place_pushed, popped};
+ghost use Rattle.asm_values.specs.PlacedBy.{placed_by, PlacesBy};
+
+use asm_base::{Pos, Text, Token};
+use asm_expr::Expr;
+use asm_frags::{FragFault, Loose, Section, SectionFlags, Sections};
+use asm_operands::{Operands, PlaceCause, PlaceFault, constant_if};
+use asm_uses::{View, form_if};
+use asm_values::{Assembler, Entered};
+use asm_words::{
+    SectionWords, default_header, is_negative, said_flags, said_kind, says_merge, section_words,
+};
+use bitflags::Flags;
+use std::alloc::Global;
+
+/// The most bytes of the name of a section.
+const MOST_NAME: usize = 0x1_0000;
+
+/// The section of this name, where there is one.
+fn section_named<'a>(sections: &'a Sections, name: &[u8]) -> Option<&'a Section<Loose>>
+    ensures { option_map (λ section. section.now) result
+        ≡ spec.section_named sections.now name.now }
+{
+    match sections.find(name) {
+        Some(number) => Some(sections.section(number)),
+        None => None,
+    }
+}
+
+/// Flags that are not said are those of the section that is there, or else those of its name.
+fn flags_by(flags: Option<u64>, there: Option<&Section<Loose>>, name: &[u8]) -> u64
+    ensures { result
+        ≡ spec.flags_by flags (option_map (λ section. section.now) there.entry) name.now }
+{
+    match (flags, there) {
+        (Some(flags), _) => flags,
+        (None, Some(section)) => section.flags().bits(),
+        (None, None) => default_header(name).flags,
+    }
+}
+
+/// A type that is not said is that of the section that is there, or else that of its name.
+fn kind_by(kind: Option<u32>, there: Option<&Section<Loose>>, name: &[u8]) -> u32
+    ensures { result
+        ≡ spec.kind_by kind (option_map (λ section. section.now) there.entry) name.now }
+{
+    match (kind, there) {
+        (Some(kind), _) => kind,
+        (None, Some(section)) => section.kind(),
+        (None, None) => default_header(name).kind,
+    }
+}
+
+/// The size of entries of a section that may be merged has to be said.
+fn merge_size(merge: bool, size: Option<u64>) -> Result<u64, PlaceFault>
+    ensures { GivesBy (λ size. size) result (spec.merge_size merge size) }
+{
+    match (merge, size) {
+        (false, _) => Ok(0),
+        (true, Some(size)) if size != 0 => Ok(size),
+        (true, _) => Err(PlaceFault::Fault(PlaceCause::BadSection)),
+    }
+}
+
+/// The size of entries.
+fn entry_size_by(
+    letters: &Option<Vec<u8>>,
+    size: Option<u64>,
+    there: Option<&Section<Loose>>,
+) -> Result<u64, PlaceFault>
+    ensures { GivesBy (λ size. size) result
+        (spec.entry_size_by (option_map (λ letters. letters.items) letters.now) size
+        (option_map (λ section. section.now) there.entry)) }
+{
+    match (letters, there) {
+        (Some(_), _) => merge_size(says_merge(letters), size),
+        (None, Some(section)) => Ok(section.entry_size()),
+        (None, None) => Ok(0),
+    }
+}
+
+/// The value of the expression of the size of entries, where there is one.
+#[tactic(auto, unfolding(crate::specs::SectionChanges::entry_size_in))]
+fn entry_size_in(alloc: Global, view: View, expr: &Option<Expr>) -> Result<Option<u64>, PlaceFault>
+    ensures { GivesBy (λ size. size) result
+        (spec.entry_size_in (known_in view.entry) (option_map tree_of expr.now)) }
+{
+    let form = form_if(alloc, view, expr)?;
+    match constant_if(&form)? {
+        Some(number) if is_negative(number) => Err(PlaceFault::Fault(PlaceCause::OutOfRange)),
+        size => Ok(size),
+    }
+}
+
+/// The flags that are said, if any are.
+fn flags_if(letters: &Option<Vec<u8>>) -> Result<Option<u64>, PlaceFault>
+    ensures { GivesBy (λ flags. flags) result
+        (if_some words.said_flags (option_map (λ letters. letters.items) letters.now)) }
+{
+    match letters {
+        Some(letters) => Ok(Some(said_flags(letters)?)),
+        None => Ok(None),
+    }
+}
+
+/// The type that is said, if one is.
+fn kind_if(name: &Option<Vec<u8>>) -> Result<Option<u32>, PlaceFault>
+    ensures { GivesBy (λ kind. kind) result
+        (if_some words.said_kind (option_map (λ name. name.items) name.now)) }
+{
+    match name {
+        Some(name) => Ok(Some(said_kind(name)?)),
+        None => Ok(None),
+    }
+}
+
+/// What the header of a section says.
+#[derive(Clone, Copy)]
+pub struct Header {
+    pub flags: u64,
+    pub kind: u32,
+    pub entry_size: u64,
+}
+
+/// What the header of the section of these words says.
+#[tactic(auto, unfolding(crate::specs::SectionChanges::header_by))]
+fn header_of(
+    sections: &Sections,
+    words: &SectionWords,
+    size: Option<u64>,
+) -> Result<Header, PlaceFault>
+    ensures { GivesBy (λ header. header) result
+        (spec.header_by sections.now (words_in words.now) size) }
+{
+    let there = section_named(sections, &words.name);
+    let flags = flags_if(&words.flags)?;
+    let kind = kind_if(&words.kind)?;
+    let entry_size = entry_size_by(&words.flags, size, there)?;
+    Ok(Header {
+        flags: flags_by(flags, there, &words.name),
+        kind: kind_by(kind, there, &words.name),
+        entry_size,
+    })
+}
+
+/// The number of the section of this name and header, which is made if it is not there.
+#[tactic(auto, unfolding(crate::specs::SectionChanges::entered_as))]
+pub(crate) fn enter(
+    alloc: Global,
+    sections: &mut Sections,
+    name: &[u8],
+    header: Header,
+) -> Result<u32, PlaceFault>
+    ensures { GivesBy (λ number. (sections.new, number)) result
+        (spec.entered_as sections.old name.now header) }
+{
+    if name.len() > MOST_NAME {
+        return Err(PlaceFault::Fault(PlaceCause::BadSection));
+    }
+    let text = Text::new(Vec::from_slice(alloc, name)?);
+    let flags = SectionFlags::from_bits_retain(header.flags);
+    sections
+        .enter(text, flags, header.kind, header.entry_size)
+        .map_err(FragFault::raise)
+}
+
+/// The expressions of an operand that may be missing.
+fn option_exprs(expr: &Option<Expr>) -> &[Expr]
+    ensures { map tree_of result.now ≡ spec.option_trees (option_map tree_of expr.now) }
+{
+    expr.as_slice()
+}
+
+/// Statements put into the section of this number from now on.
+pub fn set_current(assembler: &mut Assembler, number: u32)
+    ensures placed { placed_by assembler.new ≡ with_current number (placed_by assembler.old) }
+    ensures kept { assembler.new.notes ≡ assembler.old.notes }
+{
+    assembler.previous = assembler.current;
+    assembler.current = number;
+}
+
+/// Statements put into the section of these words.
+#[tactic(auto, unfolding(crate::specs::SectionChanges::enter_words))]
+fn enter_words(assembler: &mut Assembler, pos: Pos, words: SectionWords) -> Result<(), PlaceFault>
+    ensures placed { PlacesBy (enter_words pos (words_in words)) assembler.old assembler.new result }
+    ensures kept { assembler.new.notes ≡ assembler.old.notes }
+{
+    let exprs = option_exprs(&words.entry_size);
+    let naming = assembler.table.intern_trees(pos, exprs)?;
+    let size = entry_size_in(assembler.alloc, assembler.view(), &words.entry_size)?;
+    let header = header_of(&assembler.sections, &words, size)?;
+    let number = enter(
+        assembler.alloc,
+        &mut assembler.sections,
+        &words.name,
+        header,
+    )?;
+    assembler.table.allow(naming)?;
+    set_current(assembler, number);
+    Ok(())
+}
+
+/// `.section`
+#[tactic(auto, unfolding(crate::specs::SectionChanges::place_section))]
+pub fn place_section(
+    assembler: &mut Assembler,
+    pos: Pos,
+    tokens: &[Token],
+) -> Result<(), PlaceFault>
+    ensures placed { PlacesBy (place_section pos (map spelled tokens.now))
+        assembler.old assembler.new result }
+    ensures kept { assembler.new.notes ≡ assembler.old.notes }
+{
+    let words = section_words(assembler.alloc, &mut Operands::new(tokens))?;
+    enter_words(assembler, pos, words)
+}
+
+/// `.pushsection`: `.popsection` comes back to where this stands.
+#[tactic(auto, unfolding(crate::specs::SectionChanges::place_pushed))]
+pub fn place_pushed(assembler: &mut Assembler, pos: Pos, tokens: &[Token]) -> Result<(), PlaceFault>
+    ensures placed { PlacesBy (place_pushed pos (map spelled tokens.now))
+        assembler.old assembler.new result }
+    ensures kept { assembler.new.notes ≡ assembler.old.notes }
+{
+    let entered = Entered {
+        current: assembler.current,
+        previous: assembler.previous,
+    };
+    place_section(assembler, pos, tokens)?;
+    assembler.stack.push(entered)?;
+    Ok(())
+}
+
+/// `.popsection`
+#[tactic(auto, unfolding(crate::specs::SectionChanges::popped))]
+pub fn place_popped(assembler: &mut Assembler, tokens: &[Token]) -> Result<(), PlaceFault>
+    ensures placed { PlacesBy (λ placed. bare (map spelled tokens.now) (popped placed))
+        assembler.old assembler.new result }
+    ensures kept { assembler.new.notes ≡ assembler.old.notes }
+{
+    if !tokens.is_empty() {
+        return Err(PlaceFault::Fault(PlaceCause::BadOperand));
+    }
+    match assembler.stack.pop() {
+        Some(entered) => {
+            assembler.current = entered.current;
+            assembler.previous = entered.previous;
+            Ok(())
+        }
+        None => Err(PlaceFault::Fault(PlaceCause::BadSection)),
+    }
+}

@@ -1,7 +1,0 @@
--- What the types of the program stand for.
-use Rattle.asm_relax.specs.declared.item_rows.RowsIn.{RowsIn as TheRows}
-use Rattle.asm_relax.specs.ItemRows.{RowsIn}
-
--- what distances are told by
-abbrev pub told_rows : TheRows → RowsIn
-told_rows rows = record { map = rows.symbols.now; starts = rows.starts.now; count = rows.count }

@@ -1,6 +1,0 @@
--- The law holds.
-use Rattle.elf_reading.proofs.TableSearch as law
-use Rattle.elf_reading.proofs.symbols.symbol_tables_found.Goals as goal
-
-pub returns : goal.returns
-returns c = law.symbol_tables_found

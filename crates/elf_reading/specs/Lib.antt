@@ -1,6 +1,0 @@
--- The definitions that contracts cite, in reading order.
-pub mod Limits
-pub mod FileReading
-pub mod ObjectLimits
-pub mod SymbolReading
-pub mod RelocationReading

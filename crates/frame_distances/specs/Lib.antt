@@ -1,3 +1,0 @@
--- The definitions that contracts cite, in reading order.
-pub mod HeldDistances
-pub mod LabelCounts

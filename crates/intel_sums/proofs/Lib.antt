@@ -1,0 +1,4 @@
+pub mod TextLemmas
+pub mod PartTexts
+pub mod SumTexts
+pub mod LoneSums

@@ -1,0 +1,8 @@
+//! The rows of items, by which they are laid out.
+#![tactic(auto)]
+
+mod links;
+mod rows;
+
+pub use links::{is_linked, is_linked_pair, is_suffixed};
+pub use rows::plan_of;

@@ -1,0 +1,23 @@
+-- Lemmas, in reading order.
+mod FieldReads
+mod FileParts
+mod SectionReads
+mod NameReads
+mod NamedReads
+mod ObjectParts
+mod ObjectFit
+mod SymbolReads
+mod LocalReads
+mod TableSearch
+mod RelocationFit
+mod RelocationReads
+mod ObjectSamples
+mod Types
+mod Numbers
+mod Entries
+mod Parts
+mod Stretches
+mod Replacing
+mod Values
+mod FieldLaws
+mod ValueLaws

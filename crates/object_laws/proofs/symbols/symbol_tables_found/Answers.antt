@@ -1,0 +1,6 @@
+-- The law holds.
+use Rattle.object_laws.proofs.TableSearch as law
+use Rattle.object_laws.proofs.symbols.symbol_tables_found.Goals as goal
+
+pub returns : goal.returns
+returns c = law.symbol_tables_found

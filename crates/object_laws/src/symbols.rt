@@ -1,0 +1,56 @@
+//! Sections and symbols are read back from the object of them (gABI, chapter 4, "Sections" and "Symbol Table").
+
+ghost use Rattle.object_laws.specs.ObjectLimits.{ObjectsAreFiles};
+ghost use Rattle.object_laws.specs.SymbolReading.{
+  LocalsRead,
+  NullSymbolsRead,
+  SourceSectionsRead,
+  SymbolTablesFound,
+  SymbolTablesRead,
+  SymbolsEnd,
+  SymbolsRead,
+};
+
+use elf_object::locals_first;
+
+/// An object whose numbers fit is such a file, so that all laws of files hold of it.
+pub fn objects_are_files()
+    ensures { ObjectsAreFiles }
+{}
+
+/// The header of each section of the source says what the section is, and leads to just its bytes and its name.
+pub fn source_sections_read()
+    ensures { SourceSectionsRead }
+{}
+
+/// The headers of the symbol table and of the names of symbols.
+pub fn symbol_tables_read()
+    ensures { SymbolTablesRead }
+{}
+
+/// The symbol table is found by its type, where no section of the source has that type.
+pub fn symbol_tables_found()
+    ensures { SymbolTablesFound }
+{}
+
+/// Each symbol has the binding, type, visibility, section, value and size of its entry, and leads to just its name.
+pub fn symbols_read()
+    ensures { SymbolsRead }
+{}
+
+/// Symbol 0 is all zero.
+pub fn null_symbols_read()
+    ensures { NullSymbolsRead }
+{}
+
+/// There are no other symbols.
+pub fn symbols_end()
+    ensures { SymbolsEnd }
+{}
+
+/// Just the symbols below `sh_info` have binding `STB_LOCAL`.
+pub fn locals_read()
+    ensures { LocalsRead }
+{
+    locals_first();
+}
