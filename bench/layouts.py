@@ -1,12 +1,12 @@
 #!/usr/bin/env python3
-"""Writes a case for layout_rows that is long: what its rows settle to shows the time of settling alone.
+"""Writes input for asm_calls: a case of layouts that is long, so that what its rows settle to shows the time of settling.
 
   bench/layouts.py jumps 400000      so many jumps to one label: all but the last are near, in two rounds
   bench/layouts.py cascade 8000      so many jumps, each of which makes the one before it grow: one round more than jumps
   bench/layouts.py leb128 16000      so many LEB128 differences over jumps that grow: three rounds
   bench/layouts.py far 4000          so many jumps of a cascade, each beside a LEB128 difference over 400 rows
 
-With `object` behind the number the case is a line for asm_calls, which lays out items in a section, and writes the object.
+With `object` behind the number the case is a call, which lays out items in a section, and writes the object.
 """
 import re
 import sys
@@ -49,7 +49,7 @@ CASES = {'jumps': jumps, 'cascade': cascade, 'leb128': leb128, 'far': far}
 
 
 def words(lines):
-    """The words of asm_calls, where each label has a name of its own."""
+    """The words of the call, where each label has a name of its own."""
     seen = {}
 
     def named(match):
@@ -69,6 +69,6 @@ if len(sys.argv) < 3 or sys.argv[1] not in CASES or not sys.argv[2].isdigit() or
     sys.exit(__doc__)
 case = CASES[sys.argv[1]](int(sys.argv[2]))
 if sys.argv[3:]:
-    print('object', *words(case))
+    print('=== calls\nobject', *words(case))
 else:
-    print(*case, sep='\n')
+    print('=== layouts', *case, sep='\n')

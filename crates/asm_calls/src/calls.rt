@@ -11,8 +11,9 @@ use expression_calls::{
     write_folded, write_form, write_messages, write_names, write_parsed, write_settled,
     write_shown, write_tokens, write_value,
 };
+use row_texts::{write_line, write_text};
 use std::alloc::Global;
-use std::io::{self, Write};
+use std::io;
 
 /// Whether it is a line that the input explains itself by.
 fn is_comment(line: &str) -> bool {
@@ -29,18 +30,18 @@ fn number_and_rest(text: &str) -> Option<(u64, &str)> {
 fn call_parse(alloc: Global, text: &str, out: &mut Vec<u8>) -> io::Result<()> {
     match number_and_rest(text) {
         Some((at, text)) if at < 100 => write_parsed(alloc, at as usize, text, out),
-        _ => writeln!(out, "no such call"),
+        _ => write_line("no such call", out),
     }
 }
 
 /// `settled FIRST SECOND`
 fn call_settled(alloc: Global, text: &str, out: &mut Vec<u8>) -> io::Result<()> {
     let Some((first, rest)) = number_and_rest(text) else {
-        return writeln!(out, "no such call");
+        return write_line("no such call", out);
     };
     match rest.parse::<u64>() {
         Ok(second) => write_settled(alloc, first, second, out),
-        Err(_) => writeln!(out, "no such call"),
+        Err(_) => write_line("no such call", out),
     }
 }
 
@@ -55,18 +56,18 @@ fn three_numbers(text: &str) -> Option<(u64, u64, u64)> {
 fn call_fill(alloc: Global, text: &str, out: &mut Vec<u8>) -> io::Result<()> {
     match three_numbers(text) {
         Some((count, size, value)) => write_fill(alloc, count, size, value, out),
-        None => writeln!(out, "no such call"),
+        None => write_line("no such call", out),
     }
 }
 
 /// `align LOG SIZE`
 fn call_align(alloc: Global, text: &str, out: &mut Vec<u8>) -> io::Result<()> {
     let Some((log, rest)) = number_and_rest(text) else {
-        return writeln!(out, "no such call");
+        return write_line("no such call", out);
     };
     match rest.parse::<u64>() {
         Ok(size) if log <= 30 => write_align(alloc, log as u8, size, out),
-        _ => writeln!(out, "no such call"),
+        _ => write_line("no such call", out),
     }
 }
 
@@ -84,11 +85,11 @@ fn field_size(bytes: u64) -> Option<FieldSize> {
 /// `layout BYTES VALUE MORE`
 fn call_layout(alloc: Global, text: &str, out: &mut Vec<u8>) -> io::Result<()> {
     let Some((bytes, value, more)) = three_numbers(text) else {
-        return writeln!(out, "no such call");
+        return write_line("no such call", out);
     };
     match field_size(bytes) {
         Some(size) => write_layout(alloc, size, value, more, out),
-        None => writeln!(out, "no such call"),
+        None => write_line("no such call", out),
     }
 }
 
@@ -105,7 +106,7 @@ fn make_other_call(alloc: Global, call: &str, text: &str, out: &mut Vec<u8>) -> 
         "layout" => call_layout(alloc, text, out),
         "object" => write_object(alloc, text, out),
         "cfi" => write_directives(alloc, text, out),
-        _ => writeln!(out, "no such call"),
+        _ => write_line("no such call", out),
     }
 }
 
@@ -125,11 +126,12 @@ fn make_call(alloc: Global, call: &str, text: &str, out: &mut Vec<u8>) -> io::Re
 }
 
 /// Writes the line, and what its call answers.
-pub fn write_line(alloc: Global, line: &str, out: &mut Vec<u8>) -> io::Result<()> {
+pub fn write_call(alloc: Global, line: &str, out: &mut Vec<u8>) -> io::Result<()> {
     if is_comment(line) {
         return Ok(());
     }
-    writeln!(out, "$ {line}")?;
+    write_text("$ ", out)?;
+    write_line(line, out)?;
     match line.split_once(' ') {
         Some((call, text)) => make_call(alloc, call, text, out),
         None => make_call(alloc, line, "", out),

@@ -3,6 +3,7 @@
 use item_contents::{
     Align, Content, Fill, TakesBytes, asked_alignment, fixed_size, is_known_zeros, put_bytes,
 };
+use row_texts::{write_number, write_spaced_code, write_text};
 use std::alloc::{AllocError, Global};
 use std::io::{self, Write};
 
@@ -35,10 +36,9 @@ fn write_item(alloc: Global, content: &Content, size: u64, out: &mut Vec<u8>) ->
         bytes: Vec::new(alloc),
     };
     put_bytes(content, size, 0, &mut collected)?;
-    write!(out, "{size}:")?;
-    for byte in collected.bytes.as_slice() {
-        write!(out, " {byte:02x}")?;
-    }
+    write_number(size, out)?;
+    write_text(":", out)?;
+    write_spaced_code(&collected.bytes, out)?;
     let alignment = asked_alignment(content);
     let zeros = is_known_zeros(content);
     writeln!(out, ", {fixed:?}, {alignment}, {zeros}")

@@ -1,13 +1,13 @@
 //! What directives make of procedures.
 
-use crate::objects::write_hexadecimal;
-use asm_base::Pos;
-use cfi_directives::{
-    CfiLine, Directives, DwarfRegister, Frame, Frames, Place, PlacedOps, RowDirective, SectionPlace,
-};
+use asm_base::{Place, Pos, SectionPlace};
+use cfi_directives::{CfiLine, Directives, DwarfRegister, Frame, Frames, PlacedOps, RowDirective};
 use cfi_rows::{CfiOp, op_bytes};
+use row_texts::{
+    write_count, write_displayed, write_line, write_number, write_spaced_code, write_text,
+};
 use std::alloc::Global;
-use std::io::{self, Write};
+use std::io;
 
 /// The line of all directives.
 const POS: Pos = Pos { file: 0, line: 1 };
@@ -54,10 +54,10 @@ fn directive(text: &str) -> Option<CfiLine> {
 fn write_op(op: CfiOp, out: &mut Vec<u8>) -> io::Result<()> {
     match op_bytes(op) {
         Some(bytes) => {
-            write_hexadecimal(bytes.as_slice(), &mut *out)?;
-            writeln!(out, "")
+            write_spaced_code(bytes.as_slice(), &mut *out)?;
+            write_line("", out)
         }
-        None => writeln!(out, " no bytes"),
+        None => write_line(" no bytes", out),
     }
 }
 
@@ -65,15 +65,16 @@ fn write_op(op: CfiOp, out: &mut Vec<u8>) -> io::Result<()> {
 fn write_frames(frames: &Frames, out: &mut Vec<u8>) -> io::Result<()> {
     for frame in frames.as_slice() {
         let section = frame.section;
+        write_text("section ", &mut *out)?;
         let state = if frame.stop.is_some() {
-            "ended"
+            ", ended"
         } else {
-            "open"
+            ", open"
         };
-        writeln!(out, "section {section}, {state}")?;
+        write_count(u64::from(section), state, &mut *out)?;
         for placed in frame.ops.as_slice() {
-            let offset = placed.place.offset;
-            write!(out, "{offset}:")?;
+            write_number(placed.place.offset, &mut *out)?;
+            write_text(":", &mut *out)?;
             write_op(placed.op, &mut *out)?;
         }
     }
@@ -93,7 +94,7 @@ fn write_added(alloc: Global, out: &mut Vec<u8>) -> io::Result<()> {
     });
     match added {
         Ok(()) => write_frames(&frames, out),
-        Err(_) => writeln!(out, "out of memory"),
+        Err(_) => write_line("out of memory", out),
     }
 }
 
@@ -107,10 +108,10 @@ pub fn write_directives(alloc: Global, text: &str, out: &mut Vec<u8>) -> io::Res
             place: Place { item: 0, offset },
         };
         match directive(word) {
-            None => writeln!(out, "no such directive")?,
+            None => write_line("no such directive", &mut *out)?,
             Some(line) => match directives.take(line, at) {
                 Ok(()) => {}
-                Err(fault) => writeln!(out, "{fault}")?,
+                Err(fault) => write_displayed(&fault, &mut *out)?,
             },
         }
         offset = offset.saturating_add(1);

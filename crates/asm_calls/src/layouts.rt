@@ -9,6 +9,7 @@ use asm_frags::{FieldRole, FieldSize, Frag, FragCause, FragFault, Sections};
 use asm_relax::{LayoutFault, Plan, Settled};
 use asm_symbols::Symbols;
 use item_contents::{Content, Fill};
+use row_texts::{write_count, write_displayed};
 use std::alloc::Global;
 use std::io::{self, Write};
 use std::marker::Brand;
@@ -62,10 +63,7 @@ fn settled(alloc: Global, sections: Sections) -> Result<Result<Settled, LayoutFa
 /// The layout's rounds, or its fault with what it tells and its line.
 pub fn write_settled(settled: Result<Settled, LayoutFault>, out: &mut Vec<u8>) -> io::Result<()> {
     match settled {
-        Ok(settled) => {
-            let rounds = settled.rounds;
-            writeln!(out, "{rounds} rounds")
-        }
+        Ok(settled) => write_count(settled.rounds, " rounds", out),
         Err(fault) => {
             let line = fault.pos().line;
             let told = match fault {
@@ -92,6 +90,6 @@ pub fn write_layout(
     };
     match laid {
         Ok(settled) => write_settled(settled, out),
-        Err(fault) => writeln!(out, "{fault}"),
+        Err(fault) => write_displayed(&fault, out),
     }
 }

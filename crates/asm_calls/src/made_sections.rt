@@ -1,6 +1,6 @@
 //! Sections that are made by hand: an item of `.text` a word.
 
-use asm_base::Pos;
+use asm_base::{Place, Pos, SectionPlace};
 use asm_expr::{Linear, Name, Spelling, SymId, plus_times, symbol_form};
 use asm_frags::{Frag, Sections, Suffix, own_place};
 use asm_symbols::{Binding, Definition, Spot, Symbols};
@@ -41,9 +41,13 @@ fn spot(sections: &Sections) -> Option<Spot> {
     }
     let text = sections.section(0);
     Some(Spot {
-        section: 0,
-        item: text.items().len() as u64,
-        offset: text.bytes().len() as u64,
+        place: SectionPlace {
+            section: 0,
+            place: Place {
+                item: text.items().len() as u64,
+                offset: text.bytes().len() as u64,
+            },
+        },
         stretch: text.extent().breaks,
         at: 0,
     })

@@ -11,6 +11,7 @@ use asm_symbols::Symbols;
 use elf_file::{relocation_at, section_bytes, section_header, section_named};
 use elf_object::Object;
 use memory_outside::MemoryOutput;
+use row_texts::{write_displayed, write_line, write_number, write_spaced_code, write_text};
 use std::alloc::Global;
 use std::io::{self, Write};
 use std::marker::Brand;
@@ -23,26 +24,19 @@ fn bytes_named<'a>(file: &'a [u8], name: &[u8]) -> Option<&'a [u8]> {
     section_bytes(file, &header)
 }
 
-/// Bytes in hexadecimal, with a blank before each.
-pub fn write_hexadecimal(bytes: &[u8], out: &mut Vec<u8>) -> io::Result<()> {
-    for byte in bytes {
-        write!(out, " {byte:02x}")?;
-    }
-    Ok(())
-}
-
 /// How many bytes there are, and all of them, or the first 10 and the last 6.
 fn write_bytes(bytes: &[u8], out: &mut Vec<u8>) -> io::Result<()> {
     let count = bytes.len();
-    write!(out, "{count} bytes:")?;
+    write_number(count as u64, out)?;
+    write_text(" bytes:", out)?;
     if count <= 16 {
-        write_hexadecimal(bytes, out)?;
+        write_spaced_code(bytes, out)?;
     } else {
-        write_hexadecimal(&bytes[..10], out)?;
-        write!(out, " ..")?;
-        write_hexadecimal(&bytes[count - 6..], out)?;
+        write_spaced_code(&bytes[..10], out)?;
+        write_text(" ..", out)?;
+        write_spaced_code(&bytes[count - 6..], out)?;
     }
-    writeln!(out, "")
+    write_line("", out)
 }
 
 /// The entries of relocations.
@@ -79,11 +73,11 @@ fn write_object_of(
 ) -> io::Result<()> {
     let object = match Object::new(alloc, laid, symbols) {
         Ok(object) => object,
-        Err(fault) => return writeln!(out, "{fault}"),
+        Err(fault) => return write_displayed(&fault, out),
     };
     let mut file = MemoryOutput::new(alloc);
     if file.create("made.o").is_err() || object.write_to(&mut file).is_err() {
-        return writeln!(out, "not written");
+        return write_line("not written", out);
     }
     write_file(file.bytes(), out)
 }
@@ -92,7 +86,7 @@ fn write_object_of(
 fn write_laid(alloc: Global, made: Made, out: &mut Vec<u8>) -> io::Result<()> {
     let (sections, symbols) = made.into_parts();
     let Ok(mut plan) = Plan::new(alloc, sections, &symbols) else {
-        return writeln!(out, "no memory");
+        return write_line("no memory", out);
     };
     match settled_plan::<Brand>(&mut plan, Blank::new(1)) {
         Ok(settled) => {
@@ -107,6 +101,6 @@ fn write_laid(alloc: Global, made: Made, out: &mut Vec<u8>) -> io::Result<()> {
 pub fn write_object(alloc: Global, words: &str, out: &mut Vec<u8>) -> io::Result<()> {
     match made_sections(alloc, words) {
         Some(made) => write_laid(alloc, made, out),
-        None => writeln!(out, "no such call"),
+        None => write_line("no such call", out),
     }
 }

@@ -4,9 +4,10 @@ ghost use Rattle.std.specs.Prelude.{◌≡◌, ℕ, ◌<◌};
 
 use asm_base::{Channel, Console, FileInputs, FileOutput, Inputs, Output, Steps, read_text};
 use memory_outside::{MemoryFile, MemoryInputs};
+use row_texts::{write_count, write_line, write_number, write_text};
 use std::alloc::Global;
 use std::fs::{self, Files};
-use std::io::{Input, Write};
+use std::io::Input;
 use std::marker::Brand;
 use std::sync::ledger::{Blank, Ledger};
 use std::test::Fail;
@@ -17,17 +18,17 @@ pub fn write_real_file(
     alloc: Global,
     out: &mut Vec<u8>,
 ) -> Result<(), Fail> {
-    let mut obj = FileOutput::new(rt);
+    let mut obj = FileOutput::new(rt, 11)?;
     obj.create("written.tmp")?;
     let taken = obj.write(b"nop\n")?;
     obj.finish()?;
     let mut ins = FileInputs::new(rt);
     let text = read_text(alloc, &mut ins, "written.tmp")?;
-    writeln!(out, "{taken} bytes taken, and read again:")?;
+    write_count(taken as u64, " bytes taken, and read again:", out)?;
     out.extend_from_slice(text.as_bytes())?;
     match ins.start("no such file") {
-        Ok(()) => writeln!(out, "started")?,
-        Err(_) => writeln!(out, "not started")?,
+        Ok(()) => write_line("started", out)?,
+        Err(_) => write_line("not started", out)?,
     }
     fs::remove_file(rt, "written.tmp")?;
     Ok(())
@@ -37,7 +38,9 @@ pub fn write_real_file(
 pub fn write_console(con: &mut impl Console, out: &mut Vec<u8>) -> Result<(), Fail> {
     let on_output = con.say(Channel::Out, b"said\n")?;
     let on_error = con.say(Channel::Err, b"said\n")?;
-    writeln!(out, "{on_output} and {on_error} bytes said")?;
+    write_number(on_output as u64, out)?;
+    write_text(" and ", out)?;
+    write_count(on_error as u64, " bytes said", out)?;
     Ok(())
 }
 
@@ -73,9 +76,9 @@ pub fn write_memory(alloc: Global, out: &mut Vec<u8>) -> Result<(), Fail> {
     let mut ins = MemoryInputs::new(&files);
     let text = read_text(alloc, &mut ins, "x.s")?;
     let empty = read_text(alloc, &mut ins, "y.s")?;
-    let length = text.as_bytes().len();
-    let none = empty.as_bytes().len();
-    writeln!(out, "{length} and {none} bytes in memory")?;
+    write_number(text.as_bytes().len() as u64, out)?;
+    write_text(" and ", out)?;
+    write_count(empty.as_bytes().len() as u64, " bytes in memory", out)?;
     count_steps::<Brand>(Blank::new(1));
     Ok(())
 }

@@ -1,7 +1,9 @@
 //! What a symbol map tells of its symbols.
 
+use asm_base::{Place, SectionPlace};
 use asm_expr::{Look, Name, Spelling, constant_form};
 use asm_symbols::{Definition, Spot, SymFault, SymId, Symbols};
+use row_texts::{write_count, write_displayed, write_line, write_number, write_text};
 use std::alloc::{AllocError, Global};
 use std::io::{self, Write};
 
@@ -12,9 +14,10 @@ fn plain(alloc: Global, text: &[u8]) -> Result<Name, AllocError> {
 
 /// Where the labels of the map stand.
 const SPOT: Spot = Spot {
-    section: 1,
-    item: 2,
-    offset: 0,
+    place: SectionPlace {
+        section: 1,
+        place: Place { item: 2, offset: 0 },
+    },
     stretch: 3,
     at: 4,
 };
@@ -22,11 +25,8 @@ const SPOT: Spot = Spot {
 /// A line with the index of a symbol, or that there is none.
 fn write_index(id: Option<SymId>, out: &mut Vec<u8>) -> io::Result<()> {
     match id {
-        Some(id) => {
-            let index = id.index();
-            writeln!(out, "{index}")
-        }
-        None => writeln!(out, "none"),
+        Some(id) => write_count(u64::from(id.index()), "", out),
+        None => write_line("none", out),
     }
 }
 
@@ -38,7 +38,7 @@ fn write_next(symbols: &mut Symbols, out: &mut Vec<u8>) -> io::Result<Option<Sym
             Ok(Some(id))
         }
         Err(fault) => {
-            writeln!(out, "{fault}")?;
+            write_displayed(&fault, out)?;
             Ok(None)
         }
     }
@@ -61,13 +61,13 @@ fn write_sevens(symbols: &mut Symbols, out: &mut Vec<u8>) -> io::Result<()> {
     let first = write_next(symbols, &mut *out)?;
     write_next(symbols, &mut *out)?;
     if let Err(fault) = define(symbols, first) {
-        writeln!(out, "{fault}")?;
+        write_displayed(&fault, &mut *out)?;
     }
     write_index(symbols.numeric_back(7), &mut *out)?;
     write_next(symbols, &mut *out)?;
-    let sevens = symbols.count(7);
-    let ones = symbols.count(1);
-    writeln!(out, "{sevens} {ones}")
+    write_number(u64::from(symbols.count(7)), &mut *out)?;
+    write_text(" ", &mut *out)?;
+    write_count(u64::from(symbols.count(1)), "", out)
 }
 
 /// `instances`: what an empty map tells of the instances of a numeric label.
@@ -92,18 +92,21 @@ fn write_known(symbols: &Symbols, name: &Name, out: &mut Vec<u8>) -> io::Result<
     }
     let look = symbols.look(symbols.number_of(name));
     match &look {
-        Look::Constant(number) => writeln!(out, "constant {number}"),
-        Look::Absent => writeln!(out, "absent"),
-        _ => writeln!(out, "label or form"),
+        Look::Constant(number) => {
+            write_text("constant ", out)?;
+            write_count(*number, "", out)
+        }
+        Look::Absent => write_line("absent", out),
+        _ => write_line("label or form", out),
     }
 }
 
 /// The answer for assigning once a symbol that is assigned, and what the map says of it and of another name.
 fn write_answers(alloc: Global, symbols: &mut Symbols, out: &mut Vec<u8>) -> io::Result<()> {
     match assigned(alloc, symbols) {
-        Ok(Ok(())) => writeln!(out, "assigned again")?,
-        Ok(Err(fault)) => writeln!(out, "{fault}")?,
-        Err(fault) => writeln!(out, "{fault}")?,
+        Ok(Ok(())) => write_line("assigned again", &mut *out)?,
+        Ok(Err(fault)) => write_displayed(&fault, &mut *out)?,
+        Err(fault) => write_displayed(&fault, &mut *out)?,
     }
     write_known(symbols, &plain(alloc, b"low")?, &mut *out)?;
     write_known(symbols, &plain(alloc, b"high")?, out)

@@ -1,6 +1,5 @@
 //! The bytes of entries (psABI, section 4.2.4).
 
-use anyhow::Result;
 use std::alloc::Global;
 
 /// The common entry.
@@ -12,15 +11,15 @@ pub static COMMON: [u8; 24] = [
 /// What stands between the length and the instructions: three words, and the length of no augmentation data.
 const FIELDS: usize = 13;
 
-/// A frame description entry behind the common one.
-pub fn entry_bytes(alloc: Global, code: &[u8], range: u32) -> Result<Vec<u8>> {
-    let length = u32::try_from(code.len().saturating_add(FIELDS))?;
+/// A frame description entry behind the common one, where a word holds its length.
+pub fn entry_bytes(alloc: Global, code: &[u8], range: u32) -> Option<Vec<u8>> {
+    let length = u32::try_from(code.len().saturating_add(FIELDS)).ok()?;
     let mut bytes = Vec::new(alloc);
-    bytes.extend_from_slice(&length.to_le_bytes())?;
-    bytes.extend_from_slice(&28u32.to_le_bytes())?;
-    bytes.extend_from_slice(&0u32.to_le_bytes())?;
-    bytes.extend_from_slice(&range.to_le_bytes())?;
-    bytes.push(0)?;
-    bytes.extend_from_slice(code)?;
-    Ok(bytes)
+    bytes.extend_from_slice(&length.to_le_bytes()).ok()?;
+    bytes.extend_from_slice(&28u32.to_le_bytes()).ok()?;
+    bytes.extend_from_slice(&0u32.to_le_bytes()).ok()?;
+    bytes.extend_from_slice(&range.to_le_bytes()).ok()?;
+    bytes.push(0).ok()?;
+    bytes.extend_from_slice(code).ok()?;
+    Some(bytes)
 }

@@ -1,52 +1,58 @@
-//! The lines of a text: instructions in hexadecimal, the range, and places, with a space before each but the first.
+//! A line of an entry: instructions in hexadecimal, the range, and places, with a space before each but the first.
 
 use crate::entries::{COMMON, entry_bytes};
 use crate::shown::{write_differences, write_row};
-use anyhow::{Context, Result};
-use cfi_rows::{common_row, row_at};
+use cfi_rows::{CfaRow, common_row, row_at};
+use row_texts::{write_line, write_number, write_text};
 use std::alloc::Global;
-use std::io::Write;
-use std::str;
+use std::io;
 
-/// Writes the row at each place of an entry, and what leads to it from the one before.
-fn report_places(alloc: Global, fde: &[u8], places: &str, out: &mut Vec<u8>) -> Result<()> {
+/// Writes the row at a place, where the entry has one, and what leads to it from the one before. Answers the last row.
+fn write_place(fde: &[u8], at: u64, before: CfaRow, out: &mut Vec<u8>) -> io::Result<CfaRow> {
+    write_number(at, out)?;
+    let Some(row) = row_at(&COMMON, fde, at) else {
+        write_line(": none", out)?;
+        return Ok(before);
+    };
+    write_text(": ", out)?;
+    write_row(&row, out)?;
+    write_text(";", out)?;
+    write_differences(&before, &row, out)?;
+    write_line("", out)?;
+    Ok(row)
+}
+
+/// Writes the row at each place of an entry.
+fn write_places(fde: &[u8], places: &str, out: &mut Vec<u8>) -> io::Result<()> {
     let mut before = common_row();
     for place in places.split(' ') {
-        let at = place.parse::<u64>()?;
-        write!(out, "{at}: ")?;
-        match row_at(&COMMON, fde, at) {
-            Some(row) => {
-                write_row(&row, out)?;
-                write!(out, ";")?;
-                write_differences(alloc, &before, &row, out)?;
-                before = row;
-            }
-            None => write!(out, "none")?,
+        match place.parse::<u64>() {
+            Ok(at) => before = write_place(fde, at, before, out)?,
+            Err(_) => write_line("no such place", out)?,
         }
-        writeln!(out)?;
     }
     Ok(())
 }
 
-/// Writes the rows of a line.
-fn report_line(alloc: Global, line: &str, out: &mut Vec<u8>) -> Result<()> {
-    let (code, rest) = line.split_once(' ').context("a line without a range")?;
-    let (range, places) = rest.split_once(' ').context("a line without places")?;
-    let code = hex::decode(alloc, code)?;
-    let range = range.parse::<u32>()?;
-    let fde = entry_bytes(alloc, &code, range)?;
-    report_places(alloc, &fde, places, out)
+/// The bytes of a line's entry, and its places.
+fn entry_of(alloc: Global, line: &str) -> Option<(Vec<u8>, &str)> {
+    let (code, rest) = line.split_once(' ')?;
+    let (range, places) = rest.split_once(' ')?;
+    let code = hex::decode(alloc, code).ok()?;
+    let range = range.parse::<u32>().ok()?;
+    Some((entry_bytes(alloc, &code, range)?, places))
 }
 
-/// Writes the rows of each line. A line that begins with `#` is written as it stands.
-pub fn report_lines(alloc: Global, text: &[u8], out: &mut Vec<u8>) -> Result<()> {
-    for line in text.split(|byte| *byte == b'\n') {
-        if line.starts_with(b"#") {
-            out.extend_from_slice(line)?;
-            writeln!(out)?;
-        } else if !line.is_empty() {
-            report_line(alloc, str::from_utf8(line)?, out)?;
-        }
+/// Writes the rows of a line's entry. A line that begins with `#` is written as it stands.
+pub fn write_entry(alloc: Global, line: &str, out: &mut Vec<u8>) -> io::Result<()> {
+    if line.starts_with("#") {
+        return write_line(line, out);
     }
-    Ok(())
+    if line.is_empty() {
+        return Ok(());
+    }
+    match entry_of(alloc, line) {
+        Some((fde, places)) => write_places(&fde, places, out),
+        None => write_line("no such entry", out),
+    }
 }

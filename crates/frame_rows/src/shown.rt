@@ -1,8 +1,7 @@
 //! Rows as text, as `readelf -wF` shows them, with registers by their DWARF numbers.
 
-use anyhow::Result;
 use cfi_rows::{CfaRow, Rule, diff, op_bytes};
-use std::alloc::Global;
+use row_texts::{write_code, write_number, write_text};
 use std::io::{self, Write};
 
 /// The letter of a rule.
@@ -22,7 +21,7 @@ fn write_rule(number: usize, rule: Rule, out: &mut Vec<u8>) -> io::Result<()> {
     write!(out, " r{number}={}", letter(rule))?;
     let offset = match rule {
         Rule::Offset(offset) | Rule::ValueOffset(offset) => offset,
-        Rule::Register(other) => return write!(out, "{other}"),
+        Rule::Register(other) => return write_number(u64::from(other), out),
         _ => return Ok(()),
     };
     write!(out, "{offset:+}")
@@ -40,20 +39,14 @@ pub fn write_row(row: &CfaRow, out: &mut Vec<u8>) -> io::Result<()> {
 }
 
 /// Writes the instructions that lead from one row to another, in hexadecimal.
-pub fn write_differences(
-    alloc: Global,
-    from: &CfaRow,
-    to: &CfaRow,
-    out: &mut Vec<u8>,
-) -> Result<()> {
-    let ops = diff(from, to);
-    for op in ops.as_slice() {
+pub fn write_differences(from: &CfaRow, to: &CfaRow, out: &mut Vec<u8>) -> io::Result<()> {
+    for op in diff(from, to).as_slice() {
         match op_bytes(*op) {
             Some(bytes) => {
-                let text = hex::encode(alloc, bytes.as_slice())?;
-                write!(out, " {text}")?;
+                write_text(" ", out)?;
+                write_code(bytes.as_slice(), out)?;
             }
-            None => write!(out, " no form")?,
+            None => write_text(" no form", out)?,
         }
     }
     Ok(())

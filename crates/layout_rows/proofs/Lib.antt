@@ -1,2 +1,2 @@
--- The proofs of this program.
+-- The proofs of this crate.
 pub mod FittingLemmas

@@ -1,15 +1,15 @@
-//! The cases of a text: lines of items, up to an empty line or the end.
+//! A case: lines of items, up to an empty line.
 
 use crate::items::{Item, item_of};
 use crate::rows::rows_of;
 use crate::settled::write_settled;
+use row_texts::write_line;
 use std::alloc::{AllocError, Global};
-use std::io::{self, Write};
-use std::str;
+use std::io;
 
 /// The lines of a case so far.
 #[derive(Drop)]
-struct Case {
+pub struct Case {
     items: Vec<Item>,
     /// Each line so far spells an item.
     understood: bool,
@@ -17,20 +17,16 @@ struct Case {
 
 impl Case {
     /// A case without lines.
-    fn new(alloc: Global) -> Case {
+    pub fn new(alloc: Global) -> Case {
         Case {
             items: Vec::new(alloc),
             understood: true,
         }
     }
 
-    /// Takes a line that is not empty.
-    fn take(&mut self, line: &[u8]) -> Result<(), AllocError> {
-        let item = match str::from_utf8(line) {
-            Ok(line) => item_of(line),
-            Err(_) => None,
-        };
-        match item {
+    /// Takes the line of an item.
+    fn take(&mut self, line: &str) -> Result<(), AllocError> {
+        match item_of(line) {
             Some(item) => self.items.push(item)?,
             None => self.understood = false,
         }
@@ -38,12 +34,12 @@ impl Case {
     }
 
     /// Writes what the case settles to, and begins the next one.
-    fn end(&mut self, alloc: Global, out: &mut Vec<u8>) -> io::Result<()> {
+    pub fn end(&mut self, alloc: Global, out: &mut Vec<u8>) -> io::Result<()> {
         let understood = self.understood;
         self.understood = true;
         if !understood {
             self.items.clear();
-            return writeln!(out, "not understood");
+            return write_line("not understood", out);
         }
         if self.items.is_empty() {
             return Ok(());
@@ -52,23 +48,19 @@ impl Case {
         self.items.clear();
         match rows {
             Some(rows) => write_settled(alloc, rows, out),
-            None => writeln!(out, "a label is missing"),
+            None => write_line("a label is missing", out),
         }
     }
-}
 
-/// Settles every case of the text. A line that begins with `#` is written as it stands.
-pub fn report_cases(alloc: Global, text: &[u8], out: &mut Vec<u8>) -> io::Result<()> {
-    let mut case = Case::new(alloc);
-    for line in text.split(|byte| *byte == b'\n') {
+    /// Takes a line. An empty one ends the case, and one that begins with `#` is written as it stands.
+    pub fn read_line(&mut self, alloc: Global, line: &str, out: &mut Vec<u8>) -> io::Result<()> {
         if line.is_empty() {
-            case.end(alloc, out)?;
-        } else if line.starts_with(b"#") {
-            out.extend_from_slice(line)?;
-            writeln!(out)?;
-        } else {
-            case.take(line)?;
+            return self.end(alloc, out);
         }
+        if line.starts_with("#") {
+            return write_line(line, out);
+        }
+        self.take(line)?;
+        Ok(())
     }
-    case.end(alloc, out)
 }

@@ -7,6 +7,7 @@ use crate::forms::{push_advance, push_jump, push_leb128};
 use crate::standing::all_fit;
 use asm_base::Steps;
 use asm_levels::{Distance, PackedRow, RowPlan, RowSize};
+use row_texts::{write_count, write_line, write_number, write_spaced_code, write_text};
 use std::alloc::{AllocError, Global};
 use std::io::{self, Write};
 use std::marker::Brand;
@@ -107,14 +108,15 @@ fn write_row(alloc: Global, plan: &RowPlan, index: usize, out: &mut Vec<u8>) -> 
     let shift = plan.shift(index);
     let address = row.offset.wrapping_add(shift);
     let word = word_of(&row.size);
-    write!(out, "{word} at {address}:")?;
+    write_text(word, out)?;
+    write_text(" at ", out)?;
+    write_number(address, out)?;
+    write_text(":", out)?;
     if has_levels(&plan.rows()[index]) {
         let mut bytes = Vec::new(alloc);
         push_form(plan, &row.size, plan.level(index), &mut bytes)?;
-        for byte in &bytes {
-            write!(out, " {byte:02x}")?;
-        }
-        return writeln!(out);
+        write_spaced_code(&bytes, out)?;
+        return write_line("", out);
     }
     let next = index + 1;
     let moved = if next < plan.rows().len() {
@@ -122,7 +124,8 @@ fn write_row(alloc: Global, plan: &RowPlan, index: usize, out: &mut Vec<u8>) -> 
     } else {
         0
     };
-    writeln!(out, " {moved} bytes")
+    write_text(" ", out)?;
+    write_count(moved, " bytes", out)
 }
 
 /// Whether a row has more than one level.
@@ -165,7 +168,7 @@ fn write_levels(plan: &RowPlan, out: &mut Vec<u8>) -> io::Result<()> {
             write!(out, ", {count} of level {level}")?;
         }
     }
-    writeln!(out)
+    write_line("", out)
 }
 
 /// How many plain bytes stand before a mark at the end of a section, and none where the row is no such mark.
@@ -202,7 +205,7 @@ fn write_rows(alloc: Global, plan: &RowPlan, out: &mut Vec<u8>) -> io::Result<()
 /// Settles the rows, and writes their bytes, rounds and levels, and the first of them.
 pub fn write_settled(alloc: Global, rows: Vec<PackedRow>, out: &mut Vec<u8>) -> io::Result<()> {
     if !all_fit(&rows) {
-        return writeln!(out, "too large");
+        return write_line("too large", out);
     }
     let mut plan = match RowPlan::new(alloc, rows) {
         Ok(plan) => plan,

@@ -1,5 +1,6 @@
 //! Bytes as lines of hexadecimal.
 
+use crate::pieces::{write_line, write_spaced_code, write_text};
 use std::io::{self, Write};
 
 /// How many bytes stand on a line.
@@ -19,17 +20,16 @@ fn equal_bytes(bytes: &[u8], first: u8) -> usize {
 }
 
 /// Writes one line, and answers how many bytes it shows.
-fn write_line(bytes: &[u8], first: u8, out: &mut Vec<u8>) -> io::Result<usize> {
+fn write_bytes_line(bytes: &[u8], first: u8, out: &mut Vec<u8>) -> io::Result<usize> {
     let equal = equal_bytes(bytes, first);
     if equal >= EQUAL_BYTES {
         writeln!(out, "  {first:02x} * {equal}")?;
         return Ok(equal);
     }
-    write!(out, " ")?;
-    for byte in bytes.iter().take(LINE_BYTES) {
-        write!(out, " {byte:02x}")?;
-    }
-    writeln!(out)?;
+    let shown = &bytes[..bytes.len().min(LINE_BYTES)];
+    write_text(" ", out)?;
+    write_spaced_code(shown, out)?;
+    write_line("", out)?;
     Ok(LINE_BYTES)
 }
 
@@ -38,7 +38,7 @@ pub fn write_bytes(bytes: &[u8], out: &mut Vec<u8>) -> io::Result<()> {
     let mut next = 0;
     for (i, first) in bytes.iter().enumerate() {
         if i == next {
-            next = i.saturating_add(write_line(&bytes[i..], *first, out)?);
+            next = i.saturating_add(write_bytes_line(&bytes[i..], *first, out)?);
         }
     }
     Ok(())

@@ -4,11 +4,16 @@
 mod escapes;
 mod hexadecimal;
 mod names;
+mod pieces;
 mod rows;
 
 pub use hexadecimal::write_bytes;
 pub use names::{
     Named, relocation_type, section_flags, section_type, shown_name, symbol_binding, symbol_type,
     symbol_visibility,
+};
+pub use pieces::{
+    write_code, write_count, write_displayed, write_line, write_number, write_spaced_code,
+    write_text,
 };
 pub use rows::{FailingCalls, Row, RowFault, Shown, SourceFile, read_row};
