@@ -2,54 +2,32 @@
 
 PREFIX ?= /usr/local
 DESTDIR ?=
-CRATES := $(shell sed -n 's/^\([a-z0-9_]*\):.*/\1/p' crates.txt)
 
-# As many crates are proved side by side as there are processors, each behind those that it stands on.
-ifeq ($(MAKELEVEL),0)
-MAKEFLAGS += --jobs=$(shell nproc 2>/dev/null || echo 1)
-endif
+# The crates of the program, lowest first, and their files; a folder among these tells when a file in it is gone.
+PROGRAM := asm_cli
+CRATES := $(shell awk -v program=$(PROGRAM) -f tools/stands_on.awk crates.txt)
+SOURCES := $(shell find $(wildcard $(foreach part,src specs proofs data,$(CRATES:%=crates/%/$(part)))))
 
 all: build/as build/gcc/as
 
-# How many crates this run proves, which is told as it goes on.
-ifeq ($(COUNTING)$(filter clean check,$(MAKECMDGOALS)),)
-TO_PROVE := $(shell $(MAKE) --no-print-directory -n -s COUNTING=1 build/as 2>/dev/null | grep -c 'rt lib')
-$(shell mkdir -p build && : >build/proved)
-$(if $(filter-out 0,$(TO_PROVE)),$(info $(TO_PROVE) crates are to be proved, then the program))
-endif
-
-stands_on = $(filter $(CRATES),$(shell sed -n 's/^$(1)://p' crates.txt))
-sources_of = $(shell find crates/$(1) -path '*/out' -prune -o \( -name '*.rt' -o -name '*.antt' \) -print)
-
-# The library of a crate, proved; the log stays where a proof fails. One rt at a time works on a crate or below it, so
-# those that stand on asm_base take turns: the time that is told is that of the proof.
-define library
-build/libraries/$(1): crates.txt $(call sources_of,$(1)) $(patsubst %,build/libraries/%,$(call stands_on,$(1)))
-	@mkdir -p build/libraries
-	@exec 9>build/turn; $(if $(filter asm_base,$(call stands_on,$(1))),flock 9;) begun=$$$$(date +%s); cd crates/$(1); \
-	rt lib >../../build/libraries/$(1).log 2>&1 || { cat ../../build/libraries/$(1).log; exit 1; }; \
-	cd ../..; mv build/libraries/$(1).log $$@; echo $(1) >>build/proved; \
-	echo "proved $(1) in $$$$(($$$$(date +%s) - begun)) s; $$$$(($(TO_PROVE) - $$$$(wc -l <build/proved))) left"
-endef
-PROGRAMS := asm_cli asm_rows asm_calls layout_rows frame_rows
-$(foreach crate,$(filter-out $(PROGRAMS),$(CRATES)),$(eval $(call library,$(crate))))
-
-# Only a proved program is linked. A word that is no command makes it end at once, with status 2.
-build/as: crates.txt $(call sources_of,asm_cli) $(patsubst %,build/libraries/%,$(call stands_on,asm_cli))
+# Proofs are those of the gate: what one proved, the other keeps.
+build/as: crates.txt HANDLES $(SOURCES)
 	@mkdir -p build
-	@rm -f crates/asm_cli/out/asm_cli
-	@begun=$$(date +%s); cd crates/asm_cli; \
-	rt run -- --build >../../build/log 2>&1; test -x out/asm_cli || { cat ../../build/log; exit 1; }; \
-	cd ../..; cp crates/asm_cli/out/asm_cli $@; \
-	echo "proved and built $@ in $$(($$(date +%s) - begun)) s"
+	@tools/prove.sh $@ build/log $(CRATES)
 
 # For `gcc -Bbuild/gcc/`: gcc calls its assembler by the name `as`.
 build/gcc/as: tools/gcc/as
 	@mkdir -p build/gcc
 	@cp tools/gcc/as $@
 
-demo: build/as
-	cd build && ./as ../examples/first.s && readelf -hSs a.out && objdump -d a.out
+# The object of examples/first.s, by build/as where it is there, and else by the program before its proof.
+demo:
+	@mkdir -p build
+	@if test -x build/as; then echo "Assembled by build/as."; build/as -o build/first.o examples/first.s; else \
+	echo "Assembled by the program before its proof, which takes some two minutes; make proves it."; \
+	cd crates/$(PROGRAM) && rt try -- -o $(CURDIR)/build/first.o $(CURDIR)/examples/first.s; fi
+	readelf -hSs build/first.o
+	objdump -d build/first.o
 
 check:
 	rt ci

@@ -1,6 +1,7 @@
-	.text
-	.globl answer
-answer:
-	endbr64
-	.byte 0xb8, 42, 0, 0, 0
-	ret
+        .globl  answer
+        .type   answer, @function
+answer: .cfi_startproc
+        mov     $42, %eax
+        ret
+        .cfi_endproc
+        .size   answer, .-answer
