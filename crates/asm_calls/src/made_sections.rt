@@ -2,11 +2,12 @@
 
 use asm_base::{Place, Pos, SectionPlace};
 use asm_expr::{Linear, Name, Spelling, SymId, plus_times, symbol_form};
-use asm_frags::{Frag, Sections, Suffix, own_place};
+use asm_frags::{Frag, Sections, own_place};
 use asm_symbols::{Binding, Definition, Spot, Symbols};
 use item_bytes::Condition;
 use item_contents::{Align, Content, Fill, Growth, Org, Padding};
 use std::alloc::Global;
+use x86_insn::Suffix;
 
 /// The sections and the symbols so far.
 #[derive(Drop)]
@@ -84,7 +85,7 @@ fn put_growing(
     made: &mut Made,
     pos: Pos,
     kind: Growth,
-    suffix: Suffix,
+    suffix: Option<Suffix>,
     form: Linear,
 ) -> Option<()> {
     if made.sections.is_empty() {
@@ -98,7 +99,7 @@ fn put_jump(
     made: &mut Made,
     pos: Pos,
     condition: Option<Condition>,
-    suffix: Suffix,
+    suffix: Option<Suffix>,
     text: &str,
 ) -> Option<()> {
     let target = symbol(made, text)?;
@@ -112,7 +113,7 @@ fn put_number(made: &mut Made, pos: Pos, kind: Growth, text: &str) -> Option<()>
     let one = symbol(made, one)?;
     let other = symbol(made, other)?;
     let form = difference(made.alloc, one, other)?;
-    put_growing(made, pos, kind, Suffix::Absent, form)
+    put_growing(made, pos, kind, None, form)
 }
 
 /// An item that holds no value.
@@ -172,9 +173,9 @@ fn put_word(made: &mut Made, pos: Pos, word: &str) -> Option<()> {
     match kind {
         "label" => put_label(made, text),
         "weak" => put_weak(made, text),
-        "jmp" => put_jump(made, pos, None, Suffix::Absent, text),
-        "plt" => put_jump(made, pos, None, Suffix::Plt, text),
-        "je" => put_jump(made, pos, Some(Condition::Equal), Suffix::Absent, text),
+        "jmp" => put_jump(made, pos, None, None, text),
+        "plt" => put_jump(made, pos, None, Some(Suffix::Plt), text),
+        "je" => put_jump(made, pos, Some(Condition::Equal), None, text),
         "uleb" => put_number(made, pos, Growth::Leb128 { signed: false }, text),
         "sleb" => put_number(made, pos, Growth::Leb128 { signed: true }, text),
         "advance" => put_number(made, pos, Growth::Advance, text),

@@ -1,10 +1,10 @@
 -- The proofs of this crate.
-pub mod PlainLemmas
-pub mod AlignmentLemmas
-pub mod KnownExtentLemmas
-pub mod StretchLemmas
-pub mod SubstitutingLemmas
-pub mod AddressLemmas
-pub mod NamedLemmas
-pub mod PushLemmas
-pub mod Samples
+mod PlainLemmas
+mod AlignmentLemmas
+mod KnownExtentLemmas
+mod StretchLemmas
+mod SubstitutingLemmas
+mod AddressLemmas
+mod NamedLemmas
+mod PushLemmas
+mod Samples

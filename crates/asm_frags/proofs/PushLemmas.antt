@@ -1,5 +1,5 @@
 -- A section that something is put into, among the others.
-use Rattle.std.proofs.Common.{◌≡◌, ℕ, ◌&&◌, not, Bool, true, false, cond, List, Some, Result, Ok, Err, refl, sym, ap, ◌∙◌, get_or, set, slice_get}
+use Rattle.std.proofs.Common.{◌≡◌, ℕ, ◌&&◌, not, Bool, true, false, cond, List, Option, Some, Result, Ok, Err, refl, sym, ap, ◌∙◌, get_or, set, slice_get}
 use Rattle.std.specs.List.{list_all}
 use Rattle.std.proofs.lemmas.List.{set-get_or}
 use Rattle.asm_base.specs.declared.positions.Pos.{Pos}
@@ -11,7 +11,7 @@ use Rattle.asm_base.specs.declared.causes.FragCause.{FragCause}
 use Rattle.asm_base.specs.declared.causes.FragCause.TheVariants.{BadSection}
 use Rattle.asm_frags.specs.declared.fields.FieldSize.{FieldSize}
 use Rattle.asm_frags.specs.declared.roles.FieldRole.{FieldRole}
-use Rattle.asm_frags.specs.declared.roles.Suffix.{Suffix}
+use Rattle.x86_insn.specs.declared.amounts.Suffix.{Suffix}
 use Rattle.item_contents.specs.declared.kinds.Growth.{Growth}
 use Rattle.item_contents.specs.declared.contents.Content.TheVariants.{Run}
 use Rattle.item_contents.specs.Zeros.{is_zero}
@@ -72,5 +72,5 @@ module _ (old new : LooseSection) (answer : Result (Unit {0}) (Refusal FragCause
   field_name pos number size role form = name_kept (takes_zeros_alone old) old (with_field pos number size role form old) new answer (run_name pos old)
 
   -- a section that an item is put into that grows keeps its name
-  pub growing_name : (pos : Pos) (number : ℕ) (kind : Growth) (suffix : Suffix) (form : Form) → Changes old new answer (growing_put pos number kind suffix form old) → new.name ≡ old.name
+  pub growing_name : (pos : Pos) (number : ℕ) (kind : Growth) (suffix : Option Suffix) (form : Form) → Changes old new answer (growing_put pos number kind suffix form old) → new.name ≡ old.name
   growing_name pos number kind suffix form = name_kept (takes_zeros_alone old) old (with_growing pos number kind suffix form old) new answer refl

@@ -1,5 +1,5 @@
 -- The definitions, computed on small items and sections.
-use Rattle.std.proofs.Common.{◌≡◌, ℕ, true, false, List, [], ◌∷◌, ◌++◌, Result, Ok, Err, refl}
+use Rattle.std.proofs.Common.{◌≡◌, ℕ, true, false, List, [], ◌∷◌, ◌++◌, None, Result, Ok, Err, refl}
 use Rattle.std.specs.Prelude.{codes}
 use Rattle.asm_base.specs.Refusals.{◌>>=◌}
 use Rattle.asm_base.specs.declared.positions.Pos.{Pos}
@@ -15,8 +15,7 @@ use Rattle.item_contents.specs.Contents.{unit_of}
 use Rattle.asm_frags.specs.Alignments.{alignment_of_all}
 use Rattle.asm_frags.specs.KnownExtents.{extent_of}
 use Rattle.asm_frags.specs.SectionOf.{new_section}
-use Rattle.asm_frags.specs.declared.roles.FieldKind.TheVariants.{Number}
-use Rattle.asm_frags.specs.declared.roles.Suffix.TheVariants.{Absent}
+use Rattle.x86_insn.specs.declared.amounts.FieldKind.TheVariants.{Number}
 use Rattle.asm_frags.specs.Fields.{data_role}
 use Rattle.asm_frags.specs.Writing.{LooseItem, LooseSection, new_item, item_behind, with_bytes, bytes_put, field_put, growing_put, item_put}
 use Rattle.asm_frags.specs.Sections.{section_flags, first_sections, entered, put_into}
@@ -74,11 +73,11 @@ field_first = refl
 
 -- a number that grows stands behind the bytes, and its field counts from its end
 grown : Result LooseSection FragCause
-grown = bytes_put (on_line 1) (7 ∷ []) text >>= growing_put (on_line 2) 0 (Leb128 false) Absent (constant_form 9)
+grown = bytes_put (on_line 1) (7 ∷ []) text >>= growing_put (on_line 2) 0 (Leb128 false) None (constant_form 9)
 
 grown_is : grown ≡ Ok (record text {
   bytes = 7 ∷ [];
-  fields = record { pos = on_line 2; item = 2; offset = 1; section = 0; size = Four; role = record { kind = Number; suffix = Absent; behind = 0 }; in_item = true; form = constant_form 9 } ∷ [];
+  fields = record { pos = on_line 2; item = 2; offset = 1; section = 0; size = Four; role = record { kind = Number; suffix = None; behind = 0 }; in_item = true; form = constant_form 9 } ∷ [];
   items = item 1 Run ∷ item_behind 1 (item 2 (Growing (record { kind = Leb128 false; field = 0 }))) ∷ [];
 })
 unfolding grown text item
@@ -126,6 +125,6 @@ zeros_in_bss : put_into (bytes_put (on_line 1) (0 ∷ 0 ∷ [])) first 2 ≡ Ok 
 unfolding first first_sections
 zeros_in_bss = refl
 
-grown_in_bss : put_into (growing_put (on_line 1) 2 (Leb128 false) Absent (constant_form 0)) first 2 ≡ Err BadSection
+grown_in_bss : put_into (growing_put (on_line 1) 2 (Leb128 false) None (constant_form 0)) first 2 ≡ Err BadSection
 unfolding first first_sections
 grown_in_bss = refl

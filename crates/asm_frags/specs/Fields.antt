@@ -1,15 +1,14 @@
 -- Fields: their size, their role, and the values that they hold.
-use Rattle.std.specs.Prelude.{ℕ, ◌-◌, ◌^◌, ◌||◌, Bool, true, false, nat_lt, nat_le, List, take}
+use Rattle.std.specs.Prelude.{ℕ, ◌-◌, ◌^◌, ◌||◌, Bool, true, false, nat_lt, nat_le, List, Option, None, take}
 use Rattle.std.specs.Int.{w64, to_le_bytes}
 use Rattle.asm_frags.specs.declared.fields.FieldSize.{FieldSize}
 use Rattle.asm_frags.specs.declared.fields.FieldSize.TheVariants.{One, Two, Four, Eight}
-use Rattle.asm_frags.specs.declared.roles.FieldKind.{FieldKind}
-use Rattle.asm_frags.specs.declared.roles.FieldKind.TheVariants.{Plain, Signed, Address, Branch, Number}
 use Rattle.asm_frags.specs.declared.roles.FieldRole.{FieldRole}
-use Rattle.asm_frags.specs.declared.roles.Suffix.{Suffix}
-use Rattle.asm_frags.specs.declared.roles.Suffix.TheVariants.{Absent}
 use Rattle.item_contents.specs.declared.kinds.Growth.{Growth}
 use Rattle.item_contents.specs.declared.kinds.Growth.TheVariants as growth
+use Rattle.x86_insn.specs.declared.amounts.FieldKind.{FieldKind}
+use Rattle.x86_insn.specs.declared.amounts.FieldKind.TheVariants.{Plain, Signed, Address, Branch, Number}
+use Rattle.x86_insn.specs.declared.amounts.Suffix.{Suffix}
 
 -- the size of a field in bytes
 abbrev pub width : FieldSize → ℕ
@@ -49,14 +48,14 @@ is_distance Branch = true
 is_distance Number = false
 
 -- the role of the field of what grows: a jump holds the distance from its end, which may have a suffix, and the others hold numbers
-abbrev pub growth_role : Growth → Suffix → FieldRole
+abbrev pub growth_role : Growth → Option Suffix → FieldRole
 growth_role (growth.Jump condition) suffix = record { kind = Branch; suffix = suffix; behind = 0 }
-growth_role (growth.Leb128 signed) suffix = record { kind = Number; suffix = Absent; behind = 0 }
-growth_role growth.Advance suffix = record { kind = Number; suffix = Absent; behind = 0 }
+growth_role (growth.Leb128 signed) suffix = record { kind = Number; suffix = None; behind = 0 }
+growth_role growth.Advance suffix = record { kind = Number; suffix = None; behind = 0 }
 
 -- data: the value as it is
 abbrev pub data_role : FieldRole
-data_role = record { kind = Plain; suffix = Absent; behind = 0 }
+data_role = record { kind = Plain; suffix = None; behind = 0 }
 
 -- the symbol that, in the form of a field, stands for the place of the field itself; a source has fewer symbols
 abbrev pub own_place : ℕ

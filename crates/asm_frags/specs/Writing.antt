@@ -1,5 +1,5 @@
 -- What is put into a section: plain bytes, a field over zeros, an item, or one that grows with the value of its field.
-use Rattle.std.specs.Prelude.{ℕ, ◌+◌, ◌==◌, ◌&&◌, not, Bool, true, false, List, [], ◌∷◌, ◌++◌, length, replicate, Result, Ok, Err, if◌then◌else◌}
+use Rattle.std.specs.Prelude.{ℕ, ◌+◌, ◌==◌, ◌&&◌, not, Bool, true, false, List, [], ◌∷◌, ◌++◌, length, replicate, Option, Result, Ok, Err, if◌then◌else◌}
 use Rattle.std.specs.List.{list_all}
 use Rattle.asm_base.specs.declared.positions.Pos.{Pos}
 use Rattle.asm_expr.specs.Forms.{Form}
@@ -9,7 +9,7 @@ use Rattle.asm_base.specs.declared.causes.FragCause.TheVariants.{BadSection}
 use Rattle.asm_frags.specs.declared.fields.FieldSize.{FieldSize}
 use Rattle.asm_frags.specs.declared.fields.FieldSize.TheVariants.{Four}
 use Rattle.asm_frags.specs.declared.roles.FieldRole.{FieldRole}
-use Rattle.asm_frags.specs.declared.roles.Suffix.{Suffix}
+use Rattle.x86_insn.specs.declared.amounts.Suffix.{Suffix}
 use Rattle.item_contents.specs.declared.contents.Content.{Content}
 use Rattle.item_contents.specs.declared.contents.Content.TheVariants.{Run, Growing}
 use Rattle.item_contents.specs.declared.kinds.Growth.{Growth}
@@ -71,7 +71,7 @@ with_field pos number size role form section = record (with_run pos section) {
 
 -- the section, which has this number, with an item more that grows with the value of this form, and with the field of the form, whose place is the end
 -- of the item; a jump's field is that of its near form, four bytes
-abbrev pub with_growing : Pos → ℕ → Growth → Suffix → Form → LooseSection → LooseSection
+abbrev pub with_growing : Pos → ℕ → Growth → Option Suffix → Form → LooseSection → LooseSection
 with_growing pos number kind suffix form section = record (with_item (new_item pos (Growing (record { kind = kind; field = length section.fields }))) section) {
   fields = section.fields ++ record {
     pos = pos;
@@ -98,7 +98,7 @@ abbrev pub field_put : Pos → ℕ → FieldSize → FieldRole → Form → Loos
 field_put pos number size role form section = if takes_zeros_alone section then Err BadSection else Ok (with_field pos number size role form section)
 
 -- an item that grows is put into the section, which has this number, or refused
-abbrev pub growing_put : Pos → ℕ → Growth → Suffix → Form → LooseSection → Result LooseSection FragCause
+abbrev pub growing_put : Pos → ℕ → Growth → Option Suffix → Form → LooseSection → Result LooseSection FragCause
 growing_put pos number kind suffix form section = if takes_zeros_alone section then Err BadSection else Ok (with_growing pos number kind suffix form section)
 
 -- an item is put into the section, or refused

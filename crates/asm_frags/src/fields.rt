@@ -1,11 +1,12 @@
 //! Fields: values that are written over zeros of a section once they are known.
 
 ghost use Rattle.std.specs.Prelude.{◌≡◌, replicate};
-ghost use Rattle.asm_frags.specs.Fields.{width, fits, fits_signed};
+ghost use Rattle.asm_frags.specs.Fields.{width, fits, fits_signed, holds};
 
 use crate::roles::FieldRole;
 use asm_base::Pos;
 use asm_expr::Linear;
+use x86_insn::FieldKind;
 
 /// The size of a field.
 #[derive(Clone, Copy, PartialEq, Eq, Debug)]
@@ -48,7 +49,7 @@ impl FieldSize {
 
     /// Whether the field holds the value, a number modulo 2^64, as a number with a sign.
     #[tactic(auto, unfolding(crate::specs::Fields::fits_signed))]
-    pub(crate) fn fits_signed(self, value: u64) -> bool
+    fn fits_signed(self, value: u64) -> bool
         ensures { result ≡ fits_signed self value }
     {
         match self {
@@ -56,6 +57,17 @@ impl FieldSize {
             FieldSize::Two => value < 1 << 15 || value >= u64::MAX - 0x7fff,
             FieldSize::Four => value < 1 << 31 || value >= u64::MAX - 0x7fff_ffff,
             FieldSize::Eight => true,
+        }
+    }
+
+    /// Whether a field of this size and kind holds the value, a number modulo 2^64.
+    pub fn holds(self, kind: FieldKind, value: u64) -> bool
+        ensures { result ≡ holds kind self value }
+    {
+        match kind {
+            FieldKind::Plain => self.fits(value),
+            FieldKind::Signed | FieldKind::Address | FieldKind::Branch => self.fits_signed(value),
+            FieldKind::Number => true,
         }
     }
 

@@ -25,6 +25,6 @@ pub use known_extents::KnownExtent;
 pub use laws::stretches_are_fixed;
 pub use parts::Section;
 pub use phases::{Laid, Loose, Phase};
-pub use roles::{FieldKind, FieldRole, Suffix, own_place};
+pub use roles::{FieldRole, own_place};
 pub use section_list::Sections;
 pub use substituting::Substitution;

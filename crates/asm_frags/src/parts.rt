@@ -12,13 +12,14 @@ use crate::item_list::Items;
 use crate::items::Frag;
 use crate::known_extents::KnownExtent;
 use crate::phases::{Laid, Loose, Phase};
-use crate::roles::{FieldRole, Suffix, growth_role};
+use crate::roles::{FieldRole, growth_role};
 use crate::substituting::{Substitution, substitute_fields};
 use asm_base::{Pos, Text};
 use asm_expr::Linear;
 use item_contents::{Content, Growing, Growth, are_zeros, is_known_zeros};
 use std::alloc::{AllocError, Global};
 use std::marker::Model;
+use x86_insn::Suffix;
 
 /// The most plain bytes of a section.
 const MOST_BYTES: usize = 1 << 33;
@@ -277,7 +278,7 @@ impl Section<Loose> {
         pos: Pos,
         number: u32,
         kind: Growth,
-        suffix: Suffix,
+        suffix: Option<Suffix>,
         form: Linear,
     ) -> Result<(), FragFault>
         ensures { Changes self.old self.new result

@@ -1,67 +1,18 @@
 //! The roles of fields: how a value stands in a field, and what the linker puts there.
 
 ghost use Rattle.std.specs.Prelude.{◌≡◌};
-ghost use Rattle.asm_frags.specs.Fields.{data_role, holds, is_distance, growth_role, own_place};
+ghost use Rattle.asm_frags.specs.Fields.{data_role, is_distance, growth_role, own_place};
 
-use crate::fields::FieldSize;
 use asm_expr::SymId;
 use item_contents::Growth;
-
-/// How a value stands in its field.
-#[derive(Clone, Copy, PartialEq, Eq, Debug)]
-pub enum FieldKind {
-    /// As it is: data, or an immediate.
-    Plain,
-    /// Sign-extended to 64 bits: an immediate or a displacement.
-    Signed,
-    /// Counted from the end of the instruction: a displacement from rip.
-    Address,
-    /// Counted from the end of the instruction, of a branch.
-    Branch,
-    /// Of an item that takes as many bytes as the number needs.
-    Number,
-}
-
-impl FieldKind {
-    /// Whether a field of this kind and size holds the value, a number modulo 2^64.
-    pub fn holds(self, size: FieldSize, value: u64) -> bool
-        ensures { result ≡ holds self size value }
-    {
-        match self {
-            FieldKind::Plain => size.fits(value),
-            FieldKind::Signed | FieldKind::Address | FieldKind::Branch => size.fits_signed(value),
-            FieldKind::Number => true,
-        }
-    }
-
-    /// Whether the value is a distance from the end of the instruction.
-    pub fn is_distance(self) -> bool
-        ensures { result ≡ is_distance self }
-    {
-        matches!(self, FieldKind::Address | FieldKind::Branch)
-    }
-}
-
-/// What is said behind the symbol of a field: what the linker puts there in place of the symbol's
-/// address (psABI for AMD64, section 4.4, "Relocation").
-#[derive(Clone, Copy, PartialEq, Eq, Debug)]
-pub enum Suffix {
-    Absent,
-    /// `@PLT`: the address of the function's entry in the procedure linkage table.
-    Plt,
-    /// `@GOTPCREL`: that of the symbol's entry in the global offset table.
-    GotPcRel,
-    /// `@GOTTPOFF`: that of the entry which has the symbol's offset from the thread pointer.
-    GotTpOff,
-    /// `@TPOFF`: the symbol's offset from the thread pointer.
-    TpOff,
-}
+use x86_insn::{FieldKind, Suffix};
 
 /// How a field holds its value: data, or a part of an instruction.
 #[derive(Clone, Copy, PartialEq, Eq, Debug)]
 pub struct FieldRole {
     pub kind: FieldKind,
-    pub suffix: Suffix,
+    /// What is said behind the symbol of the field.
+    pub suffix: Option<Suffix>,
     /// How many bytes of the instruction stand behind the field.
     pub behind: u8,
 }
@@ -74,15 +25,22 @@ impl FieldRole {
     {
         FieldRole {
             kind: FieldKind::Plain,
-            suffix: Suffix::Absent,
+            suffix: None,
             behind: 0,
         }
+    }
+
+    /// Whether the value is a distance from the end of the instruction.
+    pub fn is_distance(self) -> bool
+        ensures { result ≡ is_distance self.kind }
+    {
+        matches!(self.kind, FieldKind::Address | FieldKind::Branch)
     }
 }
 
 /// The role of the field of what grows: a jump holds the distance from its end, which may have a
 /// suffix, and the others hold numbers.
-pub(crate) fn growth_role(kind: Growth, suffix: Suffix) -> FieldRole
+pub(crate) fn growth_role(kind: Growth, suffix: Option<Suffix>) -> FieldRole
     ensures { result ≡ growth_role kind suffix }
 {
     match kind {
@@ -93,7 +51,7 @@ pub(crate) fn growth_role(kind: Growth, suffix: Suffix) -> FieldRole
         },
         Growth::Leb128 { .. } | Growth::Advance => FieldRole {
             kind: FieldKind::Number,
-            suffix: Suffix::Absent,
+            suffix: None,
             behind: 0,
         },
     }

@@ -11,7 +11,7 @@ use crate::flags::{SHT_NOBITS, SHT_PROGBITS, SectionFlags};
 use crate::items::Frag;
 use crate::parts::Section;
 use crate::phases::{Laid, Loose, Phase};
-use crate::roles::{FieldRole, Suffix};
+use crate::roles::FieldRole;
 use crate::substituting::Substitution;
 use asm_base::{Pos, Text};
 use asm_expr::Linear;
@@ -20,6 +20,7 @@ use indexmap::IndexSet;
 use item_contents::Growth;
 use std::alloc::Global;
 use std::marker::Model;
+use x86_insn::Suffix;
 
 /// The most sections: 30,000 that a source makes, and the three that are there from the beginning.
 const MOST_SECTIONS: usize = 30_003;
@@ -231,7 +232,7 @@ impl Sections<Loose> {
         section: u32,
         pos: Pos,
         kind: Growth,
-        suffix: Suffix,
+        suffix: Option<Suffix>,
         form: Linear,
     ) -> Result<(), FragFault>
         requires { section < length self.old }

@@ -6,8 +6,8 @@ use Rattle.asm_frags.specs.Fields.{width, is_distance, holds, low_bytes}
 use Rattle.x86_insn.specs.Views.{View}
 use Rattle.x86_table.specs.Reads.{meaning, ReadsOneWay}
 use Rattle.x86_encode.specs.declared.encoded.Field.{Field as CodedField}
-use Rattle.x86_encode.specs.declared.encoded.FieldKind.{FieldKind}
-use Rattle.x86_encode.specs.declared.encoded.FieldKind.TheVariants as kind
+use Rattle.x86_insn.specs.declared.amounts.FieldKind.{FieldKind}
+use Rattle.x86_insn.specs.declared.amounts.FieldKind.TheVariants as kind
 use Rattle.x86_encode.specs.Answers.{InOrder, Fills}
 use Rattle.x86_encode.specs.Codes.{meant}
 use Rattle.x86_encode.specs.Encoding.{encoding_of}
@@ -16,7 +16,7 @@ use Rattle.x86_encode.specs.FieldPlaces.{IsWidth, Apart, HoldUnknown, Unknown, E
 use Rattle.x86_encode.specs.FieldPlaces as encoded
 use Rattle.x86_encode.specs.Filling.{Coding, kind_holds, field_holds, low_bytes as bytes_of_low, filled}
 use Rattle.att_insns.specs.InsnTexts.{InsnText}
-use Rattle.asm_place.specs.Coding.{shape_in, view_in, values_in, field_size, held_kind, is_branch, code_field, displacement_field, immediate_field, before_fields}
+use Rattle.asm_place.specs.Coding.{shape_in, view_in, values_in, field_size, is_branch, code_field, displacement_field, immediate_field, before_fields}
 use Rattle.asm_place.specs.CodePlaces.{FieldInCode, ValueForms, with_held, AreApart, code_fields}
 use Rattle.asm_front.specs.ReadsBack.{value_in, FinalValues, final_values, final_code, ReadsWith, CodeReadsAt}
 use Rattle.asm_front.proofs.CodeValues.{low_same, low_length, holds_same}
@@ -148,17 +148,19 @@ last_of_all P ds bs (Some d) (Some g) all f is = subst (λ x. P (bs x)) (same g 
     same : (g f : CodedField) → Some g ≡ Some f → g ≡ f
     same g f is = cc
 
-branch_far : {C : Type 0} (k : FieldKind) → is_branch k ≡ true → is_distance (held_kind k) ≡ false → C
+branch_far : {C : Type 0} (k : FieldKind) → is_branch k ≡ true → is_distance k ≡ false → C
 branch_far kind.Plain is near = absurd cc
 branch_far kind.Signed is near = absurd cc
 branch_far kind.Address is near = absurd cc
 branch_far kind.Branch is near = absurd cc
+branch_far kind.Number is near = absurd cc
 
-kind_far : {C : Type 0} (k : FieldKind) → (k ≡ kind.Address) ⊎ (k ≡ kind.Branch) → is_distance (held_kind k) ≡ false → C
+kind_far : {C : Type 0} (k : FieldKind) → (k ≡ kind.Address) ⊎ (k ≡ kind.Branch) → is_distance k ≡ false → C
 kind_far kind.Plain is near = elim is [ inl a ↦ absurd cc | inr b ↦ absurd cc ]
 kind_far kind.Signed is near = elim is [ inl a ↦ absurd cc | inr b ↦ absurd cc ]
 kind_far kind.Address is near = absurd cc
 kind_far kind.Branch is near = absurd cc
+kind_far kind.Number is near = elim is [ inl a ↦ absurd cc | inr b ↦ absurd cc ]
 
 branch_small : (test : Bool) (one other : FieldInCode) → (test ≡ true → IsSmall one.form) → (test ≡ false → IsSmall other.form)
     → IsSmall (cond test one other).form
@@ -219,9 +221,9 @@ module _ (text : InsnText) (forms : ValueForms) (made : Coding) (stand : encoded
   immediate_at : (f : CodedField) → (bs f).at ≡ f.at
   immediate_at f = either_tells (λ c. c.at) f.at (is_branch f.kind) (ds f) (code_field (length made.bytes) f text.immediate.suffix forms.immediate) refl refl
 
-  immediate_kind : (f : CodedField) → (bs f).role.kind ≡ held_kind f.kind
+  immediate_kind : (f : CodedField) → (bs f).role.kind ≡ f.kind
   immediate_kind f =
-      either_tells (λ c. c.role.kind) (held_kind f.kind) (is_branch f.kind) (ds f)
+      either_tells (λ c. c.role.kind) f.kind (is_branch f.kind) (ds f)
       (code_field (length made.bytes) f text.immediate.suffix forms.immediate) refl refl
 
   module _ (value : FieldInCode → ℕ) (low : (c : FieldInCode) → IsSmall c.form → value c < 2 ^ 64) where
@@ -243,7 +245,7 @@ module _ (text : InsnText) (forms : ValueForms) (made : Coding) (stand : encoded
     abbrev Holds : FieldInCode → Type 0
     Holds c = holds c.role.kind c.size (value c) ≡ true
 
-    holds_so : (f : CodedField) (c : FieldInCode) → c.role.kind ≡ held_kind f.kind → width c.size ≡ f.size → IsSmall c.form → Holds c
+    holds_so : (f : CodedField) (c : FieldInCode) → c.role.kind ≡ f.kind → width c.size ≡ f.size → IsSmall c.form → Holds c
         → kind_holds f.kind f.size (value c) ≡ true
     holds_so f c same size small is =
         subst (λ k. kind_holds f.kind k (value c) ≡ true) size

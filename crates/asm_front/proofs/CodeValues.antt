@@ -5,13 +5,10 @@ use Rattle.std.proofs.lemmas.Bool.{lt-ltb}
 use Rattle.std.proofs.lemmas.Bool.Decides.{nat_tests}
 use Rattle.asm_frags.specs.declared.fields.FieldSize.{FieldSize}
 use Rattle.asm_frags.specs.declared.fields.FieldSize.TheVariants.{One, Two, Four, Eight}
-use Rattle.asm_frags.specs.declared.roles.FieldKind.{FieldKind as HeldKind}
-use Rattle.asm_frags.specs.declared.roles.FieldKind.TheVariants as held
 use Rattle.asm_frags.specs.Fields.{width, fits, fits_signed, holds, low_bytes}
-use Rattle.x86_encode.specs.declared.encoded.FieldKind.{FieldKind}
-use Rattle.x86_encode.specs.declared.encoded.FieldKind.TheVariants as kind
+use Rattle.x86_insn.specs.declared.amounts.FieldKind.{FieldKind}
+use Rattle.x86_insn.specs.declared.amounts.FieldKind.TheVariants as kind
 use Rattle.x86_encode.specs.Filling.{kind_holds, low_bytes as bytes_of_low}
-use Rattle.asm_place.specs.Coding.{held_kind}
 
 -- THE BYTES
 
@@ -90,11 +87,12 @@ plain_held Four v low is = plain_test (nat_lt v (2 ^ 32)) (nat_le (2 ^ 64 - 2 ^ 
 plain_held Eight v low is = whole_test (nat_lt v (2 ^ 64)) _ (lt-ltb v (2 ^ 64) low)
 
 -- a value that a field of the section holds is one that the field of the encoding holds
-pub holds_same : (k : FieldKind) (size : FieldSize) (v : ℕ) → v < 2 ^ 64 → holds (held_kind k) size v ≡ true → kind_holds k (width size) v ≡ true
+pub holds_same : (k : FieldKind) (size : FieldSize) (v : ℕ) → v < 2 ^ 64 → holds k size v ≡ true → kind_holds k (width size) v ≡ true
 holds_same kind.Plain size v low is = plain_held size v low is
 holds_same kind.Signed size v low is = signed_held size v low is
 holds_same kind.Address size v low is = signed_held size v low is
 holds_same kind.Branch size v low is = signed_held size v low is
+holds_same kind.Number size v low is = refl
 
 -- each field holds 0
 zero_fits : (size : FieldSize) → fits size 0 ≡ true
@@ -111,9 +109,9 @@ zero_fits_signed Two = refl
 zero_fits_signed Four = refl
 zero_fits_signed Eight = refl
 
-pub holds_zero : (k : HeldKind) (size : FieldSize) → holds k size 0 ≡ true
-holds_zero held.Plain size = zero_fits size
-holds_zero held.Signed size = zero_fits_signed size
-holds_zero held.Address size = zero_fits_signed size
-holds_zero held.Branch size = zero_fits_signed size
-holds_zero held.Number size = refl
+pub holds_zero : (k : FieldKind) (size : FieldSize) → holds k size 0 ≡ true
+holds_zero kind.Plain size = zero_fits size
+holds_zero kind.Signed size = zero_fits_signed size
+holds_zero kind.Address size = zero_fits_signed size
+holds_zero kind.Branch size = zero_fits_signed size
+holds_zero kind.Number size = refl

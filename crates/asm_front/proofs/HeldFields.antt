@@ -6,7 +6,7 @@ use Rattle.asm_base.specs.declared.positions.Pos.{Pos}
 use Rattle.asm_symbols.specs.SymbolMap.{SymbolMap}
 use Rattle.asm_frags.specs.declared.fields.Field.{Field}
 use Rattle.asm_frags.specs.declared.fields.FieldSize.{FieldSize}
-use Rattle.asm_frags.specs.declared.roles.FieldKind.{FieldKind}
+use Rattle.x86_insn.specs.declared.amounts.FieldKind.{FieldKind}
 use Rattle.asm_frags.specs.Fields.{holds}
 use Rattle.asm_frags.specs.SectionOf.{SectionOf}
 use Rattle.asm_frags.specs.Substituting.{substituted_field}

@@ -48,7 +48,7 @@ use Rattle.asm_place.specs.CodePlaces.{insn_in, jump_in}
 use Rattle.asm_place.specs.SymbolPlaces.{AreUpTo, PlacesStand}
 use Rattle.asm_place.specs.JumpPlaces.{IsJump, jump_form, items_so_far, jump_field, JumpStandsAt, JumpStands, jump_written}
 use Rattle.asm_place.specs.Sources.{pos_at, place_all}
-use Rattle.x86_encode.specs.declared.encoded.FieldKind.TheVariants as kind
+use Rattle.x86_insn.specs.declared.amounts.FieldKind.TheVariants as kind
 use Rattle.eh_frame.specs.Pieces.{Tables}
 use Rattle.asm_front.specs.Ending.{Flags, first_over, framed}
 use Rattle.asm_front.specs.declared.ending.NotedObject.{NotedObject}

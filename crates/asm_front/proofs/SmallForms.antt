@@ -15,10 +15,10 @@ use Rattle.asm_frags.specs.Substituting.{substituted_field}
 use Rattle.assigned_forms.specs.Expanding.{replacement, plus_terms, with_replaced, names_assigned, expanded_within, expanded}
 use Rattle.asm_relax.specs.FieldValues.{less, counted_bytes, counted, told_in_field, held_value}
 use Rattle.asm_relax.specs.Settling.{LaidSections}
-use Rattle.x86_encode.specs.declared.encoded.FieldKind.{FieldKind}
-use Rattle.x86_encode.specs.declared.encoded.FieldKind.TheVariants as kind
+use Rattle.x86_insn.specs.declared.amounts.FieldKind.{FieldKind}
+use Rattle.x86_insn.specs.declared.amounts.FieldKind.TheVariants as kind
 use Rattle.x86_insn.specs.Knowing.{if_known}
-use Rattle.asm_place.specs.Coding.{held_kind, held_form}
+use Rattle.asm_place.specs.Coding.{held_form}
 use Rattle.asm_front.specs.ReadsBack.{final_value}
 
 -- where the form has no terms its constant is a number of 64 bits
@@ -42,11 +42,12 @@ pub open_small : (form : Form) → if_known (value_of form) ≡ None → IsSmall
 open_small form is = record { small = open_by form.terms form.constant is }
 
 -- a distance is from the field's own place
-pub held_small : (k : FieldKind) (form : Form) → (is_distance (held_kind k) ≡ false → IsSmall form) → IsSmall (held_form k form)
+pub held_small : (k : FieldKind) (form : Form) → (is_distance k ≡ false → IsSmall form) → IsSmall (held_form k form)
 held_small kind.Plain form near = near refl
 held_small kind.Signed form near = near refl
 held_small kind.Address form near = plus_small form (2 ^ 64 - 1) (symbol_form own_place)
 held_small kind.Branch form near = plus_small form (2 ^ 64 - 1) (symbol_form own_place)
+held_small kind.Number form near = near refl
 
 -- terms that are added keep it so
 terms_small : (replaces : ℕ → Form) (made : Form) (terms : List Term) → IsSmall made → IsSmall (plus_terms replaces made terms)

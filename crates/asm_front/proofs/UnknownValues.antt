@@ -9,7 +9,7 @@ use Rattle.x86_insn.specs.declared.insns.Slot.{Slot}
 use Rattle.x86_insn.specs.declared.insns.Slot.TheVariants as slot
 use Rattle.x86_insn.specs.Views.{Seen, immediate as shown_immediate, memory, displaced}
 use Rattle.x86_encode.specs.declared.encoded.Field.{Field}
-use Rattle.x86_encode.specs.declared.encoded.FieldKind.TheVariants as kind
+use Rattle.x86_insn.specs.declared.amounts.FieldKind.TheVariants as kind
 use Rattle.x86_encode.specs.Codes.{meant}
 use Rattle.x86_encode.specs.FieldPlaces.{is_rip, lacks_number, lacks_displacement, any_operand, HoldUnknown}
 use Rattle.x86_encode.specs.Filling.{Coding}

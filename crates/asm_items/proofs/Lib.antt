@@ -1,2 +1,2 @@
 -- Lemmas, a file for each subject.
-pub mod ReadNumbers
+mod ReadNumbers

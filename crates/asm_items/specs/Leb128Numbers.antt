@@ -1,5 +1,5 @@
 -- Numbers in groups of seven bits (GNU as manual, ".uleb128", ".sleb128"; DWARF 5, section 7.6).
-use Rattle.std.specs.Prelude.{Bool, List, [], ◌∷◌, Result, Ok, Err}
+use Rattle.std.specs.Prelude.{Bool, List, [], ◌∷◌, None, Result, Ok, Err}
 use Rattle.std.specs.List.{list_any}
 use Rattle.asm_base.specs.declared.positions.Pos.{Pos}
 use Rattle.asm_base.specs.Refusals.{◌>>=◌}
@@ -7,7 +7,6 @@ use Rattle.asm_base.specs.Tokens.{SpelledToken}
 use Rattle.asm_expr.specs.declared.forms.Term.{Term}
 use Rattle.asm_expr.specs.Forms.{Form}
 use Rattle.asm_expr.specs.Trees.{Tree}
-use Rattle.asm_frags.specs.declared.roles.Suffix.TheVariants.{Absent}
 use Rattle.asm_operands.specs.declared.place_faults.PlaceCause.{PlaceCause}
 use Rattle.asm_operands.specs.declared.place_faults.PlaceCause.TheVariants.{BadExpression}
 use Rattle.asm_operands.specs.Expressions.{expression_of, form_in}
@@ -23,7 +22,7 @@ use Rattle.item_contents.specs.declared.kinds.Growth.TheVariants.{Leb128}
 -- the bytes of a form without symbols, in as few groups as hold it; an item that grows with the value of any other
 abbrev pub put_number_by : List Term → Pos → Bool → Form → Placed → Result Placed PlaceCause
 put_number_by [] pos signed form placed = put_bytes pos (least_leb128 signed form.constant) placed
-put_number_by (term ∷ terms) pos signed form placed = put_growing pos (Leb128 signed) Absent form placed
+put_number_by (term ∷ terms) pos signed form placed = put_growing pos (Leb128 signed) None form placed
 
 -- a number more in the current section
 abbrev pub put_number : Pos → Bool → Form → Placed → Result Placed PlaceCause

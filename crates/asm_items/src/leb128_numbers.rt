@@ -11,7 +11,6 @@ ghost use Rattle.asm_values.specs.PlacedBy.{placed_by, PlacesBy};
 
 use asm_base::{Pos, Token};
 use asm_expr::{Expr, Linear};
-use asm_frags::Suffix;
 use asm_operands::{FewSums, Operands, PlaceCause, PlaceFault, Sum, expressions, few_sums};
 use asm_uses::{View, forms, one_uses_place, sum_form_in, uses_place};
 use asm_values::{Assembler, sums_have_the_forms_of_trees};
@@ -32,7 +31,7 @@ fn put_number(
     if form.terms().is_empty() {
         assembler.put_bytes(pos, least_leb128(signed, form.constant()).as_slice())
     } else {
-        assembler.push_growing(pos, Growth::Leb128 { signed }, Suffix::Absent, form)
+        assembler.push_growing(pos, Growth::Leb128 { signed }, None, form)
     }
 }
 

@@ -16,7 +16,6 @@ use Rattle.item_contents.specs.declared.contents.Content.{Content}
 use Rattle.item_contents.specs.declared.contents.Content.TheVariants as content
 use Rattle.asm_frags.specs.declared.fields.FieldSize.{FieldSize}
 use Rattle.item_contents.specs.ItemParts.{zeros_up_to}
-use Rattle.asm_frags.specs.declared.roles.Suffix.TheVariants.{Absent}
 use Rattle.item_bytes.specs.Leb128.{least_leb128}
 use Rattle.item_contents.specs.declared.kinds.Growth.TheVariants.{Leb128}
 use Rattle.asm_frags.specs.Fields.{data_role}
@@ -157,7 +156,7 @@ org_walk pos tokens placed stands =
 
 number_walk : (pos : Pos) (signed : Bool) (terms : List Term) (form : Form) (placed : Placed) → PlacesStand placed → Walks placed (put_number_by terms pos signed form placed)
 number_walk pos signed [] form placed stands = bytes_walk pos placed.current (least_leb128 signed form.constant) placed stands
-number_walk pos signed (term ∷ terms) form placed stands = growing_walk pos placed.current (Leb128 signed) Absent form placed stands
+number_walk pos signed (term ∷ terms) form placed stands = growing_walk pos placed.current (Leb128 signed) None form placed stands
 
 numbers_walk : (pos : Pos) (signed : Bool) (forms : List Form) (placed : Placed) → PlacesStand placed → Walks placed (put_numbers pos signed forms placed)
 unfolding put_numbers all_steps

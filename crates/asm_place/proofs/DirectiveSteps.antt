@@ -13,7 +13,6 @@ use Rattle.item_contents.specs.declared.contents.Content.{Content}
 use Rattle.item_contents.specs.declared.contents.Content.TheVariants as content
 use Rattle.asm_frags.specs.declared.fields.FieldSize.{FieldSize}
 use Rattle.item_contents.specs.ItemParts.{zeros_up_to}
-use Rattle.asm_frags.specs.declared.roles.Suffix.TheVariants.{Absent}
 use Rattle.item_bytes.specs.Leb128.{least_leb128}
 use Rattle.item_contents.specs.declared.kinds.Growth.TheVariants.{Leb128}
 use Rattle.asm_frags.specs.Fields.{data_role}
@@ -145,7 +144,7 @@ org_steps pos tokens placed =
 
 number_steps : (pos : Pos) (signed : Bool) (terms : List Term) (form : Form) (placed : Placed) → Steps placed (put_number_by terms pos signed form placed)
 number_steps pos signed [] form placed = bytes_steps pos placed.current (least_leb128 signed form.constant) placed
-number_steps pos signed (term ∷ terms) form placed = growing_steps pos placed.current (Leb128 signed) Absent form placed
+number_steps pos signed (term ∷ terms) form placed = growing_steps pos placed.current (Leb128 signed) None form placed
 
 numbers_steps : (pos : Pos) (signed : Bool) (forms : List Form) (placed : Placed) → Steps placed (put_numbers pos signed forms placed)
 unfolding put_numbers all_steps

@@ -11,7 +11,7 @@ use Rattle.asm_frags.specs.declared.fields.Field.{Field}
 use Rattle.asm_frags.specs.declared.fields.FieldSize.{FieldSize}
 use Rattle.asm_frags.specs.declared.fields.FieldSize.TheVariants.{Four}
 use Rattle.asm_frags.specs.declared.roles.FieldRole.{FieldRole}
-use Rattle.asm_frags.specs.declared.roles.Suffix.{Suffix}
+use Rattle.x86_insn.specs.declared.amounts.Suffix.{Suffix}
 use Rattle.asm_frags.specs.Fields.{width, growth_role}
 use Rattle.asm_frags.specs.PlainBytes.{field_end, FieldsStand}
 use Rattle.asm_frags.specs.declared.flags.SectionFlags.{SectionFlags}
@@ -184,7 +184,7 @@ item_added item section = record {
 }
 
 -- an item that grows, and its field in it
-abbrev growing_field : Pos → ℕ → Growth → Suffix → Form → LooseSection → Field
+abbrev growing_field : Pos → ℕ → Growth → Option Suffix → Form → LooseSection → Field
 growing_field pos number kind suffix form section = record {
   pos = pos;
   item = length section.items + 1;
@@ -196,7 +196,7 @@ growing_field pos number kind suffix form section = record {
   form = form;
 }
 
-pub growing_added : (pos : Pos) (number : ℕ) (kind : Growth) (suffix : Suffix) (form : Form) (section : LooseSection)
+pub growing_added : (pos : Pos) (number : ℕ) (kind : Growth) (suffix : Option Suffix) (form : Form) (section : LooseSection)
     → IsAdded section (with_growing pos number kind suffix form section)
 growing_added pos number kind suffix form section =
     let item = item_behind (length section.bytes) (new_item pos (Growing (record { kind = kind; field = length section.fields }))) in

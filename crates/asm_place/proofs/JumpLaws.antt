@@ -13,9 +13,7 @@ use Rattle.asm_lines.specs.NextStatements.{TokenStatement}
 use Rattle.asm_expr.specs.Forms.{Form}
 use Rattle.asm_frags.specs.declared.fields.Field.{Field}
 use Rattle.asm_frags.specs.declared.fields.FieldSize.TheVariants.{Four}
-use Rattle.asm_frags.specs.declared.roles.FieldKind.TheVariants.{Branch}
 use Rattle.asm_base.specs.declared.causes.FragCause.TheVariants as frag
-use Rattle.asm_frags.specs.declared.roles.Suffix.{Suffix as SaidSuffix}
 use Rattle.asm_frags.specs.Sections.{with_section_or_fault, put_into_there}
 use Rattle.asm_frags.specs.Writing.{LooseItem, LooseSection, new_item, item_behind, with_growing, growing_put, takes_zeros_alone}
 use Rattle.item_bytes.specs.declared.jumps.Condition.{Condition}
@@ -29,12 +27,14 @@ use Rattle.asm_uses.specs.Places.{end_naming}
 use Rattle.asm_uses.specs.Tables.{naming_of}
 use Rattle.asm_values.specs.State.{Placed, with_names, here, known_here, put_growing_into}
 use Rattle.att_insns.specs.InsnTexts.{InsnText}
+use Rattle.x86_insn.specs.declared.amounts.FieldKind.TheVariants.{Branch}
+use Rattle.x86_insn.specs.declared.amounts.Suffix.{Suffix}
 use Rattle.x86_insn.specs.declared.insns.Prefix.{Prefix}
 use Rattle.x86_insn.specs.declared.insns.Prefix.TheVariants as prefix
 use Rattle.x86_table.specs.declared.mnemonics.integers.TheConstants.{JMP, JO, JG}
 use Rattle.x86_table.specs.Reads.{Reads}
 use Rattle.asm_place.specs.declared.codes.InsnForms.{InsnForms}
-use Rattle.asm_place.specs.Coding.{shape_in, forms_of, keeps_place, put_by_jump, put_insn, said_suffix, is_target, is_absent, is_bare, jump_named, place_insn, place_text}
+use Rattle.asm_place.specs.Coding.{shape_in, forms_of, keeps_place, put_by_jump, put_insn, is_target, is_absent, is_bare, jump_named, place_insn, place_text}
 use Rattle.asm_place.specs.Placing.{has_wide_label, place_labelled, place_tokens}
 use Rattle.asm_place.specs.Sources.{pos_at, place, place_all}
 use Rattle.asm_place.specs.Instructions.{behind_labels, with_more, IsContinued, Grows, IsWithin, AreWithin}
@@ -50,7 +50,7 @@ use Rattle.asm_place.proofs.CodeLaws.{labels_split, labels_keep, behind_is, tabl
 -- WHAT IS PUT
 
 -- an item that grows is put last
-module _ (pos : Pos) (number : ℕ) (kind : Growth) (suffix : SaidSuffix) (form : Form) where
+module _ (pos : Pos) (number : ℕ) (kind : Growth) (suffix : Option Suffix) (form : Form) where
   -- it is put last in the section of this number
   pub record IsGrown (before after : List LooseSection) : Type 0 where
     pub section : LooseSection
@@ -80,7 +80,7 @@ module _ (pos : Pos) (number : ℕ) (kind : Growth) (suffix : SaidSuffix) (form 
 pub record IsJumpText (pos : Pos) (text : InsnText) (condition : Option Condition) (before placed : Placed) : Type 0 where
   pub forms : InsnForms
   pub forms_are : forms_of (known_in pos text before) text.immediate.tree text.displacement.tree ≡ Ok forms
-  pub grown : IsGrown pos before.current (Jump condition) (said_suffix text.displacement.suffix) (jump_form forms) before.sections placed.sections
+  pub grown : IsGrown pos before.current (Jump condition) text.displacement.suffix (jump_form forms) before.sections placed.sections
 
 jump_text : (pos : Pos) (text : InsnText) (condition : Option Condition) (before placed : Placed) → jump_in text ≡ Some condition
     → place_text pos text before ≡ Ok placed → IsJumpText pos text condition before placed
@@ -91,7 +91,7 @@ jump_text pos text condition before placed jump is =
     both_ok _ _ placed is (λ forms forms_are named_is.
     both_ok _ _ placed named_is (λ put put_is end_is.
     let kind = Jump condition in
-    let suffix = said_suffix text.displacement.suffix in
+    let suffix = text.displacement.suffix in
     let form = jump_form forms in
     let grown = grown_last pos before.current kind suffix form named put (sym (ap (λ jump. put_by_jump jump pos (shape_in text) forms named) jump) ∙ put_is) in
     let same = table_keeps put placed (end_naming pos (naming_of trees before.table) (here named)
@@ -109,7 +109,7 @@ jump_put pos tokens before placed text condition written jump is =
     let keeps = labels_keep pos tokens before labels labels_are in
     let made = jump_text pos text condition labels placed jump (sym (behind_is pos tokens text before labels labels_are written) ∙ body_is) in
     let kind = Jump condition in
-    let suffix = said_suffix text.displacement.suffix in
+    let suffix = text.displacement.suffix in
     let form = jump_form made.forms in
     let grown = subst (λ number. IsGrown pos number kind suffix form before.sections placed.sections) keeps.current
     (subst (λ sections. IsGrown pos labels.current kind suffix form sections placed.sections) keeps.sections made.grown) in
@@ -135,7 +135,7 @@ last_there [] x more = refl
 last_there (y ∷ xs) x more = last_there xs x more
 
 -- the field of a jump that is put into the section of this number, which has so many items and plain bytes
-abbrev held_field : Pos → ℕ → SaidSuffix → Form → ℕ → ℕ → Field
+abbrev held_field : Pos → ℕ → Option Suffix → Form → ℕ → ℕ → Field
 held_field pos number suffix form items bytes = record {
   pos = pos;
   item = items + 1;
@@ -148,7 +148,7 @@ held_field pos number suffix form items bytes = record {
 }
 
 -- a jump that is put last in a section stands there later
-item_stands : (whole : List LooseSection) (number : ℕ) (pos : Pos) (condition : Option Condition) (suffix : SaidSuffix) (form : Form) (section : LooseSection)
+item_stands : (whole : List LooseSection) (number : ℕ) (pos : Pos) (condition : Option Condition) (suffix : Option Suffix) (form : Form) (section : LooseSection)
     → IsWithin section → IsContinued (with_growing pos number (Jump condition) suffix form section) (slice_get whole number)
     → JumpStandsAt whole number (length section.items) (length section.bytes) pos condition
     (held_field pos number suffix form (length section.items) (length section.bytes))
@@ -174,7 +174,7 @@ put_stands : (before next whole : Placed) (pos : Pos) (tokens : List SpelledToke
     condition (jump_field pos text (jump_form put.jump.forms) before)
 put_stands before next whole pos tokens text condition put within grows =
     let number = before.current in
-    let suffix = said_suffix text.displacement.suffix in
+    let suffix = text.displacement.suffix in
     let form = jump_form put.jump.forms in
     let new = with_growing pos number (Jump condition) suffix form put.section in
     let there : slice_get next.sections number ≡ Some new =

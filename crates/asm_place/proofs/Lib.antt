@@ -1,29 +1,29 @@
 -- The proofs of this crate.
-pub mod RemarkLemmas
-pub mod TokenLists
-pub mod NamedForms
-pub mod AmountTrees
-pub mod FieldOrder
-pub mod GrowthLemmas
-pub mod LabelLemmas
-pub mod Walks
-pub mod TakenPlaces
-pub mod ProcedureSteps
-pub mod SectionSteps
-pub mod DirectiveSteps
-pub mod PlacingLaws
-pub mod StatementSplits
-pub mod InstructionLaws
-pub mod CodeParts
-pub mod CodingFields
-pub mod CodeLaws
-pub mod JumpLaws
-pub mod NamedSymbols
-pub mod GivenNames
-pub mod SymbolTables
-pub mod PlaceSteps
-pub mod KnownWalks
-pub mod FramePlaces
-pub mod DirectivePlaces
-pub mod PlaceWalk
-pub mod JumpTargets
+mod RemarkLemmas
+mod TokenLists
+mod NamedForms
+mod AmountTrees
+mod FieldOrder
+mod GrowthLemmas
+mod LabelLemmas
+mod Walks
+mod TakenPlaces
+mod ProcedureSteps
+mod SectionSteps
+mod DirectiveSteps
+mod PlacingLaws
+mod StatementSplits
+mod InstructionLaws
+mod CodeParts
+mod CodingFields
+mod CodeLaws
+mod JumpLaws
+mod NamedSymbols
+mod GivenNames
+mod SymbolTables
+mod PlaceSteps
+mod KnownWalks
+mod FramePlaces
+mod DirectivePlaces
+mod PlaceWalk
+mod JumpTargets

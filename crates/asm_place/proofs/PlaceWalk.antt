@@ -25,7 +25,7 @@ use Rattle.att_operands.specs.declared.faults.OperandCause.{OperandCause}
 use Rattle.att_insns.specs.InsnTexts.{InsnText}
 use Rattle.asm_place.specs.declared.codes.InsnForms.{InsnForms}
 use Rattle.asm_place.specs.declared.codes.CodeField.{CodeField}
-use Rattle.asm_place.specs.Coding.{InsnShape, shape_in, forms_of, values_in, of_operands, of_code, fields_of, put_rest, put_code, keeps_place, put_coded, put_by_jump, put_insn, insn_of_trees, said_suffix, from_own_place, place_insn, place_read, lone_code, insn_by, place_coded, place_instruction}
+use Rattle.asm_place.specs.Coding.{InsnShape, shape_in, forms_of, values_in, of_operands, of_code, fields_of, put_rest, put_code, keeps_place, put_coded, put_by_jump, put_insn, insn_of_trees, from_own_place, place_insn, place_read, lone_code, insn_by, place_coded, place_instruction}
 use Rattle.asm_place.specs.CodePlaces.{labelled}
 use Rattle.asm_place.specs.Sources.{pos_at, located, place, place_all}
 use Rattle.asm_place.proofs.Walks.{FramesKeep, Fine, made, refused, step, after, either}
@@ -63,7 +63,7 @@ by_jump_walk : (jump : Option (Option Condition)) (pos : Pos) (shape : InsnShape
     → Walks placed (put_by_jump jump pos shape forms placed)
 by_jump_walk None pos shape forms placed stands = put_coded_walk pos shape forms placed stands
 by_jump_walk (Some condition) pos shape forms placed stands =
-    growing_walk pos placed.current (Jump condition) (said_suffix shape.displacement) (from_own_place forms.displacement) placed stands
+    growing_walk pos placed.current (Jump condition) shape.displacement (from_own_place forms.displacement) placed stands
 
 put_insn_walk : (pos : Pos) (shape : InsnShape) (forms : InsnForms) (placed : Placed) → PlacesStand placed → Walks placed (put_insn pos shape forms placed)
 unfolding put_insn

@@ -25,7 +25,7 @@ use Rattle.att_operands.specs.declared.faults.OperandCause.{OperandCause}
 use Rattle.att_insns.specs.InsnTexts.{InsnText}
 use Rattle.asm_place.specs.declared.codes.InsnForms.{InsnForms}
 use Rattle.asm_place.specs.declared.codes.CodeField.{CodeField}
-use Rattle.asm_place.specs.Coding.{InsnShape, shape_in, forms_of, values_in, of_operands, of_code, fields_of, put_rest, put_code, keeps_place, put_coded, put_by_jump, put_insn, said_suffix, from_own_place, place_insn, place_read, lone_code, insn_by, place_coded, place_instruction}
+use Rattle.asm_place.specs.Coding.{InsnShape, shape_in, forms_of, values_in, of_operands, of_code, fields_of, put_rest, put_code, keeps_place, put_coded, put_by_jump, put_insn, from_own_place, place_insn, place_read, lone_code, insn_by, place_coded, place_instruction}
 use Rattle.asm_place.specs.Sources.{pos_at, located, place, place_all}
 use Rattle.asm_place.specs.declared.place_faults.FaultAt.{FaultAt}
 use Rattle.asm_place.specs.Faults.{is_file_too_large, is_too_large, statement_fault}
@@ -61,7 +61,7 @@ put_by_jump_steps : (jump : Option (Option Condition)) (pos : Pos) (shape : Insn
     → Steps placed (put_by_jump jump pos shape forms placed)
 put_by_jump_steps None pos shape forms placed = put_coded_steps pos shape forms placed
 put_by_jump_steps (Some condition) pos shape forms placed =
-    growing_steps pos placed.current (Jump condition) (said_suffix shape.displacement) (from_own_place forms.displacement) placed
+    growing_steps pos placed.current (Jump condition) shape.displacement (from_own_place forms.displacement) placed
 
 put_insn_steps : (pos : Pos) (shape : InsnShape) (forms : InsnForms) (placed : Placed) → Steps placed (put_insn pos shape forms placed)
 unfolding put_insn

@@ -14,7 +14,7 @@ use Rattle.asm_frags.specs.SectionOf.{new_section, is_alike, section_number}
 use Rattle.item_contents.specs.Zeros.{is_zero}
 use Rattle.item_contents.specs.Contents.{is_known_zeros}
 use Rattle.asm_frags.specs.declared.roles.FieldRole.{FieldRole}
-use Rattle.asm_frags.specs.declared.roles.Suffix.{Suffix}
+use Rattle.x86_insn.specs.declared.amounts.Suffix.{Suffix}
 use Rattle.item_contents.specs.declared.kinds.Growth.{Growth}
 use Rattle.asm_frags.specs.Writing.{LooseSection, new_item, takes_zeros_alone, with_item, with_bytes, with_field, with_growing, bytes_put, field_put, item_put, growing_put}
 use Rattle.asm_frags.specs.Sections.{section_flags, entered_there, entered_by, with_section_or_fault, put_into_there}
@@ -68,7 +68,7 @@ push_steps pos number item placed =
     (λ section. either (takes_zeros_alone section && not (is_known_zeros item)) (refused _)
     (made (with_item (new_item pos item) section) (item_added (new_item pos item) section))) number placed
 
-pub growing_steps : (pos : Pos) (number : ℕ) (kind : Growth) (suffix : Suffix) (form : Form) (placed : Placed)
+pub growing_steps : (pos : Pos) (number : ℕ) (kind : Growth) (suffix : Option Suffix) (form : Form) (placed : Placed)
     → Steps placed (put_growing_into pos number kind suffix form placed)
 unfolding put_growing_into
 growing_steps pos number kind suffix form placed =

@@ -10,10 +10,6 @@ use Rattle.asm_expr.specs.Linear.{value_of}
 use Rattle.asm_expr.specs.Trees.{Tree}
 use Rattle.asm_frags.specs.declared.fields.FieldSize.{FieldSize}
 use Rattle.asm_frags.specs.declared.fields.FieldSize.TheVariants.{One, Two, Four, Eight}
-use Rattle.asm_frags.specs.declared.roles.FieldKind.{FieldKind as HeldKind}
-use Rattle.asm_frags.specs.declared.roles.FieldKind.TheVariants as held
-use Rattle.asm_frags.specs.declared.roles.Suffix.{Suffix as SaidSuffix}
-use Rattle.asm_frags.specs.declared.roles.Suffix.TheVariants as said
 use Rattle.asm_frags.specs.Fields.{width, own_place}
 use Rattle.asm_operands.specs.declared.place_faults.PlaceCause.{PlaceCause}
 use Rattle.asm_operands.specs.declared.place_faults.PlaceCause.TheVariants as cause
@@ -22,8 +18,9 @@ use Rattle.asm_uses.specs.Places.{uses_place, end_naming}
 use Rattle.asm_uses.specs.declared.tables.Naming.{Naming}
 use Rattle.asm_uses.specs.Tables.{naming_of}
 use Rattle.asm_values.specs.State.{Placed, with_table, with_names, here, known_here, put_bytes, put_field, put_growing}
+use Rattle.x86_insn.specs.declared.amounts.FieldKind.{FieldKind}
+use Rattle.x86_insn.specs.declared.amounts.FieldKind.TheVariants.{Plain, Signed, Address, Branch, Number}
 use Rattle.x86_insn.specs.declared.amounts.Suffix.{Suffix}
-use Rattle.x86_insn.specs.declared.amounts.Suffix.TheVariants.{Plt, GotPcRel, GotTpOff, TpOff}
 use Rattle.x86_insn.specs.declared.amounts.Values.{Values}
 use Rattle.x86_insn.specs.declared.insns.Slot.{Slot}
 use Rattle.x86_insn.specs.declared.insns.Slot.TheVariants as slot
@@ -38,8 +35,6 @@ use Rattle.item_contents.specs.declared.kinds.Growth.TheVariants.{Jump}
 use Rattle.x86_insn.specs.Views.{Seen, absent, register, immediate, memory, target, View, displaced, view_of}
 use Rattle.x86_lookup.specs.BareInstructions.{bare_code}
 use Rattle.x86_encode.specs.declared.encoded.Field.{Field}
-use Rattle.x86_encode.specs.declared.encoded.FieldKind.{FieldKind}
-use Rattle.x86_encode.specs.declared.encoded.FieldKind.TheVariants.{Plain, Signed, Address, Branch}
 use Rattle.x86_encode.specs.declared.encoded.EncodeFault.{EncodeFault}
 use Rattle.x86_encode.specs.declared.encoded.EncodeFault.TheVariants.{ValueNotKnown, NoSuchForm, OutOfRange}
 use Rattle.x86_encode.specs.Encoding.{encoding_of}
@@ -161,21 +156,6 @@ values_in forms = record { immediate = if_known (value_of forms.immediate); disp
 abbrev pub field_size : ℕ → FieldSize
 field_size bytes = if bytes == 1 then One else (if bytes == 2 then Two else (if bytes == 8 then Eight else Four))
 
--- the kind of a field of an instruction, as sections have it
-abbrev pub held_kind : FieldKind → HeldKind
-held_kind Plain = held.Plain
-held_kind Signed = held.Signed
-held_kind Address = held.Address
-held_kind Branch = held.Branch
-
--- what is said behind the symbol, as sections have it
-abbrev pub said_suffix : Option Suffix → SaidSuffix
-said_suffix None = said.Absent
-said_suffix (Some Plt) = said.Plt
-said_suffix (Some GotPcRel) = said.GotPcRel
-said_suffix (Some GotTpOff) = said.GotTpOff
-said_suffix (Some TpOff) = said.TpOff
-
 -- a form less the place of the field that holds it
 abbrev pub from_own_place : Form → Form
 from_own_place form = plus_times form (2 ^ 64 - 1) (symbol_form own_place)
@@ -187,13 +167,14 @@ held_form Plain form = form
 held_form Signed form = form
 held_form Address form = from_own_place form
 held_form Branch form = from_own_place form
+held_form Number form = form
 
 -- the field, in an instruction of so many bytes, that holds this form with this suffix
 abbrev pub code_field : ℕ → Field → Option Suffix → Form → CodeField
 code_field bytes field suffix form = record {
   at = field.at;
   size = field_size field.size;
-  role = record { kind = held_kind field.kind; suffix = said_suffix suffix; behind = bytes - (field.at + field.size) };
+  role = record { kind = field.kind; suffix = suffix; behind = bytes - (field.at + field.size) };
   form = held_form field.kind form;
 }
 
@@ -203,6 +184,7 @@ is_branch Plain = false
 is_branch Signed = false
 is_branch Address = false
 is_branch Branch = true
+is_branch Number = false
 
 -- the field of a displacement
 abbrev pub displacement_field : ℕ → InsnShape → InsnForms → Field → CodeField
@@ -253,7 +235,7 @@ put_coded pos shape forms placed =
 -- a direct jump, as an item that grows with the distance from its end to its target
 abbrev pub put_jump : Pos → Option Condition → InsnShape → InsnForms → Placed → Result Placed PlaceCause
 put_jump pos condition shape forms placed =
-    put_growing pos (Jump condition) (said_suffix shape.displacement) (from_own_place forms.displacement) placed
+    put_growing pos (Jump condition) shape.displacement (from_own_place forms.displacement) placed
 
 -- a direct jump, or any other instruction
 abbrev pub put_by_jump : Option (Option Condition) → Pos → InsnShape → InsnForms → Placed → Result Placed PlaceCause

@@ -6,16 +6,16 @@ use Rattle.asm_base.specs.declared.positions.Pos.{Pos}
 use Rattle.asm_expr.specs.Forms.{Form}
 use Rattle.asm_frags.specs.declared.fields.Field.{Field}
 use Rattle.asm_frags.specs.declared.fields.FieldSize.TheVariants.{Four}
-use Rattle.asm_frags.specs.declared.roles.FieldKind.TheVariants.{Branch}
 use Rattle.asm_frags.specs.Writing.{LooseSection, new_item, item_behind, with_growing}
 use Rattle.item_bytes.specs.declared.jumps.Condition.{Condition}
 use Rattle.item_contents.specs.declared.contents.Content.TheVariants.{Growing}
 use Rattle.item_contents.specs.declared.kinds.Growth.TheVariants.{Jump}
+use Rattle.x86_insn.specs.declared.amounts.FieldKind.TheVariants.{Branch}
 use Rattle.x86_insn.specs.Views.{View, absent, target}
 use Rattle.asm_values.specs.State.{Placed}
 use Rattle.att_insns.specs.InsnTexts.{InsnText}
 use Rattle.asm_place.specs.declared.codes.InsnForms.{InsnForms}
-use Rattle.asm_place.specs.Coding.{forms_of, said_suffix, from_own_place}
+use Rattle.asm_place.specs.Coding.{forms_of, from_own_place}
 use Rattle.asm_place.specs.CodePlaces.{labelled, known_in}
 use Rattle.asm_place.specs.Instructions.{next_offset}
 
@@ -36,7 +36,7 @@ pub record IsJumpPut (pos : Pos) (tokens : List SpelledToken) (text : InsnText) 
   pub section : LooseSection
   pub there : slice_get before.sections before.current ≡ Some section
   pub put : placed.sections ≡ slice_set before.sections before.current
-      (with_growing pos before.current (Jump condition) (said_suffix text.displacement.suffix) (jump_form jump.forms) section)
+      (with_growing pos before.current (Jump condition) text.displacement.suffix (jump_form jump.forms) section)
 
 -- how many items stand in the section that statements put into
 abbrev pub items_so_far : Placed → ℕ
@@ -50,7 +50,7 @@ jump_field pos text form placed = record {
   offset = next_offset placed;
   section = placed.current;
   size = Four;
-  role = record { kind = Branch; suffix = said_suffix text.displacement.suffix; behind = 0 };
+  role = record { kind = Branch; suffix = text.displacement.suffix; behind = 0 };
   in_item = true;
   form = form;
 }

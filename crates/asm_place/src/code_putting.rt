@@ -6,7 +6,7 @@ ghost use Rattle.x86_encode.specs.Encoding.{made_coding};
 ghost use Rattle.asm_place.specs.Coding.{put_rest, put_held, put_code, shape_of, displacement_field, immediate_field, fields_of, put_coded, put_jump, put_insn};
 
 use crate::codes::{
-    CodeField, InsnForms, code_fault, code_field, direct_jump, from_own_place, known, said_suffix,
+    CodeField, InsnForms, code_fault, code_field, direct_jump, from_own_place, known,
 };
 use asm_base::{NoMemory, Pos};
 use asm_expr::{Linear, copied_form};
@@ -15,8 +15,8 @@ use asm_values::Assembler;
 use item_bytes::Condition;
 use item_contents::Growth;
 use std::alloc::Global;
-use x86_encode::{Encoded, Field, FieldKind, encode};
-use x86_insn::{Insn, Values};
+use x86_encode::{Encoded, Field, encode};
+use x86_insn::{FieldKind, Insn, Values};
 
 /// The bytes from a place on.
 fn behind(bytes: &[u8], at: usize) -> &[u8]
@@ -215,9 +215,8 @@ fn put_jump(
         assembler.old assembler.new result }
     ensures kept { assembler.new.notes ≡ assembler.old.notes }
 {
-    let suffix = said_suffix(insn.displacement.suffix);
     let form = from_own_place(assembler.alloc, forms.displacement)?;
-    assembler.push_growing(pos, Growth::Jump(condition), suffix, form)
+    assembler.push_growing(pos, Growth::Jump(condition), insn.displacement.suffix, form)
 }
 
 /// An instruction of these forms: an item of a direct jump, the bytes and the fields of any other.

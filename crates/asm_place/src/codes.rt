@@ -3,17 +3,17 @@
 ghost use Rattle.std.specs.Prelude.{◌≡◌, ◌&&◌, ◌==◌, ◌<◌, ◌^◌, IfOk};
 ghost use Rattle.x86_insn.specs.Knowing.{if_known};
 ghost use Rattle.asm_expr.specs.Linear.{value_of};
-ghost use Rattle.asm_place.specs.Coding.{operand_fault, code_fault, is_bare, is_target, is_absent, jump_named, shape_of, field_size, held_kind, said_suffix, from_own_place, held_form, code_field};
+ghost use Rattle.asm_place.specs.Coding.{operand_fault, code_fault, is_bare, is_target, is_absent, jump_named, shape_of, field_size, from_own_place, held_form, code_field};
 
 use asm_base::NoMemory;
 use asm_expr::{Linear, plus_times, symbol_form};
-use asm_frags::{FieldKind as HeldKind, FieldRole, FieldSize, Suffix as SaidSuffix, own_place};
+use asm_frags::{FieldRole, FieldSize, own_place};
 use asm_operands::PlaceCause;
 use att_operands::OperandCause;
 use item_bytes::{Condition, condition_of};
 use std::alloc::Global;
-use x86_encode::{EncodeFault, Field, FieldKind};
-use x86_insn::{Insn, Prefix, Slot, Suffix};
+use x86_encode::{EncodeFault, Field};
+use x86_insn::{FieldKind, Insn, Prefix, Slot, Suffix};
 use x86_table::mnemonics::integers::{JG, JMP, JO};
 
 /// The forms of an instruction's values where it stands.
@@ -69,18 +69,6 @@ pub(crate) fn field_size(bytes: u8) -> FieldSize
     }
 }
 
-/// The kind of a field of an instruction, as sections have it.
-pub(crate) fn held_kind(kind: FieldKind) -> HeldKind
-    ensures { result ≡ held_kind kind }
-{
-    match kind {
-        FieldKind::Plain => HeldKind::Plain,
-        FieldKind::Signed => HeldKind::Signed,
-        FieldKind::Address => HeldKind::Address,
-        FieldKind::Branch => HeldKind::Branch,
-    }
-}
-
 /// The condition of a mnemonic, or none, where it is that of a jump.
 fn jump_named(name: u16) -> Option<Option<Condition>>
     ensures { result ≡ jump_named name }
@@ -120,19 +108,6 @@ pub(crate) fn direct_jump(insn: &Insn) -> Option<Option<Condition>>
     }
 }
 
-/// What is said behind the symbol, as sections have it.
-pub(crate) fn said_suffix(suffix: Option<Suffix>) -> SaidSuffix
-    ensures { result ≡ said_suffix suffix }
-{
-    match suffix {
-        None => SaidSuffix::Absent,
-        Some(Suffix::Plt) => SaidSuffix::Plt,
-        Some(Suffix::GotPcRel) => SaidSuffix::GotPcRel,
-        Some(Suffix::GotTpOff) => SaidSuffix::GotTpOff,
-        Some(Suffix::TpOff) => SaidSuffix::TpOff,
-    }
-}
-
 /// A form less the place of the field that holds it.
 pub(crate) fn from_own_place(alloc: Global, form: Linear) -> Result<Linear, NoMemory>
     ensures { IfOk result (λ made. made ≡ from_own_place form) }
@@ -145,7 +120,7 @@ pub(crate) fn held_form(alloc: Global, kind: FieldKind, form: Linear) -> Result<
     ensures { IfOk result (λ made. made ≡ held_form kind form) }
 {
     match kind {
-        FieldKind::Plain | FieldKind::Signed => Ok(form),
+        FieldKind::Plain | FieldKind::Signed | FieldKind::Number => Ok(form),
         FieldKind::Address | FieldKind::Branch => from_own_place(alloc, form),
     }
 }
@@ -166,8 +141,8 @@ pub(crate) fn code_field(
         at: field.at,
         size: field_size(field.size),
         role: FieldRole {
-            kind: held_kind(field.kind),
-            suffix: said_suffix(suffix),
+            kind: field.kind,
+            suffix,
             behind: bytes.saturating_sub(end) as u8,
         },
         form: held_form(alloc, field.kind, form)?,

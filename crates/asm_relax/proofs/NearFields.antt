@@ -12,8 +12,8 @@ use Rattle.asm_frags.specs.declared.fields.Field.{Field}
 use Rattle.asm_frags.specs.declared.fields.FieldSize.{FieldSize}
 use Rattle.asm_frags.specs.declared.fields.FieldSize.TheVariants.{Four}
 use Rattle.asm_frags.specs.declared.items.Frag.{Frag}
-use Rattle.asm_frags.specs.declared.roles.FieldKind.{FieldKind}
-use Rattle.asm_frags.specs.declared.roles.FieldKind.TheVariants.{Plain, Signed, Address, Branch, Number}
+use Rattle.x86_insn.specs.declared.amounts.FieldKind.{FieldKind}
+use Rattle.x86_insn.specs.declared.amounts.FieldKind.TheVariants.{Plain, Signed, Address, Branch, Number}
 use Rattle.asm_frags.specs.Fields.{width, fits, fits_signed, holds, is_distance, own_place}
 use Rattle.asm_frags.specs.SectionOf.{SectionOf}
 use Rattle.asm_relax.specs.declared.faults.LayoutFault.TheVariants.{DistanceOutOfRange}

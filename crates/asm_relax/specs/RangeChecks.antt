@@ -8,7 +8,7 @@ use Rattle.item_contents.specs.declared.contents.Content.TheVariants.{Run, Fill,
 use Rattle.item_contents.specs.ItemParts.{OrgOf}
 use Rattle.asm_frags.specs.declared.fields.Field.{Field}
 use Rattle.asm_frags.specs.declared.fields.FieldSize.{FieldSize}
-use Rattle.asm_frags.specs.declared.roles.FieldKind.{FieldKind}
+use Rattle.x86_insn.specs.declared.amounts.FieldKind.{FieldKind}
 use Rattle.asm_frags.specs.Fields.{holds}
 use Rattle.asm_frags.specs.declared.items.Frag.{Frag}
 use Rattle.asm_frags.specs.SectionOf.{SectionOf}

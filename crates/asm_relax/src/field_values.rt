@@ -112,7 +112,7 @@ impl Known for FieldView<'_> {
 fn counted_bytes(size: FieldSize, role: FieldRole) -> u64
     ensures { result ≡ counted_bytes size role }
 {
-    if role.kind.is_distance() {
+    if role.is_distance() {
         size.bytes() as u64 + u64::from(role.behind)
     } else {
         0
@@ -124,7 +124,7 @@ fn counted_bytes(size: FieldSize, role: FieldRole) -> u64
 pub fn counted(size: FieldSize, role: FieldRole, value: u64) -> u64
     ensures { result ≡ counted size role value }
 {
-    if role.kind.is_distance() {
+    if role.is_distance() {
         value.wrapping_sub(counted_bytes(size, role))
     } else {
         value

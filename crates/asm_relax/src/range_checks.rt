@@ -3,18 +3,19 @@
 
 ghost use Rattle.std.specs.Prelude.{◌≡◌, ◌+◌, ◌<◌, ◌≤◌, ◌∷◌, [], true, false, None, All, nat_lt, option_map};
 ghost use Rattle.std.specs.List.{position_or_len};
-ghost use Rattle.asm_frags.specs.declared.roles.FieldKind.TheVariants.{Number};
 ghost use Rattle.asm_relax.specs.Faults.{first_of};
 ghost use Rattle.asm_relax.specs.LowPlaces.{MovesOn, KeepsLow, StandLow, StandWithin, IsSmall};
 ghost use Rattle.asm_relax.specs.RangeChecks.{origin_shift, moves_back, section_back, is_large, begins_late, first_large, large_section, misfit, field_misfit, section_misfit, first_fault};
+ghost use Rattle.x86_insn.specs.declared.amounts.FieldKind.TheVariants.{Number};
 
 use crate::faults::LayoutFault;
 use crate::field_values::{held_value, is_near_pair, spot_within};
 use crate::places::{section_size, shift_in};
 use asm_expr::Term;
-use asm_frags::{Field, FieldKind, FieldSize, Frag, Laid, Section, Sections};
+use asm_frags::{Field, FieldSize, Frag, Laid, Section, Sections};
 use asm_symbols::{Spot, Symbols};
 use item_contents::{Align, Fill, FragVisit, Growing, Org, visit};
+use x86_insn::FieldKind;
 
 /// The most bytes of a section.
 const MOST_BYTES: u64 = 1 << 30;
@@ -82,7 +83,7 @@ fn any_misfit(symbols: &Symbols, sections: &Sections<Laid>, field: &Field) -> Op
     ensures { result ≡ field_misfit symbols.now sections.now field.now }
 {
     let distance = held_value(symbols, sections, field)?;
-    if field.role.kind.holds(field.size, distance) {
+    if field.size.holds(field.role.kind, distance) {
         return None;
     }
     Some(LayoutFault::DistanceOutOfRange {

@@ -1,9 +1,9 @@
 -- The proofs of this crate.
-pub mod SaidPieces
-pub mod MadeFiles
-pub mod Deliveries
-pub mod StartedFiles
+mod SaidPieces
+mod MadeFiles
+mod Deliveries
+mod StartedFiles
 mod CommandSamples
-pub mod ReadsBackAgain
-pub mod Reading
+mod ReadsBackAgain
+mod Reading
 mod Samples

@@ -1,5 +1,5 @@
 -- What the statements so far have placed.
-use Rattle.std.specs.Prelude.{ℕ, Bool, true, false, List, [], ◌++◌, Result, Ok, Err, if◌then◌else◌}
+use Rattle.std.specs.Prelude.{ℕ, Bool, true, false, List, [], ◌++◌, Option, Result, Ok, Err, if◌then◌else◌}
 use Rattle.asm_operands.specs.declared.place_faults.PlaceCause.{PlaceCause}
 use Rattle.asm_operands.specs.declared.place_faults.PlaceCause.TheVariants.{BadSymbolUse}
 use Rattle.asm_base.specs.declared.notes.Noted.{Noted}
@@ -13,13 +13,13 @@ use Rattle.asm_base.specs.declared.causes.FragCause.{FragCause}
 use Rattle.asm_frags.specs.declared.fields.FieldSize.{FieldSize}
 use Rattle.asm_frags.specs.Sections.{first_sections, put_into}
 use Rattle.asm_frags.specs.declared.roles.FieldRole.{FieldRole}
-use Rattle.asm_frags.specs.declared.roles.Suffix.{Suffix}
 use Rattle.asm_frags.specs.Writing.{LooseSection, new_item, bytes_put, field_put, item_put, growing_put}
 use Rattle.asm_symbols.specs.declared.entries.Spot.{Spot}
 use Rattle.asm_values.specs.declared.stacks.Entered.{Entered}
 use Rattle.asm_words.specs.declared.directives.Syntax.{Syntax}
 use Rattle.asm_words.specs.declared.directives.Syntax.TheVariants.{Att}
 use Rattle.cfi_directives.specs.Procedures.{Procedures, no_procedures}
+use Rattle.x86_insn.specs.declared.amounts.Suffix.{Suffix}
 use Rattle.asm_base.specs.Refusals.{◌>>=◌}
 use Rattle.asm_operands.specs.LayerFaults.{of_sections}
 use Rattle.asm_uses.specs.Tables.{Table, no_table, with_trees}
@@ -95,7 +95,7 @@ unfoldable pub push_into : Pos → ℕ → Content → Placed → Result Placed 
 push_into pos number content placed = put_section (item_put (new_item pos content)) number placed
 
 -- an item last in the section of this number that grows with the value of this form
-unfoldable pub put_growing_into : Pos → ℕ → Growth → Suffix → Form → Placed → Result Placed PlaceCause
+unfoldable pub put_growing_into : Pos → ℕ → Growth → Option Suffix → Form → Placed → Result Placed PlaceCause
 put_growing_into pos number kind suffix form placed = put_section (growing_put pos number kind suffix form) number placed
 
 -- plain bytes last in the current section
@@ -111,5 +111,5 @@ abbrev pub push_item : Pos → Content → Placed → Result Placed PlaceCause
 push_item pos content placed = push_into pos placed.current content placed
 
 -- an item last in the current section that grows with the value of this form
-abbrev pub put_growing : Pos → Growth → Suffix → Form → Placed → Result Placed PlaceCause
+abbrev pub put_growing : Pos → Growth → Option Suffix → Form → Placed → Result Placed PlaceCause
 put_growing pos kind suffix form placed = put_growing_into pos placed.current kind suffix form placed

@@ -7,7 +7,7 @@ ghost use Rattle.asm_values.specs.DataItems.{cut_notes};
 use crate::stacks::Entered;
 use asm_base::{Note, Noted, Notes, Pos};
 use asm_expr::Linear;
-use asm_frags::{FieldRole, FieldSize, Frag, FragFault, Sections, Suffix};
+use asm_frags::{FieldRole, FieldSize, Frag, FragFault, Sections};
 use asm_operands::{PlaceCause, PlaceFault};
 use asm_symbols::Spot;
 use asm_uses::{SymbolUses, View, here_name, spot_at};
@@ -15,6 +15,7 @@ use asm_words::Syntax;
 use cfi_directives::Directives;
 use item_contents::{Content, Growth};
 use std::alloc::{AllocError, Global};
+use x86_insn::Suffix;
 
 /// What is placed so far.
 #[derive(Drop)]
@@ -239,7 +240,7 @@ impl Assembler {
         &mut self,
         pos: Pos,
         kind: Growth,
-        suffix: Suffix,
+        suffix: Option<Suffix>,
         form: Linear,
     ) -> Result<(), PlaceFault>
         ensures placed { PlacesBy (put_growing pos kind suffix form) self.old self.new result }

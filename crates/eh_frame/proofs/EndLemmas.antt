@@ -4,7 +4,6 @@ use Rattle.std.specs.Prelude.{IsSomeAnd}
 use Rattle.std.specs.List.{slice_get}
 use Rattle.asm_base.specs.declared.positions.Pos.{Pos}
 use Rattle.asm_frags.specs.declared.fields.FieldSize.TheVariants.{Four}
-use Rattle.asm_frags.specs.declared.roles.Suffix.TheVariants.{Absent}
 use Rattle.asm_frags.specs.Addresses.{changed_there, changed_at}
 use Rattle.asm_frags.specs.Fields.{data_role}
 use Rattle.asm_frags.specs.Writing.{LooseItem, LooseSection, ends_in_run, new_item, item_behind, with_item, with_run, with_bytes, with_field, with_growing, takes_zeros_alone}
@@ -80,10 +79,10 @@ piece_reaches section pos (pointer place) tables end =
     changed_reaches section tables.sections (with_field pos section Four data_role (distance_form tables.symbols (from_here place))) end (behind_plain 4 end)
     (λ held has. run_reaches pos held (with_field pos section Four data_role (distance_form tables.symbols (from_here place)) held) (replicate 4 0) 4 end has refl refl refl)
 piece_reaches section pos (advance distance) tables end =
-    changed_reaches section tables.sections (with_growing pos section growth.Advance Absent (distance_form tables.symbols distance)) end (behind_item end)
+    changed_reaches section tables.sections (with_growing pos section growth.Advance None (distance_form tables.symbols distance)) end (behind_item end)
     (λ held has. grown held has)
   where
-    grown : (held : LooseSection) → HasEnd end held → HasEnd (behind_item end) (with_growing pos section growth.Advance Absent (distance_form tables.symbols distance) held)
+    grown : (held : LooseSection) → HasEnd end held → HasEnd (behind_item end) (with_growing pos section growth.Advance None (distance_form tables.symbols distance) held)
     grown held has =
         let is = item_reaches held (new_item pos (Growing (record { kind = growth.Advance; field = length held.fields }))) end has refl in
         record { items = is.items; bytes = is.bytes; in_run = is.in_run }

@@ -11,8 +11,6 @@ use Rattle.asm_frags.specs.declared.fields.Field.{Field}
 use Rattle.asm_frags.specs.declared.fields.FieldSize.{FieldSize}
 use Rattle.asm_frags.specs.declared.fields.FieldSize.TheVariants.{Four}
 use Rattle.asm_frags.specs.declared.roles.FieldRole.{FieldRole}
-use Rattle.asm_frags.specs.declared.roles.Suffix.{Suffix}
-use Rattle.asm_frags.specs.declared.roles.Suffix.TheVariants.{Absent}
 use Rattle.asm_frags.specs.Addresses.{changed_there, changed_at}
 use Rattle.asm_frags.specs.Fields.{width, data_role, growth_role}
 use Rattle.asm_frags.specs.Writing.{LooseItem, LooseSection, ends_in_run, new_item, item_behind, with_item, with_run, with_bytes, with_field, with_growing}
@@ -165,16 +163,15 @@ field_extends pos section size role form held =
     } in
     run_extends (ends_in_run held.items) pos held (replicate (width size) 0) (made ∷ []) (one_field held made refl)
 
-pub growing_extends : (pos : Pos) (section : ℕ) (kind : Growth) (suffix : Suffix) (form : Form) (held : LooseSection)
-    → Extends held (with_growing pos section kind suffix form held)
-growing_extends pos section kind suffix form held =
+pub growing_extends : (pos : Pos) (section : ℕ) (kind : Growth) (form : Form) (held : LooseSection) → Extends held (with_growing pos section kind None form held)
+growing_extends pos section kind form held =
     let made : Field = record {
       pos = pos;
       item = length held.items + 1;
       offset = length held.bytes;
       section = section;
       size = Four;
-      role = growth_role kind suffix;
+      role = growth_role kind None;
       in_item = true;
       form = form;
     } in
@@ -268,8 +265,8 @@ piece_extends section pos (pointer place) tables =
     changed_extends (with_field pos section Four data_role (distance_form tables.symbols (from_here place)))
     (field_extends pos section Four data_role (distance_form tables.symbols (from_here place))) section tables.sections
 piece_extends section pos (advance distance) tables =
-    changed_extends (with_growing pos section growth.Advance Absent (distance_form tables.symbols distance))
-    (growing_extends pos section growth.Advance Absent (distance_form tables.symbols distance)) section tables.sections
+    changed_extends (with_growing pos section growth.Advance None (distance_form tables.symbols distance))
+    (growing_extends pos section growth.Advance (distance_form tables.symbols distance)) section tables.sections
 piece_extends section pos (padding log) tables =
     changed_extends (with_item (new_item pos (Align (zeros_up_to log)))) (item_extends (new_item pos (Align (zeros_up_to log)))) section tables.sections
 

@@ -9,7 +9,6 @@ use Rattle.asm_base.specs.declared.positions.Pos.{Pos}
 use Rattle.asm_expr.specs.Forms.{Form}
 use Rattle.asm_frags.specs.declared.fields.Field.{Field}
 use Rattle.asm_frags.specs.declared.fields.FieldSize.TheVariants.{Four}
-use Rattle.asm_frags.specs.declared.roles.Suffix.TheVariants.{Absent}
 use Rattle.asm_frags.specs.Addresses.{changed_there, changed_at}
 use Rattle.asm_frags.specs.Fields.{data_role}
 use Rattle.asm_frags.specs.PlainBytes.{field_end, IsBeside, FieldsStand}
@@ -214,10 +213,10 @@ number_puts map section pos form end held ready =
     )
 
 advance_puts : (section : ℕ) (pos : Pos) (form : Form) (end : SectionEnd) (held : LooseSection) → IsReadyAt end held
-    → IsReadyAt (behind_item end) (with_growing pos section growth.Advance Absent form held)
-    × ((last : LooseSection) → Extends (with_growing pos section growth.Advance Absent form held) last → AdvanceAt last section pos end form)
+    → IsReadyAt (behind_item end) (with_growing pos section growth.Advance None form held)
+    × ((last : LooseSection) → Extends (with_growing pos section growth.Advance None form held) last → AdvanceAt last section pos end form)
 advance_puts section pos form end held ready =
-    let now : LooseSection = with_growing pos section growth.Advance Absent form held in
+    let now : LooseSection = with_growing pos section growth.Advance None form held in
     let item : LooseItem = new_item pos (Growing (record { kind = growth.Advance; field = length held.fields })) in
     let grown : HasEnd (behind_item end) (with_item item held) = item_reaches held item end ready.reaches refl in
     let reached : HasEnd (behind_item end) now = record { items = grown.items; bytes = grown.bytes; in_run = grown.in_run } in
@@ -301,7 +300,7 @@ piece_puts section pos (piece.pointer place) tables end =
     (λ held ready. let puts = number_puts tables.symbols section pos (distance_form tables.symbols (from_here place)) end held ready in
     record { ready = puts.0; found = puts.1 })
 piece_puts section pos (piece.advance distance) tables end =
-    changed_puts tables.symbols section pos (piece.advance distance) tables.sections end (with_growing pos section growth.Advance Absent (distance_form tables.symbols distance))
+    changed_puts tables.symbols section pos (piece.advance distance) tables.sections end (with_growing pos section growth.Advance None (distance_form tables.symbols distance))
     (λ held ready. let puts = advance_puts section pos (distance_form tables.symbols distance) end held ready in record { ready = puts.0; found = puts.1 })
 piece_puts section pos (piece.padding log) tables end =
     changed_puts tables.symbols section pos (piece.padding log) tables.sections end (with_item (new_item pos (Align (zeros_up_to log))))

@@ -1,14 +1,14 @@
-pub mod LabelLemmas
-pub mod PutLemmas
-pub mod NewTable
-pub mod ReadingLemmas
-pub mod ExtendLemmas
-pub mod EndLemmas
-pub mod NamedPlaces
-pub mod RefusedLemmas
-pub mod WorkedLemmas
-pub mod ApartLemmas
-pub mod FoundLemmas
-pub mod TableLemmas
-pub mod LabelPlaces
-pub mod FormLemmas
+mod LabelLemmas
+mod PutLemmas
+mod NewTable
+mod ReadingLemmas
+mod ExtendLemmas
+mod EndLemmas
+mod NamedPlaces
+mod RefusedLemmas
+mod WorkedLemmas
+mod ApartLemmas
+mod FoundLemmas
+mod TableLemmas
+mod LabelPlaces
+mod FormLemmas

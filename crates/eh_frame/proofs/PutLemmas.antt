@@ -12,7 +12,6 @@ use Rattle.asm_expr.specs.Forms.{Form}
 use Rattle.asm_base.specs.declared.causes.FragCause.{FragCause}
 use Rattle.asm_frags.specs.declared.fields.FieldSize.{FieldSize}
 use Rattle.asm_frags.specs.declared.roles.FieldRole.{FieldRole}
-use Rattle.asm_frags.specs.declared.roles.Suffix.{Suffix}
 use Rattle.asm_frags.specs.Addresses.{changed_there, changed_at}
 use Rattle.asm_frags.specs.Sections.{with_section_or_fault, put_into_there, put_into}
 use Rattle.asm_frags.specs.Writing.{LooseItem, LooseSection, ends_in_run, new_item, with_item, with_bytes, with_field, with_growing, takes_zeros_alone, bytes_put, field_put, growing_put, item_put}
@@ -80,11 +79,11 @@ module _ (pos : Pos) where
   field_keeps : (number : ℕ) (size : FieldSize) (role : FieldRole) (form : Form) → KeepsType (with_field pos number size role form)
   field_keeps number size role form held filled = run_kept held (ends_in_run held.items) ∙ filled
 
-  growing_goes : (number : ℕ) (kind : Growth) (suffix : Suffix) (form : Form) → Puts (growing_put pos number kind suffix form) (with_growing pos number kind suffix form)
-  growing_goes number kind suffix form held filled = rw filled refl
+  growing_goes : (number : ℕ) (kind : Growth) (form : Form) → Puts (growing_put pos number kind None form) (with_growing pos number kind None form)
+  growing_goes number kind form held filled = rw filled refl
 
-  growing_keeps : (number : ℕ) (kind : Growth) (suffix : Suffix) (form : Form) → KeepsType (with_growing pos number kind suffix form)
-  growing_keeps number kind suffix form held filled = filled
+  growing_keeps : (number : ℕ) (kind : Growth) (form : Form) → KeepsType (with_growing pos number kind None form)
+  growing_keeps number kind form held filled = filled
 
 item_goes : (item : LooseItem) → Puts (item_put item) (with_item item)
 item_goes item held filled = rw filled refl
@@ -132,21 +131,21 @@ module _ (section : ℕ) (pos : Pos) (old : List LooseSection) where
   field_wants number size role form refusal takes =
       wants_so section old (field_put pos number size role form) (with_field pos number size role form) refusal takes (field_goes pos number size role form)
 
-  pub growing_is_put : (number : ℕ) (kind : Growth) (suffix : Suffix) (form : Form) (new : List LooseSection) → Takes section old
-      → put_into (growing_put pos number kind suffix form) old section ≡ Ok new → new ≡ changed_at (with_growing pos number kind suffix form) old section
-  growing_is_put number kind suffix form new takes =
-      made_so section old (growing_put pos number kind suffix form) (with_growing pos number kind suffix form) new takes (growing_goes pos number kind suffix form)
+  pub growing_is_put : (number : ℕ) (kind : Growth) (form : Form) (new : List LooseSection) → Takes section old
+      → put_into (growing_put pos number kind None form) old section ≡ Ok new → new ≡ changed_at (with_growing pos number kind None form) old section
+  growing_is_put number kind form new takes =
+      made_so section old (growing_put pos number kind None form) (with_growing pos number kind None form) new takes (growing_goes pos number kind form)
 
-  pub growing_is_taken : (number : ℕ) (kind : Growth) (suffix : Suffix) (form : Form) (new : List LooseSection) → Takes section old
-      → put_into (growing_put pos number kind suffix form) old section ≡ Ok new → Takes section new
-  growing_is_taken number kind suffix form new takes =
-      takes_so section old (growing_put pos number kind suffix form) (with_growing pos number kind suffix form) new takes (growing_goes pos number kind suffix form)
-      (growing_keeps pos number kind suffix form)
+  pub growing_is_taken : (number : ℕ) (kind : Growth) (form : Form) (new : List LooseSection) → Takes section old
+      → put_into (growing_put pos number kind None form) old section ≡ Ok new → Takes section new
+  growing_is_taken number kind form new takes =
+      takes_so section old (growing_put pos number kind None form) (with_growing pos number kind None form) new takes (growing_goes pos number kind form)
+      (growing_keeps pos number kind form)
 
-  pub growing_wants : (number : ℕ) (kind : Growth) (suffix : Suffix) (form : Form) (refusal : Refusal FragCause) → Takes section old
-      → FailsLast refusal (put_into (growing_put pos number kind suffix form) old section) → refusal ≡ NoMemory
-  growing_wants number kind suffix form refusal takes =
-      wants_so section old (growing_put pos number kind suffix form) (with_growing pos number kind suffix form) refusal takes (growing_goes pos number kind suffix form)
+  pub growing_wants : (number : ℕ) (kind : Growth) (form : Form) (refusal : Refusal FragCause) → Takes section old
+      → FailsLast refusal (put_into (growing_put pos number kind None form) old section) → refusal ≡ NoMemory
+  growing_wants number kind form refusal takes =
+      wants_so section old (growing_put pos number kind None form) (with_growing pos number kind None form) refusal takes (growing_goes pos number kind form)
 
 module _ (section : ℕ) (item : LooseItem) (old : List LooseSection) where
   pub item_is_put : (new : List LooseSection) → Takes section old → put_into (item_put item) old section ≡ Ok new → new ≡ changed_at (with_item item) old section

@@ -4,7 +4,6 @@ use Rattle.asm_base.specs.declared.positions.Pos.{Pos}
 use Rattle.asm_expr.specs.Forms.{Form}
 use Rattle.asm_frags.specs.declared.fields.Field.{Field}
 use Rattle.asm_frags.specs.declared.fields.FieldSize.TheVariants.{Four}
-use Rattle.asm_frags.specs.declared.roles.Suffix.TheVariants.{Absent}
 use Rattle.asm_frags.specs.Fields.{data_role, growth_role}
 use Rattle.asm_frags.specs.PlainBytes.{field_end, IsBeside, FieldsStand}
 use Rattle.asm_frags.specs.SectionOf.{section_number}
@@ -84,7 +83,7 @@ advance_field section pos end form = record {
   offset = end.bytes;
   section = section;
   size = Four;
-  role = growth_role growth.Advance Absent;
+  role = growth_role growth.Advance None;
   in_item = true;
   form = form;
 }

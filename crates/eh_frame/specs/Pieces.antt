@@ -1,8 +1,7 @@
 -- The pieces of which a frame table is made, and how each is put into the section.
-use Rattle.std.specs.Prelude.{◌≡◌, ℕ, ◌<◌, false, List, [], ◌∷◌, length, IsSomeAnd, slice_get}
+use Rattle.std.specs.Prelude.{◌≡◌, ℕ, ◌<◌, false, List, [], ◌∷◌, length, None, IsSomeAnd, slice_get}
 use Rattle.asm_base.specs.declared.positions.Pos.{Pos}
 use Rattle.asm_frags.specs.declared.fields.FieldSize.TheVariants.{Four}
-use Rattle.asm_frags.specs.declared.roles.Suffix.TheVariants.{Absent}
 use Rattle.asm_frags.specs.Addresses.{changed_at}
 use Rattle.asm_frags.specs.Fields.{data_role}
 use Rattle.asm_frags.specs.Writing.{LooseSection, new_item, takes_zeros_alone, with_bytes, with_field, with_growing, with_item}
@@ -47,7 +46,7 @@ number_put section pos distance tables =
 abbrev pub advance_put : ℕ → Pos → Distance → Tables → Tables
 advance_put section pos distance tables =
     tables_of (with_marks tables.symbols distance)
-    (changed_at (with_growing pos section growth.Advance Absent (distance_form tables.symbols distance)) tables.sections section)
+    (changed_at (with_growing pos section growth.Advance None (distance_form tables.symbols distance)) tables.sections section)
 
 -- a piece, last in the section of this number
 abbrev pub piece_put : ℕ → Pos → Piece → Tables → Tables

@@ -6,7 +6,7 @@ ghost use Rattle.eh_frame.specs.Pieces as spec;
 
 use crate::marks::{Distance, Mark, distance_form};
 use asm_base::{Pos, SectionPlace};
-use asm_frags::{FieldRole, FieldSize, Frag, FragFault, Sections, Suffix};
+use asm_frags::{FieldRole, FieldSize, Frag, FragFault, Sections};
 use asm_symbols::Symbols;
 use item_contents::{Align, Content, Growth};
 use std::alloc::Global;
@@ -94,13 +94,7 @@ pub(crate) fn put_advance(
     ensures memory { IfErr result (λ fault. fault ≡ NoMemory) }
 {
     let form = distance_form(alloc, symbols, distance)?;
-    sections.push_growing(
-        table.section,
-        table.pos,
-        Growth::Advance,
-        Suffix::Absent,
-        form,
-    )
+    sections.push_growing(table.section, table.pos, Growth::Advance, None, form)
 }
 
 /// Puts zeros up to the next multiple of 2^log.

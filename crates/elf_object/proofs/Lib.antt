@@ -9,8 +9,8 @@ mod ImageLemmas
 mod ItemBytes
 mod PatchLemmas
 mod KeptForms
-pub mod PlainPlaces
-pub mod ItemPlaces
+mod PlainPlaces
+mod ItemPlaces
 mod TableOrder
 mod Targets
 mod RelocationLemmas

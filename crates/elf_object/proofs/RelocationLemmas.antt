@@ -11,11 +11,7 @@ use Rattle.asm_expr.specs.Settled.{settled}
 use Rattle.asm_frags.specs.declared.fields.Field.{Field}
 use Rattle.asm_frags.specs.declared.fields.FieldSize.{FieldSize}
 use Rattle.asm_frags.specs.declared.fields.FieldSize.TheVariants.{One, Two, Four, Eight}
-use Rattle.asm_frags.specs.declared.roles.FieldKind.{FieldKind}
-use Rattle.asm_frags.specs.declared.roles.FieldKind.TheVariants as field
 use Rattle.asm_frags.specs.declared.roles.FieldRole.{FieldRole}
-use Rattle.asm_frags.specs.declared.roles.Suffix.{Suffix}
-use Rattle.asm_frags.specs.declared.roles.Suffix.TheVariants as suffix
 use Rattle.asm_frags.specs.Fields.{own_place, is_distance, width}
 use Rattle.asm_frags.specs.SectionOf.{SectionOf}
 use Rattle.asm_symbols.specs.declared.entries.Symbol.{Symbol}
@@ -35,6 +31,9 @@ use Rattle.elf_object.specs.declared.relocations.Relocation.{Relocation}
 use Rattle.elf_object.specs.declared.relocations.RelocationKind.{RelocationKind}
 use Rattle.elf_object.specs.Relocations.{merge, sized_kind, signed_kind, branch_kind, plain_kind, kind_for, symbol_reference, label_reference, meaning_reference, reference_at, reference_found, own_address, reference, direct, relative, pair, is_plus, is_minus, minus_one, reference_by, final_reference, relocation_with, relocation, field_place, field_relocation}
 use Rattle.elf_object.specs.RelocationLaws.{is_relative, target_address, IsLinked, PlaceStands, RelocationsMeanForms}
+use Rattle.x86_insn.specs.declared.amounts.FieldKind.{FieldKind}
+use Rattle.x86_insn.specs.declared.amounts.FieldKind.TheVariants as field
+use Rattle.x86_insn.specs.declared.amounts.Suffix.{Suffix}
 use Rattle.elf_object.proofs.Targets.{mapped, then_got, nothing, chosen, got_inside}
 use Rattle.elf_object.proofs.ItemBytes.{both_true}
 
@@ -81,12 +80,9 @@ kind_relative : (relative local : Bool) (role : FieldRole) (size : FieldSize) (f
     → is_relative found ≡ relative
 kind_relative relative local role size found none e = by role.suffix none e
   where
-    by : (s : Suffix) → is_suffixed s ≡ false → kind_for relative (record { kind = role.kind; suffix = s; behind = role.behind }) local size ≡ Some found → is_relative found ≡ relative
-    by suffix.Absent none e = plain_relative relative role.kind local size found e
-    by suffix.Plt none e = absurd cc
-    by suffix.GotPcRel none e = absurd cc
-    by suffix.GotTpOff none e = absurd cc
-    by suffix.TpOff none e = absurd cc
+    by : (s : Option Suffix) → is_suffixed s ≡ false → kind_for relative (record { kind = role.kind; suffix = s; behind = role.behind }) local size ≡ Some found → is_relative found ≡ relative
+    by None none e = plain_relative relative role.kind local size found e
+    by (Some suffix) none e = absurd cc
 
 -- NUMBERS
 

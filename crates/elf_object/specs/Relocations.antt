@@ -7,11 +7,7 @@ use Rattle.asm_expr.specs.Settled.{settled}
 use Rattle.asm_frags.specs.declared.fields.Field.{Field}
 use Rattle.asm_frags.specs.declared.fields.FieldSize.{FieldSize}
 use Rattle.asm_frags.specs.declared.fields.FieldSize.TheVariants.{One, Two, Four, Eight}
-use Rattle.asm_frags.specs.declared.roles.FieldKind.{FieldKind}
-use Rattle.asm_frags.specs.declared.roles.FieldKind.TheVariants as field
 use Rattle.asm_frags.specs.declared.roles.FieldRole.{FieldRole}
-use Rattle.asm_frags.specs.declared.roles.Suffix.{Suffix}
-use Rattle.asm_frags.specs.declared.roles.Suffix.TheVariants as suffix
 use Rattle.asm_frags.specs.Fields.{width}
 use Rattle.asm_frags.specs.SectionOf.{SectionOf}
 use Rattle.asm_symbols.specs.declared.entries.Symbol.{Symbol}
@@ -28,6 +24,10 @@ use Rattle.elf_object.specs.declared.relocations.RelocationKind.TheVariants.{Dir
 use Rattle.elf_symbols.specs.declared.targets.Target.{Target}
 use Rattle.elf_symbols.specs.declared.targets.Target.TheVariants.{OfSection, OfSymbol}
 use Rattle.elf_object.specs.declared.relocations.Relocation.{Relocation}
+use Rattle.x86_insn.specs.declared.amounts.FieldKind.{FieldKind}
+use Rattle.x86_insn.specs.declared.amounts.FieldKind.TheVariants as field
+use Rattle.x86_insn.specs.declared.amounts.Suffix.{Suffix}
+use Rattle.x86_insn.specs.declared.amounts.Suffix.TheVariants as suffix
 use Rattle.elf_object.specs.declared.references.Reference.{Reference}
 use Rattle.elf_object.specs.declared.references.SymbolReference.{SymbolReference}
 use Rattle.elf_file.specs.TableEntries.{elf_relocation}
@@ -116,12 +116,12 @@ offset_kind relative field.Branch size = None
 offset_kind relative field.Number size = None
 
 -- the kind by what stands behind the symbol
-abbrev pub kind_by : Suffix → Bool → FieldKind → Bool → FieldSize → Option RelocationKind
-kind_by suffix.Absent relative kind local size = plain_kind relative kind local size
-kind_by suffix.Plt relative kind local size = linkage_kind relative kind size
-kind_by suffix.GotPcRel relative kind local size = entry_kind relative kind size GotPcRel
-kind_by suffix.GotTpOff relative kind local size = entry_kind relative kind size GotTpOff
-kind_by suffix.TpOff relative kind local size = offset_kind relative kind size
+abbrev pub kind_by : Option Suffix → Bool → FieldKind → Bool → FieldSize → Option RelocationKind
+kind_by None relative kind local size = plain_kind relative kind local size
+kind_by (Some suffix.Plt) relative kind local size = linkage_kind relative kind size
+kind_by (Some suffix.GotPcRel) relative kind local size = entry_kind relative kind size GotPcRel
+kind_by (Some suffix.GotTpOff) relative kind local size = entry_kind relative kind size GotTpOff
+kind_by (Some suffix.TpOff) relative kind local size = offset_kind relative kind size
 
 -- the kind of a field of this role and size, if there is one: whether the place of the field is taken from the sum, and whether the symbol is local
 abbrev pub kind_for : Bool → FieldRole → Bool → FieldSize → Option RelocationKind

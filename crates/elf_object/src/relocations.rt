@@ -3,9 +3,10 @@
 ghost use Rattle.std.specs.Prelude.{◌≡◌};
 ghost use Rattle.elf_object.specs.Relocations.{kind_number, sized_kind, signed_kind, branch_kind, plain_kind, is_four, entry_kind, linkage_kind, offset_kind, kind_for, relocation_entry};
 
-use asm_frags::{FieldKind, FieldRole, FieldSize, Suffix};
+use asm_frags::{FieldRole, FieldSize};
 use elf_file::elf_relocation;
 use elf_symbols::Target;
+use x86_insn::{FieldKind, Suffix};
 
 /// How the linker works a field out (`R_X86_64_`): from S + A, or S + A - P where the name begins with `Pc`.
 #[derive(Clone, Copy)]
@@ -175,11 +176,11 @@ pub(crate) fn kind_for(
     ensures { result ≡ kind_for relative role local size }
 {
     match role.suffix {
-        Suffix::Absent => plain_kind(relative, role.kind, local, size),
-        Suffix::Plt => linkage_kind(relative, role.kind, size),
-        Suffix::GotPcRel => entry_kind(relative, role.kind, size, RelocationKind::GotPcRel),
-        Suffix::GotTpOff => entry_kind(relative, role.kind, size, RelocationKind::GotTpOff),
-        Suffix::TpOff => offset_kind(relative, role.kind, size),
+        None => plain_kind(relative, role.kind, local, size),
+        Some(Suffix::Plt) => linkage_kind(relative, role.kind, size),
+        Some(Suffix::GotPcRel) => entry_kind(relative, role.kind, size, RelocationKind::GotPcRel),
+        Some(Suffix::GotTpOff) => entry_kind(relative, role.kind, size, RelocationKind::GotTpOff),
+        Some(Suffix::TpOff) => offset_kind(relative, role.kind, size),
     }
 }
 

@@ -1,10 +1,9 @@
 -- The distances between marks that fields hold, and their values in a layout.
-use Rattle.std.specs.Prelude.{◌≡◌, ℕ, ◌+◌, ◌-◌, ◌^◌, ◌<◌, ◌≤◌, false, length, Some}
+use Rattle.std.specs.Prelude.{◌≡◌, ℕ, ◌+◌, ◌-◌, ◌^◌, ◌<◌, ◌≤◌, false, length, None, Some}
 use Rattle.asm_expr.specs.Coefficients.{is_among}
 use Rattle.asm_expr.specs.Forms.{Form, wrapped, constant_form, symbol_form, joined, plus_times}
 use Rattle.asm_symbols.specs.SymbolMap.{SymbolMap}
 use Rattle.asm_frags.specs.declared.fields.Field.{Field}
-use Rattle.asm_frags.specs.declared.roles.Suffix.TheVariants.{Absent}
 use Rattle.asm_frags.specs.Fields.{is_distance, own_place}
 use Rattle.asm_frags.specs.Substituting.{substituted_field}
 use Rattle.assigned_forms.specs.Expanding.{expanded}
@@ -45,7 +44,7 @@ pub record HasDistance (map : SymbolMap) (field : Field) (distance : Distance) :
 pub record IsPlainDistance (field : Field) (distance : Distance) : Type 0 where
   pub one : mark_section field.section distance.to ≡ mark_section field.section distance.from
   pub plain : is_distance field.role.kind ≡ false
-  pub bare : field.role.suffix ≡ Absent
+  pub bare : field.role.suffix ≡ None
 
 -- the address of a mark of a field in the layout, modulo 2^64
 abbrev pub laid_mark : LaidSections → Field → Mark → ℕ

@@ -1,3 +1,3 @@
 -- The proofs of this crate.
-pub mod RowFitting
-pub mod RowLengths
+mod RowFitting
+mod RowLengths

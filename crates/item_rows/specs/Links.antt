@@ -1,5 +1,5 @@
 -- Fields of which the linker alone knows the value.
-use Rattle.std.specs.Prelude.{◌||◌, Bool, true, false, Option, None, Some, slice_get}
+use Rattle.std.specs.Prelude.{◌||◌, Bool, true, false, Option, None, Some, is_some, slice_get}
 use Rattle.std.specs.Option.{option_map_or}
 use Rattle.std.specs.List.{list_any}
 use Rattle.asm_expr.specs.declared.forms.Term.{Term}
@@ -8,16 +8,11 @@ use Rattle.asm_symbols.specs.declared.entries.Binding.{Binding}
 use Rattle.asm_symbols.specs.declared.entries.Binding.TheVariants.{Local, Global, Weak}
 use Rattle.asm_symbols.specs.SymbolMap.{SymbolMap}
 use Rattle.asm_frags.specs.declared.fields.Field.{Field}
-use Rattle.asm_frags.specs.declared.roles.Suffix.{Suffix}
-use Rattle.asm_frags.specs.declared.roles.Suffix.TheVariants.{Absent, Plt, GotPcRel, GotTpOff, TpOff}
+use Rattle.x86_insn.specs.declared.amounts.Suffix.{Suffix}
 
 -- there is a suffix
-abbrev pub is_suffixed : Suffix → Bool
-is_suffixed Absent = false
-is_suffixed Plt = true
-is_suffixed GotPcRel = true
-is_suffixed GotTpOff = true
-is_suffixed TpOff = true
+abbrev pub is_suffixed : Option Suffix → Bool
+is_suffixed suffix = is_some suffix
 
 -- the binding is STB_WEAK
 abbrev pub is_weak : Option Binding → Bool

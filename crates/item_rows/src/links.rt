@@ -4,14 +4,15 @@ ghost use Rattle.std.specs.Prelude.{◌≡◌, ◌∷◌, []};
 ghost use Rattle.item_rows.specs.Links.{is_suffixed, is_weak, is_of_weak, names_weak, is_linked};
 
 use asm_expr::{Linear, Term};
-use asm_frags::{Field, Suffix};
+use asm_frags::Field;
 use asm_symbols::{Binding, Symbols};
+use x86_insn::Suffix;
 
 /// Whether there is a suffix.
-pub fn is_suffixed(suffix: Suffix) -> bool
+pub fn is_suffixed(suffix: Option<Suffix>) -> bool
     ensures { result ≡ is_suffixed suffix }
 {
-    !matches!(suffix, Suffix::Absent)
+    suffix.is_some()
 }
 
 /// Whether the binding is that of a weak symbol.

@@ -53,7 +53,7 @@ fn own_of(field: &Field) -> OwnPlace
 fn field_distance(alloc: Global, rows: RowsIn, field: &Field) -> Result<Option<Distance>, NoMemory>
     ensures { IfOk result (λ found. found ≡ spec.field_distance (told_rows rows.entry) field.now) }
 {
-    if field.role.kind.is_distance() && is_linked(rows.symbols, field) {
+    if field.role.is_distance() && is_linked(rows.symbols, field) {
         return Ok(None);
     }
     let view = RowView {

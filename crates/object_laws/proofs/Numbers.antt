@@ -1,12 +1,12 @@
 -- The numbers of types, and the suffixes that they stand for.
-use Rattle.std.proofs.Common.{◌≡◌, ◌≢◌, ◌⊎◌, ℕ, ◌==◌, Bool, true, false, refl, subst, inl, inr, ⊎_elim, arith}
+use Rattle.std.proofs.Common.{◌≡◌, ◌≢◌, ◌⊎◌, ℕ, ◌==◌, Bool, true, false, Option, None, Some, refl, subst, inl, inr, ⊎_elim, arith}
 use Rattle.std.specs.Prelude.{◌↔◌}
 use Rattle.std.proofs.lemmas.Bool.Decides.{nat_tests}
-use Rattle.asm_frags.specs.declared.roles.Suffix.{Suffix}
-use Rattle.asm_frags.specs.declared.roles.Suffix.TheVariants.{Absent, Plt, GotPcRel, GotTpOff, TpOff}
 use Rattle.elf_object.specs.declared.relocations.RelocationKind.{RelocationKind}
 use Rattle.elf_object.specs.declared.relocations.RelocationKind.TheVariants as kind
 use Rattle.elf_object.specs.Relocations.{kind_number}
+use Rattle.x86_insn.specs.declared.amounts.Suffix.{Suffix}
+use Rattle.x86_insn.specs.declared.amounts.Suffix.TheVariants.{Plt, GotPcRel, GotTpOff, TpOff}
 use Rattle.object_laws.specs.RelocationTypes.{Operand, symbol_address, linkage_entry, table_entry, thread_entry, thread_offset}
 use Rattle.object_laws.specs.Suffixes.{operand_by, IsAsked}
 use Rattle.object_laws.proofs.Types.{row_of}
@@ -49,47 +49,47 @@ other : (n m k : ℕ) → n ≡ m → (m == k) ≡ false → n ≢ k
 other n m k is e = λ same. absurd (grind (arith, nat_tests))
 
 -- no branch is led where there is another suffix
-unled : (behind : Suffix) (led : Bool) → (behind ≡ Plt → ⊥) → (behind ≡ Absent → ⊥) → (behind ≡ Plt) ⊎ ((behind ≡ Absent) × (led ≡ true)) → ⊥
+unled : (behind : Option Suffix) (led : Bool) → (behind ≡ Some Plt → ⊥) → (behind ≡ None → ⊥) → (behind ≡ Some Plt) ⊎ ((behind ≡ None) × (led ≡ true)) → ⊥
 unled behind led plt absent e = ⊎_elim plt (λ both. absent both.0) e
 
-asked_by : (behind : Suffix) (led : Bool) (n : ℕ) → Numbers (operand_by behind led) n → IsAsked behind led n
-asked_by Absent false n (four, nine, two, three) = record {
+asked_by : (behind : Option Suffix) (led : Bool) (n : ℕ) → Numbers (operand_by behind led) n → IsAsked behind led n
+asked_by None false n (four, nine, two, three) = record {
   by_linkage = neither four (⊎_elim (λ e. absurd cc) (λ e. let led = e.1 in absurd cc));
   by_table = neither nine (λ e. absurd cc);
   by_thread_entry = neither two (λ e. absurd cc);
   by_thread_offset = neither three (λ e. absurd cc);
 }
-asked_by Absent true n is = record {
+asked_by None true n is = record {
   by_linkage = both is (inr (refl, refl));
   by_table = neither (other n 4 9 is refl) (λ e. absurd cc);
   by_thread_entry = neither (other n 4 22 is refl) (λ e. absurd cc);
   by_thread_offset = neither (other n 4 23 is refl) (λ e. absurd cc);
 }
-asked_by Plt led n is = record {
+asked_by (Some Plt) led n is = record {
   by_linkage = both is (inl refl);
   by_table = neither (other n 4 9 is refl) (λ e. absurd cc);
   by_thread_entry = neither (other n 4 22 is refl) (λ e. absurd cc);
   by_thread_offset = neither (other n 4 23 is refl) (λ e. absurd cc);
 }
-asked_by GotPcRel led n is = record {
-  by_linkage = neither (other n 9 4 is refl) (unled GotPcRel led (λ e. absurd cc) (λ e. absurd cc));
+asked_by (Some GotPcRel) led n is = record {
+  by_linkage = neither (other n 9 4 is refl) (unled (Some GotPcRel) led (λ e. absurd cc) (λ e. absurd cc));
   by_table = both is refl;
   by_thread_entry = neither (other n 9 22 is refl) (λ e. absurd cc);
   by_thread_offset = neither (other n 9 23 is refl) (λ e. absurd cc);
 }
-asked_by GotTpOff led n is = record {
-  by_linkage = neither (other n 22 4 is refl) (unled GotTpOff led (λ e. absurd cc) (λ e. absurd cc));
+asked_by (Some GotTpOff) led n is = record {
+  by_linkage = neither (other n 22 4 is refl) (unled (Some GotTpOff) led (λ e. absurd cc) (λ e. absurd cc));
   by_table = neither (other n 22 9 is refl) (λ e. absurd cc);
   by_thread_entry = both is refl;
   by_thread_offset = neither (other n 22 23 is refl) (λ e. absurd cc);
 }
-asked_by TpOff led n is = record {
-  by_linkage = neither (other n 23 4 is refl) (unled TpOff led (λ e. absurd cc) (λ e. absurd cc));
+asked_by (Some TpOff) led n is = record {
+  by_linkage = neither (other n 23 4 is refl) (unled (Some TpOff) led (λ e. absurd cc) (λ e. absurd cc));
   by_table = neither (other n 23 9 is refl) (λ e. absurd cc);
   by_thread_entry = neither (other n 23 22 is refl) (λ e. absurd cc);
   by_thread_offset = both is refl;
 }
 
 -- a kind with the operand that the suffix asks for has its number
-pub asked : (behind : Suffix) (led : Bool) (found : RelocationKind) → (row_of found).operand ≡ operand_by behind led → IsAsked behind led (kind_number found)
+pub asked : (behind : Option Suffix) (led : Bool) (found : RelocationKind) → (row_of found).operand ≡ operand_by behind led → IsAsked behind led (kind_number found)
 asked behind led found e = asked_by behind led (kind_number found) (subst (λ (operand : Operand). Numbers operand (kind_number found)) e (kind_numbers found))

@@ -1,17 +1,17 @@
 -- The types of the kinds of relocations, and what they are for each field.
-use Rattle.std.proofs.Common.{◌≡◌, ℕ, ◌*◌, ◌^◌, ◌==◌, ◌<◌, ◌&&◌, not, Bool, true, false, Some, refl, sym, ◌∙◌, subst, arith}
+use Rattle.std.proofs.Common.{◌≡◌, ℕ, ◌*◌, ◌^◌, ◌==◌, ◌<◌, ◌&&◌, not, Bool, true, false, Option, None, Some, refl, sym, ◌∙◌, subst, arith}
 use Rattle.std.specs.Prelude.{◌≢◌}
 use Rattle.std.proofs.lemmas.Bool.Decides.{nat_tests}
 use Rattle.asm_frags.specs.declared.fields.FieldSize.{FieldSize}
 use Rattle.asm_frags.specs.declared.fields.FieldSize.TheVariants.{One, Two, Four, Eight}
-use Rattle.asm_frags.specs.declared.roles.FieldKind.{FieldKind}
-use Rattle.asm_frags.specs.declared.roles.FieldKind.TheVariants as field
-use Rattle.asm_frags.specs.declared.roles.Suffix.{Suffix}
-use Rattle.asm_frags.specs.declared.roles.Suffix.TheVariants as suffix
 use Rattle.asm_frags.specs.Fields.{width, is_distance, holds, fits, fits_signed}
 use Rattle.elf_object.specs.declared.relocations.RelocationKind.{RelocationKind}
 use Rattle.elf_object.specs.declared.relocations.RelocationKind.TheVariants.{Direct64, Pc32, Plt32, GotPcRel, Direct32, Signed32, Direct16, Pc16, Direct8, Pc8, GotTpOff, TpOff32, Pc64}
 use Rattle.elf_object.specs.Relocations.{kind_number, sized_kind, signed_kind, branch_kind, plain_kind, entry_kind, linkage_kind, offset_kind, kind_by}
+use Rattle.x86_insn.specs.declared.amounts.FieldKind.{FieldKind}
+use Rattle.x86_insn.specs.declared.amounts.FieldKind.TheVariants as field
+use Rattle.x86_insn.specs.declared.amounts.Suffix.{Suffix}
+use Rattle.x86_insn.specs.declared.amounts.Suffix.TheVariants as suffix
 use Rattle.object_laws.specs.RelocationTypes.{symbol_address, linkage_entry, table_entry, thread_entry, thread_offset, Check, unsaid, zero_extended, sign_extended, RelocationType, absolute, relative, relocation_types, relocation_type}
 use Rattle.object_laws.specs.FieldTypes.{is_sign_extended, IsVerified}
 use Rattle.object_laws.specs.Suffixes.{is_branch, operand_by}
@@ -60,29 +60,29 @@ is_led_by kind size local = is_branch kind && (width size == 4) && not local
 
 -- the kind has the bytes of the field and a check like it, takes P where that is taken, and for the symbol what the field
 -- asks for
-abbrev pub IsRight : Suffix → Bool → Bool → FieldKind → FieldSize → RelocationKind → Type 0
+abbrev pub IsRight : Option Suffix → Bool → Bool → FieldKind → FieldSize → RelocationKind → Type 0
 IsRight behind led taken kind size found =
     ((row_of found).bytes ≡ width size) × (is_alike (row_of found).check kind ≡ true) × ((row_of found).relative ≡ taken) × ((row_of found).operand ≡ operand_by behind led)
 
-relative_right : (kind : FieldKind) (size : FieldSize) → IsRight suffix.Absent false true kind size (sized_kind true size)
+relative_right : (kind : FieldKind) (size : FieldSize) → IsRight None false true kind size (sized_kind true size)
 relative_right kind One = (refl, refl, refl, refl)
 relative_right kind Two = (refl, refl, refl, refl)
 relative_right kind Four = (refl, refl, refl, refl)
 relative_right kind Eight = (refl, refl, refl, refl)
 
-absolute_right : (size : FieldSize) → IsRight suffix.Absent false false field.Plain size (sized_kind false size)
+absolute_right : (size : FieldSize) → IsRight None false false field.Plain size (sized_kind false size)
 absolute_right One = (refl, refl, refl, refl)
 absolute_right Two = (refl, refl, refl, refl)
 absolute_right Four = (refl, refl, refl, refl)
 absolute_right Eight = (refl, refl, refl, refl)
 
-signed_right : (size : FieldSize) → IsRight suffix.Absent false false field.Signed size (signed_kind false size)
+signed_right : (size : FieldSize) → IsRight None false false field.Signed size (signed_kind false size)
 signed_right One = (refl, refl, refl, refl)
 signed_right Two = (refl, refl, refl, refl)
 signed_right Four = (refl, refl, refl, refl)
 signed_right Eight = (refl, refl, refl, refl)
 
-branch_right : (local : Bool) (size : FieldSize) → IsRight suffix.Absent (is_led_by field.Branch size local) true field.Branch size (branch_kind local size)
+branch_right : (local : Bool) (size : FieldSize) → IsRight None (is_led_by field.Branch size local) true field.Branch size (branch_kind local size)
 branch_right true One = (refl, refl, refl, refl)
 branch_right true Two = (refl, refl, refl, refl)
 branch_right true Four = (refl, refl, refl, refl)
@@ -97,20 +97,20 @@ chosen_right : (P : RelocationKind → Type 0) (chosen found : RelocationKind) �
 chosen_right P chosen found e is = let same : chosen ≡ found = cc in subst P same is
 
 plain_right : (taken : Bool) (kind : FieldKind) (local : Bool) (size : FieldSize) (found : RelocationKind) → plain_kind taken kind local size ≡ Some found
-    → IsRight suffix.Absent (is_led_by kind size local) taken kind size found
-plain_right true field.Plain local size found e = chosen_right (IsRight suffix.Absent false true field.Plain size) (sized_kind true size) found e (relative_right field.Plain size)
-plain_right false field.Plain local size found e = chosen_right (IsRight suffix.Absent false false field.Plain size) (sized_kind false size) found e (absolute_right size)
-plain_right true field.Signed local size found e = chosen_right (IsRight suffix.Absent false true field.Signed size) (sized_kind true size) found e (relative_right field.Signed size)
-plain_right false field.Signed local size found e = chosen_right (IsRight suffix.Absent false false field.Signed size) (signed_kind false size) found e (signed_right size)
-plain_right true field.Address local size found e = chosen_right (IsRight suffix.Absent false true field.Address size) (sized_kind true size) found e (relative_right field.Address size)
+    → IsRight None (is_led_by kind size local) taken kind size found
+plain_right true field.Plain local size found e = chosen_right (IsRight None false true field.Plain size) (sized_kind true size) found e (relative_right field.Plain size)
+plain_right false field.Plain local size found e = chosen_right (IsRight None false false field.Plain size) (sized_kind false size) found e (absolute_right size)
+plain_right true field.Signed local size found e = chosen_right (IsRight None false true field.Signed size) (sized_kind true size) found e (relative_right field.Signed size)
+plain_right false field.Signed local size found e = chosen_right (IsRight None false false field.Signed size) (signed_kind false size) found e (signed_right size)
+plain_right true field.Address local size found e = chosen_right (IsRight None false true field.Address size) (sized_kind true size) found e (relative_right field.Address size)
 plain_right false field.Address local size found e = absurd cc
 plain_right true field.Branch local size found e =
-    chosen_right (IsRight suffix.Absent (is_led_by field.Branch size local) true field.Branch size) (branch_kind local size) found e (branch_right local size)
+    chosen_right (IsRight None (is_led_by field.Branch size local) true field.Branch size) (branch_kind local size) found e (branch_right local size)
 plain_right false field.Branch local size found e = absurd cc
 plain_right taken field.Number local size found e = absurd cc
 
-linkage_right : (led taken : Bool) (kind : FieldKind) (size : FieldSize) (found : RelocationKind) → linkage_kind taken kind size ≡ Some found → IsRight suffix.Plt led taken kind size found
-linkage_right led true field.Branch Four found e = chosen_right (IsRight suffix.Plt led true field.Branch Four) Plt32 found e (refl, refl, refl, refl)
+linkage_right : (led taken : Bool) (kind : FieldKind) (size : FieldSize) (found : RelocationKind) → linkage_kind taken kind size ≡ Some found → IsRight (Some suffix.Plt) led taken kind size found
+linkage_right led true field.Branch Four found e = chosen_right (IsRight (Some suffix.Plt) led true field.Branch Four) Plt32 found e (refl, refl, refl, refl)
 linkage_right led true field.Branch One found e = absurd cc
 linkage_right led true field.Branch Two found e = absurd cc
 linkage_right led true field.Branch Eight found e = absurd cc
@@ -121,7 +121,7 @@ linkage_right led taken field.Address size found e = absurd cc
 linkage_right led taken field.Number size found e = absurd cc
 
 -- an entry of the global offset table stands at a distance from rip
-entry_right : (behind : Suffix) (led taken : Bool) (kind : FieldKind) (size : FieldSize) (entry found : RelocationKind) → IsRight behind led true field.Address Four entry
+entry_right : (behind : Option Suffix) (led taken : Bool) (kind : FieldKind) (size : FieldSize) (entry found : RelocationKind) → IsRight behind led true field.Address Four entry
     → entry_kind taken kind size entry ≡ Some found → IsRight behind led taken kind size found
 entry_right behind led true field.Address Four entry found is e = chosen_right (IsRight behind led true field.Address Four) entry found e is
 entry_right behind led true field.Address One entry found is e = absurd cc
@@ -133,13 +133,13 @@ entry_right behind led taken field.Signed size entry found is e = absurd cc
 entry_right behind led taken field.Branch size entry found is e = absurd cc
 entry_right behind led taken field.Number size entry found is e = absurd cc
 
-offset_right : (led taken : Bool) (kind : FieldKind) (size : FieldSize) (found : RelocationKind) → offset_kind taken kind size ≡ Some found → IsRight suffix.TpOff led taken kind size found
-offset_right led false field.Plain Four found e = chosen_right (IsRight suffix.TpOff led false field.Plain Four) TpOff32 found e (refl, refl, refl, refl)
+offset_right : (led taken : Bool) (kind : FieldKind) (size : FieldSize) (found : RelocationKind) → offset_kind taken kind size ≡ Some found → IsRight (Some suffix.TpOff) led taken kind size found
+offset_right led false field.Plain Four found e = chosen_right (IsRight (Some suffix.TpOff) led false field.Plain Four) TpOff32 found e (refl, refl, refl, refl)
 offset_right led false field.Plain One found e = absurd cc
 offset_right led false field.Plain Two found e = absurd cc
 offset_right led false field.Plain Eight found e = absurd cc
 offset_right led true field.Plain size found e = absurd cc
-offset_right led false field.Signed Four found e = chosen_right (IsRight suffix.TpOff led false field.Signed Four) TpOff32 found e (refl, refl, refl, refl)
+offset_right led false field.Signed Four found e = chosen_right (IsRight (Some suffix.TpOff) led false field.Signed Four) TpOff32 found e (refl, refl, refl, refl)
 offset_right led false field.Signed One found e = absurd cc
 offset_right led false field.Signed Two found e = absurd cc
 offset_right led false field.Signed Eight found e = absurd cc
@@ -149,30 +149,30 @@ offset_right led taken field.Branch size found e = absurd cc
 offset_right led taken field.Number size found e = absurd cc
 
 -- each kind that a field can have is right for it
-pub kind_right : (behind : Suffix) (taken : Bool) (kind : FieldKind) (local : Bool) (size : FieldSize) (found : RelocationKind) → kind_by behind taken kind local size ≡ Some found
+pub kind_right : (behind : Option Suffix) (taken : Bool) (kind : FieldKind) (local : Bool) (size : FieldSize) (found : RelocationKind) → kind_by behind taken kind local size ≡ Some found
     → IsRight behind (is_led_by kind size local) taken kind size found
-kind_right suffix.Absent taken kind local size found e = plain_right taken kind local size found e
-kind_right suffix.Plt taken kind local size found e = linkage_right (is_led_by kind size local) taken kind size found e
-kind_right suffix.GotPcRel taken kind local size found e = entry_right suffix.GotPcRel (is_led_by kind size local) taken kind size GotPcRel found (refl, refl, refl, refl) e
-kind_right suffix.GotTpOff taken kind local size found e = entry_right suffix.GotTpOff (is_led_by kind size local) taken kind size GotTpOff found (refl, refl, refl, refl) e
-kind_right suffix.TpOff taken kind local size found e = offset_right (is_led_by kind size local) taken kind size found e
+kind_right None taken kind local size found e = plain_right taken kind local size found e
+kind_right (Some suffix.Plt) taken kind local size found e = linkage_right (is_led_by kind size local) taken kind size found e
+kind_right (Some suffix.GotPcRel) taken kind local size found e = entry_right (Some suffix.GotPcRel) (is_led_by kind size local) taken kind size GotPcRel found (refl, refl, refl, refl) e
+kind_right (Some suffix.GotTpOff) taken kind local size found e = entry_right (Some suffix.GotTpOff) (is_led_by kind size local) taken kind size GotTpOff found (refl, refl, refl, refl) e
+kind_right (Some suffix.TpOff) taken kind local size found e = offset_right (is_led_by kind size local) taken kind size found e
 
 -- a distance always has its place taken from the sum
-pub no_distance : (behind : Suffix) (kind : FieldKind) (local : Bool) (size : FieldSize) (found : RelocationKind) → kind_by behind false kind local size ≡ Some found
+pub no_distance : (behind : Option Suffix) (kind : FieldKind) (local : Bool) (size : FieldSize) (found : RelocationKind) → kind_by behind false kind local size ≡ Some found
     → is_distance kind ≡ false
 no_distance behind field.Plain local size found e = refl
 no_distance behind field.Signed local size found e = refl
 no_distance behind field.Number local size found e = refl
-no_distance suffix.Absent field.Address local size found e = absurd cc
-no_distance suffix.Plt field.Address local size found e = absurd cc
-no_distance suffix.GotPcRel field.Address local size found e = absurd cc
-no_distance suffix.GotTpOff field.Address local size found e = absurd cc
-no_distance suffix.TpOff field.Address local size found e = absurd cc
-no_distance suffix.Absent field.Branch local size found e = absurd cc
-no_distance suffix.Plt field.Branch local size found e = absurd cc
-no_distance suffix.GotPcRel field.Branch local size found e = absurd cc
-no_distance suffix.GotTpOff field.Branch local size found e = absurd cc
-no_distance suffix.TpOff field.Branch local size found e = absurd cc
+no_distance None field.Address local size found e = absurd cc
+no_distance (Some suffix.Plt) field.Address local size found e = absurd cc
+no_distance (Some suffix.GotPcRel) field.Address local size found e = absurd cc
+no_distance (Some suffix.GotTpOff) field.Address local size found e = absurd cc
+no_distance (Some suffix.TpOff) field.Address local size found e = absurd cc
+no_distance None field.Branch local size found e = absurd cc
+no_distance (Some suffix.Plt) field.Branch local size found e = absurd cc
+no_distance (Some suffix.GotPcRel) field.Branch local size found e = absurd cc
+no_distance (Some suffix.GotTpOff) field.Branch local size found e = absurd cc
+no_distance (Some suffix.TpOff) field.Branch local size found e = absurd cc
 
 -- WHAT IS VERIFIED IS HELD
 

@@ -1,10 +1,6 @@
 -- What the suffix behind a symbol asks the linker for.
-use Rattle.std.specs.Prelude.{◌≡◌, ◌↔◌, ◌⊎◌, ℕ, ◌==◌, ◌&&◌, not, Bool, true, false, Some}
+use Rattle.std.specs.Prelude.{◌≡◌, ◌↔◌, ◌⊎◌, ℕ, ◌==◌, ◌&&◌, not, Bool, true, false, Option, None, Some}
 use Rattle.asm_frags.specs.declared.fields.Field.{Field}
-use Rattle.asm_frags.specs.declared.roles.FieldKind.{FieldKind}
-use Rattle.asm_frags.specs.declared.roles.FieldKind.TheVariants as field
-use Rattle.asm_frags.specs.declared.roles.Suffix.{Suffix}
-use Rattle.asm_frags.specs.declared.roles.Suffix.TheVariants.{Absent, Plt, GotPcRel, GotTpOff, TpOff}
 use Rattle.asm_frags.specs.Fields.{width}
 use Rattle.asm_frags.specs.SectionOf.{SectionOf}
 use Rattle.asm_symbols.specs.declared.entries.Symbol.{Symbol}
@@ -12,6 +8,10 @@ use Rattle.asm_symbols.specs.SymbolMap.{SymbolMap}
 use Rattle.asm_relax.specs.Settling.{LaidItem, LaidSections}
 use Rattle.elf_object.specs.declared.relocations.Relocation.{Relocation}
 use Rattle.elf_object.specs.Relocations.{kind_number, field_relocation}
+use Rattle.x86_insn.specs.declared.amounts.FieldKind.{FieldKind}
+use Rattle.x86_insn.specs.declared.amounts.FieldKind.TheVariants as field
+use Rattle.x86_insn.specs.declared.amounts.Suffix.{Suffix}
+use Rattle.x86_insn.specs.declared.amounts.Suffix.TheVariants.{Plt, GotPcRel, GotTpOff, TpOff}
 use Rattle.object_laws.specs.RelocationTypes.{Operand, symbol_address, linkage_entry, table_entry, thread_entry, thread_offset, RelocationType, relocation_type}
 use Rattle.object_laws.specs.FieldSymbols.{is_local_symbol, IsSymbolOf}
 
@@ -29,20 +29,20 @@ is_led field symbol = is_branch field.role.kind && (width field.size == 4) && no
 
 -- what a suffix asks for; without one it is the address of the symbol, or, for a branch that may be led, of its entry in
 -- the procedure linkage table
-abbrev pub operand_by : Suffix → Bool → Operand
-operand_by Absent false = symbol_address
-operand_by Absent true = linkage_entry
-operand_by Plt led = linkage_entry
-operand_by GotPcRel led = table_entry
-operand_by GotTpOff led = thread_entry
-operand_by TpOff led = thread_offset
+abbrev pub operand_by : Option Suffix → Bool → Operand
+operand_by None false = symbol_address
+operand_by None true = linkage_entry
+operand_by (Some Plt) led = linkage_entry
+operand_by (Some GotPcRel) led = table_entry
+operand_by (Some GotTpOff) led = thread_entry
+operand_by (Some TpOff) led = thread_offset
 
 -- which numbers stand for which suffix, and for no other: R_X86_64_PLT32, GOTPCREL, GOTTPOFF and TPOFF32
-pub record IsAsked (suffix : Suffix) (led : Bool) (number : ℕ) : Type 0 where
-  pub by_linkage : (number ≡ 4) ↔ ((suffix ≡ Plt) ⊎ ((suffix ≡ Absent) × (led ≡ true)))
-  pub by_table : (number ≡ 9) ↔ (suffix ≡ GotPcRel)
-  pub by_thread_entry : (number ≡ 22) ↔ (suffix ≡ GotTpOff)
-  pub by_thread_offset : (number ≡ 23) ↔ (suffix ≡ TpOff)
+pub record IsAsked (suffix : Option Suffix) (led : Bool) (number : ℕ) : Type 0 where
+  pub by_linkage : (number ≡ 4) ↔ ((suffix ≡ Some Plt) ⊎ ((suffix ≡ None) × (led ≡ true)))
+  pub by_table : (number ≡ 9) ↔ (suffix ≡ Some GotPcRel)
+  pub by_thread_entry : (number ≡ 22) ↔ (suffix ≡ Some GotTpOff)
+  pub by_thread_offset : (number ≡ 23) ↔ (suffix ≡ Some TpOff)
 
 -- the type is one for which the linker puts what the field asks for
 pub record IsAnswered (field : Field) (symbol : Symbol) (r : Relocation) : Type 0 where

@@ -17,8 +17,8 @@ use Rattle.x86_table.specs.Fits.{is_nowhere, index_fits, sib_fits, mode_fits, di
 use Rattle.x86_encode.specs.declared.encoded.EncodeFault.{EncodeFault}
 use Rattle.x86_encode.specs.declared.encoded.Field.{Field}
 use Rattle.x86_encode.specs.declared.encoded.Position.{Position}
-use Rattle.x86_encode.specs.declared.encoded.FieldKind.{FieldKind}
-use Rattle.x86_encode.specs.declared.encoded.FieldKind.TheVariants as kind
+use Rattle.x86_insn.specs.declared.amounts.FieldKind.{FieldKind}
+use Rattle.x86_insn.specs.declared.amounts.FieldKind.TheVariants as kind
 use Rattle.x86_encode.specs.Answers.{Notes}
 use Rattle.x86_encode.specs.Codes.{meant}
 use Rattle.x86_encode.specs.Encoding.{encoding_of}

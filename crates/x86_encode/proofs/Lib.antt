@@ -1,30 +1,30 @@
 -- Lemmas of the shortest code.
-pub mod Fitted
-pub mod Least
-pub mod Roles
-pub mod Equal
-pub mod Complete
-pub mod Best
-pub mod Length
-pub mod Keyed
-pub mod Picks
-pub mod Search
-pub mod FilledFields
-pub mod FilledOperands
-pub mod FilledBytes
-pub mod Filled
-pub mod Positions
-pub mod Nearest
-pub mod Values
-pub mod Forms
-pub mod Turning
-pub mod Shortest
-pub mod Coded
-pub mod Encodings
+mod Fitted
+mod Least
+mod Roles
+mod Equal
+mod Complete
+mod Best
+mod Length
+mod Keyed
+mod Picks
+mod Search
+mod FilledFields
+mod FilledOperands
+mod FilledBytes
+mod Filled
+mod Positions
+mod Nearest
+mod Values
+mod Forms
+mod Turning
+mod Shortest
+mod Coded
+mod Encodings
 mod FieldPlaces
 mod UnknownFields
-pub mod Bare
-pub mod Comparing
-pub mod Orders
-pub mod ReadBack
-pub mod Worked
+mod Bare
+mod Comparing
+mod Orders
+mod ReadBack
+mod Worked

@@ -22,7 +22,7 @@ use Rattle.x86_table.specs.Fits.{place_fits, immediate_fits}
 use Rattle.x86_table.specs.Reads.{memory_shown, place_shown, shown}
 use Rattle.x86_encode.specs.declared.encoded.EncodeFault.{EncodeFault}
 use Rattle.x86_encode.specs.declared.encoded.Field.{Field}
-use Rattle.x86_encode.specs.declared.encoded.FieldKind.TheVariants as kind
+use Rattle.x86_insn.specs.declared.amounts.FieldKind.TheVariants as kind
 use Rattle.x86_encode.specs.declared.encoded.Position.{Position}
 use Rattle.x86_encode.specs.Answers.{Notes}
 use Rattle.x86_encode.specs.Building.{is_rm, is_held, has, has_low, has_reg, has_rm, has_held, is_low, is_reg, is_shaped}

@@ -6,7 +6,7 @@ use Rattle.x86_insn.specs.declared.insns.Base.TheVariants as base
 use Rattle.x86_insn.specs.Views.{Seen, absent, register, immediate as shown_immediate, memory, target, View}
 use Rattle.x86_encode.specs.declared.encoded.EncodeFault.{EncodeFault}
 use Rattle.x86_encode.specs.declared.encoded.Field.{Field}
-use Rattle.x86_encode.specs.declared.encoded.FieldKind.TheVariants as kind
+use Rattle.x86_insn.specs.declared.amounts.FieldKind.TheVariants as kind
 use Rattle.x86_encode.specs.Codes.{meant}
 use Rattle.x86_encode.specs.Encoding.{encoding_of}
 use Rattle.x86_encode.specs.Filling.{Coding}
@@ -42,11 +42,13 @@ abbrev pub Apart : Result Coding EncodeFault → Type 0
 Apart (Ok made) = AreApart made
 Apart (Err cause) = Unit {0}
 
+-- the fields of every encoding stand apart
 abbrev pub EncodingsApart : Type 0
 EncodingsApart = (shape : Values → View) (values : Values) → Apart (encoding_of shape values)
 
 -- WHAT THEY STAND FOR
 
+-- the base is rip
 abbrev pub is_rip : Base → Bool
 is_rip base.Absent = false
 is_rip base.Rip = true
@@ -84,5 +86,6 @@ abbrev pub Unknown : View → Result Coding EncodeFault → Type 0
 Unknown insn (Ok made) = HoldUnknown insn made
 Unknown insn (Err cause) = Unit {0}
 
+-- the fields of every encoding stand for values that are not known
 abbrev pub EncodingsHoldUnknown : Type 0
 EncodingsHoldUnknown = (shape : Values → View) (values : Values) → Unknown (meant (shape values)) (encoding_of shape values)

@@ -7,11 +7,11 @@ use Rattle.x86_table.specs.declared.forms.Row.{Row}
 use Rattle.x86_table.specs.declared.forms.Immediate.{Immediate}
 use Rattle.x86_table.specs.declared.forms.Pattern.{Pattern}
 use Rattle.x86_encode.specs.declared.encoded.Field.{Field}
-use Rattle.x86_encode.specs.declared.encoded.FieldKind.{FieldKind}
+use Rattle.x86_insn.specs.declared.amounts.FieldKind.{FieldKind}
 use Rattle.x86_encode.specs.declared.encoded.Position.{Position}
 use Rattle.x86_insn.specs.declared.insns.Base.TheVariants as base
 use Rattle.x86_table.specs.declared.forms.Immediate.TheVariants as immediate
-use Rattle.x86_encode.specs.declared.encoded.FieldKind.TheVariants as kind
+use Rattle.x86_insn.specs.declared.amounts.FieldKind.TheVariants as kind
 use Rattle.x86_table.specs.declared.forms.Pattern.TheVariants as pattern
 use Rattle.x86_encode.specs.declared.encoded.Position.TheVariants as position
 use Rattle.x86_insn.specs.Views.{Seen, absent, register, immediate as shown_immediate, memory, target, View, displaced}
@@ -22,12 +22,14 @@ use Rattle.x86_table.specs.Reads.{shown, meaning, ReadsRow}
 use Rattle.x86_encode.specs.Codes.{plain_immediate, OrderedRow}
 use Rattle.x86_encode.specs.Keys.{immediate_length}
 
--- what a field may hold: where it is not sign-extended, a number of its bits, signed or not, modulo 2^64
+-- what a field may hold: a number of its bits, signed or not, modulo 2^64; where it is sign-extended, a signed one; and any in an item that takes as
+-- many bytes as the number needs
 abbrev pub kind_holds : FieldKind → ℕ → ℕ → Bool
 kind_holds kind.Plain size v = nat_lt v (2 ^ (8 * size)) || is_signed (8 * size) 64 v
 kind_holds kind.Signed size v = is_signed (8 * size) 64 v
 kind_holds kind.Address size v = is_signed (8 * size) 64 v
 kind_holds kind.Branch size v = is_signed (8 * size) 64 v
+kind_holds kind.Number size v = true
 
 -- the value is one that the field holds, if there is one
 abbrev pub field_holds : Option Field → ℕ → Bool

@@ -1,19 +1,7 @@
 //! What is encoded: bytes, their fields, and why there are none.
 
+use x86_insn::FieldKind;
 use x86_table::Bytes;
-
-/// How a value stands in its field.
-#[derive(Clone, Copy, PartialEq, Eq, Debug)]
-pub enum FieldKind {
-    /// As it is.
-    Plain,
-    /// Sign-extended to 64 bits.
-    Signed,
-    /// Counted from the end of the instruction.
-    Address,
-    /// Counted from the end of the instruction, of a branch.
-    Branch,
-}
 
 /// Which operand holds a value, the destination first.
 #[derive(Clone, Copy, PartialEq, Eq, Debug)]

@@ -6,9 +6,9 @@ ghost use Rattle.x86_table.specs.Fields.{located};
 ghost use Rattle.x86_encode.specs.Filling.{moved_field, kind_of, held_field, in_memory, holds_number, position_by};
 ghost use Rattle.x86_encode.specs.Keys.{immediate_length};
 
-use crate::encoded::{Field, FieldKind, Position};
+use crate::encoded::{Field, Position};
 use crate::lengths::immediate_length;
-use x86_insn::{Insn, Slot, Values};
+use x86_insn::{FieldKind, Insn, Slot, Values};
 use x86_table::{Immediate, Place};
 
 /// Whether an operand is in memory.
@@ -43,28 +43,6 @@ fn position_by(is_first: bool, is_second: bool) -> Position
     } else {
         Position::Third
     }
-}
-
-/// The position of the operand in memory.
-fn position_of_memory(insn: &Insn, values: &Values) -> Position
-    ensures { let view = view_of insn.now values.now in
-        result ≡ position_by (in_memory view.first) (in_memory view.second) }
-{
-    position_by(
-        in_memory(insn.first, insn, values),
-        in_memory(insn.second, insn, values),
-    )
-}
-
-/// The position of the immediate or the branch target.
-fn position_of_number(insn: &Insn, values: &Values) -> Position
-    ensures { let view = view_of insn.now values.now in
-        result ≡ position_by (holds_number view.first) (holds_number view.second) }
-{
-    position_by(
-        holds_number(insn.first, insn, values),
-        holds_number(insn.second, insn, values),
-    )
 }
 
 /// The field of a displacement.
@@ -120,7 +98,11 @@ pub fn displacement_field(
         .saturating_sub(4);
     match held {
         Some(_) => None,
-        None => moved_field(at, position_of_memory(insn, values), place, held),
+        None => {
+            let is_first = in_memory(insn.first, insn, values);
+            let is_second = in_memory(insn.second, insn, values);
+            moved_field(at, position_by(is_first, is_second), place, held)
+        }
     }
 }
 
@@ -140,11 +122,13 @@ pub fn immediate_field(
         Some(_) => None,
         None => {
             let size = immediate_length(immediate);
+            let is_first = holds_number(insn.first, insn, values);
+            let is_second = holds_number(insn.second, insn, values);
             Some(Field {
                 at: length.saturating_sub(size),
                 size,
                 kind: kind_of(immediate),
-                position: position_of_number(insn, values),
+                position: position_by(is_first, is_second),
             })
         }
     }

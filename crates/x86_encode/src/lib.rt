@@ -14,6 +14,6 @@ mod making;
 mod searching;
 mod showing;
 
-pub use encoded::{EncodeFault, Encoded, Field, FieldKind, Position};
+pub use encoded::{EncodeFault, Encoded, Field, Position};
 pub use encoding::encode;
 pub use laws::{codes_are_readings, encodings_are_codes, fields_stand_apart, worked_codes};

@@ -1,4 +1,4 @@
-//! The values that an instruction holds: its immediate, and its displacement or branch target.
+//! The values that an instruction holds, what is said behind them, and how they stand in fields.
 
 use asm_expr::Expr;
 
@@ -11,20 +11,21 @@ pub enum Amount<'a> {
     Tree(Box<Expr>),
 }
 
-/// What the linker is asked for in place of the symbol's address (psABI for AMD64, section 4.4).
-#[derive(Clone, Copy)]
+/// What is said behind the symbol of a value: what the linker puts there in place of the symbol's
+/// address (psABI for AMD64, section 4.4, "Relocation").
+#[derive(Clone, Copy, PartialEq, Eq, Debug)]
 pub enum Suffix {
-    /// `@PLT`
+    /// `@PLT`: the address of the function's entry in the procedure linkage table.
     Plt,
-    /// `@GOTPCREL`
+    /// `@GOTPCREL`: that of the symbol's entry in the global offset table.
     GotPcRel,
-    /// `@GOTTPOFF`
+    /// `@GOTTPOFF`: that of the entry which has the symbol's offset from the thread pointer.
     GotTpOff,
-    /// `@TPOFF`
+    /// `@TPOFF`: the symbol's offset from the thread pointer.
     TpOff,
 }
 
-/// A value as it is written.
+/// A value as it is written: that of an immediate, of a displacement or of a branch target.
 #[derive(Drop)]
 pub struct Value<'a> {
     pub amount: Amount<'a>,
@@ -37,4 +38,19 @@ pub struct Value<'a> {
 pub struct Values {
     pub immediate: Option<u64>,
     pub displacement: Option<u64>,
+}
+
+/// How a value stands in its field.
+#[derive(Clone, Copy, PartialEq, Eq, Debug)]
+pub enum FieldKind {
+    /// As it is: data, or an immediate.
+    Plain,
+    /// Sign-extended to 64 bits: an immediate or a displacement.
+    Signed,
+    /// Counted from the end of the instruction: a displacement from rip.
+    Address,
+    /// Counted from the end of the instruction, of a branch.
+    Branch,
+    /// Of an item that takes as many bytes as the number needs. No instruction has one.
+    Number,
 }

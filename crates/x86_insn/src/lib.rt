@@ -8,7 +8,7 @@ mod operands;
 mod registers;
 mod visitors;
 
-pub use amounts::{Amount, Suffix, Value, Values};
+pub use amounts::{Amount, FieldKind, Suffix, Value, Values};
 pub use insns::{Address, Base, Index, Insn, Mnemonic, Prefix, Segment, Slot};
 pub use knowing::values;
 pub use operands::{Memory, Operand, OperandFold, fold_operand};
