@@ -29,6 +29,10 @@ from rows import CONDITIONS, REGISTER_NAMES, TOP, WORDS  # noqa: E402
 from instruction_table import WIDTHS, Name, Operand, Row, TableError, read_names, read_table  # noqa: E402
 
 SHOWN, AT_ONCE = 20, 100
+LETTERS = {8: "b", 16: "w", 32: "l", 64: "q"}
+
+# The moves whose name is by the size of their source, which is so many bits.
+SOURCES = {"MOVZX_BYTE": ("movzx", 8), "MOVZX_WORD": ("movzx", 16), "MOVSX_BYTE": ("movsx", 8), "MOVSX_WORD": ("movsx", 16), "MOVSXD": ("movsx", 32)}
 
 # ---- Random lines
 
@@ -55,7 +59,7 @@ class Maker:
 
     def __init__(self, rows: list[Row], names: list[Name], rng: random.Random):
         self.rng = rng
-        self.names = {row: names_of(row, names) for row in rows if not is_direct_jump(row)}
+        self.names = {row: names_of(row, completed(names)) for row in rows if not is_direct_jump(row)}
         self.rows = list(self.names)
 
     def spelled(self, number: int) -> str:
@@ -173,13 +177,26 @@ def is_direct_jump(row: Row) -> bool:
     return row.operand("Target") is not None and row.name in ["JMP"] + [f"J{condition}" for condition in CONDITIONS]
 
 
+def completed(names: list[Name]) -> list[Name]:
+    """The names, and those with a letter for each that fixes no size, unless a name is written so."""
+    whole = {name.text for name in names}
+    lettered = [replace(name, text=name.text + letter, size=size) for name in names if not name.size for size, letter in LETTERS.items()]
+    return names + [name for name in lettered if name.text not in whole]
+
+
+def has_source(name: Name, row: Row) -> bool:
+    """Whether the name is by the size of its source, and the row is that of such a source, whose size the letter is."""
+    text, size = SOURCES.get(row.name, ("", 0))
+    return name.rule == "BySource" and name.text.startswith(text or " ") and name.size in (0, size)
+
+
 def names_of(row: Row, names: list[Name]) -> list[Name]:
     """The names that the row may be written by."""
-    found = [name for name in names if name.row == row.name and name.size in (0, row.size)]
+    found = [name for name in names if name.rule != "BySource" and name.row == row.name and name.size in (0, row.size) or has_source(name, row)]
     if (row.name, row.size) == ("MOV", 64):
-        found += [name for name in names if name.rule == "OrMove"]
+        found += [name for name in names if name.rule == "OrMove" and not name.size]
     if row.name == "MOVQ" and "Quad" in [operand.register for operand in row.operands]:
-        found += [name for name in names if name.rule == "QuadIsMovq"]
+        found += [name for name in names if name.rule == "QuadIsMovq" and not name.size]
     return found
 
 
@@ -319,8 +336,10 @@ SYMBOL = r"\$\(?(far|further|one|two|shown|later|i\d+)\b"
 
 KNOWN = [
     Known(ours_says("operand size is not known", warning="no instruction mnemonic suffix given"), "no operand says the size: GNU as takes one, and warns"),
-    Known(ours_says("bad operand", "^ *(notrack +)?callq? +%", "indirect call without"), "an indirect call without its *: GNU as warns"),
-    Known(ours_says("bad operand", "^ *(notrack +)?jmpq? +%", "indirect jmp without"), "an indirect jump without its *: GNU as warns"),
+    Known(ours_says("operand size is not known", "^ *mov[sz]x "), "movzx and movsx of memory without a letter: GNU as takes 8 bits"),
+    Known(ours_says("no form with these operands", "^ *mov([sz]x[wl]?|zw|sxd) "), "movzx and movsx into as many bits as the source has"),
+    Known(ours_says("bad operand", "^ *(notrack +)?callq? +[^*]", "indirect call without"), "an indirect call without its *: GNU as warns"),
+    Known(ours_says("bad operand", "^ *(notrack +)?jmpq? +[^*]", "indirect jmp without"), "an indirect jump without its *: GNU as warns"),
     Known(ours_says("no relocation for this value", RELATIVE_NUMBER), "a number as the distance from rip"),
     Known(ours_says("no relocation for this value", "@plt"), "@PLT elsewhere than in the target of a branch"),
     Known(ours_says("value out of range", warning="shortened to"), "an immediate that is too wide: GNU as cuts it, and warns"),
@@ -332,6 +351,7 @@ KNOWN = [
     Known(ours_says("no form with these operands", "^ *(push|pop)w "), "pushw and popw of memory, and pushw of a number"),
     Known(ours_says("no relocation for this value", r"^ *movabsq? +\$\w+@tpoff"), "@TPOFF in a field of 64 bits"),
     Known(gnu_says("invalid character '~' in mnemonic", "^ *lock +[a-z0-9]+ +~"), "lock before an operand that begins with ~"),
+    Known(gnu_says("invalid instruction suffix", "^ *(jrcxzq|movsxdq) "), "a letter behind jrcxz and movsxd"),
     Known(gnu_says("TLS relocation cannot be used with", "@gottpoff"), "@GOTTPOFF beside xmm registers"),
     Known(gnu_says("relocated field and relocation type differ in signedness", "@tpoff"), "@TPOFF in a field of 32 bits that is not extended by its sign"),
     Known(relocated({GOTPCREL: [GOTPCRELX, REX_GOTPCRELX]}, "@gotpcrel"), "@GOTPCREL has one kind of relocation, which no linker relaxes"),

@@ -28,9 +28,10 @@ counts, and of equally short ones the first.
 - *Instruction*: name and operands in the manual's words. `m` is memory whose size does not count. An `imm8` beside
   which the same instruction has an `imm16` or `imm32` is sign-extended, and so is the `imm32` of 64-bit operands.
 - *AT&T*: its names there, where the operands stand in the other order. Names that have several sizes are given with the
-  letter of the size, `b w l q`. It may be left out where a register says the size, but for the extensions and the
-  strings, and is `l` where it is left out of `cvtsi2ss` and `cvtsi2sd` of memory. A shift of one operand is by 1, and
-  `shld` and `shrd` of two operands are by `%cl`.
+  letter of the size, `b w l q`. It may be left out where a register says the size, but for the strings, and is `l`
+  where it is left out of `cvtsi2ss` and `cvtsi2sd` of memory; a name of one size may have its letter too. Extensions
+  are also `movzx` and `movsx`, whose letter is that of the source, and `movzb` and `movzw`. A shift of one operand is
+  by 1, and `shld` and `shrd` of two operands are by `%cl`.
 - *Words* that may stand before it; `lock` where its first operand is memory.
 - *Writes*: the operands and registers that it writes beside flags, and what it stores that no operand shows. With a
   repeat prefix it writes rcx too. What `call` and `ret` do to the stack does not count.

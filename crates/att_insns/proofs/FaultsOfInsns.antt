@@ -1,6 +1,6 @@
 -- An instruction is refused exactly for the fault that it has.
-use Rattle.std.proofs.Common.{◌≡◌, ◌<◌, ◌≤◌, ℕ, zero, suc, ◌+◌, ◌-◌, ◌==◌, ◌&&◌, ◌||◌, not, nat_lt, Bool, true, false, cond, List, [], ◌∷◌, ◌++◌, Option, Some, None, Result, Ok, Err, length, drop, slice_get, refl, sym, ap, subst, ◌∙◌, arith, length-append, length-drop, inl, inr}
-use Rattle.std.proofs.lemmas.Bool.{ltb-true, lt-ltb, cases_Bool, or_parts, both_ways, eq-eqb, eqb-true, false_from_ne_true}
+use Rattle.std.proofs.Common.{◌≡◌, ◌<◌, ℕ, zero, suc, ◌+◌, ◌-◌, ◌==◌, ◌||◌, not, nat_lt, Bool, true, false, cond, List, [], ◌∷◌, ◌++◌, Option, Some, None, Result, Ok, Err, length, drop, slice_get, refl, sym, ap, subst, ◌∙◌, arith, length-append, length-drop}
+use Rattle.std.proofs.lemmas.Bool.{ltb-true, lt-ltb, or_parts, both_ways, eq-eqb, eqb-true, false_from_ne_true}
 use Rattle.std.specs.List.{find, list_all}
 use Rattle.asm_base.specs.Refusals.{◌>>=◌}
 use Rattle.asm_base.specs.Tokens.{SpelledToken}
@@ -8,21 +8,24 @@ use Rattle.x86_insn.specs.declared.insns.Prefix.{Prefix}
 use Rattle.x86_table.specs.declared.forms.Row.{Row}
 use Rattle.x86_table.specs.Rows.{the_rows}
 use Rattle.x86_lookup.specs.declared.names.Named.{Named}
+use Rattle.x86_lookup.specs.declared.names.Rule.{Rule}
+use Rattle.x86_lookup.specs.declared.names.Rule.TheVariants as rule
 use Rattle.att_operands.specs.declared.faults.OperandCause.{OperandCause}
 use Rattle.att_operands.specs.declared.faults.OperandCause.TheVariants.{UnknownMnemonic, BadOperand, UnknownOperandSize}
 use Rattle.att_operands.specs.OperandTexts.{OperandText, ReadPart, operand_at}
-use Rattle.att_operands.specs.Spells.{IsMark, SpellsOperand, ends, IsSpelledIn}
+use Rattle.att_operands.specs.Spells.{IsSpelledIn}
 use Rattle.att_operands.specs.Failing.{HasFault as OperandHasFault}
-use Rattle.att_insns.specs.InsnTexts.{InsnText, blank, with_operand, with_operands}
-use Rattle.att_insns.specs.Rules.{ruled, is_branch}
+use Rattle.att_insns.specs.InsnTexts.{InsnText, blank, with_operand}
+use Rattle.att_insns.specs.Rules.{is_branch}
 use Rattle.att_insns.specs.Sizes.{is_form, agrees, size_by, size_left, of_size, sized}
+use Rattle.att_insns.specs.Sources.{word_name, source_name, renamed, unless_form, from_unsized, said_bits, meant_by}
 use Rattle.att_insns.specs.Heads.{Head, head, head_of}
-use Rattle.att_insns.specs.Reading.{operand_then, operands_at, with_all, headed_insn, insn_by, insn_of}
-use Rattle.att_insns.specs.Spells.{WritesOperands, WritesAll, IsHead, meant, OperandsAreRead, OperandsAreSpelled}
-use Rattle.att_insns.specs.Failing.{HasNoHead, OperandsFail, over, first, later, HasTwoSizes, HasFault, unknown, operands, sizes, HasFaultExactly, OperandsFailExactly}
-use Rattle.att_insns.proofs.SizesFound.{some_is, One, found_one, none_passes, all_passes, Missing, one_fails, form_of}
-use Rattle.att_insns.proofs.SpelledInsns.{drop_more, drop_past, comma_ends, all_read, HeadRead, head_reads}
-use Rattle.att_insns.proofs.ReadInsns.{Comma, comma_of, AllRead, all_spelled, HeadStands, head_stands}
+use Rattle.att_insns.specs.Reading.{operand_then, operands_at, with_all, finished, insn_by, insn_of}
+use Rattle.att_insns.specs.Spells.{WritesAll, IsHead, filled_by, OperandsAreRead, OperandsAreSpelled}
+use Rattle.att_insns.specs.Failing.{HasNoHead, OperandsFail, over, first, later, HasTwoSizes, HasTwoSources, HasFault, unknown, operands, sources, sizes, HasFaultExactly, OperandsFailExactly}
+use Rattle.att_insns.proofs.SizesFound.{found_one, none_passes, all_passes, one_fails, form_of}
+use Rattle.att_insns.proofs.SpelledInsns.{drop_more, drop_past, comma_ends, all_read, head_reads}
+use Rattle.att_insns.proofs.ReadInsns.{comma_of, all_spelled, HeadStands, head_stands}
 
 err_is : {A : Type 0} (one other : OperandCause) → (let given : Result A OperandCause = Err one in given ≡ Err other) → one ≡ other
 err_is one other h = cc
@@ -159,6 +162,71 @@ fails_by insn cause false open_size given = cc
 size_fails : (insn : InsnText) (cause : OperandCause) → sized insn ≡ Err cause → TwoSizes insn cause
 size_fails insn cause given = fails_by insn cause (insn.size == 0) refl given
 
+-- SOURCES
+
+-- the rows that take 16 bits of a source
+abbrev wider_form : InsnText → Row → Bool
+wider_form insn r = is_form (word_name insn.name.0) insn.first insn.second insn.third r
+
+-- an instruction without the size that its letter fixed
+abbrev unsized : InsnText → InsnText
+unsized insn = record insn { size = 0 }
+
+wider_found : (insn : InsnText) (found : Option Row) (at : ℕ) (r : Row) → find (wider_form insn) the_rows ≡ found → slice_get the_rows at ≡ Some r → wider_form insn r ≡ true
+    → unless_form (unsized insn) found ≡ Err UnknownOperandSize
+wider_found insn None at r is stands form = absurd (both_ways (wider_form insn r) (none_passes (wider_form insn) the_rows at r is stands) form)
+wider_found insn (Some s) at r is stands form = refl
+
+unsized_refused : (insn : InsnText) (at : ℕ) (r : Row) → slice_get the_rows at ≡ Some r → wider_form insn r ≡ true → from_unsized (unsized insn) ≡ Err UnknownOperandSize
+unfolding from_unsized
+unsized_refused insn at r stands form = wider_found insn (find (wider_form insn) the_rows) at r refl stands form
+
+-- the move with a source of so many bits
+abbrev moved : InsnText → InsnText
+moved insn = renamed (unsized insn) (source_name (said_bits insn.size insn.second) insn.name.0)
+
+-- a source of two sizes leaves it unknown
+source_refused : (own : Rule) (insn : InsnText) → HasTwoSources own insn → meant_by own insn ≡ Err UnknownOperandSize
+source_refused own insn two =
+    ap (λ (r : Rule). meant_by r insn) two.by_source ∙ ap (λ (b : Bool). cond b (from_unsized (unsized insn)) (Ok (moved insn))) two.unsaid
+    ∙ unsized_refused insn two.at two.wider two.stands two.form
+
+record TwoSources (own : Rule) (insn : InsnText) (cause : OperandCause) : Type 0 where
+  has : HasTwoSources own insn
+  is : cause ≡ UnknownOperandSize
+
+wider_by : (insn : InsnText) (cause : OperandCause) (found : Option Row) → (said_bits insn.size insn.second == 0) ≡ true → find (wider_form insn) the_rows ≡ found
+    → unless_form (unsized insn) found ≡ Err cause → TwoSources rule.BySource insn cause
+wider_by insn cause None unsaid is given = cc
+wider_by insn cause (Some r) unsaid is given =
+    let one = found_one (wider_form insn) the_rows r is in
+    record {
+      has = record { by_source = refl; unsaid = unsaid; at = one.at; wider = r; stands = one.stands; form = one.passes };
+      is = sym (err_is UnknownOperandSize cause given);
+    }
+
+source_by : (insn : InsnText) (cause : OperandCause) (b : Bool) → (said_bits insn.size insn.second == 0) ≡ b
+    → cond b (from_unsized (unsized insn)) (Ok (moved insn)) ≡ Err cause → TwoSources rule.BySource insn cause
+unfolding from_unsized
+source_by insn cause true test given = wider_by insn cause (find (wider_form insn) the_rows) test refl given
+source_by insn cause false test given = cc
+
+ruled_fails : (own : Rule) (insn : InsnText) (cause : OperandCause) → meant_by own insn ≡ Err cause → TwoSources own insn cause
+ruled_fails rule.Plain insn cause given = cc
+ruled_fails (rule.Predicate value) insn cause given = cc
+ruled_fails rule.ByOne insn cause given = cc
+ruled_fails rule.ByCl insn cause given = cc
+ruled_fails rule.OneForTwo insn cause given = cc
+ruled_fails rule.MemoryFirst insn cause given = cc
+ruled_fails rule.AccumulatorFirst insn cause given = cc
+ruled_fails rule.WithXmm0 insn cause given = cc
+ruled_fails rule.Branch insn cause given = cc
+ruled_fails rule.QuadIsMovq insn cause given = cc
+ruled_fails rule.LongMemory insn cause given = cc
+ruled_fails rule.OrMove insn cause given = cc
+ruled_fails (rule.OrString name) insn cause given = cc
+ruled_fails rule.BySource insn cause given = source_by insn cause (said_bits insn.size insn.second == 0) refl given
+
 -- THE WHOLE
 
 -- tokens that have a fault are refused for it
@@ -180,14 +248,21 @@ insn_refused law faults _ _ (unknown tokens headless_so) = headless tokens (head
 insn_refused law faults _ _ (operands named word token text tokens cause heads fails) =
     let front = head_reads named word (token ∷ text) tokens heads in
     ap (insn_by tokens) front.is
-    ∙ ap (λ (read : Result InsnText OperandCause). read >>= (λ insn. sized (ruled named.rule insn)))
+    ∙ ap (λ (read : Result InsnText OperandCause). read >>= finished named.rule)
     (all_refused law faults (is_branch named.rule) token text tokens front.next (blank named.name named.size word) cause fails front.stands)
-insn_refused law faults _ _ (sizes named word written text tokens heads writes two) =
+insn_refused law faults _ _ (sources named word written text tokens heads writes two) =
     let front = head_reads named word text tokens heads in
     ap (insn_by tokens) front.is
-    ∙ ap (λ (read : Result InsnText OperandCause). read >>= (λ insn. sized (ruled named.rule insn)))
+    ∙ ap (λ (read : Result InsnText OperandCause). read >>= finished named.rule)
     (all_read law (is_branch named.rule) written text tokens front.next (blank named.name named.size word) writes front.stands)
-    ∙ size_refused (meant named word written) two
+    ∙ ap (λ (read : Result InsnText OperandCause). read >>= sized) (source_refused named.rule (filled_by named word written) two)
+insn_refused law faults _ _ (sizes named word written insn text tokens heads writes means two) =
+    let front = head_reads named word text tokens heads in
+    ap (insn_by tokens) front.is
+    ∙ ap (λ (read : Result InsnText OperandCause). read >>= finished named.rule)
+    (all_read law (is_branch named.rule) written text tokens front.next (blank named.name named.size word) writes front.stands)
+    ∙ ap (λ (read : Result InsnText OperandCause). read >>= sized) means
+    ∙ size_refused insn two
 
 -- tokens that are refused have the fault
 split_front : (tokens : List SpelledToken) (at : ℕ) → at < length tokens → (token : SpelledToken) × (rest : List SpelledToken) × (drop at tokens ≡ token ∷ rest)
@@ -210,16 +285,24 @@ all_fails : OperandsAreSpelled → OperandsFailExactly → (found : Head) (token
 unfolding with_all
 all_fails law faults found tokens cause insn heads given = all_fails_by law faults found tokens cause insn (nat_lt found.next (length tokens)) heads refl given
 
+meant_fails : (named : Named) (word : Prefix) (written : List OperandText) (text tokens : List SpelledToken) (cause : OperandCause) (read : Result InsnText OperandCause) → IsHead named word text tokens
+    → WritesAll (is_branch named.rule) written text → meant_by named.rule (filled_by named word written) ≡ read → (read >>= sized) ≡ Err cause → HasFault tokens cause
+meant_fails named word written text tokens cause (Err own) heads writes means is =
+    let two = ruled_fails named.rule (filled_by named word written) cause (means ∙ is) in
+    subst (HasFault tokens) (sym two.is) (sources named word written text tokens heads writes two.has)
+meant_fails named word written text tokens cause (Ok insn) heads writes means is =
+    let two = size_fails insn cause is in
+    subst (HasFault tokens) (sym two.is) (sizes named word written insn text tokens heads writes means two.has)
+
 headed_fails : OperandsAreSpelled → OperandsFailExactly → (found : Head) (tokens : List SpelledToken) (cause : OperandCause) (read : Result InsnText OperandCause) → HeadStands tokens found
     → with_all (is_branch found.named.rule) tokens found.next (blank found.named.name found.named.size found.«prefix») ≡ read
-    → (read >>= (λ insn. sized (ruled found.named.rule insn))) ≡ Err cause → HasFault tokens cause
+    → (read >>= finished found.named.rule) ≡ Err cause → HasFault tokens cause
 headed_fails law faults found tokens cause (Err own) heads reads is =
     all_fails law faults found tokens cause (blank found.named.name found.named.size found.«prefix») heads (reads ∙ is)
 headed_fails law faults found tokens cause (Ok insn) heads reads is =
     let all = all_spelled law (is_branch found.named.rule) tokens found.next (blank found.named.name found.named.size found.«prefix») insn reads in
-    let two = size_fails (meant found.named found.«prefix» all.operands) cause (ap (λ (i : InsnText). sized (ruled found.named.rule i)) (sym all.is) ∙ is) in
-    subst (HasFault tokens) (sym two.is)
-    (sizes found.named found.«prefix» all.operands (drop found.next tokens) tokens heads.stands all.writes two.has)
+    let own : finished found.named.rule (filled_by found.named found.«prefix» all.operands) ≡ Err cause = ap (finished found.named.rule) (sym all.is) ∙ is in
+    meant_fails found.named found.«prefix» all.operands (drop found.next tokens) tokens cause (meant_by found.named.rule (filled_by found.named found.«prefix» all.operands)) heads.stands all.writes refl own
 
 fails_by_head : OperandsAreSpelled → OperandsFailExactly → (tokens : List SpelledToken) (cause : OperandCause) (found : Option Head) → head_of tokens ≡ found
     → insn_by tokens found ≡ Err cause → HasFault tokens cause

@@ -1,5 +1,5 @@
 -- An instruction by its fields, and what an operand makes of it.
-use Rattle.std.proofs.Common.{◌≡◌, refl, sym, subst}
+use Rattle.std.proofs.Common.{◌≡◌, refl, subst}
 use Rattle.x86_insn.specs.declared.registers.Reg.{Reg}
 use Rattle.x86_insn.specs.declared.amounts.Value.{Value}
 use Rattle.x86_insn.specs.declared.insns.Address.{Address}
@@ -25,6 +25,10 @@ as_text held due is =
 -- what holds of the instruction's fields with any texts of its values holds of its text
 pub by_fields : (P : InsnText → Type 0) (held : Insn) (due : InsnText) → IsInsnOf held due → ((i d : ValueText) → HasTexts held i d → P (text_of held i d)) → P due
 by_fields P held due is all = subst P (as_text held due is) (all due.immediate due.displacement (record { immediate = is.immediate; displacement = is.displacement }))
+
+-- an instruction that loses its size keeps the texts of its values
+pub unsized_texts : (held : Insn) (i d : ValueText) → HasTexts held i d → HasTexts (record held { size = 0 }) i d
+unsized_texts held i d has = record { immediate = has.immediate; displacement = has.displacement }
 
 -- a register is put in front
 pub register_put : (old : Insn) (reg : Reg) (i d : ValueText) (text : OperandText) → HasTexts old i d → IsOperandOf (Register reg) text

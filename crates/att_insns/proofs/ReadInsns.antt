@@ -1,25 +1,25 @@
 -- An instruction that is read is spelled.
-use Rattle.std.proofs.Common.{◌≡◌, ◌<◌, ◌≤◌, ◌⊎◌, ℕ, zero, suc, ◌+◌, ◌-◌, ◌==◌, nat_lt, Bool, true, false, cond, List, [], ◌∷◌, ◌++◌, Option, Some, None, Result, Ok, Err, length, drop, slice_get, refl, sym, ap, subst, ◌∙◌, arith, length-append, length-drop, inl, inr}
-use Rattle.std.proofs.lemmas.Bool.{ltb-true, ltb-false, eqb-true, cases_Bool}
+use Rattle.std.proofs.Common.{◌≡◌, ◌<◌, ℕ, zero, suc, ◌+◌, ◌-◌, nat_lt, Bool, true, false, cond, List, [], ◌∷◌, ◌++◌, Option, Some, None, Result, Ok, Err, length, drop, refl, sym, ap, subst, ◌∙◌, arith, length-append, length-drop}
+use Rattle.std.proofs.lemmas.Bool.{ltb-true, ltb-false, eqb-true}
 use Rattle.std.proofs.lemmas.List.{append-nil}
-use Rattle.std.proofs.Math.Seq.{drop-append_seam}
 use Rattle.asm_base.specs.Refusals.{◌>>=◌}
 use Rattle.asm_base.specs.Tokens.{SpelledToken}
 use Rattle.x86_insn.specs.declared.insns.Prefix.{Prefix}
-use Rattle.x86_insn.specs.declared.insns.Prefix.TheVariants.{Absent}
 use Rattle.x86_lookup.specs.declared.names.Named.{Named}
+use Rattle.x86_lookup.specs.Mnemonics.{att_mnemonic}
 use Rattle.att_operands.specs.declared.faults.OperandCause.{OperandCause}
-use Rattle.att_operands.specs.Marks.{mark_by, mark_at, ends_by}
+use Rattle.att_operands.specs.Marks.{mark_by, ends_by}
 use Rattle.att_operands.specs.Prefixes.{prefix_of}
 use Rattle.att_operands.specs.OperandTexts.{OperandText, ReadPart, operand_at}
-use Rattle.att_operands.specs.Spells.{IsMark, SpellsOperand, ends, IsSpelledIn}
+use Rattle.att_operands.specs.Spells.{IsMark, ends, IsSpelledIn}
 use Rattle.att_insns.specs.InsnTexts.{InsnText, blank, with_operand, with_operands}
-use Rattle.att_insns.specs.Rules.{ruled, is_branch}
+use Rattle.att_insns.specs.Rules.{is_branch}
 use Rattle.att_insns.specs.Sizes.{sized}
-use Rattle.att_insns.specs.Heads.{Head, head, mnemonic_of, headed, prefixed as behind_prefix, head_by, head_of}
-use Rattle.att_insns.specs.Reading.{operand_then, operands_at, with_all, insn_by, insn_of}
-use Rattle.att_insns.specs.Spells.{WritesOperands, last, more, WritesAll, none, some, HasSize, with_size, meant, IsHead, bare, prefixed, Spells, behind, OperandsAreSpelled}
-use Rattle.att_insns.proofs.SizesFound.{Sized, size_has}
+use Rattle.att_insns.specs.Sources.{meant_by}
+use Rattle.att_insns.specs.Heads.{Head, headed, prefixed as behind_prefix, head_by, head_of}
+use Rattle.att_insns.specs.Reading.{operand_then, operands_at, with_all, finished, insn_by, insn_of}
+use Rattle.att_insns.specs.Spells.{WritesOperands, last, more, WritesAll, none, some, filled_by, IsHead, bare, prefixed, Spells, behind, OperandsAreSpelled}
+use Rattle.att_insns.proofs.SizesFound.{size_has}
 use Rattle.att_insns.proofs.SpelledInsns.{drop_more, drop_past}
 
 some_is : {A : Type 0} {m n : A} → Some m ≡ Some n → m ≡ n
@@ -144,7 +144,7 @@ pub record HeadStands (tokens : List SpelledToken) (found : Head) : Type 0 where
   pub stands : IsHead found.named found.«prefix» (drop found.next tokens) tokens
 
 second_by : (word : Prefix) (lead name : SpelledToken) (text : List SpelledToken) (found : Head) (named : Option Named) → prefix_of lead.bytes ≡ Some word
-    → mnemonic_of name.bytes ≡ named → headed word 2 named ≡ Some found → HeadStands (lead ∷ name ∷ text) found
+    → att_mnemonic name.bytes ≡ named → headed word 2 named ≡ Some found → HeadStands (lead ∷ name ∷ text) found
 second_by word lead name text found None leads names is = cc
 second_by word lead name text found (Some named) leads names is =
     subst (HeadStands (lead ∷ name ∷ text)) (some_is is) (record { stands = prefixed named word lead name text leads names })
@@ -153,9 +153,9 @@ behind_prefix_by : (lead : SpelledToken) (text : List SpelledToken) (found : Hea
     → behind_prefix (lead ∷ text) word ≡ Some found → HeadStands (lead ∷ text) found
 behind_prefix_by lead text found None leads is = cc
 behind_prefix_by lead [] found (Some word) leads is = cc
-behind_prefix_by lead (name ∷ text) found (Some word) leads is = second_by word lead name text found (mnemonic_of name.bytes) leads refl is
+behind_prefix_by lead (name ∷ text) found (Some word) leads is = second_by word lead name text found (att_mnemonic name.bytes) leads refl is
 
-first_by : (name : SpelledToken) (text : List SpelledToken) (found : Head) (named : Option Named) → mnemonic_of name.bytes ≡ named
+first_by : (name : SpelledToken) (text : List SpelledToken) (found : Head) (named : Option Named) → att_mnemonic name.bytes ≡ named
     → head_by (name ∷ text) named ≡ Some found → HeadStands (name ∷ text) found
 first_by name text found None names is = behind_prefix_by name text found (prefix_of name.bytes) refl is
 first_by name text found (Some named) names is = subst (HeadStands (name ∷ text)) (some_is is) (record { stands = bare named name text names })
@@ -163,24 +163,29 @@ first_by name text found (Some named) names is = subst (HeadStands (name ∷ tex
 pub head_stands : (tokens : List SpelledToken) (found : Head) → head_of tokens ≡ Some found → HeadStands tokens found
 unfolding head_of
 head_stands [] found is = cc
-head_stands (name ∷ text) found is = first_by name text found (mnemonic_of name.bytes) refl is
+head_stands (name ∷ text) found is = first_by name text found (att_mnemonic name.bytes) refl is
 
 -- what stands behind the head spells the rest
-filled_by : OperandsAreSpelled → (tokens : List SpelledToken) (found : Head) (made : InsnText) (read : Result InsnText OperandCause) → HeadStands tokens found
+meant_so : (named : Named) (word : Prefix) (operands : List OperandText) (made : InsnText) (text tokens : List SpelledToken) (read : Result InsnText OperandCause) → IsHead named word text tokens
+    → WritesAll (is_branch named.rule) operands text → meant_by named.rule (filled_by named word operands) ≡ read → (read >>= sized) ≡ Ok made → Spells made tokens
+meant_so named word operands made text tokens (Err cause) heads writes means is = cc
+meant_so named word operands made text tokens (Ok insn) heads writes means is =
+    let size = size_has insn made is in
+    subst (λ (i : InsnText). Spells i tokens) (sym size.is) (behind named word operands insn size.size text tokens heads writes means size.has)
+
+filled_so : OperandsAreSpelled → (tokens : List SpelledToken) (found : Head) (made : InsnText) (read : Result InsnText OperandCause) → HeadStands tokens found
     → with_all (is_branch found.named.rule) tokens found.next (blank found.named.name found.named.size found.«prefix») ≡ read
-    → (read >>= (λ insn. sized (ruled found.named.rule insn))) ≡ Ok made → Spells made tokens
-filled_by law tokens found made (Err cause) heads reads is = cc
-filled_by law tokens found made (Ok insn) heads reads is =
+    → (read >>= finished found.named.rule) ≡ Ok made → Spells made tokens
+filled_so law tokens found made (Err cause) heads reads is = cc
+filled_so law tokens found made (Ok insn) heads reads is =
     let all = all_spelled law (is_branch found.named.rule) tokens found.next (blank found.named.name found.named.size found.«prefix») insn reads in
-    let ruled_so : sized (meant found.named found.«prefix» all.operands) ≡ Ok made = ap (λ (i : InsnText). sized (ruled found.named.rule i)) (sym all.is) ∙ is in
-    let size = size_has (meant found.named found.«prefix» all.operands) made ruled_so in
-    subst (λ (i : InsnText). Spells i tokens) (sym size.is)
-    (behind found.named found.«prefix» all.operands size.size (drop found.next tokens) tokens heads.stands all.writes size.has)
+    let own : finished found.named.rule (filled_by found.named found.«prefix» all.operands) ≡ Ok made = ap (finished found.named.rule) (sym all.is) ∙ is in
+    meant_so found.named found.«prefix» all.operands made (drop found.next tokens) tokens (meant_by found.named.rule (filled_by found.named found.«prefix» all.operands)) heads.stands all.writes refl own
 
 headed_by : OperandsAreSpelled → (tokens : List SpelledToken) (made : InsnText) (found : Option Head) → head_of tokens ≡ found → insn_by tokens found ≡ Ok made → Spells made tokens
 headed_by law tokens made None heads is = cc
 headed_by law tokens made (Some found) heads is =
-    filled_by law tokens found made (with_all (is_branch found.named.rule) tokens found.next (blank found.named.name found.named.size found.«prefix»)) (head_stands tokens found heads) refl is
+    filled_so law tokens found made (with_all (is_branch found.named.rule) tokens found.next (blank found.named.name found.named.size found.«prefix»)) (head_stands tokens found heads) refl is
 
 -- an instruction that is read is spelled
 pub insn_spelled : OperandsAreSpelled → (insn : InsnText) (tokens : List SpelledToken) → insn_of tokens ≡ Ok insn → Spells insn tokens

@@ -1,12 +1,12 @@
 -- A search of the rows of a name finds what a search of the whole table finds.
-use Rattle.std.proofs.Common.{◌≡◌, ◌<◌, ◌≤◌, ℕ, ◌+◌, ◌-◌, ◌==◌, ◌&&◌, ◌||◌, nat_lt, nat_le, List, [], ◌∷◌, take, drop, slice_range, Bool, true, false, not, cond, Option, Some, None, slice_get, refl, arith, zero, suc, sym, ap, ◌∙◌, inl, inr, subst}
-use Rattle.std.proofs.lemmas.Bool.{and_parts, and_from, ltb-true, leb-true, lt-ltb, le-leb, cases_Bool, both_ways, false_from_ne_true}
+use Rattle.std.proofs.Common.{◌≡◌, ◌<◌, ◌≤◌, ℕ, ◌+◌, ◌-◌, ◌==◌, ◌&&◌, ◌||◌, nat_lt, nat_le, List, [], ◌∷◌, take, drop, slice_range, Bool, true, false, not, cond, Option, Some, slice_get, refl, arith, zero, suc, sym, ap, ◌∙◌}
+use Rattle.std.proofs.lemmas.Bool.{and_parts, and_from, ltb-true, leb-true, lt-ltb, le-leb, false_from_ne_true}
 use Rattle.std.specs.List.{find, list_all}
 use Rattle.x86_insn.specs.declared.insns.Slot.{Slot}
 use Rattle.x86_table.specs.declared.forms.Row.{Row}
 use Rattle.x86_lookup.specs.declared.ranges.RowRange.{RowRange}
 use Rattle.x86_table.specs.Rows.{the_rows}
-use Rattle.x86_lookup.specs.Ranges.{is_in, is_named, IsWithin, AreRowsOf}
+use Rattle.x86_lookup.specs.Ranges.{is_named, IsWithin, AreRowsOf}
 use Rattle.att_insns.specs.Sizes.{takes_all, is_form, agrees}
 
 -- just the rows from one index on, so many, pass

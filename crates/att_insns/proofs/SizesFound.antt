@@ -1,6 +1,6 @@
 -- The size that is found is the one that the instruction has.
-use Rattle.std.proofs.Common.{◌≡◌, ◌⊎◌, ℕ, ◌==◌, ◌&&◌, ◌||◌, List, [], ◌∷◌, Bool, true, false, not, cond, Option, Some, None, Result, Ok, Err, slice_get, refl, arith, zero, suc, sym, ap, ◌∙◌, inl, inr, subst}
-use Rattle.std.proofs.lemmas.Bool.{and_parts, and_from, and_cases, or_parts, both_ways, eqb-true, eq-eqb, cases_Bool, not_from_false, false_from_ne_true}
+use Rattle.std.proofs.Common.{◌≡◌, ℕ, ◌==◌, ◌||◌, List, [], ◌∷◌, Bool, true, false, not, cond, Option, Some, None, Result, Ok, Err, slice_get, refl, zero, suc, sym, ap, ◌∙◌, inl, inr, subst}
+use Rattle.std.proofs.lemmas.Bool.{and_parts, and_from, and_cases, both_ways, eqb-true, eq-eqb, cases_Bool}
 use Rattle.std.specs.List.{find, list_all}
 use Rattle.x86_table.specs.declared.forms.Row.{Row}
 use Rattle.x86_table.specs.Rows.{the_rows}
@@ -8,7 +8,7 @@ use Rattle.att_operands.specs.declared.faults.OperandCause.{OperandCause}
 use Rattle.att_operands.specs.declared.faults.OperandCause.TheVariants.{UnknownOperandSize}
 use Rattle.att_insns.specs.InsnTexts.{InsnText}
 use Rattle.att_insns.specs.Sizes.{is_form, agrees, size_by, size_left, of_size, sized}
-use Rattle.att_insns.specs.Spells.{HaveSize, HasNoForm, HasSize, fixed, left, formless, with_size}
+use Rattle.att_insns.specs.Spells.{HaveSize, HasSize, fixed, left, formless, with_size}
 
 pub some_is : {A : Type 0} {m n : A} → Some m ≡ Some n → m ≡ n
 some_is h = cc

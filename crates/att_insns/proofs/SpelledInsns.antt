@@ -1,29 +1,32 @@
 -- An instruction that is spelled is read.
-use Rattle.std.proofs.Common.{◌≡◌, ◌<◌, ◌≤◌, ℕ, zero, suc, ◌+◌, ◌-◌, ◌==◌, nat_lt, Bool, true, false, cond, List, [], ◌∷◌, ◌++◌, Option, Some, None, Result, Ok, Err, length, drop, slice_get, refl, sym, ap, ◌∙◌, arith, length-append, length-drop, inl, inr, codes}
+use Rattle.std.proofs.Common.{◌≡◌, ◌<◌, ℕ, zero, suc, ◌+◌, ◌-◌, nat_lt, Bool, true, false, List, [], ◌∷◌, ◌++◌, Option, Some, None, option_map, Result, Ok, Err, length, map, drop, slice_get, refl, sym, ap, ◌∙◌, arith, length-append, length-drop, inl, inr, codes}
 use Rattle.std.proofs.lemmas.Bool.{lt-ltb, le-ltb, cases_Bool}
-use Rattle.std.proofs.lemmas.List.{append-nil}
+use Rattle.std.proofs.lemmas.List.{append-nil, length-map}
+use Rattle.std.proofs.lemmas.Option.{slice_get-map}
+use Rattle.std.specs.Char.{to_ascii_lowercase}
 use Rattle.std.specs.List.{find}
 use Rattle.std.specs.Str.{str_eq_ignore_ascii_case, str_to_ascii_lowercase, bytes_eq}
 use Rattle.std.specs.Cmp.Lexicographic.{bytes_decides}
 use Rattle.asm_base.specs.Refusals.{◌>>=◌}
 use Rattle.asm_base.specs.Tokens.{SpelledToken}
 use Rattle.x86_insn.specs.declared.insns.Prefix.{Prefix}
-use Rattle.x86_insn.specs.declared.insns.Prefix.TheVariants.{Absent}
 use Rattle.x86_lookup.specs.declared.names.Named.{Named}
 use Rattle.x86_lookup.specs.Names.{the_att_names, text_of}
+use Rattle.x86_lookup.specs.Mnemonics.{letter_size, fixed_by, last_size, stem, whole_mnemonic, fixing, or_lettered, att_mnemonic}
 use Rattle.att_operands.specs.declared.faults.OperandCause.{OperandCause}
 use Rattle.att_operands.specs.declared.faults.OperandCause.TheVariants.{BadOperand}
-use Rattle.att_operands.specs.Marks.{mark_by, mark_at, ends_by, begins_by}
+use Rattle.att_operands.specs.Marks.{mark_by, ends_by, begins_by}
 use Rattle.att_operands.specs.Prefixes.{prefix_of}
 use Rattle.att_operands.specs.Values.{begun_at}
 use Rattle.att_operands.specs.OperandTexts.{OperandText, ReadPart, part, memory_at, place_at, operand_at}
 use Rattle.att_operands.specs.Spells.{IsMark, SpellsOperand, ends}
 use Rattle.att_insns.specs.InsnTexts.{InsnText, blank, with_operand, with_operands}
-use Rattle.att_insns.specs.Rules.{ruled, is_branch}
+use Rattle.att_insns.specs.Rules.{is_branch}
 use Rattle.att_insns.specs.Sizes.{sized}
-use Rattle.att_insns.specs.Heads.{Head, head, mnemonic_of, head_of}
-use Rattle.att_insns.specs.Reading.{operand_then, operands_at, with_all, headed_insn, insn_by, insn_of}
-use Rattle.att_insns.specs.Spells.{WritesOperands, last, more, WritesAll, none, some, HasSize, with_size, meant, IsHead, bare, prefixed, Spells, behind, OperandsAreRead}
+use Rattle.att_insns.specs.Sources.{meant_by}
+use Rattle.att_insns.specs.Heads.{head, head_of}
+use Rattle.att_insns.specs.Reading.{operand_then, operands_at, with_all, finished, headed_insn, insn_by, insn_of}
+use Rattle.att_insns.specs.Spells.{WritesOperands, last, more, WritesAll, none, some, HasSize, with_size, filled_by, IsHead, bare, prefixed, Spells, behind, OperandsAreRead}
 use Rattle.att_insns.proofs.SizesFound.{size_reads}
 
 drop_none : (n : ℕ) → (let nothing : List SpelledToken = [] in drop n nothing ≡ nothing)
@@ -100,20 +103,50 @@ all_read law _ operands text tokens at insn (some branch _ _ writes) stands =
     rw under (operands_read law 3 branch operands text tokens at insn writes stands)
 
 -- what stands behind the mnemonic gives the instruction
-headed_read : OperandsAreRead → (named : Named) (word : Prefix) (operands : List OperandText) (size next : ℕ) (text tokens : List SpelledToken)
-    → WritesAll (is_branch named.rule) operands text → HasSize (meant named word operands) size → drop next tokens ≡ text
-    → headed_insn tokens (head named word next) ≡ Ok (with_size (meant named word operands) size)
-headed_read law named word operands size next text tokens writes has stands =
-    ap (λ (read : Result InsnText OperandCause). read >>= (λ insn. sized (ruled named.rule insn))) (all_read law (is_branch named.rule) operands text tokens next (blank named.name named.size word) writes stands)
-    ∙ size_reads (meant named word operands) size has
+headed_read : OperandsAreRead → (named : Named) (word : Prefix) (operands : List OperandText) (insn : InsnText) (size next : ℕ) (text tokens : List SpelledToken)
+    → WritesAll (is_branch named.rule) operands text → meant_by named.rule (filled_by named word operands) ≡ Ok insn → HasSize insn size → drop next tokens ≡ text
+    → headed_insn tokens (head named word next) ≡ Ok (with_size insn size)
+headed_read law named word operands insn size next text tokens writes means has stands =
+    ap (λ (read : Result InsnText OperandCause). read >>= finished named.rule) (all_read law (is_branch named.rule) operands text tokens next (blank named.name named.size word) writes stands)
+    ∙ ap (λ (read : Result InsnText OperandCause). read >>= sized) means
+    ∙ size_reads insn size has
 
--- the mnemonic of a text in lower case
+-- the mnemonic that has a text in lower case whole
 abbrev folded_mnemonic : List ℕ → Option Named
-folded_mnemonic text = find (λ named. bytes_eq text (str_to_ascii_lowercase (text_of named))) the_att_names
+folded_mnemonic low = find (λ named. bytes_eq low (str_to_ascii_lowercase (text_of named))) the_att_names
 
-folded : (text word : List ℕ) → str_eq_ignore_ascii_case text word ≡ true → folded_mnemonic (str_to_ascii_lowercase word) ≡ None → mnemonic_of text ≡ None
-unfolding mnemonic_of
-folded text word same is = ap folded_mnemonic ((bytes_decides (str_to_ascii_lowercase text) (str_to_ascii_lowercase word)).0 same) ∙ is
+folded_whole : (text word : List ℕ) → str_to_ascii_lowercase text ≡ str_to_ascii_lowercase word → folded_mnemonic (str_to_ascii_lowercase word) ≡ None → whole_mnemonic text ≡ None
+unfolding whole_mnemonic
+folded_whole text word low missing = ap folded_mnemonic low ∙ missing
+
+-- the operand size that the last letter of a text in lower case fixes
+abbrev size_of : Option ℕ → ℕ
+size_of None = 0
+size_of (Some letter) = letter_size letter
+
+abbrev folded_size : List ℕ → ℕ
+folded_size low = size_of (slice_get low (length low - 1))
+
+lower_fixes : (letter : Option ℕ) → fixed_by letter ≡ size_of (option_map to_ascii_lowercase letter)
+lower_fixes None = refl
+lower_fixes (Some letter) = refl
+
+last_folded : (text : List ℕ) → last_size text ≡ folded_size (str_to_ascii_lowercase text)
+last_folded text =
+    lower_fixes (slice_get text (length text - 1)) ∙ ap size_of (sym (slice_get-map to_ascii_lowercase text (length text - 1)))
+    ∙ ap (λ (n : ℕ). size_of (slice_get (map to_ascii_lowercase text) (n - 1))) (sym (length-map text to_ascii_lowercase))
+
+none_fixed : (found : Option Named) → fixing 0 found ≡ None
+none_fixed None = refl
+none_fixed (Some named) = refl
+
+folded : (text word : List ℕ) → str_eq_ignore_ascii_case text word ≡ true → folded_mnemonic (str_to_ascii_lowercase word) ≡ None → folded_size (str_to_ascii_lowercase word) ≡ 0
+    → att_mnemonic text ≡ None
+unfolding att_mnemonic
+folded text word same missing unfixed =
+    let low = (bytes_decides (str_to_ascii_lowercase text) (str_to_ascii_lowercase word)).0 same in
+    let size : last_size text ≡ 0 = last_folded text ∙ ap folded_size low ∙ unfixed in
+    ap (or_lettered text) (folded_whole text word low missing) ∙ ap (λ (n : ℕ). fixing n (whole_mnemonic (stem text))) size ∙ none_fixed (whole_mnemonic (stem text))
 
 lock_names_none : folded_mnemonic (str_to_ascii_lowercase (codes "lock")) ≡ None
 unfolding the_att_names
@@ -144,21 +177,21 @@ unfolding the_att_names
 notrack_names_none = refl
 
 -- a word that is a prefix is no mnemonic
-no_mnemonic : (text : List ℕ) (word : Prefix) → prefix_of text ≡ Some word → mnemonic_of text ≡ None
+no_mnemonic : (text : List ℕ) (word : Prefix) → prefix_of text ≡ Some word → att_mnemonic text ≡ None
 no_mnemonic text word is = elim (cases_Bool (str_eq_ignore_ascii_case text (codes "lock"))) [
-  | inl t ↦ folded text (codes "lock") t lock_names_none
+  | inl t ↦ folded text (codes "lock") t lock_names_none refl
   | inr a ↦ elim (cases_Bool (str_eq_ignore_ascii_case text (codes "rep"))) [
-    | inl t ↦ folded text (codes "rep") t rep_names_none
+    | inl t ↦ folded text (codes "rep") t rep_names_none refl
     | inr b ↦ elim (cases_Bool (str_eq_ignore_ascii_case text (codes "repe"))) [
-      | inl t ↦ folded text (codes "repe") t repe_names_none
+      | inl t ↦ folded text (codes "repe") t repe_names_none refl
       | inr c ↦ elim (cases_Bool (str_eq_ignore_ascii_case text (codes "repz"))) [
-        | inl t ↦ folded text (codes "repz") t repz_names_none
+        | inl t ↦ folded text (codes "repz") t repz_names_none refl
         | inr d ↦ elim (cases_Bool (str_eq_ignore_ascii_case text (codes "repne"))) [
-          | inl t ↦ folded text (codes "repne") t repne_names_none
+          | inl t ↦ folded text (codes "repne") t repne_names_none refl
           | inr e ↦ elim (cases_Bool (str_eq_ignore_ascii_case text (codes "repnz"))) [
-            | inl t ↦ folded text (codes "repnz") t repnz_names_none
+            | inl t ↦ folded text (codes "repnz") t repnz_names_none refl
             | inr f ↦ elim (cases_Bool (str_eq_ignore_ascii_case text (codes "notrack"))) [
-              | inl t ↦ folded text (codes "notrack") t notrack_names_none
+              | inl t ↦ folded text (codes "notrack") t notrack_names_none refl
               | inr g ↦ (let without : prefix_of text ≡ None = rw (a, b, c, d, e, f, g) refl in let bad : None ≡ Some word = sym without ∙ is in cc)
             ]
           ]
@@ -185,9 +218,9 @@ head_reads _ _ _ _ (prefixed named word lead name text leads names) =
 -- an instruction that is spelled is read
 pub insn_reads : OperandsAreRead → (insn : InsnText) (tokens : List SpelledToken) → Spells insn tokens → insn_of tokens ≡ Ok insn
 unfolding insn_of
-insn_reads law _ tokens (behind named word operands size text _ heads writes has) =
+insn_reads law _ tokens (behind named word operands insn size text _ heads writes means has) =
     let front = head_reads named word text tokens heads in
-    ap (insn_by tokens) front.is ∙ headed_read law named word operands size front.next text tokens writes has front.stands
+    ap (insn_by tokens) front.is ∙ headed_read law named word operands insn size front.next text tokens writes means has front.stands
 
 same_insn : (one other : InsnText) → (let read : Result InsnText OperandCause = Ok one in read ≡ Ok other) → one ≡ other
 same_insn one other is = cc

@@ -1,10 +1,12 @@
 -- The faults of instructions: no mnemonic, then the first operand that has a fault, then no operand size.
-use Rattle.std.specs.Prelude.{◌≡◌, ℕ, zero, suc, ◌==◌, Bool, true, false, List, [], ◌∷◌, ◌++◌, drop, Some, Err, slice_get}
+use Rattle.std.specs.Prelude.{◌≡◌, ℕ, zero, suc, ◌==◌, Bool, true, false, List, ◌∷◌, ◌++◌, Some, Ok, Err, slice_get}
 use Rattle.asm_base.specs.Tokens.{SpelledToken}
 use Rattle.x86_insn.specs.declared.insns.Prefix.{Prefix}
 use Rattle.x86_table.specs.declared.forms.Row.{Row}
 use Rattle.x86_table.specs.Rows.{the_rows}
 use Rattle.x86_lookup.specs.declared.names.Named.{Named}
+use Rattle.x86_lookup.specs.declared.names.Rule.{Rule}
+use Rattle.x86_lookup.specs.declared.names.Rule.TheVariants.{BySource}
 use Rattle.att_operands.specs.declared.faults.OperandCause.{OperandCause}
 use Rattle.att_operands.specs.declared.faults.OperandCause.TheVariants.{UnknownMnemonic, BadOperand, UnknownOperandSize}
 use Rattle.att_operands.specs.OperandTexts.{OperandText}
@@ -13,8 +15,9 @@ use Rattle.att_operands.specs.Failing.{HasFault as OperandHasFault, HasFaultExac
 use Rattle.att_insns.specs.InsnTexts.{InsnText}
 use Rattle.att_insns.specs.Rules.{is_branch}
 use Rattle.att_insns.specs.Sizes.{is_form}
+use Rattle.att_insns.specs.Sources.{word_name, said_bits, meant_by}
 use Rattle.att_insns.specs.Reading.{insn_of}
-use Rattle.att_insns.specs.Spells.{IsHead, WritesAll, meant}
+use Rattle.att_insns.specs.Spells.{IsHead, WritesAll, filled_by}
 
 -- no mnemonic that has rows stands in front, alone or behind a prefix
 abbrev pub HasNoHead : List SpelledToken → Type 0
@@ -42,13 +45,25 @@ pub record HasTwoSizes (insn : InsnText) : Type 0 where
   pub also_form : is_form insn.name.0 insn.first insn.second insn.third other ≡ true
   pub differ : (other.size == one.size) ≡ false
 
+-- neither the letter of the mnemonic nor the source in memory says its size, and a row takes 16 bits of it
+pub record HasTwoSources (rule : Rule) (insn : InsnText) : Type 0 where
+  pub by_source : rule ≡ BySource
+  pub unsaid : (said_bits insn.size insn.second == 0) ≡ true
+  pub at : ℕ
+  pub wider : Row
+  pub stands : slice_get the_rows at ≡ Some wider
+  pub form : is_form (word_name insn.name.0) insn.first insn.second insn.third wider ≡ true
+
 -- The tokens have this fault.
 pub data HasFault : (tokens : List SpelledToken) (cause : OperandCause) → Type 0 where
   unknown : (tokens : List SpelledToken) → HasNoHead tokens → HasFault tokens UnknownMnemonic
   operands : (named : Named) (word : Prefix) (token : SpelledToken) (text tokens : List SpelledToken) (cause : OperandCause) → IsHead named word (token ∷ text) tokens
       → OperandsFail 3 (is_branch named.rule) (token ∷ text) cause → HasFault tokens cause
-  sizes : (named : Named) (word : Prefix) (written : List OperandText) (text tokens : List SpelledToken) → IsHead named word text tokens
-      → WritesAll (is_branch named.rule) written text → HasTwoSizes (meant named word written) → HasFault tokens UnknownOperandSize
+  sources : (named : Named) (word : Prefix) (written : List OperandText) (text tokens : List SpelledToken) → IsHead named word text tokens
+      → WritesAll (is_branch named.rule) written text → HasTwoSources named.rule (filled_by named word written) → HasFault tokens UnknownOperandSize
+  sizes : (named : Named) (word : Prefix) (written : List OperandText) (insn : InsnText) (text tokens : List SpelledToken) → IsHead named word text tokens
+      → WritesAll (is_branch named.rule) written text → meant_by named.rule (filled_by named word written) ≡ Ok insn → HasTwoSizes insn
+      → HasFault tokens UnknownOperandSize
 
 -- the reading of the tokens has this fault exactly where they have it
 pub record HasFaultExactly (tokens : List SpelledToken) (cause : OperandCause) : Type 0 where

@@ -1,11 +1,10 @@
 -- What stands in front of the operands: a mnemonic, and a prefix before it (GNU as manual, "i386-Prefixes").
 use Rattle.std.specs.Prelude.{ℕ, List, Option, Some, None, slice_get}
-use Rattle.std.specs.List.{find}
 use Rattle.asm_base.specs.Tokens.{SpelledToken}
 use Rattle.x86_insn.specs.declared.insns.Prefix.{Prefix}
 use Rattle.x86_insn.specs.declared.insns.Prefix.TheVariants.{Absent}
 use Rattle.x86_lookup.specs.declared.names.Named.{Named}
-use Rattle.x86_lookup.specs.Names.{has_text, the_att_names}
+use Rattle.x86_lookup.specs.Mnemonics.{att_mnemonic}
 use Rattle.att_operands.specs.Prefixes.{prefix_of}
 
 -- a mnemonic and the prefix before it, and the place behind them
@@ -18,14 +17,10 @@ pub record Head : Type 0 where
 abbrev pub head : Named → Prefix → ℕ → Head
 head named word next = record { named = named; «prefix» = word; next = next }
 
--- the mnemonic of a text, in either case
-unfoldable pub mnemonic_of : List ℕ → Option Named
-mnemonic_of text = find (has_text text) the_att_names
-
 -- the mnemonic that the token is
 abbrev pub mnemonic_by : Option SpelledToken → Option Named
 mnemonic_by None = None
-mnemonic_by (Some token) = mnemonic_of token.bytes
+mnemonic_by (Some token) = att_mnemonic token.bytes
 
 -- the prefix that the token is
 abbrev pub prefix_by : Option SpelledToken → Option Prefix

@@ -2,6 +2,7 @@
 pub mod InsnTexts
 pub mod Rules
 pub mod Sizes
+pub mod Sources
 pub mod Heads
 pub mod Reading
 pub mod Spells

@@ -4,12 +4,14 @@ use Rattle.asm_base.specs.declared.refusals.Refusal.{Refusal}
 use Rattle.asm_base.specs.Refusals.{Fails, ◌>>=◌}
 use Rattle.asm_base.specs.Tokens.{SpelledToken}
 use Rattle.x86_insn.specs.declared.insns.Insn.{Insn}
+use Rattle.x86_lookup.specs.declared.names.Rule.{Rule}
 use Rattle.att_operands.specs.declared.faults.OperandCause.{OperandCause}
 use Rattle.att_operands.specs.declared.faults.OperandCause.TheVariants.{UnknownMnemonic, BadOperand}
 use Rattle.att_operands.specs.OperandTexts.{ReadPart, operand_at}
 use Rattle.att_insns.specs.InsnTexts.{InsnText, blank, with_operand, IsInsnOf}
-use Rattle.att_insns.specs.Rules.{ruled, is_branch}
+use Rattle.att_insns.specs.Rules.{is_branch}
 use Rattle.att_insns.specs.Sizes.{sized}
+use Rattle.att_insns.specs.Sources.{meant_by}
 use Rattle.att_insns.specs.Heads.{Head, head_of}
 
 -- the instruction with the operand that was read, and with those behind its comma
@@ -27,10 +29,13 @@ operands_at (suc others) branch tokens at insn = operand_then tokens (operands_a
 unfoldable pub with_all : Bool → List SpelledToken → ℕ → InsnText → Result InsnText OperandCause
 with_all branch tokens at insn = if nat_lt at (length tokens) then operands_at 3 branch tokens at insn else Ok insn
 
+-- the instruction that its operands mean by the rule of the mnemonic, and its size
+abbrev pub finished : Rule → InsnText → Result InsnText OperandCause
+finished rule insn = meant_by rule insn >>= sized
+
 -- the instruction that the operands from this place on give the head
 abbrev pub headed_insn : List SpelledToken → Head → Result InsnText OperandCause
-headed_insn tokens head = with_all (is_branch head.named.rule) tokens head.next (blank head.named.name head.named.size head.«prefix»)
-    >>= (λ insn. sized (ruled head.named.rule insn))
+headed_insn tokens head = with_all (is_branch head.named.rule) tokens head.next (blank head.named.name head.named.size head.«prefix») >>= finished head.named.rule
 
 -- the instruction behind what stands in front, if a mnemonic does
 abbrev pub insn_by : List SpelledToken → Option Head → Result InsnText OperandCause

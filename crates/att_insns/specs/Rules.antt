@@ -143,13 +143,13 @@ without_xmm0 insn = if is_xmm0 insn.third then record insn { third = slot.Absent
 abbrev pub quad_is_movq : InsnText → InsnText
 quad_is_movq insn = if has is_quad insn then record insn { name = record { 0 = MOVQ } } else insn
 
--- without a 128-bit register `movq` is `mov` of 64 bits
+-- without a 128-bit register, and without a letter more, `movq` is `mov` of 64 bits
 abbrev pub or_move : InsnText → InsnText
-or_move insn = if has is_xmm insn then insn else record insn { name = record { 0 = MOV }; size = 64 }
+or_move insn = if has is_xmm insn || not (insn.size == 0) then insn else record insn { name = record { 0 = MOV }; size = 64 }
 
--- memory has 32 bits
+-- memory has 32 bits where no letter says its size
 abbrev pub long_memory : InsnText → InsnText
-long_memory insn = if has is_memory insn then record insn { size = 32 } else insn
+long_memory insn = if has is_memory insn && (insn.size == 0) then record insn { size = 32 } else insn
 
 -- the instruction that the operands mean by the rule of the mnemonic
 abbrev pub ruled : Rule → InsnText → InsnText

@@ -6,14 +6,14 @@ use Rattle.x86_insn.specs.declared.insns.Prefix.TheVariants.{Absent}
 use Rattle.x86_table.specs.declared.forms.Row.{Row}
 use Rattle.x86_table.specs.Rows.{the_rows}
 use Rattle.x86_lookup.specs.declared.names.Named.{Named}
-use Rattle.att_operands.specs.Marks.{mark_at}
+use Rattle.x86_lookup.specs.Mnemonics.{att_mnemonic}
 use Rattle.att_operands.specs.Prefixes.{prefix_of}
 use Rattle.att_operands.specs.OperandTexts.{OperandText, ReadPart, operand_at}
 use Rattle.att_operands.specs.Spells.{IsMark, SpellsOperand, ends, IsReadWhole, IsSpelledIn}
 use Rattle.att_insns.specs.InsnTexts.{InsnText, blank, with_operands}
-use Rattle.att_insns.specs.Rules.{ruled, is_branch}
+use Rattle.att_insns.specs.Rules.{is_branch}
 use Rattle.att_insns.specs.Sizes.{is_form}
-use Rattle.att_insns.specs.Heads.{mnemonic_of}
+use Rattle.att_insns.specs.Sources.{meant_by}
 
 -- The text writes operands, at most so many, with commas between.
 pub data WritesOperands : (most : ℕ) (branch : Bool) (operands : List OperandText) (text : List SpelledToken) → Type 0 where
@@ -47,21 +47,22 @@ pub data HasSize : (insn : InsnText) (size : ℕ) → Type 0 where
 abbrev pub with_size : InsnText → ℕ → InsnText
 with_size insn size = record insn { size = size }
 
--- what the operands mean by the rule of the mnemonic
-abbrev pub meant : Named → Prefix → List OperandText → InsnText
-meant named word operands = ruled named.rule (with_operands operands (blank named.name named.size word))
+-- the operands of the instruction behind its mnemonic and prefix
+abbrev pub filled_by : Named → Prefix → List OperandText → InsnText
+filled_by named word operands = with_operands operands (blank named.name named.size word)
 
 -- The tokens begin with a mnemonic that has rows, or with a prefix and such a mnemonic, and this text stands behind it.
 pub data IsHead : (named : Named) (word : Prefix) (text tokens : List SpelledToken) → Type 0 where
-  bare : (named : Named) (name : SpelledToken) (text : List SpelledToken) → mnemonic_of name.bytes ≡ Some named
+  bare : (named : Named) (name : SpelledToken) (text : List SpelledToken) → att_mnemonic name.bytes ≡ Some named
       → IsHead named Absent text (name ∷ text)
   prefixed : (named : Named) (word : Prefix) (lead name : SpelledToken) (text : List SpelledToken) → prefix_of lead.bytes ≡ Some word
-      → mnemonic_of name.bytes ≡ Some named → IsHead named word text (lead ∷ name ∷ text)
+      → att_mnemonic name.bytes ≡ Some named → IsHead named word text (lead ∷ name ∷ text)
 
--- The tokens spell the instruction.
-pub data Spells : (insn : InsnText) (tokens : List SpelledToken) → Type 0 where
-  behind : (named : Named) (word : Prefix) (operands : List OperandText) (size : ℕ) (text tokens : List SpelledToken) → IsHead named word text tokens
-      → WritesAll (is_branch named.rule) operands text → HasSize (meant named word operands) size → Spells (with_size (meant named word operands) size) tokens
+-- The tokens spell the instruction: what their operands mean by the rule of the mnemonic, with its size.
+pub data Spells : (made : InsnText) (tokens : List SpelledToken) → Type 0 where
+  behind : (named : Named) (word : Prefix) (operands : List OperandText) (insn : InsnText) (size : ℕ) (text tokens : List SpelledToken) → IsHead named word text tokens
+      → WritesAll (is_branch named.rule) operands text → meant_by named.rule (filled_by named word operands) ≡ Ok insn → HasSize insn size
+      → Spells (with_size insn size) tokens
 
 -- what the layer below tells: operands that are spelled are read
 abbrev pub OperandsAreRead : Type 0

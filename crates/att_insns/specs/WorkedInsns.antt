@@ -3,7 +3,7 @@
 use Rattle.std.specs.Prelude.{◌≡◌, ℕ, List, Option, Some, None, Ok, Err, codes}
 use Rattle.asm_base.specs.Tokens.{tokens_of}
 use Rattle.asm_expr.specs.declared.trees.Written.TheVariants.{Plain}
-use Rattle.asm_expr.specs.Trees.{Tree, number, name}
+use Rattle.asm_expr.specs.Trees.{number, name}
 use Rattle.x86_insn.specs.declared.registers.Class.{Class}
 use Rattle.x86_insn.specs.declared.registers.Class.TheVariants as class
 use Rattle.x86_insn.specs.declared.amounts.Suffix.{Suffix}
@@ -16,7 +16,7 @@ use Rattle.x86_insn.specs.declared.insns.Index.TheVariants as index
 use Rattle.x86_insn.specs.declared.insns.Address.{Address}
 use Rattle.x86_insn.specs.declared.insns.Slot.{Slot}
 use Rattle.x86_insn.specs.declared.insns.Slot.TheVariants as slot
-use Rattle.x86_table.specs.declared.mnemonics.integers.TheConstants.{ADD, MOV, MOVABS, LEA, XCHG, TEST, IMUL, SHL, SHLD, SHRD, PUSH, STOS, CALL, JMP, JNE, LOOP, RET, NOP}
+use Rattle.x86_table.specs.declared.mnemonics.integers.TheConstants.{ADD, MOV, MOVABS, MOVZX_BYTE, MOVZX_WORD, MOVSX_WORD, MOVSXD, LEA, XCHG, TEST, IMUL, SHL, SHLD, SHRD, SETGE, CQO, PUSH, STOS, CALL, JMP, JNE, LOOP, RET, NOP}
 use Rattle.x86_table.specs.declared.mnemonics.vectors.TheConstants.{MOVQ, CMPPS, CVTSI2SS, CVTSI2SD, PBLENDVB, CRC32}
 use Rattle.att_operands.specs.declared.faults.OperandCause.{OperandCause}
 use Rattle.att_operands.specs.declared.faults.OperandCause.TheVariants.{UnknownMnemonic, BadExpression, BadOperand, UnknownOperandSize}
@@ -134,6 +134,22 @@ pub record WorkedRules : Type 0 where
   pub converted : Reads (codes "cvtsi2ss (%rax),%xmm1") (at_address (at_reg 0) no_displacement (made_of CVTSI2SS 32 (reg class.Xmm 1) slot.Memory slot.Absent))
   pub converted_quad : Reads (codes "cvtsi2sdq (%rax),%xmm1") (at_address (at_reg 0) no_displacement (made_of CVTSI2SD 64 (reg class.Xmm 1) slot.Memory slot.Absent))
 
+-- instructions whose mnemonic is the row's own name, or has a letter more
+pub record WorkedMnemonics : Type 0 where
+  pub own : Reads (codes "cqo") (made_of CQO 0 slot.Absent slot.Absent slot.Absent)
+  pub own_long : Reads (codes "movsxd %eax,%rbx") (made_of MOVSXD 64 (reg class.Quad 3) (reg class.Long 0) slot.Absent)
+  pub from_byte : Reads (codes "movzx %al,%ecx") (made_of MOVZX_BYTE 32 (reg class.Long 1) (reg class.Byte 0) slot.Absent)
+  pub from_word : Reads (codes "movsx %ax,%rcx") (made_of MOVSX_WORD 64 (reg class.Quad 1) (reg class.Word 0) slot.Absent)
+  pub from_long : Reads (codes "movsx %eax,%rcx") (made_of MOVSXD 64 (reg class.Quad 1) (reg class.Long 0) slot.Absent)
+  pub by_letter : Reads (codes "movzxw (%rax),%ecx") (at_address (at_reg 0) no_displacement (made_of MOVZX_WORD 32 (reg class.Long 1) slot.Memory slot.Absent))
+  pub no_such_source : Reads (codes "movzxl (%rax),%rcx") (at_address (at_reg 0) no_displacement (made_of 65535 0 (reg class.Quad 1) slot.Memory slot.Absent))
+  pub one_source : Reads (codes "movzx (%rax),%cx") (at_address (at_reg 0) no_displacement (made_of MOVZX_BYTE 16 (reg class.Word 1) slot.Memory slot.Absent))
+  pub lettered : Reads (codes "SetGEB %al") (made_of SETGE 8 (reg class.Byte 0) slot.Absent slot.Absent)
+  pub lettered_jump : Reads (codes "jneq x") (to_target (x_with None) (made_of JNE 64 slot.Target slot.Absent slot.Absent))
+  pub other_letter : Reads (codes "pushl %eax") (made_of PUSH 32 (reg class.Long 0) slot.Absent slot.Absent)
+  pub two_letters : Reads (codes "movqb %rax,%rbx") (made_of MOVQ 8 (reg class.Quad 3) (reg class.Quad 0) slot.Absent)
+  pub other_memory : Reads (codes "cvtsi2ssw (%rax),%xmm1") (at_address (at_reg 0) no_displacement (made_of CVTSI2SS 16 (reg class.Xmm 1) slot.Memory slot.Absent))
+
 -- statements that are no instruction
 pub record WorkedRefusals : Type 0 where
   pub unknown : Refuses (codes "foo %eax") UnknownMnemonic
@@ -149,10 +165,14 @@ pub record WorkedRefusals : Type 0 where
   pub first_fault : Refuses (codes "add $(,%zax") BadExpression
   pub no_size : Refuses (codes "mov $5,(%rax)") UnknownOperandSize
   pub no_shift_size : Refuses (codes "shl (%rax)") UnknownOperandSize
+  pub no_source_size : Refuses (codes "movzx (%rax),%ecx") UnknownOperandSize
+  pub no_letter : Refuses (codes "setgex %al") UnknownMnemonic
+  pub letter_behind_letter : Refuses (codes "addlq %eax,%ebx") UnknownMnemonic
 
 -- the instructions of these statements
 pub record WorkedInsns : Type 0 where
   pub plain : WorkedPlain
   pub branches : WorkedBranches
   pub rules : WorkedRules
+  pub mnemonics : WorkedMnemonics
   pub refusals : WorkedRefusals

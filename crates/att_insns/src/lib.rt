@@ -9,9 +9,11 @@ mod reading;
 mod rules;
 mod sizes;
 mod slots;
+mod sources;
 
 pub use laws::{faults_of_an_insn, one_insn, read_is_spelled, spelled_is_read, worked_insns};
 pub use reading::{blank, read_insn, read_into};
 pub use rules::{apply, is_branch, long_memory};
-pub use sizes::{Slots, first_form, takes_all, width};
+pub use sizes::{Slots, takes_all, width};
 pub use slots::is_absent;
+pub use sources::{by_bits, source_bits};

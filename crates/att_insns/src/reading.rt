@@ -4,18 +4,21 @@ ghost use Rattle.std.specs.Prelude.{◌≡◌, map};
 ghost use Rattle.asm_base.specs.Tokens.{spelled};
 ghost use Rattle.att_operands.specs.Values.{GivesSo, IsValueOf};
 ghost use Rattle.att_operands.specs.OperandTexts.{no_displacement};
-ghost use Rattle.att_insns.specs.InsnTexts.{blank, IsInsnOf};
+ghost use Rattle.att_insns.specs.InsnTexts.{InsnText, blank, IsInsnOf};
+ghost use Rattle.x86_lookup.specs.Mnemonics.{of_size};
 ghost use Rattle.att_insns.specs.Heads.{head};
-ghost use Rattle.att_insns.specs.Reading.{Makes, headed_insn, insn_of};
+ghost use Rattle.att_insns.specs.Reading.{Makes, finished, headed_insn, insn_of};
 
 use crate::filling::put_all;
 use crate::heads::{FoundHead, head_of};
-use crate::rules::{apply, is_branch};
+use crate::rules::is_branch;
 use crate::sizes::give_size;
+use crate::sources::mean;
 use asm_base::Token;
 use att_operands::{OperandCause, OperandFault};
 use std::alloc::Global;
 use x86_insn::{Address, Amount, Base, Index, Insn, Mnemonic, Prefix, Slot, Value};
+use x86_lookup::Rule;
 
 /// The number 0.
 #[inline(always)]
@@ -51,6 +54,18 @@ pub fn blank<'a>(name: Mnemonic, size: u8, prefix: Prefix) -> Insn<'a>
     }
 }
 
+/// What the operands mean by the rule of the mnemonic, and the size.
+#[inline(always)]
+fn finish(insn: &mut Insn, rule: Rule) -> Result<(), OperandFault>
+    ensures { (due : InsnText) → IsInsnOf insn.old due
+        → Makes insn.new result (finished rule due) }
+{
+    match mean(insn, rule) {
+        Ok(()) => give_size(insn),
+        Err(refusal) => Err(refusal),
+    }
+}
+
 /// The instruction gets its operands and its size.
 #[inline(always)]
 fn fill<'a>(
@@ -59,16 +74,13 @@ fn fill<'a>(
     found: FoundHead,
     insn: &mut Insn<'a>,
 ) -> Result<(), OperandFault>
-    ensures { IsInsnOf insn.old (blank found.named.now.name found.named.now.size found.prefix)
+    ensures { IsInsnOf insn.old (blank found.name.named.now.name found.name.size found.prefix)
         → Makes insn.new result (headed_insn (map spelled tokens.now)
-        (head found.named.now found.prefix found.next)) }
+        (head (of_size found.name.named.now found.name.size) found.prefix found.next)) }
 {
-    let rule = found.named.rule;
+    let rule = found.name.named.rule;
     match put_all(alloc, tokens, found.next, is_branch(rule), insn) {
-        Ok(()) => {
-            apply(insn, rule);
-            give_size(insn)
-        }
+        Ok(()) => finish(insn, rule),
         Err(refusal) => Err(refusal),
     }
 }
@@ -85,7 +97,7 @@ pub fn read_into<'a>(
 {
     match head_of(tokens) {
         Some(found) => {
-            *insn = blank(found.named.name, found.named.size, found.prefix);
+            *insn = blank(found.name.named.name, found.name.size, found.prefix);
             fill(alloc, tokens, found, insn)
         }
         None => Err(OperandFault::Fault(OperandCause::UnknownMnemonic)),

@@ -1,6 +1,7 @@
 //! What the operands of a mnemonic mean beside its rows' patterns.
 
 ghost use Rattle.std.specs.Prelude.{◌≡◌};
+ghost use Rattle.x86_lookup.specs.Mnemonics.{is_by_source};
 ghost use Rattle.att_operands.specs.Values.{ValueText, IsValueOf};
 ghost use Rattle.att_insns.specs.InsnTexts.{InsnText, IsInsnOf, text_of, HasTexts};
 ghost use Rattle.att_insns.specs.Rules.{number_text, with_predicate, by_one, by_cl, one_for_two, memory_first, accumulator_first, without_xmm0, quad_is_movq, or_move, long_memory, ruled, is_branch};
@@ -123,25 +124,27 @@ fn quad_is_movq(insn: &mut Insn)
     }
 }
 
-/// Without a 128-bit register `movq` is `mov` of 64 bits.
+/// Without a 128-bit register, and without a letter more, `movq` is `mov` of 64 bits.
 #[inline(always)]
 fn or_move(insn: &mut Insn)
     ensures { (i d : ValueText) → HasTexts insn.old i d
         → IsInsnOf insn.new (or_move (text_of insn.old i d)) }
 {
-    if is_xmm(insn.first) || (is_xmm(insn.second) || is_xmm(insn.third)) {
+    if is_xmm(insn.first) || (is_xmm(insn.second) || is_xmm(insn.third)) || insn.size != 0 {
         return;
     }
     insn.name = Mnemonic(MOV);
     insn.size = 64;
 }
 
-/// Memory has 32 bits.
+/// Memory has 32 bits where no letter says its size.
 pub fn long_memory(insn: &mut Insn)
     ensures { (i d : ValueText) → HasTexts insn.old i d
         → IsInsnOf insn.new (long_memory (text_of insn.old i d)) }
 {
-    if is_memory(insn.first) || (is_memory(insn.second) || is_memory(insn.third)) {
+    if (is_memory(insn.first) || (is_memory(insn.second) || is_memory(insn.third)))
+        && insn.size == 0
+    {
         insn.size = 32;
     }
 }
@@ -170,9 +173,9 @@ fn rarely(insn: &mut Insn, rule: Rule)
     }
 }
 
-/// What the operands mean by any rule.
+/// What the operands mean by any rule but that of a source's size.
 #[inline(always)]
-fn apply_text(insn: &mut Insn, rule: Rule)
+pub(crate) fn apply_text(insn: &mut Insn, rule: Rule)
     ensures { (i d : ValueText) → HasTexts insn.old i d
         → IsInsnOf insn.new (ruled rule (text_of insn.old i d)) }
 {
@@ -182,12 +185,20 @@ fn apply_text(insn: &mut Insn, rule: Rule)
     }
 }
 
-/// What the operands mean by the rule of the mnemonic.
+/// The same of an instruction that has a text.
 #[inline(always)]
 pub fn apply(insn: &mut Insn, rule: Rule)
     ensures { (due : InsnText) → IsInsnOf insn.old due → IsInsnOf insn.new (ruled rule due) }
 {
     apply_text(insn, rule);
+}
+
+/// Whether the name is by the size of the source.
+#[inline(always)]
+pub(crate) fn is_by_source(rule: Rule) -> bool
+    ensures { result ≡ is_by_source rule }
+{
+    matches!(rule, Rule::BySource)
 }
 
 /// Whether an expression without a mark is the target of a branch.

@@ -97,7 +97,7 @@ fn all_agree(rows: &[Row], slots: Slots, size: u8) -> bool
 
 /// The first row of the name that takes such operands.
 #[tactic(auto, using(crate::proofs::RowSearches::form_found))]
-pub fn first_form(name: Mnemonic, slots: Slots) -> Option<&'static Row>
+pub(crate) fn first_form(name: Mnemonic, slots: Slots) -> Option<&'static Row>
     ensures { let due = find (is_form name.0 slots.0 slots.1 slots.2) the_rows in
         option_map (λ row. row.now) result ≡ due }
 {

@@ -15,11 +15,12 @@ use Rattle.att_operands.specs.declared.faults.OperandCause.TheVariants.{UnknownM
 use Rattle.att_insns.specs.InsnTexts.{InsnText, blank}
 use Rattle.att_insns.specs.Rules.{is_branch}
 use Rattle.att_insns.specs.Sizes.{is_form}
+use Rattle.att_insns.specs.Sources.{word_name, source_name, renamed, source_bits, unless_form, from_unsized, by_bits}
 use Rattle.intel_operands.specs.OperandTexts.{SizedText, ReadPart, operand_at}
 use Rattle.intel_operands.specs.Spells.{IsSpelledIn}
 use Rattle.intel_operands.specs.Failing.{HasFault as OperandHasFault, front_of}
 use Rattle.intel_insns.specs.InsnTexts.{FilledText, with_operand}
-use Rattle.intel_insns.specs.Rules.{word_name, long_name, renamed, source_bits, unless_form, from_unsized, by_bits, meant_by}
+use Rattle.intel_insns.specs.Rules.{meant_by}
 use Rattle.intel_insns.specs.Sizes.{form_of, agrees, sized_by, size_left, sized}
 use Rattle.intel_insns.specs.Heads.{Head, head, head_of}
 use Rattle.intel_insns.specs.Reading.{operand_then, operands_at, with_all, unfilled, finished, insn_by, insn_of}
@@ -199,22 +200,12 @@ wider_by filled cause (Some r) unsaid is given =
       is = sym (err_is UnknownOperandSize cause given);
     }
 
-long_by : (filled : FilledText) (name : ℕ) (cause : OperandCause) (b : Bool) → cond b (Ok (record filled.insn { name = record { 0 = name } })) (Ok filled.insn) ≡ Err cause → ⊥
-long_by filled name cause true given = cc
-long_by filled name cause false given = cc
-
-word_by : (filled : FilledText) (name other : ℕ) (cause : OperandCause) (b c : Bool)
-    → cond b (Ok (record filled.insn { name = record { 0 = name } })) (cond c (Ok (record filled.insn { name = record { 0 = other } })) (Ok filled.insn)) ≡ Err cause → ⊥
-word_by filled name other cause true c given = cc
-word_by filled name other cause false c given = long_by filled other cause c given
-
 source_by : (filled : FilledText) (cause : OperandCause) (bits : ℕ) (b : Bool) → source_bits filled.bits filled.insn.second ≡ bits → (bits == 0) ≡ b
-    → cond b (from_unsized filled.insn) (cond (bits == 16) (Ok (renamed filled.insn (word_name filled.insn.name.0))) (cond (bits == 32) (Ok (renamed filled.insn (long_name filled.insn.name.0))) (Ok filled.insn))) ≡ Err cause
-    → TwoSources rule.BySource filled cause
+    → cond b (from_unsized filled.insn) (Ok (renamed filled.insn (source_name bits filled.insn.name.0))) ≡ Err cause → TwoSources rule.BySource filled cause
 unfolding from_unsized
 source_by filled cause bits true are test given =
     wider_by filled cause (find (wider_form filled.insn) the_rows) (ap (λ (n : ℕ). n == 0) are ∙ test) refl given
-source_by filled cause bits false are test given = absurd (word_by filled (word_name filled.insn.name.0) (long_name filled.insn.name.0) cause (bits == 16) (bits == 32) given)
+source_by filled cause bits false are test given = cc
 
 source_fails : (filled : FilledText) (cause : OperandCause) (bits : ℕ) → source_bits filled.bits filled.insn.second ≡ bits → by_bits filled.insn bits ≡ Err cause → TwoSources rule.BySource filled cause
 source_fails filled cause bits are given = source_by filled cause bits (bits == 0) are refl given

@@ -23,7 +23,7 @@ use Rattle.intel_operands.specs.Words.{is_word, bits_of}
 use Rattle.intel_operands.specs.Symbols.{is_symbol, has_symbol, is_numeric, are_numbers, names_place}
 use Rattle.intel_operands.specs.OperandTexts.{value_of, has_register, lone_register, segment_of, has_bracket, closes_bracket, bracketed, sized, outline_of, operand_of as text_operand, is_no_comma, operand_at}
 use Rattle.att_insns.specs.Sizes.{takes_all}
-use Rattle.intel_insns.specs.Rules.{from_unsized}
+use Rattle.att_insns.specs.Sources.{from_unsized}
 use Rattle.intel_insns.specs.Sizes.{takes_sized, size_left}
 use Rattle.intel_insns.specs.Heads.{mnemonic_of, head_of}
 use Rattle.intel_insns.specs.Reading.{with_all, insn_of}

@@ -16,8 +16,9 @@ use Rattle.intel_operands.specs.Failing.{front_of, HasFault as OperandHasFault, 
 use Rattle.att_insns.specs.InsnTexts.{InsnText}
 use Rattle.att_insns.specs.Rules.{is_branch}
 use Rattle.att_insns.specs.Sizes.{is_form}
+use Rattle.att_insns.specs.Sources.{word_name, source_bits}
 use Rattle.intel_insns.specs.InsnTexts.{FilledText}
-use Rattle.intel_insns.specs.Rules.{word_name, source_bits, meant_by}
+use Rattle.intel_insns.specs.Rules.{meant_by}
 use Rattle.intel_insns.specs.Sizes.{form_of}
 use Rattle.intel_insns.specs.Reading.{insn_of}
 use Rattle.intel_insns.specs.Spells.{IsHead, WritesAll, filled_by}

@@ -1,83 +1,17 @@
 //! What the operands of a mnemonic mean beside its rows' patterns.
 
-ghost use Rattle.std.specs.Prelude.{◌≡◌, Ok, option_map};
-ghost use Rattle.std.specs.List.{find};
-ghost use Rattle.x86_table.specs.Rows.{the_rows};
+ghost use Rattle.std.specs.Prelude.{Ok};
 ghost use Rattle.att_operands.specs.Values.{ValueText};
 ghost use Rattle.att_insns.specs.InsnTexts.{InsnText, IsInsnOf, text_of, HasTexts};
 ghost use Rattle.att_insns.specs.Reading.{Makes};
 ghost use Rattle.att_insns.specs.Rules.{ruled};
 ghost use Rattle.intel_insns.specs.InsnTexts.{FilledText, IsFilled};
-ghost use Rattle.intel_insns.specs.Rules.{word_name, long_name, source_bits, from_unsized, by_bits, or_string, if_unsized, meant_by};
+ghost use Rattle.intel_insns.specs.Rules.{or_string, if_unsized, meant_by};
 
-use att_insns::{Slots, apply, first_form, is_absent, long_memory, width};
-use att_operands::{OperandCause, OperandFault};
-use x86_insn::{Insn, Mnemonic, Slot};
+use att_insns::{apply, by_bits, is_absent, long_memory, source_bits};
+use att_operands::OperandFault;
+use x86_insn::{Insn, Mnemonic};
 use x86_lookup::Rule;
-use x86_table::mnemonics::integers::{MOVSX_BYTE, MOVSX_WORD, MOVSXD, MOVZX_BYTE, MOVZX_WORD};
-
-/// The name of the same move from 16 bits.
-#[inline(always)]
-fn word_name(name: u16) -> u16
-    ensures { result ≡ word_name name }
-{
-    if name == MOVZX_BYTE {
-        MOVZX_WORD
-    } else if name == MOVSX_BYTE {
-        MOVSX_WORD
-    } else {
-        name
-    }
-}
-
-/// The name of the same move from 32 bits.
-#[inline(always)]
-fn long_name(name: u16) -> u16
-    ensures { result ≡ long_name name }
-{
-    if name == MOVSX_BYTE { MOVSXD } else { name }
-}
-
-/// How many bits the source has, of which memory says so many, or 0 where none are said.
-#[inline(always)]
-fn source_bits(bits: u8, source: Slot) -> u8
-    ensures { result ≡ source_bits bits source }
-{
-    match source {
-        Slot::Register(reg) => width(reg.class),
-        Slot::Memory => bits,
-        _ => 8,
-    }
-}
-
-/// The source in memory says no size: it has 8 bits, if it can't have 16.
-#[tactic(auto, unfolding(crate::specs::Rules::from_unsized))]
-fn from_unsized(insn: &Insn) -> Result<(), OperandFault>
-    ensures { (i d : ValueText) → HasTexts insn.now i d
-        → Makes insn.now result (from_unsized (text_of insn.now i d)) }
-{
-    let slots = Slots(insn.first, insn.second, insn.third);
-    match first_form(Mnemonic(word_name(insn.name.0)), slots) {
-        Some(_) => Err(OperandFault::Fault(OperandCause::UnknownOperandSize)),
-        None => Ok(()),
-    }
-}
-
-/// The instruction by the bits of its source.
-fn by_bits(insn: &mut Insn, bits: u8) -> Result<(), OperandFault>
-    ensures { (i d : ValueText) → HasTexts insn.old i d
-        → Makes insn.new result (by_bits (text_of insn.old i d) bits) }
-{
-    if bits == 0 {
-        return from_unsized(insn);
-    }
-    if bits == 16 {
-        insn.name = Mnemonic(word_name(insn.name.0));
-    } else if bits == 32 {
-        insn.name = Mnemonic(long_name(insn.name.0));
-    }
-    Ok(())
-}
 
 /// Without operands it is the string instruction of this name, of 32 bits.
 fn or_string(insn: &mut Insn, name: u16)

@@ -4,5 +4,7 @@ mod SpanLaws
 mod RowLookups
 mod RowWrites
 mod NameLookups
+mod MnemonicTexts
+mod RowNames
 mod BareLookups
 mod BareReadings

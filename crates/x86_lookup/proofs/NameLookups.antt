@@ -1,5 +1,5 @@
 -- One look finds the mnemonic that the list has.
-use Rattle.std.proofs.Common.{◌≡◌, ◌<◌, ℕ, ◌+◌, ◌*◌, ◌%◌, ◌^◌, List, [], ◌∷◌, true, Option, Some, None, slice_get, refl, arith, zero, suc, sym, ap, ◌∙◌, inl, inr}
+use Rattle.std.proofs.Common.{◌≡◌, ◌<◌, ℕ, ◌+◌, ◌*◌, ◌%◌, ◌^◌, List, [], ◌∷◌, true, Option, Some, None, slice_get, refl, arith, zero, suc, sym, ap, subst, ◌∙◌, inl, inr}
 use Rattle.std.proofs.lemmas.Bool.{and_parts, eqb-true, cases_Bool, cases_order}
 use Rattle.std.proofs.lemmas.Str.Ascii.{lowercase_is}
 use Rattle.std.specs.Char.{to_ascii_lowercase}
@@ -103,3 +103,22 @@ att_found text = found the_att_names the_att_slots text att_placed
 
 pub intel_found : (text : List ℕ) → name_by the_intel_names the_intel_slots text ≡ find (has_text text) the_intel_names
 intel_found text = found the_intel_names the_intel_slots text intel_placed
+
+-- each mnemonic stands at the index by its text
+placed_at : (slots : List ℕ) (names : List Named) (i j k : ℕ) (named : Named) → all_placed slots i names ≡ true → slice_get names j ≡ Some named → k ≡ i + j
+    → is_index (slot_of slots (text_of named)) k ≡ true
+placed_at slots [] i j k named a e s = cc
+placed_at slots (one ∷ names) i zero k named a e s =
+    let p = and_parts (is_index (slot_of slots (text_of one)) i) (all_placed slots (i + 1) names) a in
+    let here : i ≡ k = omega arith in
+    let own : is_index (slot_of slots (text_of named)) i ≡ true = subst (λ (n : Named). is_index (slot_of slots (text_of n)) i ≡ true) (some_is e) p.0 in
+    subst (λ (n : ℕ). is_index (slot_of slots (text_of named)) n ≡ true) here own
+placed_at slots (one ∷ names) i (suc j) k named a e s =
+    let p = and_parts (is_index (slot_of slots (text_of one)) i) (all_placed slots (i + 1) names) a in
+    placed_at slots names (i + 1) j k named p.1 e (omega arith)
+
+-- no two mnemonics have one text: each is found by its own
+pub att_whole : (i : ℕ) (named : Named) (text : List ℕ) → slice_get the_att_names i ≡ Some named → has_text text named ≡ true → find (has_text text) the_att_names ≡ Some named
+att_whole i named text e t =
+    let slot : slot_of the_att_slots text ≡ Some i = at_index the_att_slots text named i (placed_at the_att_slots the_att_names 0 i i named att_placed e (omega arith)) t in
+    found_at the_att_slots text the_att_names 0 i i att_placed slot (omega arith) ∙ ap (if_text text) e ∙ rw t refl

@@ -3,4 +3,5 @@ pub mod Ranges
 pub mod Names
 pub mod Writing
 pub mod BareInstructions
+pub mod Mnemonics
 pub mod BareCodes

@@ -8,8 +8,8 @@ use self::integers::integers;
 use self::vectors::vectors;
 use crate::names::Named;
 use crate::names::Rule::{
-    AccumulatorFirst, Branch, ByCl, ByOne, LongMemory, MemoryFirst, OneForTwo, OrMove, Plain,
-    Predicate, QuadIsMovq, WithXmm0,
+    AccumulatorFirst, Branch, ByCl, ByOne, BySource, LongMemory, MemoryFirst, OneForTwo, OrMove,
+    Plain, Predicate, QuadIsMovq, WithXmm0,
 };
 use x86_insn::Mnemonic;
 use x86_table::mnemonics::integers::*;
@@ -30,6 +30,6 @@ macro_rules! names {
 /// The text and its length, the name of rows, the operand size in bits that it fixes or 0, and how its
 /// operands are read.
 #[rattlefmt::skip]
-pub static ATT_NAMES: [Named; 750] = integers! {
+pub static ATT_NAMES: [Named; 761] = integers! {
     vectors names;
 };

@@ -6,6 +6,7 @@ mod bare_codes;
 mod bare_instructions;
 mod intel_mnemonics;
 mod laws;
+mod mnemonics;
 mod names;
 mod ranges;
 mod slots;
@@ -13,7 +14,8 @@ mod spans;
 mod writing;
 
 pub use bare_instructions::bare_code;
-pub use laws::{bare_codes_read, mnemonics_have_rows};
-pub use names::{Named, Rule, att_name, att_names, intel_name, intel_names, shown_as};
+pub use laws::{bare_codes_read, mnemonics_are_complete, mnemonics_have_rows};
+pub use mnemonics::{FoundName, att_name};
+pub use names::{Named, Rule, att_names, intel_name, intel_names, shown_as};
 pub use ranges::{RowRange, rows, rows_of, rows_of_size};
 pub use writing::{Store, Writes, written};

@@ -35,7 +35,8 @@ pub enum Rule {
     LongMemory,
     /// Where no row of the name has such operands, it is `MOV` of 64 bits.
     OrMove,
-    /// By the size of the source it is this name, or the next one.
+    /// By the size of the source it is this name, or one of those behind it. A letter of a size is
+    /// that of the source.
     BySource,
     /// Without operands it is the string instruction of this name, of 32 bits.
     OrString(u16),
@@ -148,7 +149,7 @@ pub(crate) fn name_at(names: &'static [Named], text: &[u8], index: u16) -> Optio
 
 /// The mnemonic of the text, at its index.
 #[inline(always)]
-fn name_by(names: &'static [Named], slots: &[u16], text: &[u8]) -> Option<&'static Named>
+pub(crate) fn name_by(names: &'static [Named], slots: &[u16], text: &[u8]) -> Option<&'static Named>
     ensures { option_map (λ named. named.now) result ≡ name_by names.now slots.now text.now }
 {
     match slot_at(slots, mixed(text)) {
@@ -166,15 +167,6 @@ pub fn shown_as(names: &'static [Named], name: &Mnemonic, size: u8) -> Option<&'
     names
         .iter()
         .find(|named| named.name.0 == name.0 && named.size == size)
-}
-
-/// The mnemonic of AT&T syntax with this text, in either case, if there is one.
-#[inline(always)]
-#[tactic(auto, using(crate::proofs::NameLookups::att_found))]
-pub fn att_name(text: &[u8]) -> Option<&'static Named>
-    ensures { option_map (λ named. named.now) result ≡ find (has_text text.now) the_att_names }
-{
-    name_by(att_names(), att_slots(), text)
 }
 
 /// The mnemonic of Intel syntax with this text, in either case, if there is one.
