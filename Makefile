@@ -43,6 +43,7 @@ check-outside: all
 	checks/outside.sh build/as
 	checks/tables.sh build/as
 	checks/gcc.sh build/gcc
+	checks/weak_alias.sh build/gcc
 	checks/functions.sh build/as
 	checks/programs.py --ours build/as
 	checks/expressions.py build/as

@@ -14,7 +14,7 @@ use Rattle.asm_frags.specs.PlainBytes.{field_end, IsBeside, FieldsStand}
 use Rattle.asm_frags.specs.SectionOf.{SectionOf}
 use Rattle.asm_frags.specs.Substituting.{substituted_field}
 use Rattle.asm_frags.specs.Writing.{LooseSection}
-use Rattle.assigned_forms.specs.Expanding.{expanded}
+use Rattle.assigned_forms.specs.Linked.{linked}
 use Rattle.asm_relax.specs.KeptSections.{kept_section}
 use Rattle.asm_relax.specs.Settling.{LaidItem, LaidSections, layout_of}
 use Rattle.elf_file.specs.Places.{PieceAt}
@@ -129,9 +129,9 @@ module _ (settled : AreSettled) (symbols : SymbolMap) (sections : List LooseSect
 
   -- a field of the instruction is there
   field_got : (earlier more : List Field) (field : FieldInCode) → section.fields ≡ earlier ++ (place field ∷ more)
-      → slice_get (map (substituted_field (expanded symbols)) section.fields) (length earlier) ≡ Some (substituted_field (expanded symbols) (place field))
+      → slice_get (map (substituted_field (linked symbols)) section.fields) (length earlier) ≡ Some (substituted_field (linked symbols) (place field))
   field_got earlier more field there =
-      let substituted = substituted_field (expanded symbols) in
+      let substituted = substituted_field (linked symbols) in
       slice_get-map substituted section.fields (length earlier)
       ∙ ap (option_map substituted) (ap (λ (fs : List Field). slice_get fs (length earlier)) there ∙ get_behind earlier (place field) more)
 
@@ -140,7 +140,7 @@ module _ (settled : AreSettled) (symbols : SymbolMap) (sections : List LooseSect
       → section.fields ≡ earlier ++ (place field ∷ more)
       → PieceAt image (file_at (offset + field.at)) (valued field)
   field_there earlier more field within there =
-      settled.values symbols laid n (length earlier) kept (substituted_field (expanded symbols) (place field)) filed
+      settled.values symbols laid n (length earlier) kept (substituted_field (linked symbols) (place field)) filed
       (settled.layouts.stand symbols section.bytes 0 section.fields stand)
       (field_got earlier more field there)
       (between (offset + field.at) (offset + field.at + width field.size) (omega arith) (omega (arith, within)))

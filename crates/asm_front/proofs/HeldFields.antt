@@ -12,7 +12,7 @@ use Rattle.asm_frags.specs.SectionOf.{SectionOf}
 use Rattle.asm_frags.specs.Substituting.{substituted_field}
 use Rattle.asm_relax.specs.declared.faults.LayoutFault.TheVariants.{DistanceOutOfRange}
 use Rattle.asm_relax.specs.Faults.{or_later, first_of}
-use Rattle.assigned_forms.specs.Expanding.{expanded}
+use Rattle.assigned_forms.specs.Linked.{linked}
 use Rattle.asm_relax.specs.FieldValues.{held_value}
 use Rattle.asm_relax.specs.RangeChecks.{large_section, section_back, misfit, field_misfit, section_misfit, first_fault}
 use Rattle.asm_relax.specs.Settling.{LaidItem, LooseSections, LaidSections, planned, unless, settled_sections, layout_of}
@@ -63,10 +63,10 @@ value_held pos kind size (Some value) none = no_misfit pos kind size value (hold
 -- a field of a section that is laid out holds its value
 pub field_held : (symbols : SymbolMap) (sections : LooseSections) (laid : LaidSections) (n index : ℕ) (section : SectionOf LaidItem) (field : Field)
     → layout_of symbols sections ≡ Ok laid
-    → slice_get laid n ≡ Some section → slice_get section.fields index ≡ Some (substituted_field (expanded symbols) field)
+    → slice_get laid n ≡ Some section → slice_get section.fields index ≡ Some (substituted_field (linked symbols) field)
     → holds field.role.kind field.size (final_value symbols laid field) ≡ true
 field_held symbols sections laid n index section field e found there =
-    let substituted = substituted_field (expanded symbols) field in
+    let substituted = substituted_field (linked symbols) field in
     let all = sections_fine symbols laid (layout_fine symbols sections laid e) in
     let fields = each_fine (section_misfit symbols laid) laid n section all found in
     value_held field.pos field.role.kind field.size (held_value symbols laid substituted)

@@ -18,6 +18,7 @@ use Rattle.asm_frags.specs.Substituting.{substituted_field, laid_item, laid_sect
 use Rattle.asm_frags.specs.Writing.{LooseSection}
 use Rattle.item_bytes.specs.declared.jumps.Condition.{Condition}
 use Rattle.assigned_forms.specs.Expanding.{replacement, plus_terms, with_replaced, names_assigned, expanded_within, expanded}
+use Rattle.assigned_forms.specs.Linked.{linked_map, linked}
 use Rattle.row_distances.specs.Places.{meant_place, place_of}
 use Rattle.item_rows.specs.ItemRows.{own_of}
 use Rattle.asm_relax.specs.ItemValues.{StandsIn, NamesOwnPlace, IsInItem}
@@ -55,6 +56,10 @@ expanded_small : (map : SymbolMap) (form : Form) → form.constant < 2 ^ 64 → 
 unfolding expanded expanded_within
 expanded_small map form small = expanded_by (names_assigned map form) (replacement (λ next. expanded_within (length map.symbols) map next) map) form small
 
+linked_small : (map : SymbolMap) (form : Form) → form.constant < 2 ^ 64 → (linked map form).constant < 2 ^ 64
+unfolding linked
+linked_small map form small = expanded_small (linked_map map) form small
+
 -- THE PLACES
 
 -- a section keeps its items where it is laid out
@@ -64,8 +69,8 @@ planned_stands symbols sections place has =
     let count = length-map has.section.items laid_item in
     let enough = has.enough in
     record {
-      section = laid_section (expanded symbols) has.section;
-      there = slice_get-map (laid_section (expanded symbols)) sections place.section ∙ ap (option_map (laid_section (expanded symbols))) has.there;
+      section = laid_section (linked symbols) has.section;
+      there = slice_get-map (laid_section (linked symbols)) sections place.section ∙ ap (option_map (laid_section (linked symbols))) has.there;
       within = omega (arith, count, enough);
     }
 
@@ -93,30 +98,30 @@ module _ (symbols : SymbolMap) (sections : List LooseSection) (last : ℕ) (stan
 
   module _ (n item offset : ℕ) (pos : Pos) (condition : Option Condition) (field : Field) (stands : JumpStandsAt sections n item offset pos condition field)
       (of_section : field.section ≡ n) (behind_item : field.item ≡ item + 1) where
-    own_stands : StandsIn (planned symbols sections) (own_of (substituted_field (expanded symbols) field)).place
+    own_stands : StandsIn (planned symbols sections) (own_of (substituted_field (linked symbols) field)).place
     own_stands =
         let some = slice_get_within stands.section.items item _ stands.item_there in
         planned_stands symbols sections (own_of field).place
         (record { section = stands.section; there = ap (slice_get sections) of_section ∙ stands.found; enough = omega (arith, behind_item, some) })
 
     by_test : (test : Bool) (index : ℕ) (place : SectionPlace)
-        → cond test (Some (own_of (substituted_field (expanded symbols) field)).place) (option_map_or (λ (symbol : Symbol). meant_place symbol.meaning) (slice_get symbols.symbols index) None)
+        → cond test (Some (own_of (substituted_field (linked symbols) field)).place) (option_map_or (λ (symbol : Symbol). meant_place symbol.meaning) (slice_get symbols.symbols index) None)
         ≡ Some place → StandsIn (planned symbols sections) place
     by_test true index place is = subst (StandsIn (planned symbols sections)) (same_Some _ place is) own_stands
     by_test false index place is = by_symbol index (slice_get symbols.symbols index) place refl is
 
-    places_stand : (index : ℕ) (place : SectionPlace) → place_of symbols (own_of (substituted_field (expanded symbols) field)) index ≡ Some place
+    places_stand : (index : ℕ) (place : SectionPlace) → place_of symbols (own_of (substituted_field (linked symbols) field)) index ≡ Some place
         → StandsIn (planned symbols sections) place
     unfolding place_of
     places_stand index place is = by_test (index == own_place) index place is
 
     -- the field stands in an item, where its form names its own place minus once
-    pub stands_in_item : field.in_item ≡ true → field.role.behind ≡ 0 → NamesOwnPlace (is_distance field.role.kind) (expanded symbols field.form)
-        → field.form.constant < 2 ^ 64 → IsInItem symbols (planned symbols sections) (substituted_field (expanded symbols) field)
+    pub stands_in_item : field.in_item ≡ true → field.role.behind ≡ 0 → NamesOwnPlace (is_distance field.role.kind) (linked symbols field.form)
+        → field.form.constant < 2 ^ 64 → IsInItem symbols (planned symbols sections) (substituted_field (linked symbols) field)
     stands_in_item in_item behind own small = record {
       in_item = in_item;
       behind = behind;
       own = own;
-      constant = expanded_small symbols field.form small;
+      constant = linked_small symbols field.form small;
       places = places_stand;
     }

@@ -26,7 +26,7 @@ use Rattle.item_contents.specs.Contents.{level_size}
 use Rattle.asm_levels.specs.Shifts.{shifts_of}
 use Rattle.item_bytes.specs.Levels.{IsSignedWithin}
 use Rattle.item_bytes.specs.Levels.{jump_size}
-use Rattle.assigned_forms.specs.Expanding.{expanded}
+use Rattle.assigned_forms.specs.Linked.{linked}
 use Rattle.item_rows.specs.ItemRows.{all_rows, rows_of, levels_of}
 use Rattle.asm_relax.specs.FieldValues.{held_value}
 use Rattle.asm_relax.specs.ItemValues.{AreLow, IsInItem, HasRoom}
@@ -145,8 +145,8 @@ module _ (settled : AreSettled) (facts : JumpFacts) (symbols : SymbolMap) (secti
       ap (λ (i : LaidItem). i.address) (same_Some _ _ (sym stays ∙ moves))
 
   -- its field, with assigned symbols expanded
-  field_got : slice_get kept.fields stands.index ≡ Some (substituted_field (expanded symbols) field)
-  field_got = slice_get-map (substituted_field (expanded symbols)) section.fields stands.index ∙ ap (option_map (substituted_field (expanded symbols))) stands.field_there
+  field_got : slice_get kept.fields stands.index ≡ Some (substituted_field (linked symbols) field)
+  field_got = slice_get-map (substituted_field (linked symbols)) section.fields stands.index ∙ ap (option_map (substituted_field (linked symbols))) stands.field_there
 
   abbrev item_value : ℕ
   item_value = final_value symbols laid field
@@ -171,11 +171,11 @@ module _ (settled : AreSettled) (facts : JumpFacts) (symbols : SymbolMap) (secti
 
   -- it has the size of a level at which there is room for the value, where its row tells that
   has_room : AreLow symbols (levels_of (rows_of symbols (planned symbols sections))) (planned symbols sections)
-      → IsInItem symbols (planned symbols sections) (substituted_field (expanded symbols) field) → HasRoomFor symbols laid (Jump condition) item_size (substituted_field (expanded symbols) field)
+      → IsInItem symbols (planned symbols sections) (substituted_field (linked symbols) field) → HasRoomFor symbols laid (Jump condition) item_size (substituted_field (linked symbols) field)
   has_room low in_item =
       let settled_is : laid ≡ settled_sections symbols (planned symbols sections) = settled.layouts.settled symbols sections laid is in
-      subst (λ (all : LaidSections). HasRoomFor symbols all (Jump condition) item_size (substituted_field (expanded symbols) field)) (sym settled_is)
-      (facts.room symbols (planned symbols sections) n item stands.index kept settled_item (Jump condition) (substituted_field (expanded symbols) field) low in_item
+      subst (λ (all : LaidSections). HasRoomFor symbols all (Jump condition) item_size (substituted_field (linked symbols) field)) (sym settled_is)
+      (facts.room symbols (planned symbols sections) n item stands.index kept settled_item (Jump condition) (substituted_field (linked symbols) field) low in_item
       (ap (λ (all : LaidSections). slice_get all n) (sym settled_is) ∙ found) got.2 refl field_got)
 
 -- WHAT IT READS AS
@@ -261,7 +261,7 @@ jump_reads_back settled one_way table placing facts no_warn front s later text c
     let room = has_room settled facts symbols sections laid n item offset pos condition field is stands takes low
     (stands_in_item symbols sections last stand n item offset pos condition field stands refl refl refl refl own
     (jump_constant there.jump.forms.displacement)) in
-    let held = room_held facts condition bytes room.level (held_value symbols laid (substituted_field (expanded symbols) field)) small fits room.sized room.room in
+    let held = room_held facts condition bytes room.level (held_value symbols laid (substituted_field (linked symbols) field)) small fits room.sized room.room in
     record {
       jump = there.jump;
       reads = jump_at one_way facts text condition (not (bytes == 2)) object piece.rest at distance jump (ap (drop at) same ∙ drop_stands (image_of symbols laid) at _ piece) held;

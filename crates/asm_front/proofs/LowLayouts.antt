@@ -12,7 +12,7 @@ use Rattle.asm_symbols.specs.SymbolMap.{SymbolMap}
 use Rattle.asm_frags.specs.Addresses.{item_laid_at}
 use Rattle.asm_frags.specs.Substituting.{laid_item, laid_section, laid_sections}
 use Rattle.asm_frags.specs.Writing.{LooseItem, LooseSection}
-use Rattle.assigned_forms.specs.Expanding.{expanded}
+use Rattle.assigned_forms.specs.Linked.{linked}
 use Rattle.asm_frags.specs.SectionOf.{SectionOf}
 use Rattle.asm_levels.specs.Shifts.{shifts_of}
 use Rattle.item_rows.specs.ItemRows.{row_count, all_rows, rows_of, levels_of}
@@ -153,14 +153,14 @@ pub layout_low : ((symbols : SymbolMap) (sections : LaidSections) → AllRise (s
     → AreLow symbols (levels_of (rows_of symbols (planned symbols sections))) (planned symbols sections)
 unfolding planned settled_sections laid_by
 layout_low rows_rise counts symbols sections within none =
-    let all = laid_sections (expanded symbols) sections in
+    let all = laid_sections (linked symbols) sections in
     let rows = rows_of symbols all in
     let levels = levels_of rows in
     let shifts = shifts_of rows levels in
     let rise = rows_rise symbols all in
     let small = all_small (laid_out shifts all) none in
     record {
-      offsets = offsets_low (expanded symbols) sections shifts within small;
+      offsets = offsets_low (linked symbols) sections shifts within small;
       shifts = λ index default few.
           let count = counts symbols levels all in
           let there = rows_low all shifts rise small index (omega (arith, count, few)) in

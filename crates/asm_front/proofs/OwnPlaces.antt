@@ -2,6 +2,7 @@
 use Rattle.std.proofs.Common.{◌≡◌, ℕ, zero, suc, ◌+◌, ◌-◌, ◌*◌, ◌^◌, ◌<◌, ◌≤◌, Bool, true, false, cond, List, [], ◌∷◌, length, map, Option, None, Some, refl, sym, ap, ◌∙◌, subst, arith}
 use Rattle.std.specs.Prelude.{◌==◌, slice_get, option_map}
 use Rattle.std.proofs.lemmas.Bool.Decides.{nat_tests}
+use Rattle.std.proofs.lemmas.List.Elements.{All-nil, All-cons, All-head, All-tail}
 use Rattle.std.proofs.lemmas.Option.{none-some}
 use Rattle.std.proofs.lemmas.Nat.{mul-mod_second}
 use Rattle.asm_expr.specs.declared.forms.Term.{Term}
@@ -15,6 +16,8 @@ use Rattle.asm_symbols.specs.declared.entries.Symbol.{Symbol}
 use Rattle.asm_symbols.specs.Assigning.{form_of, form_at}
 use Rattle.asm_symbols.specs.SymbolMap.{SymbolMap}
 use Rattle.assigned_forms.specs.Expanding.{form_or_symbol, replacement, plus_terms, with_replaced, names_assigned, expanded_within, expanded}
+use Rattle.assigned_forms.specs.Opened.{opened_if}
+use Rattle.assigned_forms.specs.Linked.{is_weak_alias, linked_map, linked}
 use Rattle.asm_relax.specs.ItemValues.{NamesOwnPlace}
 use Rattle.asm_place.specs.Coding.{from_own_place}
 use Rattle.asm_place.specs.SymbolPlaces.{AreUpTo, MeaningStands}
@@ -139,15 +142,57 @@ module _ (adds : (one other : Form) → AreAdded one other) (own : ℕ) where
     unfolding expanded
     expanded_counts form = within_counts (suc (length symbols.symbols)) form
 
+-- SYMBOLS OF WHICH SOME ARE UNDEFINED
+
+-- a form that is left was there before
+form_left : (test : Symbol → Bool) (all : List Symbol) (index : ℕ) (form : Form) → form_at (map (λ symbol. opened_if (test symbol) symbol) all) index ≡ Some form
+    → form_at all index ≡ Some form
+form_left test [] index form is = is
+form_left test (symbol ∷ all) zero form is = by (test symbol) is
+  where
+    by : (undefined : Bool) → form_of (opened_if undefined symbol).meaning ≡ Some form → form_of symbol.meaning ≡ Some form
+    by true none = absurd (none-some form none)
+    by false same = same
+form_left test (symbol ∷ all) (suc index) form is = form_left test all index form is
+
+-- they stand as before
+stand_left : (last : ℕ) (sections : List LooseSection) (test : Symbol → Bool) (all : List Symbol) → StandUpTo last sections all
+    → StandUpTo last sections (map (λ symbol. opened_if (test symbol) symbol) all)
+stand_left last sections test [] stand = All-nil (λ (one : Symbol). MeaningStands sections last one.meaning)
+stand_left last sections test (symbol ∷ all) stand =
+    let Stands = λ (one : Symbol). MeaningStands sections last one.meaning in
+    All-cons Stands (opened_if (test symbol) symbol) (map (λ other. opened_if (test other) other) all)
+    (by (test symbol) (All-head Stands symbol all stand)) (stand_left last sections test all (All-tail Stands symbol all stand))
+  where
+    by : (undefined : Bool) → MeaningStands sections last symbol.meaning → MeaningStands sections last (opened_if undefined symbol).meaning
+    by true own = tt
+    by false own = own
+
+linked_form : (symbols : SymbolMap) (index : ℕ) (form : Form) → form_at (linked_map symbols).symbols index ≡ Some form → form_at symbols.symbols index ≡ Some form
+unfolding linked_map
+linked_form symbols index form is = form_left (is_weak_alias symbols) symbols.symbols index form is
+
+linked_stand : (last : ℕ) (sections : List LooseSection) (symbols : SymbolMap) → StandUpTo last sections symbols.symbols → StandUpTo last sections (linked_map symbols).symbols
+unfolding linked_map
+linked_stand last sections symbols stand = stand_left last sections (is_weak_alias symbols) symbols.symbols stand
+
+-- the form of a field counts the place as often as before
+linked_counts : (adds : (one other : Form) → AreAdded one other) (own : ℕ) (sections : List LooseSection) (symbols : SymbolMap) (last : ℕ) → StandUpTo last sections symbols.symbols
+    → last < own → ((index : ℕ) (form : Form) → form_at symbols.symbols index ≡ Some form → index < own) → (form : Form) → coefficient (linked symbols form) own ≡ coefficient form own
+unfolding linked
+linked_counts adds own sections symbols last stand low below form =
+    expanded_counts adds own sections (linked_map symbols) last (linked_stand last sections symbols stand) low
+    (λ index found is. below index found (linked_form symbols index found is)) form
+
 -- the field of a jump to a target that names symbols up to a low number names its own place minus once
 pub names_own_place : ((one other : Form) → AreAdded one other) → (sections : List LooseSection) (symbols : SymbolMap) (last : ℕ) (target : Form) → StandUpTo last sections symbols.symbols → last ≤ 2 ^ 24
     → ((index : ℕ) (form : Form) → form_at symbols.symbols index ≡ Some form → index < last)
-    → AreUpTo last target.terms → NamesOwnPlace true (expanded symbols (from_own_place target))
+    → AreUpTo last target.terms → NamesOwnPlace true (linked symbols (from_own_place target))
 names_own_place adds sections symbols last target stand few assigned named =
     let low : last < own_place = omega (arith, few) in
     let below : (index : ℕ) (form : Form) → form_at symbols.symbols index ≡ Some form → index < own_place =
     λ index form is. (let before = assigned index form is in omega (arith, before, low)) in
-    let kept = expanded_counts adds own_place sections symbols last stand low below (from_own_place target) in
+    let kept = linked_counts adds own_place sections symbols last stand low below (from_own_place target) in
     let plus = plus_counts adds own_place target (2 ^ 64 - 1) (symbol_form own_place) in
     let none = uncounted adds own_place last target.terms low named in
     let once : coefficient (symbol_form own_place) own_place ≡ 1 = refl in

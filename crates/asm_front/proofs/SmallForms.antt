@@ -13,6 +13,7 @@ use Rattle.asm_frags.specs.declared.fields.Field.{Field}
 use Rattle.asm_frags.specs.Fields.{is_distance, own_place}
 use Rattle.asm_frags.specs.Substituting.{substituted_field}
 use Rattle.assigned_forms.specs.Expanding.{replacement, plus_terms, with_replaced, names_assigned, expanded_within, expanded}
+use Rattle.assigned_forms.specs.Linked.{linked_map, linked}
 use Rattle.asm_relax.specs.FieldValues.{less, counted_bytes, counted, told_in_field, held_value}
 use Rattle.asm_relax.specs.Settling.{LaidSections}
 use Rattle.x86_insn.specs.declared.amounts.FieldKind.{FieldKind}
@@ -72,6 +73,10 @@ expanded_small : (map : SymbolMap) (form : Form) → IsSmall form → IsSmall (e
 unfolding expanded expanded_within
 expanded_small map form small = expanded_by (names_assigned map form) (replacement (λ next. expanded_within (length map.symbols) map next) map) form small
 
+linked_small : (map : SymbolMap) (form : Form) → IsSmall form → IsSmall (linked map form)
+unfolding linked
+linked_small map form small = expanded_small (linked_map map) form small
+
 -- labels that cancel keep it so
 some_terms : {C : Type 0} (terms : List Term) (term : Term) → terms ++ term ∷ [] ≡ [] → C
 some_terms [] term is = absurd cc
@@ -117,7 +122,7 @@ value_by field (Some v) small =
 pub final_small : (symbols : SymbolMap) (laid : LaidSections) (field : Field) → IsSmall field.form → final_value symbols laid field < 2 ^ 64
 unfolding held_value
 final_small symbols laid field small =
-    let substituted = substituted_field (expanded symbols) field in
+    let substituted = substituted_field (linked symbols) field in
     let made = settled (told_in_field symbols laid substituted) substituted.form in
-    let so = settled_small (told_in_field symbols laid substituted) substituted.form (expanded_small symbols field.form small) in
+    let so = settled_small (told_in_field symbols laid substituted) substituted.form (linked_small symbols field.form small) in
     value_by substituted (constant_left made) (λ v is. left_small made.terms made.constant v so.small is)

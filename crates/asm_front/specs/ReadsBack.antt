@@ -7,7 +7,7 @@ use Rattle.asm_lines.specs.NextStatements.{TokenStatement}
 use Rattle.asm_symbols.specs.SymbolMap.{SymbolMap}
 use Rattle.asm_frags.specs.declared.fields.Field.{Field}
 use Rattle.asm_frags.specs.Substituting.{substituted_field}
-use Rattle.assigned_forms.specs.Expanding.{expanded}
+use Rattle.assigned_forms.specs.Linked.{linked}
 use Rattle.asm_relax.specs.FieldValues.{held_value}
 use Rattle.asm_relax.specs.Settling.{LaidSections, layout_of}
 use Rattle.elf_file.specs.Sections.{no_bits}
@@ -66,7 +66,7 @@ BareReadBack flags handed object =
 
 -- the low bytes of this value stand in a field: its own where its symbols cancel, and else 0, in whose place the linker puts a value
 abbrev pub final_value : SymbolMap → LaidSections → Field → ℕ
-final_value symbols laid field = unwrap_or (held_value symbols laid (substituted_field (expanded symbols) field)) 0
+final_value symbols laid field = unwrap_or (held_value symbols laid (substituted_field (linked symbols) field)) 0
 
 -- the same of the field of an encoding, and 0 where there is none
 abbrev pub value_in : (FieldInCode → ℕ) → (CodedField → FieldInCode) → Option CodedField → ℕ

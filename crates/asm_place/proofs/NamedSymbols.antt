@@ -28,7 +28,8 @@ use Rattle.asm_symbols.specs.declared.entries.Symbol.{Symbol}
 use Rattle.asm_symbols.specs.SymbolMap.{SymbolMap, names, index_of}
 use Rattle.asm_symbols.specs.Counting.{meant_name}
 use Rattle.asm_symbols.specs.Interning.{number_of}
-use Rattle.asm_symbols.specs.Looking.{form_told, meaning_told, told}
+use Rattle.asm_symbols.specs.Attributes.{is_weak}
+use Rattle.asm_symbols.specs.Looking.{form_told, meaning_told, symbol_told, told}
 use Rattle.asm_uses.specs.Places.{here_name, known_at}
 use Rattle.asm_place.specs.SymbolPlaces.{AreUpTo, MeaningStands, SymbolStands, SymbolsStand}
 use Rattle.asm_place.proofs.GrowthLemmas.{All-there}
@@ -168,18 +169,20 @@ unfolding number_of
 number_within map' name' =
     subst (λ (count : ℕ). unwrap_or (index_of name' (names map'.symbols)) count ≤ count) (names_long map'.symbols) (index_within name' (names map'.symbols))
 
-told_up_by : (sections : List LooseSection) (last : ℕ) (meant : Meaning) (made : Form) → MeaningStands sections last meant → meaning_told meant ≡ form made
-    → AreUpTo last made.terms
-told_up_by sections last meaning.Undefined made stands is = absurd cc
-told_up_by sections last (meaning.Label spot) made stands is = absurd cc
-told_up_by sections last (meaning.Common size align) made stands is = absurd cc
-told_up_by sections last (meaning.Space spot) made stands is = absurd cc
-told_up_by sections last (meaning.Assigned other) made stands is = by other.terms refl stands
+told_up_by : (sections : List LooseSection) (last : ℕ) (meant : Meaning) (weak : Bool) (made : Form) → MeaningStands sections last meant
+    → meaning_told meant weak ≡ form made → AreUpTo last made.terms
+told_up_by sections last meaning.Undefined weak made stands is = absurd cc
+told_up_by sections last (meaning.Label spot) weak made stands is = absurd cc
+told_up_by sections last (meaning.Common size align) weak made stands is = absurd cc
+told_up_by sections last (meaning.Space spot) weak made stands is = absurd cc
+told_up_by sections last (meaning.Assigned other) weak made stands is = by other.terms weak refl is stands
   where
-    by : (terms : List Term) → other.terms ≡ terms → AreUpTo last other.terms → AreUpTo last made.terms
-    by [] none all = absurd (let told_is : form_told other.terms other ≡ constant other.constant = ap (λ ts. form_told ts other) none in cc)
-    by (term ∷ terms) some all =
-        let told_is : form_told other.terms other ≡ form other = ap (λ ts. form_told ts other) some in
+    by : (terms : List Term) (weak : Bool) → other.terms ≡ terms → form_told other.terms weak other ≡ form made → AreUpTo last other.terms
+        → AreUpTo last made.terms
+    by [] weak none is all = absurd (let told_is : form_told other.terms weak other ≡ constant other.constant = ap (λ ts. form_told ts weak other) none in cc)
+    by (term ∷ terms) true some is all = absurd (let told_is : form_told other.terms true other ≡ absent = ap (λ ts. form_told ts true other) some in cc)
+    by (term ∷ terms) false some is all =
+        let told_is : form_told other.terms false other ≡ form other = ap (λ ts. form_told ts false other) some in
         let same : other ≡ made = cc in
         subst (λ (f : Form). AreUpTo last f.terms) same all
 
@@ -188,11 +191,11 @@ told_up : (sections : List LooseSection) (map' : SymbolMap) (index : ℕ) (made 
 unfolding told
 told_up sections map' index made stand is = by (slice_get map'.symbols index) refl is
   where
-    by : (found : Option Symbol) → slice_get map'.symbols index ≡ found → option_map_or (λ (symbol : Symbol). meaning_told symbol.meaning) found absent ≡ form made
+    by : (found : Option Symbol) → slice_get map'.symbols index ≡ found → option_map_or symbol_told found absent ≡ form made
         → AreUpTo (length map'.symbols) made.terms
     by None there is = absurd cc
     by (Some symbol) there is =
-        told_up_by sections (length map'.symbols) symbol.meaning made
+        told_up_by sections (length map'.symbols) symbol.meaning (is_weak symbol.binding) made
         (All-there (SymbolStands sections (length map'.symbols)) map'.symbols index symbol there stand).0 is
 
 -- at a place no symbol is known behind the next one

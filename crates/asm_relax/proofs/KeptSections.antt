@@ -12,7 +12,7 @@ use Rattle.asm_frags.specs.SectionOf.{SectionOf}
 use Rattle.asm_frags.specs.Addresses.{item_laid_at}
 use Rattle.asm_frags.specs.Substituting.{substituted_field, laid_item, laid_section}
 use Rattle.asm_levels.specs.Shifts.{shifts_of}
-use Rattle.assigned_forms.specs.Expanding.{expanded}
+use Rattle.assigned_forms.specs.Linked.{linked}
 use Rattle.asm_relax.specs.RangeChecks.{first_fault}
 use Rattle.item_rows.specs.ItemRows.{row_count, rows_of, levels_of}
 use Rattle.asm_relax.specs.KeptSections.{kept_section, kept_items, LayoutsKeepSections}
@@ -42,7 +42,7 @@ section_kept : (symbols : SymbolMap) (sections : LooseSections) (laid : LaidSect
 unfolding planned settled_sections laid_by
 section_kept symbols sections laid n section e there =
     let all = planned symbols sections in
-    let substituted = laid_section (expanded symbols) in
+    let substituted = laid_section (linked symbols) in
     let planned_there : slice_get all n ≡ Some (substituted section) = slice_get-map substituted sections n ∙ ap (option_map substituted) there in
     let got = laid_get (shifts_of (rows_of symbols all) (levels_of (rows_of symbols all))) all n (substituted section) planned_there in
     (got.0, ap (λ (found : LaidSections). slice_get found n) (layout_is symbols sections laid e) ∙ got.1)
@@ -127,6 +127,6 @@ module _ (placed : (symbols : SymbolMap) (sections : LaidSections) → map place
     up_to = λ bound. offsets_kept (λ at. at ≤ bound);
     first = λ bound. first_kept (λ at. at ≤ bound);
     others = λ bound. others_kept (λ at. bound ≤ at);
-    beside = λ symbols. beside_kept (expanded symbols);
-    stand = λ symbols. stand_kept (expanded symbols);
+    beside = λ symbols. beside_kept (linked symbols);
+    stand = λ symbols. stand_kept (linked symbols);
   }

@@ -7,14 +7,14 @@ use Rattle.asm_frags.specs.Writing.{LooseItem, LooseSection}
 use Rattle.asm_frags.specs.SectionOf.{SectionOf}
 use Rattle.asm_frags.specs.Addresses.{item_laid_at}
 use Rattle.asm_frags.specs.Substituting.{substituted_field, laid_item, laid_section}
-use Rattle.assigned_forms.specs.Expanding.{expanded}
+use Rattle.assigned_forms.specs.Linked.{linked}
 use Rattle.asm_relax.specs.Layout.{laid_from, laid_out_section, AreSized}
 use Rattle.asm_relax.specs.Placing.{placed_section}
 use Rattle.asm_relax.specs.Settling.{LaidItem, LooseSections, LaidSections, planned, settled_sections, layout_of}
 
 -- the section as it is laid out, by the shifts of its own rows
 abbrev pub kept_section : SymbolMap → List ℕ → LooseSection → SectionOf LaidItem
-kept_section symbols own section = laid_out_section own (laid_section (expanded symbols) section)
+kept_section symbols own section = laid_out_section own (laid_section (linked symbols) section)
 
 -- the items as they are laid out
 abbrev pub kept_items : List ℕ → List LooseItem → List LaidItem
@@ -22,7 +22,7 @@ kept_items shifts items = laid_from shifts (map laid_item items)
 
 -- the fields as they are laid out
 abbrev pub kept_fields : SymbolMap → List Field → List Field
-kept_fields symbols fields = map (substituted_field (expanded symbols)) fields
+kept_fields symbols fields = map (substituted_field (linked symbols)) fields
 
 -- what a layout keeps of sections
 pub record LayoutsKeepSections : Type 0 where

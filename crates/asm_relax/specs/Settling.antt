@@ -8,7 +8,7 @@ use Rattle.asm_frags.specs.Writing.{LooseSection}
 use Rattle.asm_frags.specs.Substituting.{laid_sections}
 use Rattle.item_rows.specs.ItemRows.{rows_of, levels_of}
 use Rattle.asm_relax.specs.declared.faults.LayoutFault.{LayoutFault}
-use Rattle.assigned_forms.specs.Expanding.{expanded}
+use Rattle.assigned_forms.specs.Linked.{linked}
 use Rattle.level_ranks.specs.Ranks.{IsLayout}
 use Rattle.asm_levels.specs.Needs.{need, tops}
 use Rattle.asm_relax.specs.Layout.{laid_by}
@@ -28,15 +28,15 @@ LaidItem = Frag Laid ℕ
 abbrev pub LaidSections : Type 0
 LaidSections = List (SectionOf LaidItem)
 
--- a plan of a layout: the symbols, the sections with assigned symbols expanded in their fields, and whether these are laid out
+-- a plan of a layout: the symbols, the sections with assigned symbols but weak aliases expanded in their fields, and whether these are laid out
 pub record PlanOf : Type 0 where
   pub map : SymbolMap
   pub sections : LaidSections
   pub state : PlanState
 
--- the sections with assigned symbols expanded in their fields, at address 0
+-- the sections with assigned symbols but weak aliases expanded in their fields, at address 0
 unfoldable pub planned : SymbolMap → LooseSections → LaidSections
-planned map sections = laid_sections (expanded map) sections
+planned map sections = laid_sections (linked map) sections
 
 -- a plan of these sections
 abbrev pub plan_of : SymbolMap → LooseSections → PlanOf

@@ -11,13 +11,13 @@ use asm_expr::Linear;
 use asm_frags::{FragFault, Laid, Loose, Sections, Substitution};
 use asm_levels::{RowPlan, needs_stay_within_tops};
 use asm_symbols::Symbols;
-use assigned_forms::Expansions;
+use assigned_forms::{Expansions, linked_expansions};
 use level_ranks::layouts_are_reached;
 use std::alloc::{AllocError, Global};
 use std::marker::Model;
 use std::sync::ledger::Ledger;
 
-/// The expansion of assigned symbols, as the substitution of forms.
+/// The expansion of assigned symbols but weak aliases, as the substitution of forms.
 #[derive(Drop)]
 struct AssignedExpansion<'a> {
     alloc: Global,
@@ -28,21 +28,26 @@ struct AssignedExpansion<'a> {
 impl<'a> Model for AssignedExpansion<'a> {
     ghost use Rattle.asm_symbols.specs.SymbolMap.{SymbolMap};
     ghost use Rattle.assigned_forms.specs.Expanding.{AreExpansions};
+    ghost use Rattle.assigned_forms.specs.Linked.{linked_map};
 
     ghost Value = { SymbolMap };
 
     ghost view = { λ expansion. expansion.symbols.now };
 
-    ghost invariant = { λ expansion. AreExpansions expansion.symbols.now expansion.expansions };
+    ghost invariant = { λ expansion.
+        AreExpansions (linked_map expansion.symbols.now) expansion.expansions };
 }
 
 impl Substitution for AssignedExpansion<'_> {
-    ghost use Rattle.assigned_forms.specs.Expanding.{expanded};
+    ghost use Rattle.assigned_forms.specs.Linked.{linked};
 
-    ghost substitute = { λ symbols form. expanded symbols form };
+    ghost substitute = { λ symbols form. linked symbols form };
 
     fn substitute(&self, form: &mut Linear) -> Result<(), FragFault> {
-        Ok(self.expansions.expand(self.alloc, self.symbols, form)?)
+        Ok(
+            self.expansions
+                .expand_linked(self.alloc, self.symbols, form)?,
+        )
     }
 }
 
@@ -93,7 +98,7 @@ impl<'a> Plan<'a> {
         let expansion = AssignedExpansion {
             alloc,
             symbols,
-            expansions: Expansions::new(alloc, symbols)?,
+            expansions: linked_expansions(alloc, symbols)?,
         };
         let Ok(sections) = sections.substituted(&expansion) else {
             return Err(AllocError);

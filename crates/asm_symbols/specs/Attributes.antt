@@ -1,5 +1,5 @@
 -- The bindings, kinds, sizes and visibilities that are said of symbols.
-use Rattle.std.specs.Prelude.{ℕ, ◌+◌, Option, None, Some, Result, Ok, Err, slice_get}
+use Rattle.std.specs.Prelude.{ℕ, ◌+◌, Bool, true, false, Option, None, Some, Result, Ok, Err, slice_get}
 use Rattle.asm_expr.specs.Forms.{Form}
 use Rattle.asm_symbols.specs.declared.entries.Symbol.{Symbol}
 use Rattle.asm_symbols.specs.declared.entries.Meaning.{Meaning}
@@ -25,6 +25,13 @@ rebound (Some Global) Weak = Ok Weak
 rebound (Some Weak) Local = Err BadSymbolUse
 rebound (Some Weak) Global = Ok Weak
 rebound (Some Weak) Weak = Ok Weak
+
+-- the binding is STB_WEAK
+abbrev pub is_weak : Option Binding → Bool
+is_weak None = false
+is_weak (Some Local) = false
+is_weak (Some Global) = false
+is_weak (Some Weak) = true
 
 -- a common symbol is never local
 abbrev pub bound_as : Meaning → Option Binding → Binding → Result Binding SymCause

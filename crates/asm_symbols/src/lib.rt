@@ -23,4 +23,5 @@ pub use laws::{
     counted_are_labels, leads_is_decided, limits_are_kept, names_are_apart, no_form_leads_back,
     order_is_kept, weak_wins,
 };
+pub use looking::is_weak;
 pub use symbol_map::Symbols;

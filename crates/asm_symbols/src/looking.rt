@@ -2,29 +2,43 @@
 
 ghost use Rattle.std.specs.Prelude.{◌≡◌};
 ghost use Rattle.asm_expr.specs.Knowledge.{told_by};
-ghost use Rattle.asm_symbols.specs.Looking.{meaning_told};
+ghost use Rattle.asm_symbols.specs.Attributes.{is_weak};
+ghost use Rattle.asm_symbols.specs.Looking.{form_told, symbol_told};
 
-use crate::entries::Meaning;
+use crate::entries::{Binding, Meaning, Symbol};
 use crate::symbol_map::Symbols;
-use asm_expr::{Look, SymId};
+use asm_expr::{Linear, Look, SymId};
 
-/// What a symbol is known as that is this.
-fn look_of(meaning: &Meaning) -> Look<'_>
-    ensures { told_by result ≡ meaning_told meaning.now }
+/// Whether the binding is that of a weak symbol.
+pub fn is_weak(binding: Option<Binding>) -> bool
+    ensures { result ≡ is_weak binding }
 {
-    match meaning {
+    matches!(binding, Some(Binding::Weak))
+}
+
+/// What a symbol is known as that is assigned this form: of a weak one only a number is known.
+fn look_of_form(form: &Linear, weak: bool) -> Look<'_>
+    ensures { told_by result ≡ form_told form.now.terms weak form.now }
+{
+    if form.terms().is_empty() {
+        Look::Constant(form.constant())
+    } else if weak {
+        Look::Absent
+    } else {
+        Look::Form(form)
+    }
+}
+
+/// What the symbol is known as.
+fn look_of(symbol: &Symbol) -> Look<'_>
+    ensures { told_by result ≡ symbol_told symbol.now }
+{
+    match &symbol.meaning {
         Meaning::Label(spot) | Meaning::Space(spot) => Look::Label {
             stretch: spot.stretch,
             at: spot.at,
         },
-        Meaning::Assigned(boxed) => {
-            let form = boxed.as_form();
-            if form.terms().is_empty() {
-                Look::Constant(form.constant())
-            } else {
-                Look::Form(form)
-            }
-        }
+        Meaning::Assigned(form) => look_of_form(form.as_form(), is_weak(symbol.binding)),
         Meaning::Undefined | Meaning::Common { .. } => Look::Absent,
     }
 }
@@ -40,7 +54,7 @@ impl Symbols {
         ensures { told_by result ≡ told self.now id }
     {
         match self.symbols.get(id.index() as usize) {
-            Some(symbol) => look_of(&symbol.meaning),
+            Some(symbol) => look_of(symbol),
             None => Look::Absent,
         }
     }

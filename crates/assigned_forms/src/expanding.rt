@@ -2,59 +2,17 @@
 //! it was assigned last, until none is left.
 
 ghost use Rattle.std.specs.Prelude.{◌≡◌, ◌<◌, ◌≤◌, length, None, IsSome, IfOk, option_map};
-ghost use Rattle.asm_symbols.specs.Assigning.{form_of, form_at};
-ghost use Rattle.assigned_forms.specs.Expanding.{is_assigned, names_assigned, form_or_symbol, terms_of, Expands};
+ghost use Rattle.asm_symbols.specs.Assigning.{form_at};
+ghost use Rattle.assigned_forms.specs.Expanding.{form_or_symbol, Expands};
+ghost use Rattle.assigned_forms.specs.Opened.{opened};
 ghost use Rattle.asm_expr.specs.Forms.{plus_times};
 
+use crate::opened::{Opened, count_of, form_at, names_assigned, none_leads_back, terms_at};
 use asm_base::NoMemory;
 use asm_expr::{Linear, Term, constant_form, copied_form, plus_times, symbol_form};
-use asm_symbols::{Meaning, Symbols, leads_is_decided, no_form_leads_back};
+use asm_symbols::leads_is_decided;
 use std::alloc::Global;
 use std::marker::Model;
-
-/// The form of an assigned symbol.
-pub(crate) fn form_of(meaning: &Meaning) -> Option<&Linear>
-    ensures { option_map (λ form. form.now) result ≡ form_of meaning.now }
-{
-    match meaning {
-        Meaning::Assigned(form) => Some(form.as_form()),
-        _ => None,
-    }
-}
-
-/// The form of the symbol at the index, where it is an assigned one.
-pub(crate) fn form_at(symbols: &Symbols, at: usize) -> Option<&Linear>
-    ensures { option_map (λ form. form.now) result ≡ form_at symbols.now.symbols at }
-{
-    match symbols.as_slice().get(at) {
-        Some(symbol) => form_of(&symbol.meaning),
-        None => None,
-    }
-}
-
-/// The terms of the form of the symbol at the index, where it is an assigned one.
-fn terms_at(symbols: &Symbols, at: usize) -> &[Term]
-    ensures { result.now ≡ terms_of (form_at symbols.now.symbols at) }
-{
-    match form_at(symbols, at) {
-        Some(form) => form.terms(),
-        None => &[],
-    }
-}
-
-/// Whether the term is of an assigned symbol.
-fn is_assigned(symbols: &Symbols, term: &Term) -> bool
-    ensures { result ≡ is_assigned symbols.now term.now }
-{
-    form_at(symbols, term.symbol.index() as usize).is_some()
-}
-
-/// Whether the form names an assigned symbol.
-pub(crate) fn names_assigned(symbols: &Symbols, form: &Linear) -> bool
-    ensures { result ≡ names_assigned symbols.now form.now }
-{
-    form.terms().iter().any(|term| is_assigned(symbols, term))
-}
 
 /// The form plus the term, with this form in place of the term's symbol, where there is one.
 pub(crate) fn plus_replaced(
@@ -85,17 +43,19 @@ struct Visit {
 
 /// The form of the symbol begins to be expanded. One that names no assigned symbol is copied, and
 /// no term is left.
-fn begun(alloc: Global, symbols: &Symbols, at: usize) -> Result<Visit, NoMemory>
-    requires there { at < length symbols.now.symbols }
-    requires assigned { IsSome (form_at symbols.now.symbols at) }
+fn begun(alloc: Global, view: Opened, at: usize) -> Result<Visit, NoMemory>
+    requires there { let all = opened view.symbols.now view.marks.now in at < length all.symbols }
+    requires assigned { let all = opened view.symbols.now view.marks.now in
+        IsSome (form_at all.symbols at) }
     ensures symbol { IfOk result (λ visit. visit.symbol ≡ at) }
-    ensures value { IfOk result (λ visit. Expands symbols.now at visit.seen visit.made) }
+    ensures value { let all = opened view.entry.symbols.now view.entry.marks.now in
+        IfOk result (λ visit. Expands all at visit.seen visit.made) }
 {
-    no_form_leads_back(symbols);
+    none_leads_back(view);
     leads_is_decided();
     // The symbol is an assigned one.
-    let form = form_at(symbols, at).unwrap();
-    if names_assigned(symbols, form) {
+    let form = form_at(view, at).unwrap();
+    if names_assigned(view, form) {
         return Ok(Visit {
             symbol: at,
             seen: 0,
@@ -146,6 +106,7 @@ impl<'a> MadeForms<'a> {
     ghost use Rattle.asm_expr.specs.Forms.{plus_times};
     ghost use Rattle.asm_symbols.specs.Assigning.{form_at};
     ghost use Rattle.assigned_forms.specs.Expanding.{form_or_symbol, entry_at, awaits, terms_of, Expands, IsAwaited, AreExpansions, ArePartly, KeepsForms};
+    ghost use Rattle.assigned_forms.specs.Opened.{opened};
 
     /// No form for any of so many symbols.
     fn none(alloc: Global, count: usize) -> Result<MadeForms<'a>, NoMemory>
@@ -170,10 +131,11 @@ impl<'a> MadeForms<'a> {
     }
 
     /// Whether the symbol is an assigned one whose expanded form is not there.
-    fn awaits(&self, symbols: &Symbols, at: usize) -> bool
-        ensures { result ≡ awaits symbols.now self.now at }
+    fn awaits(&self, view: Opened, at: usize) -> bool
+        ensures { let all = opened view.entry.symbols.now view.entry.marks.now in
+            result ≡ awaits all self.now at }
     {
-        form_at(symbols, at).is_some() && self.entry_at(at).is_none()
+        form_at(view, at).is_some() && self.entry_at(at).is_none()
     }
 
     /// The form plus the term, with the form that is there for the term's symbol in its place.
@@ -195,30 +157,34 @@ impl<'a> MadeForms<'a> {
     fn advance(
         &self,
         alloc: Global,
-        symbols: &Symbols,
+        view: Opened,
         visit: Visit,
     ) -> Result<(Visit, Option<usize>), NoMemory>
-        requires there { visit.symbol < length symbols.now.symbols }
-        requires partly { ArePartly symbols.now self.now }
-        requires value { Expands symbols.now visit.symbol visit.seen visit.made }
+        requires there { let all = opened view.symbols.now view.marks.now in
+            visit.symbol < length all.symbols }
+        requires partly { let all = opened view.symbols.now view.marks.now in
+            ArePartly all self.now }
+        requires value { let all = opened view.symbols.now view.marks.now in
+            Expands all visit.symbol visit.seen visit.made }
         ensures symbol { IfOk result (λ after. after.0.symbol ≡ visit.symbol) }
-        ensures value { IfOk result (λ after.
-            Expands symbols.now visit.symbol after.0.seen after.0.made) }
-        ensures awaited { IfOk result (λ after.
-            IfSome after.1 (IsAwaited symbols.now self.now visit.symbol)) }
-        ensures all { IfOk result (λ after. IsNone after.1
-            → length (terms_of (form_at symbols.now.symbols visit.symbol)) ≤ after.0.seen) }
+        ensures value { let all = opened view.entry.symbols.now view.entry.marks.now in
+            IfOk result (λ after. Expands all visit.symbol after.0.seen after.0.made) }
+        ensures awaited { let all = opened view.entry.symbols.now view.entry.marks.now in
+            IfOk result (λ after. IfSome after.1 (IsAwaited all self.now visit.symbol)) }
+        ensures all { let all = opened view.entry.symbols.now view.entry.marks.now in
+            IfOk result (λ after. IsNone after.1
+            → length (terms_of (form_at all.symbols visit.symbol)) ≤ after.0.seen) }
     {
         let Visit {
             symbol,
             mut seen,
             mut made,
         } = visit;
-        let terms = terms_at(symbols, symbol);
+        let terms = terms_at(view, symbol);
         while seen < terms.len() {
             let term = &terms[seen];
             let other = term.symbol.index() as usize;
-            if self.awaits(symbols, other) {
+            if self.awaits(view, other) {
                 return Ok((Visit { symbol, seen, made }, Some(other)));
             }
             made = self.plus_term(alloc, made, term)?;
@@ -248,26 +214,31 @@ impl<'a> MadeForms<'a> {
     /// The expanded form of the symbol is there from now on, if it is an assigned one, and those
     /// of the symbols that it needs.
     #[inline(never)]
-    fn fill_from(&mut self, alloc: Global, symbols: &Symbols, at: usize) -> Result<(), NoMemory>
-        requires there { at < length symbols.now.symbols }
-        requires partly { ArePartly symbols.now self.old }
-        ensures partly { OnOk result (ArePartly symbols.now self.new) }
-        ensures done { OnOk result (awaits symbols.now self.new at ≡ false) }
-        ensures kept { OnOk result (KeepsForms symbols.now self.old self.new) }
+    fn fill_from(&mut self, alloc: Global, view: Opened, at: usize) -> Result<(), NoMemory>
+        requires there { let all = opened view.symbols.now view.marks.now in
+            at < length all.symbols }
+        requires partly { let all = opened view.symbols.now view.marks.now in
+            ArePartly all self.old }
+        ensures partly { let all = opened view.entry.symbols.now view.entry.marks.now in
+            OnOk result (ArePartly all self.new) }
+        ensures done { let all = opened view.entry.symbols.now view.entry.marks.now in
+            OnOk result (awaits all self.new at ≡ false) }
+        ensures kept { let all = opened view.entry.symbols.now view.entry.marks.now in
+            OnOk result (KeepsForms all self.old self.new) }
     {
-        if !self.awaits(symbols, at) {
+        if !self.awaits(view, at) {
             return Ok(());
         }
-        no_form_leads_back(symbols);
+        none_leads_back(view);
         leads_is_decided();
         let mut way = Vec::new(alloc);
-        way.push(begun(alloc, symbols, at)?)?;
+        way.push(begun(alloc, view, at)?)?;
         'way: while let Some(visit) = way.pop() {
-            let (visit, awaited) = self.advance(alloc, symbols, visit)?;
+            let (visit, awaited) = self.advance(alloc, view, visit)?;
             match awaited {
                 Some(other) => {
                     way.push(visit)?;
-                    way.push(begun(alloc, symbols, other)?)?;
+                    way.push(begun(alloc, view, other)?)?;
                 }
                 None => self.put(alloc, visit.symbol, visit.made)?,
             }
@@ -276,18 +247,23 @@ impl<'a> MadeForms<'a> {
     }
 
     /// The same: a form that names no assigned symbol stands for itself.
-    fn fill(&mut self, alloc: Global, symbols: &'a Symbols, at: usize) -> Result<(), NoMemory>
-        requires there { at < length symbols.now.symbols }
-        requires partly { ArePartly symbols.now self.old }
-        ensures partly { OnOk result (ArePartly symbols.now self.new) }
-        ensures done { OnOk result (awaits symbols.now self.new at ≡ false) }
-        ensures kept { OnOk result (KeepsForms symbols.now self.old self.new) }
+    fn fill(&mut self, alloc: Global, view: Opened<'a, '_>, at: usize) -> Result<(), NoMemory>
+        requires there { let all = opened view.symbols.now view.marks.now in
+            at < length all.symbols }
+        requires partly { let all = opened view.symbols.now view.marks.now in
+            ArePartly all self.old }
+        ensures partly { let all = opened view.entry.symbols.now view.entry.marks.now in
+            OnOk result (ArePartly all self.new) }
+        ensures done { let all = opened view.entry.symbols.now view.entry.marks.now in
+            OnOk result (awaits all self.new at ≡ false) }
+        ensures kept { let all = opened view.entry.symbols.now view.entry.marks.now in
+            OnOk result (KeepsForms all self.old self.new) }
     {
-        let Some(form) = form_at(symbols, at) else {
+        let Some(form) = form_at(view, at) else {
             return Ok(());
         };
-        if names_assigned(symbols, form) {
-            return self.fill_from(alloc, symbols, at);
+        if names_assigned(view, form) {
+            return self.fill_from(alloc, view, at);
         }
         self.put_own(at, form);
         Ok(())
@@ -295,12 +271,14 @@ impl<'a> MadeForms<'a> {
 
     /// The expanded forms of the symbols.
     #[inline(never)]
-    pub(crate) fn new(alloc: Global, symbols: &'a Symbols) -> Result<MadeForms<'a>, NoMemory>
-        ensures { IfOk result (AreExpansions symbols.now) }
+    pub(crate) fn new(alloc: Global, view: Opened<'a, '_>) -> Result<MadeForms<'a>, NoMemory>
+        ensures { let all = opened view.entry.symbols.now view.entry.marks.now in
+            IfOk result (AreExpansions all) }
     {
-        let mut made = MadeForms::none(alloc, symbols.len())?;
-        for at in 0..symbols.len() {
-            made.fill(alloc, symbols, at)?;
+        let count = count_of(view);
+        let mut made = MadeForms::none(alloc, count)?;
+        for at in 0..count {
+            made.fill(alloc, view, at)?;
         }
         Ok(made)
     }

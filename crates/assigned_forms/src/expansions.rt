@@ -4,7 +4,8 @@ ghost use Rattle.std.specs.Prelude.{◌≡◌};
 ghost use Rattle.std.specs.List.{list_all};
 ghost use Rattle.assigned_forms.specs.Expanding.{is_plain, stands_for_itself};
 
-use crate::expanding::{MadeForms, form_at, form_of, names_assigned, plus_replaced};
+use crate::expanding::{MadeForms, plus_replaced};
+use crate::opened::{form_of, names_assigned, own_form_at, whole};
 use asm_base::NoMemory;
 use asm_expr::{Linear, constant_form};
 use asm_symbols::{SymId, Symbol, Symbols, leads_is_decided, no_form_leads_back};
@@ -16,7 +17,7 @@ fn stands_for_itself(symbols: &Symbols, symbol: &Symbol) -> bool
     ensures { result ≡ stands_for_itself symbols.now symbol.now }
 {
     match form_of(&symbol.meaning) {
-        Some(form) => !names_assigned(symbols, form),
+        Some(form) => !names_assigned(whole(symbols), form),
         None => true,
     }
 }
@@ -73,8 +74,11 @@ impl<'a> Model for Expansions<'a> {
 }
 
 impl<'a> Expansions<'a> {
-    ghost use Rattle.std.specs.Prelude.{◌≡◌, true, option_map, IfOk, OnOk};
+    ghost use Rattle.std.specs.Prelude.{◌≡◌, true, option_map, Some, IfOk, OnOk};
+    ghost use Rattle.asm_symbols.specs.Assigning.{NoFormLeadsBack};
+    ghost use Rattle.asm_symbols.specs.SymbolMap.{SymbolMap};
     ghost use Rattle.assigned_forms.specs.Expanding.{names_assigned, names_expanded, expanded, entry_at, AreExpansions};
+    ghost use Rattle.assigned_forms.specs.Linked.{linked_map, linked};
 
     /// The expanded forms of the symbols.
     #[tactic(auto, using(crate::proofs::OwnForms::own_expansions, crate::proofs::OwnForms::no_expansions))]
@@ -91,31 +95,36 @@ impl<'a> Expansions<'a> {
                 forms: Forms::Own(symbols),
             });
         }
-        Ok(Expansions {
-            forms: Forms::Made(MadeForms::new(alloc, symbols)?),
-        })
+        Ok(made(MadeForms::new(alloc, whole(symbols))?))
     }
 
-    /// The expanded form of the symbol, where it is an assigned one.
+    /// The expanded form of the symbol at the index, where it is an assigned one.
     #[tactic(auto, using(crate::proofs::OwnForms::own_entry))]
-    pub fn of(&self, id: SymId) -> Option<&Linear>
-        ensures { option_map (λ form. form.now) result ≡ entry_at self.now id }
+    pub(crate) fn entry_at(&self, at: usize) -> Option<&Linear>
+        ensures { option_map (λ form. form.now) result ≡ entry_at self.now at }
     {
         match &self.forms {
             Forms::Absent => None,
-            Forms::Own(symbols) => form_at(symbols, id.index() as usize),
-            Forms::Made(made) => made.entry_at(id.index() as usize),
+            Forms::Own(symbols) => own_form_at(symbols, at),
+            Forms::Made(made) => made.entry_at(at),
         }
+    }
+
+    /// The expanded form of the symbol, where it is an assigned one.
+    #[inline(always)]
+    pub fn of(&self, id: SymId) -> Option<&Linear>
+        ensures { option_map (λ form. form.now) result ≡ entry_at self.now id }
+    {
+        self.entry_at(id.index() as usize)
     }
 
     /// The sum of the terms and the constant of a form that names assigned symbols, with their
     /// expanded forms in place of these.
-    fn sum_of(&self, alloc: Global, symbols: &Symbols, form: &Linear) -> Result<Linear, NoMemory>
-        requires expansions { AreExpansions symbols.now self.now }
-        requires assigned { names_assigned symbols.now form.now ≡ true }
-        ensures { IfOk result (λ made. made ≡ expanded symbols.now form.now) }
+    fn sum_of(&self, alloc: Global, form: &Linear) -> Result<Linear, NoMemory>
+        ensures { (symbols : SymbolMap) → NoFormLeadsBack symbols.symbols
+            → AreExpansions symbols self.now → names_assigned symbols form.now ≡ true
+            → IfOk result (λ made. made ≡ expanded symbols form.now) }
     {
-        no_form_leads_back(symbols);
         leads_is_decided();
         let terms = form.terms();
         let mut made = constant_form(alloc, form.constant());
@@ -140,18 +149,29 @@ impl<'a> Expansions<'a> {
 
     /// Expands a form in place that names assigned symbols.
     #[inline(never)]
-    fn replace(&self, alloc: Global, symbols: &Symbols, form: &mut Linear) -> Result<(), NoMemory>
-        requires expansions { AreExpansions symbols.now self.now }
-        requires assigned { names_assigned symbols.now form.old ≡ true }
-        ensures { OnOk result (form.new ≡ expanded symbols.now form.old) }
+    fn replace(&self, alloc: Global, form: &mut Linear) -> Result<(), NoMemory>
+        ensures { (symbols : SymbolMap) → NoFormLeadsBack symbols.symbols
+            → AreExpansions symbols self.now → names_assigned symbols form.old ≡ true
+            → OnOk result (form.new ≡ expanded symbols form.old) }
     {
-        *form = self.sum_of(alloc, symbols, form)?;
+        *form = self.sum_of(alloc, form)?;
+        Ok(())
+    }
+
+    /// Expands the form in place, for all symbols of which these are the expanded forms.
+    #[inline(always)]
+    fn expand_any(&self, alloc: Global, form: &mut Linear) -> Result<(), NoMemory>
+        ensures { (symbols : SymbolMap) → NoFormLeadsBack symbols.symbols
+            → AreExpansions symbols self.now → OnOk result (form.new ≡ expanded symbols form.old) }
+    {
+        if self.names_expanded(form) {
+            return self.replace(alloc, form);
+        }
         Ok(())
     }
 
     /// Expands the form in place. One that names no assigned symbol is left as it is.
     #[inline(always)]
-    #[tactic(auto, using(crate::proofs::ExpandingLemmas::expanded_none, crate::proofs::ExpansionLemmas::names_there))]
     pub fn expand(
         &self,
         alloc: Global,
@@ -161,9 +181,33 @@ impl<'a> Expansions<'a> {
         requires { AreExpansions symbols.now self.now }
         ensures { OnOk result (form.new ≡ expanded symbols.now form.old) }
     {
-        if self.names_expanded(form) {
-            return self.replace(alloc, symbols, form);
-        }
-        Ok(())
+        no_form_leads_back(symbols);
+        self.expand_any(alloc, form)
+    }
+
+    /// Expands the form of a field in place: all assigned symbols but weak aliases, where these
+    /// stay in the expanded forms too.
+    #[inline(always)]
+    #[tactic(auto, using(crate::proofs::LinkedLemmas::linked_leads_forward), unfolding(crate::specs::Linked::linked))]
+    pub fn expand_linked(
+        &self,
+        alloc: Global,
+        symbols: &Symbols,
+        form: &mut Linear,
+    ) -> Result<(), NoMemory>
+        requires { AreExpansions (linked_map symbols.now) self.now }
+        ensures { OnOk result (form.new ≡ linked symbols.now form.old) }
+    {
+        no_form_leads_back(symbols);
+        self.expand_any(alloc, form)
+    }
+}
+
+/// Expanded forms that were made.
+pub(crate) fn made<'a>(forms: MadeForms<'a>) -> Expansions<'a>
+    ensures { result ≡ forms.entry }
+{
+    Expansions {
+        forms: Forms::Made(forms),
     }
 }

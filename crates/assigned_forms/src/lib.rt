@@ -4,6 +4,9 @@
 mod expanding;
 mod expansions;
 mod laws;
+mod linked;
+mod opened;
 
 pub use expansions::Expansions;
-pub use laws::expansions_are_exact;
+pub use laws::{expansions_are_exact, weak_aliases_stay};
+pub use linked::linked_expansions;

@@ -128,13 +128,17 @@ module _ (begins given : ℕ → ℕ) (map : SymbolMap) (sections : LaidSections
       (chosen (Stands index) (local && not (itself || has_flag merge section)) by_section by_itself
       (sym (ap (value_by begins given index) told)) (itself_stands local index)))
 
+  assigned_stands : (index : ℕ) (local : Bool) (got : SymbolReference) → cond local None (Some (symbol_reference local (OfSymbol index) 0)) ≡ Some got → Stands index got
+  assigned_stands index true got is = absurd cc
+  assigned_stands index false got is = subst (Stands index) (let e : symbol_reference false (OfSymbol index) 0 ≡ got = cc in e) (itself_stands false index)
+
   meaning_stands : (itself : Bool) (index : ℕ) (local : Bool) (what : Meaning) (got : SymbolReference) → final_told map sections index ≡ final_meaning sections what
       → meaning_reference itself sections index local what ≡ Some got → Stands index got
   meaning_stands itself index local meaning.Undefined got told is = subst (Stands index) (let e : symbol_reference local (OfSymbol index) 0 ≡ got = cc in e) (itself_stands local index)
   meaning_stands itself index local (meaning.Label spot) got told is = spot_stands itself index local spot got told is
   meaning_stands itself index local (meaning.Space spot) got told is = spot_stands itself index local spot got told is
   meaning_stands itself index local (meaning.Common size align) got told is = subst (Stands index) (let e : symbol_reference local (OfSymbol index) 0 ≡ got = cc in e) (itself_stands local index)
-  meaning_stands itself index local (meaning.Assigned made) got told is = absurd cc
+  meaning_stands itself index local (meaning.Assigned made) got told is = assigned_stands index local got is
 
   found_stands : (field : Field) (index : ℕ) (got : SymbolReference) → reference_found map sections field index ≡ Some got → Stands index got × (index < length map.symbols)
   unfolding reference_found

@@ -15,7 +15,7 @@ use Rattle.elf_object.specs.Contents.{relocations_of}
 use Rattle.elf_object.specs.Naming.{same_target, is_named_by, is_named, is_thread_named, marks_from, named_of}
 use Rattle.elf_symbols.specs.Numbers.{section_numbers, standing_by, standing_of, symbol_numbers, first_section_symbol, first_local, first_other, numbers_of, target_number}
 use Rattle.elf_symbols.specs.SymbolValues.{symbol_value_of}
-use Rattle.elf_symbols.specs.SymbolTable.{SymbolEntry, is_local_entry, part, file_entry, section_entry, section_entries, entry_at, needs_naming, listed_if, listed, listed_by, listed_all, table_of}
+use Rattle.elf_symbols.specs.SymbolTable.{SymbolEntry, is_local_entry, part, file_entry, section_entry, section_entries, entry_at, needs_naming, value_or_undefined, listed, listed_by, listed_all, table_of}
 use Rattle.elf_object.specs.TableLaws.{named_targets, IsEntryOf, TargetsStand}
 use Rattle.elf_object.proofs.ItemPlaces.{get_front, found_long}
 use Rattle.elf_object.proofs.Targets.{Sits, got_inside, all_sit}
@@ -139,12 +139,16 @@ listed_get map sections (m ∷ marks) (t ∷ threads) (s ∷ symbols) zero mark 
 listed_get map sections (m ∷ marks) (t ∷ threads) (s ∷ symbols) (suc i) mark thread symbol is also there =
     listed_get map sections marks threads symbols i mark thread symbol is also there
 
--- a symbol that is named and stands somewhere is listed
-listed_there : (map : SymbolMap) (sections : LaidSections) (thread : Bool) (symbol : Symbol) (there : SymbolValue) → symbol_value_of map sections symbol.meaning ≡ Some there
-    → listed map sections true thread symbol ≡ Some (entry_at map sections thread symbol there)
+-- where a symbol stands, or undefined
+abbrev stood : SymbolMap → LaidSections → Symbol → SymbolValue
+stood map sections symbol = value_or_undefined (symbol_value_of map sections symbol.meaning)
+
+-- a symbol that is named is listed
+listed_there : (map : SymbolMap) (sections : LaidSections) (thread : Bool) (symbol : Symbol)
+    → listed map sections true thread symbol ≡ Some (entry_at map sections thread symbol (stood map sections symbol))
 unfolding listed
-listed_there map sections thread symbol there is =
-    ap (listed_if map sections true thread symbol) is ∙ kept (needs_naming symbol there) (entry_at map sections thread symbol there)
+listed_there map sections thread symbol =
+    kept (needs_naming symbol (stood map sections symbol)) (entry_at map sections thread symbol (stood map sections symbol))
   where
     kept : (needs : Bool) (entry : SymbolEntry) → cond (needs && not true) None (Some entry) ≡ Some entry
     kept true entry = refl
@@ -202,7 +206,7 @@ symbol_number symbols sections i entry false so there =
 symbol_stands : (symbols : SymbolMap) (sections : LaidSections) (i : ℕ) → Sits symbols sections (OfSymbol i) → is_named (relocations_of symbols sections) (OfSymbol i) ≡ true
     → IsEntryOf symbols sections (target_number (numbers_of symbols sections (named_targets symbols sections)) (OfSymbol i)) (OfSymbol i)
 unfolding named_of
-symbol_stands symbols sections i (symbol, there, got, stands) named =
+symbol_stands symbols sections i (symbol, got) named =
     let found = relocations_of symbols sections in
     let marks = marks_from (λ index. is_named found (OfSymbol index)) 0 (length symbols.symbols) in
     let zero_plus : 0 + i ≡ i = omega arith in
@@ -213,9 +217,9 @@ symbol_stands symbols sections i (symbol, there, got, stands) named =
     let thread = is_thread_named found (OfSymbol (0 + i)) in
     let beside : slice_get threads i ≡ Some thread =
     marks_get (λ index. is_thread_named found (OfSymbol index)) 0 (length symbols.symbols) i (got_inside symbols.symbols i symbol got) in
-    let entry = entry_at symbols sections thread symbol there in
+    let entry = entry_at symbols sections thread symbol (stood symbols sections symbol) in
     symbol_number symbols sections i entry (is_local_entry entry) refl
-    (listed_get symbols sections marks threads symbols.symbols i true thread symbol mark beside got ∙ ap Some (listed_there symbols sections thread symbol there stands))
+    (listed_get symbols sections marks threads symbols.symbols i true thread symbol mark beside got ∙ ap Some (listed_there symbols sections thread symbol))
 
 target_stands : (symbols : SymbolMap) (sections : LaidSections) (target : Target) → Sits symbols sections target → is_named (relocations_of symbols sections) target ≡ true
     → IsEntryOf symbols sections (target_number (numbers_of symbols sections (named_targets symbols sections)) target) target

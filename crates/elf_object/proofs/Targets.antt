@@ -20,15 +20,14 @@ use Rattle.elf_object.specs.declared.references.Reference.{Reference}
 use Rattle.elf_object.specs.declared.relocations.Relocation.{Relocation}
 use Rattle.elf_symbols.specs.declared.targets.Target.{Target}
 use Rattle.elf_symbols.specs.declared.targets.Target.TheVariants.{OfSection, OfSymbol}
-use Rattle.elf_symbols.specs.declared.symbol_values.SymbolValue.{SymbolValue}
 use Rattle.elf_object.specs.Contents.{filed_fields, section_relocations, relocations_from}
 use Rattle.elf_object.specs.Relocations.{merge, symbol_reference, label_reference, meaning_reference, reference_at, reference_found, own_address, reference, direct, relative, pair, is_plus, is_minus, reference_by, final_reference, relocation_with, relocation, kind_for, field_place, field_relocation}
-use Rattle.elf_symbols.specs.SymbolValues.{has_flag, symbol_value_of}
+use Rattle.elf_symbols.specs.SymbolValues.{has_flag}
 
--- the section is there, or the symbol, and the symbol stands somewhere
+-- the section is there, or the symbol
 abbrev pub Sits : SymbolMap → LaidSections → Target → Type 0
 Sits map sections (OfSection number) = number < length sections
-Sits map sections (OfSymbol index) = (symbol : Symbol) × (there : SymbolValue) × (slice_get map.symbols index ≡ Some symbol) × (symbol_value_of map sections symbol.meaning ≡ Some there)
+Sits map sections (OfSymbol index) = (symbol : Symbol) × (slice_get map.symbols index ≡ Some symbol)
 
 pub got_inside : {A : Type 0} (xs : List A) (i : ℕ) (x : A) → slice_get xs i ≡ Some x → i < length xs
 got_inside [] i x is = absurd cc
@@ -59,29 +58,37 @@ spot_sits map sections itself index local spot got own is =
     (chosen (λ (a : SymbolReference). Sits map sections a.target) (local && not (itself || has_flag merge section)) by_section by_itself
     (got_inside sections spot.place.section section there) own))
 
+-- an assigned symbol is named by itself, if it is named
+assigned_sits : (map : SymbolMap) (sections : LaidSections) (index : ℕ) (local : Bool) (symbol : Symbol) (got : SymbolReference) → slice_get map.symbols index ≡ Some symbol
+    → cond local None (Some (symbol_reference local (OfSymbol index) 0)) ≡ Some got → Sits map sections got.target
+assigned_sits map sections index true symbol got there is = absurd cc
+assigned_sits map sections index false symbol got there is =
+    let same : symbol_reference false (OfSymbol index) 0 ≡ got = cc in
+    subst (λ (a : SymbolReference). Sits map sections a.target) same (symbol, there)
+
 meaning_sits : (map : SymbolMap) (sections : LaidSections) (itself : Bool) (index : ℕ) (local : Bool) (symbol : Symbol) (what : Meaning) (got : SymbolReference) → slice_get map.symbols index ≡ Some symbol
-    → symbol.meaning ≡ what → meaning_reference itself sections index local what ≡ Some got → Sits map sections got.target
-meaning_sits map sections itself index local symbol meaning.Undefined got there means is =
-    subst (λ (a : SymbolReference). Sits map sections a.target) (some_same is) (symbol, _, there, ap (symbol_value_of map sections) means)
+    → meaning_reference itself sections index local what ≡ Some got → Sits map sections got.target
+meaning_sits map sections itself index local symbol meaning.Undefined got there is =
+    subst (λ (a : SymbolReference). Sits map sections a.target) (some_same is) (symbol, there)
   where
     some_same : {A : Type 0} {x y : A} → Some x ≡ Some y → x ≡ y
     some_same e = cc
-meaning_sits map sections itself index local symbol (meaning.Label spot) got there means is =
-    spot_sits map sections itself index local spot got (symbol, _, there, ap (symbol_value_of map sections) means) is
-meaning_sits map sections itself index local symbol (meaning.Space spot) got there means is =
-    spot_sits map sections itself index local spot got (symbol, _, there, ap (symbol_value_of map sections) means) is
-meaning_sits map sections itself index local symbol (meaning.Common size align) got there means is =
-    subst (λ (a : SymbolReference). Sits map sections a.target) (some_same is) (symbol, _, there, ap (symbol_value_of map sections) means)
+meaning_sits map sections itself index local symbol (meaning.Label spot) got there is =
+    spot_sits map sections itself index local spot got (symbol, there) is
+meaning_sits map sections itself index local symbol (meaning.Space spot) got there is =
+    spot_sits map sections itself index local spot got (symbol, there) is
+meaning_sits map sections itself index local symbol (meaning.Common size align) got there is =
+    subst (λ (a : SymbolReference). Sits map sections a.target) (some_same is) (symbol, there)
   where
     some_same : {A : Type 0} {x y : A} → Some x ≡ Some y → x ≡ y
     some_same e = cc
-meaning_sits map sections itself index local symbol (meaning.Assigned form) got there means is = absurd cc
+meaning_sits map sections itself index local symbol (meaning.Assigned form) got there is = assigned_sits map sections index local symbol got there is
 
 found_sits : (map : SymbolMap) (sections : LaidSections) (field : Field) (index : ℕ) (got : SymbolReference) → reference_found map sections field index ≡ Some got → Sits map sections got.target
 unfolding reference_found
 found_sits map sections field index got is =
     then_got (reference_at (is_suffixed field.role.suffix) sections index) (slice_get map.symbols index) got is
-    (λ symbol there made. meaning_sits map sections (is_suffixed field.role.suffix) index _ symbol symbol.meaning got there refl made)
+    (λ symbol there made. meaning_sits map sections (is_suffixed field.role.suffix) index _ symbol symbol.meaning got there made)
 
 direct_sits : (map : SymbolMap) (sections : LaidSections) (field : Field) (symbol total : ℕ) (got : Reference) → direct map sections field symbol total ≡ Some got → Sits map sections got.target
 direct_sits map sections field symbol total got is =

@@ -142,13 +142,13 @@ label_reference itself sections index local spot =
     then symbol_reference local (OfSection spot.place.section) (address_of sections spot.place.section spot.place.place.item spot.place.place.offset)
     else symbol_reference local (OfSymbol index) 0) (slice_get sections spot.place.section)
 
--- what a relocation names for a symbol of this meaning
+-- what a relocation names for a symbol of this meaning; an assigned one that a field names is a weak alias, which the linker may find elsewhere
 abbrev pub meaning_reference : Bool → LaidSections → ℕ → Bool → Meaning → Option SymbolReference
 meaning_reference itself sections index local meaning.Undefined = Some (symbol_reference local (OfSymbol index) 0)
 meaning_reference itself sections index local (meaning.Label spot) = label_reference itself sections index local spot
 meaning_reference itself sections index local (meaning.Space spot) = label_reference itself sections index local spot
 meaning_reference itself sections index local (meaning.Common size align) = Some (symbol_reference local (OfSymbol index) 0)
-meaning_reference itself sections index local (meaning.Assigned made) = None
+meaning_reference itself sections index local (meaning.Assigned made) = if local then None else Some (symbol_reference local (OfSymbol index) 0)
 
 -- what a relocation names for the symbol at this index
 abbrev pub reference_at : Bool → LaidSections → ℕ → Symbol → Option SymbolReference

@@ -72,7 +72,7 @@ fn label_reference(
     }
 }
 
-/// What a relocation names for the symbol at this index.
+/// What a relocation names for the symbol at this index. An assigned one is a weak alias.
 #[inline(always)]
 fn reference_at(
     at: Placement,
@@ -92,7 +92,12 @@ fn reference_at(
         Meaning::Label(spot) | Meaning::Space(spot) => {
             label_reference(at, itself, index, local, *spot)
         },
-        Meaning::Assigned(_) => None,
+        Meaning::Assigned(_) if local => None,
+        Meaning::Assigned(_) => Some(SymbolReference {
+            target: Target::OfSymbol(index),
+            addend: 0,
+            local,
+        }),
     }
 }
 

@@ -23,7 +23,7 @@ use Rattle.elf_file.specs.TableEntries.{elf_symbol}
 use Rattle.elf_symbols.specs.FileLocals.{is_file_local}
 use Rattle.elf_symbols.specs.Targets.{NamedOf}
 use Rattle.elf_symbols.specs.Aliases.{symbol_kind, symbol_size}
-use Rattle.elf_symbols.specs.SymbolValues.{symbol_value_of, binding_of, is_local, is_thread_local}
+use Rattle.elf_symbols.specs.SymbolValues.{symbol_value, symbol_value_of, binding_of, is_local, is_thread_local}
 
 -- a symbol, as the table tells it
 pub record SymbolEntry : Type 0 where
@@ -128,15 +128,20 @@ is_undefined_section (InSection number) = false
 abbrev pub needs_naming : Symbol → SymbolValue → Bool
 needs_naming symbol there = is_undefined_section there.section || (is_file_local symbol.name && is_local (binding_of symbol.meaning symbol.binding))
 
--- the entry of a symbol that has a value, unless it needs naming and nothing names it
-abbrev pub listed_if : SymbolMap → LaidSections → Bool → Bool → Symbol → Option SymbolValue → Option SymbolEntry
-listed_if map sections named thread_local symbol None = None
-listed_if map sections named thread_local symbol (Some there) =
+-- the entry of a symbol that stands there, unless it needs naming and nothing names it
+abbrev pub listed_if : SymbolMap → LaidSections → Bool → Bool → Symbol → SymbolValue → Option SymbolEntry
+listed_if map sections named thread_local symbol there =
     if needs_naming symbol there && not named then None else Some (entry_at map sections thread_local symbol there)
+
+-- a symbol without a value, which is assigned what is no number and no place of this object, is undefined
+abbrev pub value_or_undefined : Option SymbolValue → SymbolValue
+value_or_undefined None = symbol_value Undefined 0
+value_or_undefined (Some there) = there
 
 -- the entry of a symbol, if it stands in the table
 unfoldable pub listed : SymbolMap → LaidSections → Bool → Bool → Symbol → Option SymbolEntry
-listed map sections named thread_local symbol = listed_if map sections named thread_local symbol (symbol_value_of map sections symbol.meaning)
+listed map sections named thread_local symbol =
+    listed_if map sections named thread_local symbol (value_or_undefined (symbol_value_of map sections symbol.meaning))
 
 -- the entry of a source file's name
 abbrev pub file_entry : Name → SymbolEntry

@@ -42,7 +42,7 @@ final_value map sections made = form_value map sections made.terms made.constant
 abbrev pub spot_value : LaidSections → Spot → SymbolValue
 spot_value sections spot = symbol_value (InSection spot.place.section) (address_of sections spot.place.section spot.place.place.item spot.place.place.offset)
 
--- where a symbol stands, by what it is; one that is assigned what is neither a number nor a label and a number has no entry
+-- where a symbol stands, by what it is; one that is assigned what is neither a number nor a label and a number has no value
 abbrev pub symbol_value_of : SymbolMap → LaidSections → Meaning → Option SymbolValue
 symbol_value_of map sections meaning.Undefined = Some (symbol_value Undefined 0)
 symbol_value_of map sections (meaning.Label spot) = Some (spot_value sections spot)

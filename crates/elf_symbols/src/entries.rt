@@ -209,6 +209,19 @@ fn needs_naming(symbol: &Symbol, there: SymbolValue) -> bool
         || (is_file_local(&symbol.name) && is_local(binding_of(&symbol.meaning, symbol.binding)))
 }
 
+/// Where a symbol stands that has this value; one without a value is undefined.
+fn value_or_undefined(value: Option<SymbolValue>) -> SymbolValue
+    ensures { result ≡ spec.value_or_undefined value }
+{
+    match value {
+        Some(there) => there,
+        None => SymbolValue {
+            section: SymbolSection::Undefined,
+            value: 0,
+        },
+    }
+}
+
 /// The entry of a symbol, if it stands in the table; `named` where a relocation names it, and
 /// `thread_local` where one does as thread-local.
 #[tactic(auto, unfolding(crate::specs::SymbolTable::listed))]
@@ -224,16 +237,12 @@ pub(crate) fn listed<'a>(
     ensures { IfOk result (λ entry. option_map symbol_view entry
         ≡ spec.listed at.entry.symbols.now at.entry.sections.now named thread_local symbol.now) }
 {
-    match symbol_value_of(alloc, at, expansions, &symbol.meaning)? {
-        Some(there) => {
-            if needs_naming(symbol, there) && !named {
-                return Ok(None);
-            }
-            let entry = entry_at(alloc, at, expansions, thread_local, symbol, there)?;
-            Ok(Some(entry))
-        }
-        None => Ok(None),
+    let there = value_or_undefined(symbol_value_of(alloc, at, expansions, &symbol.meaning)?);
+    if needs_naming(symbol, there) && !named {
+        return Ok(None);
     }
+    let entry = entry_at(alloc, at, expansions, thread_local, symbol, there)?;
+    Ok(Some(entry))
 }
 
 /// The entry of a source file's name.

@@ -16,7 +16,7 @@ use Rattle.asm_frags.specs.declared.fields.Field.{Field}
 use Rattle.asm_frags.specs.Fields.{own_place}
 use Rattle.asm_frags.specs.Substituting.{substituted_field, laid_item, laid_section}
 use Rattle.asm_frags.specs.Writing.{LooseSection}
-use Rattle.assigned_forms.specs.Expanding.{expanded}
+use Rattle.assigned_forms.specs.Linked.{linked}
 use Rattle.item_contents.specs.declared.contents.Content.TheVariants.{Growing}
 use Rattle.item_contents.specs.declared.kinds.Growth.TheVariants as growth
 use Rattle.row_distances.specs.Places.{meant_place, place_of}
@@ -40,8 +40,8 @@ planned_stands symbols sections place has =
     let count = length-map has.held.items laid_item in
     let enough = has.enough in
     record {
-      section = laid_section (expanded symbols) has.held;
-      there = slice_get-map (laid_section (expanded symbols)) sections place.section ∙ ap (option_map (laid_section (expanded symbols))) has.there;
+      section = laid_section (linked symbols) has.held;
+      there = slice_get-map (laid_section (linked symbols)) sections place.section ∙ ap (option_map (laid_section (linked symbols))) has.there;
       within = omega (arith, count, enough);
     }
 
@@ -77,12 +77,12 @@ module _ (symbols : SymbolMap) (sections : List LooseSection) (stand : All (Symb
 
 -- the item of an advance, which holds a distance between places, has the size of a level at which there is room for it
 pub advance_room : (facts : PieceFacts) (t : TableSection) (pos : Pos) (end : SectionEnd) (form : Form) (index : ℕ) (found : LaidItem)
-    → expanded t.symbols form ≡ form → IsBetweenPlaces form → end.items + 1 ≤ length t.held.items
+    → linked t.symbols form ≡ form → IsBetweenPlaces form → end.items + 1 ≤ length t.held.items
     → slice_get (kept facts t).items end.items ≡ Some found → found.content ≡ Growing (record { kind = growth.Advance; field = index })
     → slice_get t.held.fields index ≡ Some (advance_field t.number pos end form)
-    → HasRoomFor t.symbols t.laid growth.Advance found.size (substituted_field (expanded t.symbols) (advance_field t.number pos end form))
+    → HasRoomFor t.symbols t.laid growth.Advance found.size (substituted_field (linked t.symbols) (advance_field t.number pos end form))
 advance_room facts t pos end form index found same apart enough there content has =
-    let field : Field = substituted_field (expanded t.symbols) (advance_field t.number pos end form) in
+    let field : Field = substituted_field (linked t.symbols) (advance_field t.number pos end form) in
     let all = planned t.symbols t.sections in
     let settled_is : t.laid ≡ settled_sections t.symbols all = facts.file.layouts.settled t.symbols t.sections t.laid t.is in
     let own : StandsIn all (own_of field).place =

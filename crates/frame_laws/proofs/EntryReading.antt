@@ -8,7 +8,7 @@ use Rattle.asm_symbols.specs.declared.entries.Symbol.{Symbol}
 use Rattle.asm_symbols.specs.SymbolMap.{SymbolMap}
 use Rattle.asm_frags.specs.Fields.{own_place}
 use Rattle.asm_frags.specs.Substituting.{substituted_field}
-use Rattle.assigned_forms.specs.Expanding.{expanded}
+use Rattle.assigned_forms.specs.Linked.{linked}
 use Rattle.elf_file.specs.Places.{PieceAt}
 use Rattle.elf_object.specs.Image.{image_of}
 use Rattle.cfi_directives.specs.declared.frames.Frame.{Frame}
@@ -67,7 +67,7 @@ module _ (facts : PieceFacts) (two_terms : HaveTwoTerms) (t : TableSection) wher
       let same = facts.expanded t.symbols field distance has in
       record {
         index = at.index;
-        field = substituted_field (expanded t.symbols) field;
+        field = substituted_field (linked t.symbols) field;
         there = section_in_file.field_there facts.file t.symbols t.sections t.laid t.number t.held t.is t.found t.takes t.low at.index field at.field.there;
         own = refl;
         plain = refl;

@@ -11,11 +11,13 @@ use Rattle.asm_frags.specs.declared.fields.Field.{Field}
 use Rattle.asm_frags.specs.Fields.{own_place}
 use Rattle.asm_frags.specs.Substituting.{substituted_field}
 use Rattle.assigned_forms.specs.Expanding.{names_assigned, expanded_within, expanded}
-use Rattle.item_rows.specs.Links.{is_suffixed, names_weak, is_linked}
+use Rattle.assigned_forms.specs.Linked.{linked_map, linked}
+use Rattle.item_rows.specs.Links.{is_suffixed, leaves_weak, is_linked}
 use Rattle.asm_relax.specs.FieldValues.{told_in_field, less, counted_bytes, counted, held_value}
 use Rattle.asm_relax.specs.Settling.{LaidSections}
 use Rattle.eh_frame.specs.declared.marks.Distance.{Distance}
 use Rattle.frame_laws.specs.HeldDistances.{mark_section, HasDistance, IsPlainDistance, laid_mark, Leads, DistancesAreHeld, FormsAreExpanded, IsBetweenPlaces, PlacesAreApart}
+use Rattle.frame_laws.proofs.LinkedForms.{linked_formless}
 use Rattle.frame_laws.proofs.NumberForms.{both_form, apart_form, same_form}
 use Rattle.frame_laws.proofs.ToldMarks.{label_else, mark_formless, mark_strong, mark_known}
 
@@ -23,6 +25,11 @@ use Rattle.frame_laws.proofs.ToldMarks.{label_else, mark_formless, mark_strong, 
 unnamed_expanded : (map : SymbolMap) (form : Form) → names_assigned map form ≡ false → expanded map form ≡ form
 unfolding expanded expanded_within
 unnamed_expanded map form none = rw none refl
+
+-- a form that names no assigned symbol is that of its field
+unnamed_linked : (map : SymbolMap) (form : Form) → names_assigned (linked_map map) form ≡ false → linked map form ≡ form
+unfolding linked
+unnamed_linked map form none = unnamed_expanded (linked_map map) form none
 
 -- two labels of one stretch cancel
 both_cancel : (told : ℕ → Told) (stretch at origin to from plus : ℕ) → told to ≡ label stretch at → told from ≡ label stretch origin
@@ -43,24 +50,27 @@ one_place : (stretch at others origin : ℕ) → label stretch at ≡ label othe
 one_place stretch at others origin same = cc
 
 module _ (map : SymbolMap) (field : Field) (distance : Distance) (has : HasDistance map field distance) where
-  unassigned : (one : Bool) → (has.to == has.from) ≡ one → names_assigned map field.form ≡ false
+  unassigned : (one : Bool) → (has.to == has.from) ≡ one → names_assigned (linked_map map) field.form ≡ false
   unassigned false apart =
-      ap (names_assigned map) (has.form ∙ apart_form has.to has.from distance.plus apart has.plus)
-      ∙ (rw (mark_formless map has.few distance.to has.to has.to_named, mark_formless map has.few distance.from has.from has.from_named) refl)
-  unassigned true same = ap (names_assigned map) (has.form ∙ same_form has.to has.from distance.plus same has.plus)
+      ap (names_assigned (linked_map map)) (has.form ∙ apart_form has.to has.from distance.plus apart has.plus)
+      ∙ (rw (
+        linked_formless map has.to (mark_formless map has.few distance.to has.to has.to_named),
+        linked_formless map has.from (mark_formless map has.few distance.from has.from has.from_named),
+      ) refl)
+  unassigned true same = ap (names_assigned (linked_map map)) (has.form ∙ same_form has.to has.from distance.plus same has.plus)
 
-  form_expanded : expanded map field.form ≡ field.form
-  form_expanded = unnamed_expanded map field.form (unassigned (has.to == has.from) refl)
+  form_expanded : linked map field.form ≡ field.form
+  form_expanded = unnamed_linked map field.form (unassigned (has.to == has.from) refl)
 
-  unweak : (one : Bool) → (has.to == has.from) ≡ one → names_weak map field.form ≡ false
+  unweak : (one : Bool) → (has.to == has.from) ≡ one → leaves_weak map field.form ≡ false
   unweak false apart =
-      ap (names_weak map) (has.form ∙ apart_form has.to has.from distance.plus apart has.plus)
+      ap (leaves_weak map) (has.form ∙ apart_form has.to has.from distance.plus apart has.plus)
       ∙ (rw (mark_strong map has.few distance.to has.to has.to_named, mark_strong map has.few distance.from has.from has.from_named) refl)
-  unweak true same = ap (names_weak map) (has.form ∙ same_form has.to has.from distance.plus same has.plus)
+  unweak true same = ap (leaves_weak map) (has.form ∙ same_form has.to has.from distance.plus same has.plus)
 
   module _ (laid : LaidSections) (plain : IsPlainDistance field distance) where
     free : is_linked map field ≡ false
-    free = ap (λ suffix. is_suffixed suffix || names_weak map field.form) plain.bare ∙ unweak (has.to == has.from) refl
+    free = ap (λ suffix. is_suffixed suffix || leaves_weak map field.form) plain.bare ∙ unweak (has.to == has.from) refl
 
     abbrev told : ℕ → Told
     told = told_in_field map laid field
@@ -103,7 +113,7 @@ module _ (map : SymbolMap) (field : Field) (distance : Distance) (has : HasDista
     uncounted : (value : ℕ) → counted field.size field.role value ≡ value
     uncounted value = ap (λ b. cond b (less value (counted_bytes field.size field.role)) value) plain.plain
 
-    substituted_same : substituted_field (expanded map) field ≡ field
+    substituted_same : substituted_field (linked map) field ≡ field
     substituted_same =
         ap (λ (form : Form). substituted_field (λ (other : Form). form) field) form_expanded
 
@@ -111,7 +121,7 @@ module _ (map : SymbolMap) (field : Field) (distance : Distance) (has : HasDista
     unfolding held_value
     field_held value is = ap (option_map (counted field.size field.role)) is ∙ ap Some (uncounted value)
 
-    leads_there : (value : ℕ) × (held_value map laid (substituted_field (expanded map) field) ≡ Some value) × Leads laid field distance value
+    leads_there : (value : ℕ) × (held_value map laid (substituted_field (linked map) field) ≡ Some value) × Leads laid field distance value
     leads_there =
         let found = the_value (has.to == has.from) refl in
         (found.0, ap (held_value map laid) substituted_same ∙ field_held found.0 found.1, found.2)
@@ -120,7 +130,7 @@ module _ (map : SymbolMap) (field : Field) (distance : Distance) (has : HasDista
 pub held : DistancesAreHeld
 held map laid field distance has plain = leads_there map field distance has laid plain
 
--- forms of distances are expanded
+-- forms of distances are those of fields
 pub are_expanded : FormsAreExpanded
 are_expanded map field distance has = form_expanded map field distance has
 

@@ -1,6 +1,7 @@
 -- Lemmas, in reading order.
 mod NumberForms
 mod ToldMarks
+mod LinkedForms
 mod HeldValues
 mod WrittenBytes
 mod LabelSteps

@@ -10,7 +10,7 @@ use Rattle.asm_frags.specs.declared.fields.FieldSize.TheVariants.{Four}
 use Rattle.asm_frags.specs.Fields.{low_bytes}
 use Rattle.asm_frags.specs.PlainBytes.{field_end}
 use Rattle.asm_frags.specs.Substituting.{substituted_field}
-use Rattle.assigned_forms.specs.Expanding.{expanded}
+use Rattle.assigned_forms.specs.Linked.{linked}
 use Rattle.item_contents.specs.declared.contents.Content.{Content}
 use Rattle.item_contents.specs.declared.contents.Content.TheVariants.{Run, Align, Growing}
 use Rattle.item_contents.specs.declared.kinds.Growth.TheVariants as growth
@@ -132,7 +132,7 @@ module _ (facts : PieceFacts) (t : TableSection) where
 
   -- where a field of a number stands, and its bytes
   field_made : (pos : Pos) (end : SectionEnd) (form : Form) (value : ℕ) (at : NumberAt t.held t.number pos end form)
-      → unwrap_or (held_value t.symbols t.laid (substituted_field (expanded t.symbols) (number_field t.number pos end form))) 0 ≡ value
+      → unwrap_or (held_value t.symbols t.laid (substituted_field (linked t.symbols) (number_field t.number pos end form))) 0 ≡ value
       → PieceAt (image facts t) (base facts t + at_end facts t end) (low_bytes Four value)
       × (at_end facts t (behind_plain 4 end) ≡ at_end facts t end + length (low_bytes Four value))
   field_made pos end form value at is =
@@ -184,7 +184,7 @@ module _ (facts : PieceFacts) (t : TableSection) where
   pointer_made : (map : SymbolMap) (pos : Pos) (end : SectionEnd) (place : SectionPlace) → NumberAt t.held t.number pos end (distance_form map (from_here place)) → OneMade (pointer place) end
   pointer_made map pos end place at =
       let form = distance_form map (from_here place) in
-      let value = unwrap_or (held_value t.symbols t.laid (substituted_field (expanded t.symbols) (number_field t.number pos end form))) 0 in
+      let value = unwrap_or (held_value t.symbols t.laid (substituted_field (linked t.symbols) (number_field t.number pos end form))) 0 in
       let made = field_made pos end form value at refl in
       let low = four_long (value % 2 ^ 32) in
       let long = four_long value in

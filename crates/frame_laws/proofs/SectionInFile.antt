@@ -11,7 +11,7 @@ use Rattle.asm_frags.specs.Addresses.{item_laid_at}
 use Rattle.asm_frags.specs.SectionOf.{SectionOf}
 use Rattle.asm_frags.specs.Substituting.{substituted_field, laid_item}
 use Rattle.asm_frags.specs.Writing.{LooseItem, LooseSection, takes_zeros_alone}
-use Rattle.assigned_forms.specs.Expanding.{expanded}
+use Rattle.assigned_forms.specs.Linked.{linked}
 use Rattle.item_contents.specs.declared.contents.Content.TheVariants.{Run}
 use Rattle.item_contents.specs.Contents.{MayHave}
 use Rattle.asm_relax.specs.KeptSections.{kept_section, LayoutsKeepSections}
@@ -124,15 +124,15 @@ module _ (facts : FileFacts) (symbols : SymbolMap) (sections : List LooseSection
       (facts.layouts.beside symbols offset (offset + length bytes) held.fields at.apart) (between_kept count offset (offset + length bytes) at.between)
 
   -- a field, with assigned symbols expanded in its form
-  pub field_there : (index : ℕ) (field : Field) → slice_get held.fields index ≡ Some field → slice_get kept.fields index ≡ Some (substituted_field (expanded symbols) field)
+  pub field_there : (index : ℕ) (field : Field) → slice_get held.fields index ≡ Some field → slice_get kept.fields index ≡ Some (substituted_field (linked symbols) field)
   field_there index field has =
-      slice_get-map (substituted_field (expanded symbols)) held.fields index ∙ ap (option_map (substituted_field (expanded symbols))) has
+      slice_get-map (substituted_field (linked symbols)) held.fields index ∙ ap (option_map (substituted_field (linked symbols))) has
 
   -- the value of a field stands in the file
   pub field_stands : (index : ℕ) (field : Field) → FieldAt held index field
       → PieceAt (image_of symbols laid) (section_offset symbols laid n + moved kept.items field.item field.offset)
-      (field_bytes symbols laid (substituted_field (expanded symbols) field))
+      (field_bytes symbols laid (substituted_field (linked symbols) field))
   field_stands index field at =
-      facts.values symbols laid n index kept (substituted_field (expanded symbols) field) filed
+      facts.values symbols laid n index kept (substituted_field (linked symbols) field) filed
       (facts.layouts.stand symbols held.bytes 0 held.fields low.apart) (field_there index field at.there)
       (between_kept field.item field.offset (field_end field) at.between)

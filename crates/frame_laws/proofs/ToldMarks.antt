@@ -8,10 +8,11 @@ use Rattle.std.proofs.lemmas.Option.{slice_get_past, slice_get_within}
 use Rattle.asm_expr.specs.Knowledge.{absent, label}
 use Rattle.asm_symbols.specs.declared.entries.Symbol.{Symbol}
 use Rattle.asm_symbols.specs.Assigning.{form_of, form_at}
+use Rattle.asm_symbols.specs.Attributes.{is_weak}
 use Rattle.asm_symbols.specs.SymbolMap.{SymbolMap}
 use Rattle.asm_frags.specs.declared.fields.Field.{Field}
 use Rattle.asm_frags.specs.Fields.{own_place}
-use Rattle.item_rows.specs.Links.{is_linked, is_weak}
+use Rattle.item_rows.specs.Links.{is_linked}
 use Rattle.asm_relax.specs.FieldValues.{place_label, place_told, told_in_field}
 use Rattle.asm_relax.specs.Final.{address_of, final_meaning, final_told}
 use Rattle.asm_relax.specs.Settling.{LaidSections}

@@ -6,7 +6,7 @@ use Rattle.asm_symbols.specs.SymbolMap.{SymbolMap}
 use Rattle.asm_frags.specs.declared.fields.Field.{Field}
 use Rattle.asm_frags.specs.Fields.{is_distance, own_place}
 use Rattle.asm_frags.specs.Substituting.{substituted_field}
-use Rattle.assigned_forms.specs.Expanding.{expanded}
+use Rattle.assigned_forms.specs.Linked.{linked}
 use Rattle.asm_relax.specs.FieldValues.{field_address, held_value}
 use Rattle.asm_relax.specs.Final.{address_of}
 use Rattle.asm_relax.specs.Settling.{LaidSections}
@@ -59,11 +59,11 @@ pub record Leads (laid : LaidSections) (field : Field) (distance : Distance) (va
 -- for all laid sections a field that holds a distance between marks of one section has a value, which leads from the one to the other
 abbrev pub DistancesAreHeld : Type 0
 DistancesAreHeld = (map : SymbolMap) (laid : LaidSections) (field : Field) (distance : Distance) → HasDistance map field distance → IsPlainDistance field distance
-    → (value : ℕ) × (held_value map laid (substituted_field (expanded map) field) ≡ Some value) × Leads laid field distance value
+    → (value : ℕ) × (held_value map laid (substituted_field (linked map) field) ≡ Some value) × Leads laid field distance value
 
 -- the form of a distance has no assigned symbol
 abbrev pub FormsAreExpanded : Type 0
-FormsAreExpanded = (map : SymbolMap) (field : Field) (distance : Distance) → HasDistance map field distance → expanded map field.form ≡ field.form
+FormsAreExpanded = (map : SymbolMap) (field : Field) (distance : Distance) → HasDistance map field distance → linked map field.form ≡ field.form
 
 -- the form of a distance between two places does not name the field's own place, and its constant is below 2^64
 pub record IsBetweenPlaces (form : Form) : Type 0 where

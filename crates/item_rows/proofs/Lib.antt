@@ -1,3 +1,4 @@
 -- The proofs of this crate.
+pub mod LinkLemmas
 mod RowFitting
 mod RowLengths

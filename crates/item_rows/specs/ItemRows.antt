@@ -51,7 +51,7 @@ abbrev pub own_of : Field → OwnPlace
 own_of field = record { symbol = own_place; place = record { section = field.section; place = record { item = field.item; offset = field.offset } } }
 
 -- the distance to which the value of a field in an item comes, if it does: a jump counts from its end, and the linker alone knows how far, where a
--- symbol that the form names is weak or has a suffix
+-- weak symbol is left in the form or it has a suffix
 abbrev pub field_distance : RowsIn → Field → Option Distance
 field_distance rows field = if is_distance field.role.kind && is_linked rows.map field then None else distance_of rows.map (own_of field) rows.starts rows.count field.form
 

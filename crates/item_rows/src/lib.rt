@@ -4,5 +4,5 @@
 mod links;
 mod rows;
 
-pub use links::{is_linked, is_linked_pair, is_suffixed};
+pub use links::{is_linked, is_linked_pair, is_suffixed, settled_forms_tell_weak};
 pub use rows::plan_of;

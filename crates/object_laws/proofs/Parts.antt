@@ -133,12 +133,16 @@ module _ (sections : LaidSections) (itself local : Bool) (index : ℕ) where
       mapped (λ (section : SectionOf LaidItem). cond (local && not (itself || has_flag merge section)) by_section by_itself) (slice_get sections spot.place.section) at is
       (λ section there made. subst (IsOf sections itself local (spot_told sections spot) index) made (spot_is spot section there local itself (has_flag merge section) refl refl refl))
 
+  assigned_is : (l : Bool) → local ≡ l → (at : SymbolReference) → cond l None (Some (symbol_reference local (OfSymbol index) 0)) ≡ Some at → IsOf sections itself local absent index at
+  assigned_is true so at is = absurd cc
+  assigned_is false so at is = subst (IsOf sections itself local absent index) (some_same is) (by_name absent (λ number address known _ _ _. absurd cc))
+
   meaning_is : (what : Meaning) (at : SymbolReference) → meaning_reference itself sections index local what ≡ Some at → IsOf sections itself local (final_meaning sections what) index at
   meaning_is meaning.Undefined at is = subst (IsOf sections itself local absent index) (some_same is) (by_name absent (λ number address known _ _ _. absurd cc))
   meaning_is (meaning.Label spot) at is = label_is spot at is
   meaning_is (meaning.Space spot) at is = label_is spot at is
   meaning_is (meaning.Common size align) at is = subst (IsOf sections itself local absent index) (some_same is) (by_name absent (λ number address known _ _ _. absurd cc))
-  meaning_is (meaning.Assigned made) at is = absurd cc
+  meaning_is (meaning.Assigned made) at is = assigned_is local refl at is
 
 module _ (map : SymbolMap) (sections : LaidSections) (field : Field) where
   told_there : (index : ℕ) (symbol : Symbol) → slice_get map.symbols index ≡ Some symbol → final_meaning sections symbol.meaning ≡ final_told map sections index

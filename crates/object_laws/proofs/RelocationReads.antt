@@ -11,7 +11,7 @@ use Rattle.elf_file.specs.Reader.{relocation_in, relocation_record}
 use Rattle.elf_symbols.specs.declared.targets.Target.{Target}
 use Rattle.elf_symbols.specs.declared.targets.Target.TheVariants.{OfSection, OfSymbol}
 use Rattle.elf_symbols.specs.Numbers.{NumbersOf, numbers_of, target_number}
-use Rattle.elf_symbols.specs.SymbolTable.{SymbolEntry, section_entry, text_of, entry_at, needs_naming, listed_if, listed, listed_by}
+use Rattle.elf_symbols.specs.SymbolTable.{SymbolEntry, section_entry, text_of, entry_at, needs_naming, listed_if, value_or_undefined, listed, listed_by}
 use Rattle.elf_symbols.specs.declared.symbol_values.SymbolValue.{SymbolValue}
 use Rattle.elf_symbols.specs.SymbolValues.{symbol_value_of}
 use Rattle.elf_object.specs.declared.relocations.Relocation.{Relocation}
@@ -93,10 +93,9 @@ says number r fits low = record {
 }
 
 -- the entry of a symbol has its name
-entry_named : (map : SymbolMap) (sections : LaidSections) (mark thread : Bool) (symbol : Symbol) (value : Option SymbolValue) (entry : SymbolEntry)
-    → listed_if map sections mark thread symbol value ≡ Some entry → entry.name ≡ text_of symbol.name
-entry_named map sections mark thread symbol None entry is = absurd cc
-entry_named map sections mark thread symbol (Some there) entry is =
+entry_named : (map : SymbolMap) (sections : LaidSections) (mark thread : Bool) (symbol : Symbol) (there : SymbolValue) (entry : SymbolEntry)
+    → listed_if map sections mark thread symbol there ≡ Some entry → entry.name ≡ text_of symbol.name
+entry_named map sections mark thread symbol there entry is =
     kept (needs_naming symbol there && not mark) (entry_at map sections thread symbol there) entry is
   where
     kept : (b : Bool) (made got : SymbolEntry) → cond b None (Some made) ≡ Some got → got.name ≡ made.name
@@ -106,7 +105,8 @@ entry_named map sections mark thread symbol (Some there) entry is =
 listed_named : (map : SymbolMap) (sections : LaidSections) (mark thread : Bool) (symbol : Symbol) (entry : SymbolEntry) → listed map sections mark thread symbol ≡ Some entry
     → entry.name ≡ text_of symbol.name
 unfolding listed
-listed_named map sections mark thread symbol entry is = entry_named map sections mark thread symbol (symbol_value_of map sections symbol.meaning) entry is
+listed_named map sections mark thread symbol entry is =
+    entry_named map sections mark thread symbol (value_or_undefined (symbol_value_of map sections symbol.meaning)) entry is
 
 -- an entry that is listed is that of the symbol of its index
 listed_from : (map : SymbolMap) (sections : LaidSections) (marks threads : List Bool) (symbols : List Symbol) (index : ℕ) (entry : SymbolEntry)
