@@ -60,9 +60,9 @@ of_body : (pos : Pos) (found : Option Cut) (level : Level) (state : State) (on :
 of_body pos None level state on all = record { is = refl }
 of_body pos (Some c) level state on all = all c.inside _
 
-of_enter : (pos : Pos) (ends : Ending) (made : Result (List TokenStatement) MacroCause) (state : State) → Told (enter pos ends made state)
-of_enter pos ends made state =
-    let on : List TokenStatement → Turn = λ statements. list.goes (under (level_with ends statements) state) in
+of_enter : (pos : Pos) (number : Option ℕ) (ends : Ending) (made : Result (List TokenStatement) MacroCause) (state : State) → Told (enter pos number ends made state)
+of_enter pos number ends made state =
+    let on : List TokenStatement → Turn = λ statements. list.goes (under (level_with number ends statements) state) in
     either (nat_le 64 (count_by is_inner_part state.levels)) (list.fails NestedTooDeeply pos) (with_made pos made on)
     (record { is = refl }) (of_made pos made on (λ statements. record { is = refl }))
 
@@ -102,24 +102,24 @@ of_conditional_end : (pos : Pos) (level : Level) (state : State) → Told (condi
 unfolding conditional_end
 of_conditional_end pos level state = of_conditional_end_by level.open_at pos level state
 
-of_copies : (pos : Pos) (count : ℕ) (body : List TokenStatement) (state : State) → Told (repeat_copies pos count body state)
-of_copies pos count [] state = record { is = refl }
-of_copies pos count (first ∷ others) state = of_enter pos ending.Repeat _ state
+of_copies : (pos : Pos) (number : Option ℕ) (count : ℕ) (body : List TokenStatement) (state : State) → Told (repeat_copies pos number count body state)
+of_copies pos number count [] state = record { is = refl }
+of_copies pos number count (first ∷ others) state = of_enter pos number ending.Repeat _ state
 
 of_repeat : (known : Knowledge) (pos : Pos) (operands : List SpelledToken) (level : Level) (state : State) → Told (repeat known pos operands level state)
 unfolding repeat
 of_repeat known pos operands level state =
     of_made pos (repeat_count known operands) _
-    (λ count. of_body pos (cut_block block.Repeat level.statements) level state _ (λ body now. of_copies pos count body now))
+    (λ count. of_body pos (cut_block block.Repeat level.statements) level state _ (λ body now. of_copies pos level.call_number count body now))
 
-of_each_copies : (pos : Pos) (line : EachLineAs) (body : List TokenStatement) (state : State) → Told (each_copies pos line body state)
-of_each_copies pos line [] state = record { is = refl }
-of_each_copies pos line (first ∷ others) state = of_enter pos ending.Repeat _ state
+of_each_copies : (pos : Pos) (number : Option ℕ) (line : EachLineAs) (body : List TokenStatement) (state : State) → Told (each_copies pos number line body state)
+of_each_copies pos number line [] state = record { is = refl }
+of_each_copies pos number line (first ∷ others) state = of_enter pos number ending.Repeat _ state
 
 of_each : (pos : Pos) (read : Result EachLineAs MacroLineCause) (level : Level) (state : State) → Told (each pos read level state)
 unfolding each
 of_each pos read level state =
-    of_read pos read _ (λ line. of_body pos (cut_block block.Repeat level.statements) level state _ (λ body now. of_each_copies pos line body now))
+    of_read pos read _ (λ line. of_body pos (cut_block block.Repeat level.statements) level state _ (λ body now. of_each_copies pos level.call_number line body now))
 
 of_define : (pos : Pos) (operands : List SpelledToken) (level : Level) (state : State) → Told (define pos operands level state)
 unfolding define
@@ -134,7 +134,7 @@ of_define pos operands level state =
 of_call : (one : MacroAs) (pos : Pos) (operands : List SpelledToken) (level : Level) (state : State) → Told (call one pos operands level state)
 unfolding call
 of_call one pos operands level state = of_read pos (call_arguments one.parameters operands) _ (λ arguments.
-    of_enter pos ending.Call (made_statements pos (put arguments state.begun one.body)) (under level (record state { begun = state.begun + 1 })))
+    of_enter pos (Some state.begun) ending.Call (made_statements pos (put arguments state.begun one.body)) (under level (record state { begun = state.begun + 1 })))
 
 of_forget : (pos : Pos) (name : List ℕ) (state : State) → Told (forget pos name state)
 of_forget pos name state =
@@ -153,13 +153,13 @@ of_exit : (pos : Pos) (level : Level) (state : State) → Told (exit pos level s
 unfolding exit
 of_exit pos level state = of_exit_by pos (after_call (level ∷ state.levels)) state
 
-of_start : (name : List ℕ) (read : Result (List TokenStatement) FileFault) (state : State) → Told (start_file name read state)
-of_start name (Ok statements) state = record { is = refl }
-of_start name (Err fault) state = record { is = refl }
+of_start : (number : Option ℕ) (name : List ℕ) (read : Result (List TokenStatement) FileFault) (state : State) → Told (start_file number name read state)
+of_start number name (Ok statements) state = record { is = refl }
+of_start number name (Err fault) state = record { is = refl }
 
-of_file : (name : List ℕ) (file : Option (List ℕ)) (state : State) → Told (include_file name file state)
-of_file name None state = record { is = refl }
-of_file name (Some bytes) state = of_start name (file_statements (length state.files) bytes) state
+of_file : (number : Option ℕ) (name : List ℕ) (file : Option (List ℕ)) (state : State) → Told (include_file number name file state)
+of_file number name None state = record { is = refl }
+of_file number name (Some bytes) state = of_start number name (file_statements (length state.files) bytes) state
 
 module _ (contents : Contents) where
   of_include : (pos : Pos) (operands : List SpelledToken) (level : Level) (state : State) → Told (include (Some contents) pos operands level state)
@@ -167,7 +167,7 @@ module _ (contents : Contents) where
   of_include pos operands level state =
       of_made pos (file_name operands) _ (λ name.
       either (nat_le 32 (count_by is_file_part (level ∷ state.levels))) (list.fails NestedTooDeeply pos)
-      (include_file name (contents name) (under level state)) (record { is = refl }) (of_file name (contents name) (under level state)))
+      (include_file level.call_number name (contents name) (under level state)) (record { is = refl }) (of_file level.call_number name (contents name) (under level state)))
 
   of_word : (known : Knowledge) (one : Word) (pos : Pos) (operands : List SpelledToken) (level : Level) (state : State) → Told (rewritten known (Some contents) one pos operands level state)
   of_word known (word.If condition) pos operands level state = of_conditional known condition pos operands level state

@@ -62,12 +62,12 @@ NamesFiles name (Err (Source fault pos notes files)) = files ≡ shown_name name
 NamesFiles name (Err Read) = Unit {0}
 NamesFiles name (Err NoMemory) = Unit {0}
 
--- a count of the input is as before where there is an object or a fault of the source
+-- a count of the input is as before, but where the input failed
 abbrev pub KeepsCount : Result Assembled AsmFault → ℕ → ℕ → Type 0
 KeepsCount (Ok made) before now = now ≡ before
 KeepsCount (Err (Source fault pos notes files)) before now = now ≡ before
 KeepsCount (Err Read) before now = Unit {0}
-KeepsCount (Err NoMemory) before now = Unit {0}
+KeepsCount (Err NoMemory) before now = now ≡ before
 
 -- where there is an object, the source and each file that it started were read to their end, one after the other
 abbrev pub ReadsFiles : List ℕ → Result Assembled AsmFault → Option (List FileEvent) → Option (List FileEvent) → Type 0

@@ -84,7 +84,7 @@ module _ {S F : Type 0} (placed : S → TokenStatement → Result S F) (told : S
   front_long after at line given here next there read is stands many =
       let s : TokenStatement = next_in_tokens 0 here read in
       more given after (s ∷ rest_at source next) _ (leads_next after at line given s next is (stands.statements 0))
-      (λ contents files. ap (placed_by_turn placed files after) (long_turn (told after) contents s (level_with ending.File (rest_at source next)) (record { levels = []; macros = []; begun = 0; given = given; files = files }) many))
+      (λ contents files. ap (placed_by_turn placed files after) (long_turn (told after) contents s (level_with None ending.File (rest_at source next)) (record { levels = []; macros = []; begun = 0; given = given; files = files }) many))
 
   pub front_refused : (after : S) (fault : F) (at line given here next there : ℕ) (read : List Token) → IsPlaced placed told source placer after at line given → IsNext source at read here next there
       → IsPlain (next_in_tokens 0 here read) → given < most_given → placed after (next_in_tokens 0 here read) ≡ Err fault

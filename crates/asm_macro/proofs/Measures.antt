@@ -65,8 +65,8 @@ read_within : {A : Type 0} (given deep : ℕ) (pos : Pos) (read : Result A Macro
 read_within given deep pos (Ok x) on all = all x
 read_within given deep pos (Err cause) on all = fails_within given deep (raised cause) pos
 
-entered_within : (deep : ℕ) (pos : Pos) (ends : Ending) (made : Result (List TokenStatement) MacroCause) (state : State) → length state.levels + 1 ≤ deep → Within state.given deep (enter pos ends made state)
-entered_within deep pos ends made state few =
+entered_within : (deep : ℕ) (pos : Pos) (number : Option ℕ) (ends : Ending) (made : Result (List TokenStatement) MacroCause) (state : State) → length state.levels + 1 ≤ deep → Within state.given deep (enter pos number ends made state)
+entered_within deep pos number ends made state few =
     tested_within state.given deep _ _ _ (fails_within _ _ _ _) (made_within state.given deep pos made _ (λ statements. goes_within state.given deep _ refl (omega (arith, few))))
 
 goes_on_within : (deep : ℕ) (pos : Pos) (chosen : Bool) (level : Level) (state : State) → length state.levels + 1 ≤ deep → Within state.given deep (go_on pos chosen level state)
@@ -103,13 +103,13 @@ body_within : (deep : ℕ) (pos : Pos) (found : Option Cut) (level : Level) (sta
 body_within deep pos None level state on all = fails_within _ _ _ _
 body_within deep pos (Some c) level state on all = all c.inside _ refl (omega arith)
 
-copies_within : (deep : ℕ) (pos : Pos) (count : ℕ) (body : List TokenStatement) (state : State) → length state.levels + 1 ≤ deep → Within state.given deep (repeat_copies pos count body state)
-copies_within deep pos count [] state few = goes_within _ _ _ refl (omega (arith, few))
-copies_within deep pos count (first ∷ others) state few = entered_within deep pos _ _ state few
+copies_within : (deep : ℕ) (pos : Pos) (number : Option ℕ) (count : ℕ) (body : List TokenStatement) (state : State) → length state.levels + 1 ≤ deep → Within state.given deep (repeat_copies pos number count body state)
+copies_within deep pos number count [] state few = goes_within _ _ _ refl (omega (arith, few))
+copies_within deep pos number count (first ∷ others) state few = entered_within deep pos number _ _ state few
 
-each_copies_within : (deep : ℕ) (pos : Pos) (line : EachLineAs) (body : List TokenStatement) (state : State) → length state.levels + 1 ≤ deep → Within state.given deep (each_copies pos line body state)
-each_copies_within deep pos line [] state few = goes_within _ _ _ refl (omega (arith, few))
-each_copies_within deep pos line (first ∷ others) state few = entered_within deep pos _ _ state few
+each_copies_within : (deep : ℕ) (pos : Pos) (number : Option ℕ) (line : EachLineAs) (body : List TokenStatement) (state : State) → length state.levels + 1 ≤ deep → Within state.given deep (each_copies pos number line body state)
+each_copies_within deep pos number line [] state few = goes_within _ _ _ refl (omega (arith, few))
+each_copies_within deep pos number line (first ∷ others) state few = entered_within deep pos number _ _ state few
 
 -- where so many statements left the head before, too
 as_before : (deep given : ℕ) (state : State) (t : Turn) → state.given ≡ given → Within state.given deep t → Within given deep t
@@ -118,14 +118,14 @@ as_before deep given state t same is = subst (λ n. Within n deep t) same is
 repeat_within : (deep : ℕ) (known : Knowledge) (pos : Pos) (operands : List SpelledToken) (level : Level) (state : State) → length state.levels + 2 ≤ deep → Within state.given deep (repeat known pos operands level state)
 unfolding repeat
 repeat_within deep known pos operands level state few =
-    made_within state.given deep pos (repeat_count known operands) _ (λ count. body_within deep pos (cut_block block.Repeat level.statements) level state (repeat_copies pos count) (λ body now same more.
-    as_before deep state.given now _ same (copies_within deep pos count body now (omega (arith, few, more)))))
+    made_within state.given deep pos (repeat_count known operands) _ (λ count. body_within deep pos (cut_block block.Repeat level.statements) level state (repeat_copies pos level.call_number count) (λ body now same more.
+    as_before deep state.given now _ same (copies_within deep pos level.call_number count body now (omega (arith, few, more)))))
 
 each_within : (deep : ℕ) (pos : Pos) (read : Result EachLineAs MacroLineCause) (level : Level) (state : State) → length state.levels + 2 ≤ deep → Within state.given deep (each pos read level state)
 unfolding each
 each_within deep pos read level state few =
-    read_within state.given deep pos read _ (λ line. body_within deep pos (cut_block block.Repeat level.statements) level state (each_copies pos line) (λ body now same more.
-    as_before deep state.given now _ same (each_copies_within deep pos line body now (omega (arith, few, more)))))
+    read_within state.given deep pos read _ (λ line. body_within deep pos (cut_block block.Repeat level.statements) level state (each_copies pos level.call_number line) (λ body now same more.
+    as_before deep state.given now _ same (each_copies_within deep pos level.call_number line body now (omega (arith, few, more)))))
 
 define_within : (deep : ℕ) (pos : Pos) (operands : List SpelledToken) (level : Level) (state : State) → length state.levels + 1 ≤ deep → Within state.given deep (define pos operands level state)
 unfolding define
@@ -136,7 +136,7 @@ define_within deep pos operands level state few =
 call_within : (deep : ℕ) (one : MacroAs) (pos : Pos) (operands : List SpelledToken) (level : Level) (state : State) → length state.levels + 2 ≤ deep → Within state.given deep (call one pos operands level state)
 unfolding call
 call_within deep one pos operands level state few =
-    read_within _ _ _ _ _ (λ arguments. entered_within deep pos _ _ (list.under level (record state { begun = state.begun + 1 })) (omega (arith, few)))
+    read_within _ _ _ _ _ (λ arguments. entered_within deep pos _ _ _ (list.under level (record state { begun = state.begun + 1 })) (omega (arith, few)))
 
 forget_within : (deep : ℕ) (pos : Pos) (name : List ℕ) (state : State) → length state.levels ≤ deep → Within state.given deep (forget pos name state)
 forget_within deep pos name state few = tested_within _ _ _ _ _ (goes_within _ _ _ refl few) (fails_within _ _ _ _)
@@ -163,25 +163,25 @@ unfolding exit
 exit_within deep pos level state few =
     exited_within deep _ _ state (λ below is. let shorter = after_within (level ∷ state.levels) below is in omega (arith, few, shorter))
 
-file_within : (deep : ℕ) (name : List ℕ) (read : Result (List TokenStatement) FileFault) (state : State) → length state.levels + 1 ≤ deep → Within state.given deep (start_file name read state)
+file_within : (deep : ℕ) (number : Option ℕ) (name : List ℕ) (read : Result (List TokenStatement) FileFault) (state : State) → length state.levels + 1 ≤ deep → Within state.given deep (start_file number name read state)
 unfolding Within
-file_within deep name (Ok statements) state few = record { given = refl; parts = omega (arith, few) }
-file_within deep name (Err fault) state few = tt
+file_within deep number name (Ok statements) state few = record { given = refl; parts = omega (arith, few) }
+file_within deep number name (Err fault) state few = tt
 
-told_within : (deep : ℕ) (name : List ℕ) (found : Option (List ℕ)) (state : State) → length state.levels + 1 ≤ deep → Within state.given deep (include_file name found state)
+told_within : (deep : ℕ) (number : Option ℕ) (name : List ℕ) (found : Option (List ℕ)) (state : State) → length state.levels + 1 ≤ deep → Within state.given deep (include_file number name found state)
 unfolding Within
-told_within deep name None state few = tt
-told_within deep name (Some bytes) state few = file_within deep name _ state few
+told_within deep number name None state few = tt
+told_within deep number name (Some bytes) state few = file_within deep number name _ state few
 
-included_within : (deep : ℕ) (name : List ℕ) (contents : Option Contents) (state : State) → length state.levels + 1 ≤ deep → Within state.given deep (include_told name contents state)
+included_within : (deep : ℕ) (number : Option ℕ) (name : List ℕ) (contents : Option Contents) (state : State) → length state.levels + 1 ≤ deep → Within state.given deep (include_told number name contents state)
 unfolding Within
-included_within deep name None state few = tt
-included_within deep name (Some contents) state few = told_within deep name _ state few
+included_within deep number name None state few = tt
+included_within deep number name (Some contents) state few = told_within deep number name _ state few
 
 include_within : (deep : ℕ) (contents : Option Contents) (pos : Pos) (operands : List SpelledToken) (level : Level) (state : State) → length state.levels + 2 ≤ deep → Within state.given deep (include contents pos operands level state)
 unfolding include
 include_within deep contents pos operands level state few =
-    made_within state.given deep pos (file_name operands) _ (λ name. tested_within state.given deep (nat_le 32 (count_by list.is_file_part (level ∷ state.levels))) _ _ (fails_within state.given deep NestedTooDeeply pos) (included_within deep name contents (list.under level state) (omega (arith, few))))
+    made_within state.given deep pos (file_name operands) _ (λ name. tested_within state.given deep (nat_le 32 (count_by list.is_file_part (level ∷ state.levels))) _ _ (fails_within state.given deep NestedTooDeeply pos) (included_within deep level.call_number name contents (list.under level state) (omega (arith, few))))
 
 word_within : (deep : ℕ) (known : Knowledge) (contents : Option Contents) (one : Word) (pos : Pos) (operands : List SpelledToken) (level : Level) (state : State) → length state.levels + 2 ≤ deep → Within state.given deep (rewritten known contents one pos operands level state)
 unfolding branch_end conditional_end

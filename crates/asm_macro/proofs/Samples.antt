@@ -1,6 +1,7 @@
 -- The definition of expansion computed on sources written out.
 use Rattle.std.specs.Prelude.{◌≡◌, ℕ, ◌-◌, List, [], ◌∷◌, ◌++◌, codes, false, if◌then◌else◌, None, Some, Result, Ok, Err, refl, slice_index}
 use Rattle.std.specs.Str.{bytes_eq, is_utf8, chars}
+use Rattle.std.specs.Fmt.{digits}
 use Rattle.asm_base.specs.ByteClasses.{is_blank, is_name_start, is_name_byte, is_operator_byte}
 use Rattle.asm_base.specs.Dividing.{comment_length, quoted_length, piece_kind, piece_length, pieces_from}
 use Rattle.asm_base.specs.Tokens.{SpelledToken, is_long_operator, token_kind, token_length, tokens_from}
@@ -85,6 +86,11 @@ calls = refl
 values : expanded 12 (codes ".irp x,1,2\n.byte \\x\n.endr\n.irpc c,56\n.byte \\c\n.endr") ≡ ended ((codes ".byte 1") ∷ (codes ".byte 2") ∷ (codes ".byte 5") ∷ (codes ".byte 6") ∷ [])
 unfolding is_blank is_name_start is_name_byte is_operator_byte is_long_operator comment_length quoted_length piece_kind piece_length token_kind token_length tokens_from pieces_from line_of trimmed nul_found source_found statements_in statements_of value_text parameter_of parameters_of filled_once call_arguments argument_named put_by put_from the_words word_of word_in made_statements depth_behind stops cut holds repeat_count verdict conditional branch_end conditional_end repeat each define call purge after_call exit include head turn steps file_statements
 values = refl
+
+-- in a call `\@` is the number of the call, also in a repeat, and elsewhere how many calls began
+call_numbers : expanded 20 (codes ".macro m\n.irp x,1\n.byte \\\\()@\n.endr\n.endm\nm\nm\n.irp x,1\n.byte \\@\n.endr") ≡ ended ((codes ".byte 0") ∷ (codes ".byte 1") ∷ (codes ".byte 2") ∷ [])
+unfolding is_blank is_name_start is_name_byte is_operator_byte is_long_operator comment_length quoted_length piece_kind piece_length token_kind token_length tokens_from pieces_from line_of trimmed nul_found source_found statements_in statements_of value_text parameter_of parameters_of filled_once call_arguments argument_named put_by put_from the_words word_of word_in made_statements depth_behind stops cut holds repeat_count verdict conditional branch_end conditional_end repeat each define call purge after_call exit include head turn steps file_statements digits
+call_numbers = refl
 
 other_branch : expanded 9 (codes ".ifdef q\n.byte 1\n.else\n.byte 2\n.endif") ≡ ended ((codes ".byte 2") ∷ [])
 unfolding is_blank is_name_start is_name_byte is_operator_byte is_long_operator comment_length quoted_length piece_kind piece_length token_kind token_length tokens_from pieces_from line_of trimmed nul_found source_found statements_in statements_of value_text parameter_of parameters_of filled_once call_arguments argument_named put_by put_from the_words word_of word_in made_statements depth_behind stops cut holds repeat_count verdict conditional branch_end conditional_end repeat each define call purge after_call exit include head turn steps file_statements

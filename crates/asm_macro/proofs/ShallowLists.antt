@@ -1,8 +1,9 @@
 -- The parts of a list that are files, and those that are calls and repeats, stay few.
-use Rattle.std.proofs.Common.{◌≡◌, ℕ, zero, suc, ◌+◌, ◌<◌, ◌≤◌, nat_le, Bool, true, false, List, [], ◌∷◌, length, cond, Option, None, Some, Result, Ok, Err, refl, ap, subst, arith}
+use Rattle.std.proofs.Common.{◌≡◌, ℕ, zero, suc, ◌+◌, ◌<◌, ◌≤◌, nat_le, Bool, true, false, List, [], ◌∷◌, ◌++◌, length, cond, Option, None, Some, Result, Ok, Err, map, option_to_list, refl, sym, ap, ◌∙◌, subst, arith}
 use Rattle.std.specs.List.{count_by, list_any}
 use Rattle.std.proofs.lemmas.Bool.Decides.{nat_tests}
 use Rattle.std.proofs.lemmas.List.Sums.{sum_by-cons}
+use Rattle.std.proofs.lemmas.List.{length-map, length-reverse}
 use Rattle.asm_base.specs.Tokens.{SpelledToken}
 use Rattle.asm_base.specs.Inputs.{Contents}
 use Rattle.asm_base.specs.declared.positions.Pos.{Pos}
@@ -27,6 +28,17 @@ use Rattle.asm_macro.specs.Expansion.{State, MacroAs, Turn, hands, goes, ended, 
 use Rattle.asm_macro.specs.Placing as step
 use Rattle.asm_macro.specs.Placing.{with_placed, placed_by_turn, and_then, steps}
 use Rattle.asm_macro.specs.Laws.{IsShallow}
+use Rattle.asm_base.specs.declared.refusals.Refusal.{Refusal}
+use Rattle.asm_base.specs.declared.refusals.Refusal.TheVariants as refusal
+use Rattle.macro_blocks.specs.declared.frames.Frame.{Frame}
+use Rattle.macro_blocks.specs.Frames.{level_of}
+use Rattle.asm_macro.specs.declared.faults.ExpandFault.{ExpandFault}
+use Rattle.asm_macro.specs.declared.turned.MacroFault.{MacroFault}
+use Rattle.asm_macro.specs.declared.turned.Turned.{Turned}
+use Rattle.asm_macro.specs.declared.turned.Turned.TheVariants as turned
+use Rattle.asm_macro.specs.OpenParts.{AreFew, levels_of, WereFew}
+use Rattle.asm_macro.specs.Turning.{EntersFile, IsTurn, IsWhole, KeepsFew, LeavesFew}
+use Rattle.asm_macro.proofs.Stacks.{popped, pushed}
 
 -- few parts of these are files, and few are calls and repeats
 Few : List Level → Type 0
@@ -87,25 +99,25 @@ read_kept pos (Ok x) on all = all x
 read_kept pos (Err cause) on all = fails_kept (raised cause) pos
 
 -- a part of a call or a repeat more
-inner_more : (ends : Ending) (statements : List TokenStatement) (below : List Level) → is_inner ends ≡ true → count_by is_inner_part below < 64 → Few below
-    → Few (record { statements = statements; ends = ends; open_at = [] } ∷ below)
+inner_more : (number : Option ℕ) (ends : Ending) (statements : List TokenStatement) (below : List Level) → is_inner ends ≡ true → count_by is_inner_part below < 64 → Few below
+    → Few (record { statements = statements; ends = ends; open_at = []; call_number = number } ∷ below)
 unfolding Few
-inner_more ending.File statements below inner less few = absurd cc
-inner_more ending.Call statements below inner less few =
-    let part : Level = record { statements = statements; ends = ending.Call; open_at = [] } in
+inner_more number ending.File statements below inner less few = absurd cc
+inner_more number ending.Call statements below inner less few =
+    let part : Level = record { statements = statements; ends = ending.Call; open_at = []; call_number = number } in
     let files : count_by is_file_part (part ∷ below) ≡ 0 + count_by is_file_part below = files_of part below in
     let marks : count_by is_inner_part (part ∷ below) ≡ 1 + count_by is_inner_part below = inner_of part below in
     (omega (arith, few.0, files), omega (arith, less, marks))
-inner_more ending.Repeat statements below inner less few =
-    let part : Level = record { statements = statements; ends = ending.Repeat; open_at = [] } in
+inner_more number ending.Repeat statements below inner less few =
+    let part : Level = record { statements = statements; ends = ending.Repeat; open_at = []; call_number = number } in
     let files : count_by is_file_part (part ∷ below) ≡ 0 + count_by is_file_part below = files_of part below in
     let marks : count_by is_inner_part (part ∷ below) ≡ 1 + count_by is_inner_part below = inner_of part below in
     (omega (arith, few.0, files), omega (arith, less, marks))
 
-entered_kept : (pos : Pos) (ends : Ending) (made : Result (List TokenStatement) MacroCause) (state : State) → is_inner ends ≡ true → Few state.levels → Kept (enter pos ends made state)
-entered_kept pos ends made state inner few =
+entered_kept : (pos : Pos) (number : Option ℕ) (ends : Ending) (made : Result (List TokenStatement) MacroCause) (state : State) → is_inner ends ≡ true → Few state.levels → Kept (enter pos number ends made state)
+entered_kept pos number ends made state inner few =
     tested_kept (nat_le 64 (count_by is_inner_part state.levels)) _ _ (fails_kept _ _) (λ is. let less : count_by is_inner_part state.levels < 64 = grind (arith, nat_tests) in
-    made_kept pos made _ (λ statements. goes_kept _ (inner_more ends statements state.levels inner less few)))
+    made_kept pos made _ (λ statements. goes_kept _ (inner_more number ends statements state.levels inner less few)))
 
 goes_on_kept : (pos : Pos) (chosen : Bool) (level : Level) (state : State) → Few (level ∷ state.levels) → Kept (go_on pos chosen level state)
 goes_on_kept pos true level state few = goes_kept _ (alike level _ state.levels refl few)
@@ -140,23 +152,23 @@ body_kept : (pos : Pos) (found : Option Cut) (level : Level) (state : State) (on
 body_kept pos None level state on few all = fails_kept _ _
 body_kept pos (Some c) level state on few all = all c.inside _ (alike level _ state.levels refl few)
 
-copies_kept : (pos : Pos) (count : ℕ) (body : List TokenStatement) (state : State) → Few state.levels → Kept (repeat_copies pos count body state)
-copies_kept pos count [] state few = goes_kept _ few
-copies_kept pos count (first ∷ others) state few = entered_kept pos _ _ state refl few
+copies_kept : (pos : Pos) (number : Option ℕ) (count : ℕ) (body : List TokenStatement) (state : State) → Few state.levels → Kept (repeat_copies pos number count body state)
+copies_kept pos number count [] state few = goes_kept _ few
+copies_kept pos number count (first ∷ others) state few = entered_kept pos number _ _ state refl few
 
-each_copies_kept : (pos : Pos) (line : EachLineAs) (body : List TokenStatement) (state : State) → Few state.levels → Kept (each_copies pos line body state)
-each_copies_kept pos line [] state few = goes_kept _ few
-each_copies_kept pos line (first ∷ others) state few = entered_kept pos _ _ state refl few
+each_copies_kept : (pos : Pos) (number : Option ℕ) (line : EachLineAs) (body : List TokenStatement) (state : State) → Few state.levels → Kept (each_copies pos number line body state)
+each_copies_kept pos number line [] state few = goes_kept _ few
+each_copies_kept pos number line (first ∷ others) state few = entered_kept pos number _ _ state refl few
 
 repeat_kept : (known : Knowledge) (pos : Pos) (operands : List SpelledToken) (level : Level) (state : State) → Few (level ∷ state.levels) → Kept (repeat known pos operands level state)
 unfolding repeat
 repeat_kept known pos operands level state few =
-    made_kept pos (repeat_count known operands) _ (λ count. body_kept pos (cut_block block.Repeat level.statements) level state (repeat_copies pos count) few (copies_kept pos count))
+    made_kept pos (repeat_count known operands) _ (λ count. body_kept pos (cut_block block.Repeat level.statements) level state (repeat_copies pos level.call_number count) few (copies_kept pos level.call_number count))
 
 each_kept : (pos : Pos) (read : Result EachLineAs MacroLineCause) (level : Level) (state : State) → Few (level ∷ state.levels) → Kept (each pos read level state)
 unfolding each
 each_kept pos read level state few =
-    read_kept pos read _ (λ line. body_kept pos (cut_block block.Repeat level.statements) level state (each_copies pos line) few (each_copies_kept pos line))
+    read_kept pos read _ (λ line. body_kept pos (cut_block block.Repeat level.statements) level state (each_copies pos level.call_number line) few (each_copies_kept pos level.call_number line))
 
 define_kept : (pos : Pos) (operands : List SpelledToken) (level : Level) (state : State) → Few (level ∷ state.levels) → Kept (define pos operands level state)
 unfolding define
@@ -167,7 +179,7 @@ define_kept pos operands level state few =
 call_kept : (one : MacroAs) (pos : Pos) (operands : List SpelledToken) (level : Level) (state : State) → Few (level ∷ state.levels) → Kept (call one pos operands level state)
 unfolding call
 call_kept one pos operands level state few =
-    read_kept _ _ _ (λ arguments. entered_kept pos _ _ (under level (record state { begun = state.begun + 1 })) refl few)
+    read_kept _ _ _ (λ arguments. entered_kept pos _ _ _ (under level (record state { begun = state.begun + 1 })) refl few)
 
 forget_kept : (pos : Pos) (name : List ℕ) (state : State) → Few state.levels → Kept (forget pos name state)
 forget_kept pos name state few = tested_kept (list_any (list.is_called name) state.macros) _ _ (goes_kept (record state { macros = list.without name state.macros }) few) (λ is. fails_kept _ _)
@@ -194,35 +206,35 @@ unfolding exit
 exit_kept pos level state few = exited_kept _ _ state (λ below is. after_kept (level ∷ state.levels) below few is)
 
 -- a part of a file more
-file_more : (statements : List TokenStatement) (below : List Level) → count_by is_file_part below < 32 → Few below
-    → Few (record { statements = statements; ends = ending.File; open_at = [] } ∷ below)
+file_more : (number : Option ℕ) (statements : List TokenStatement) (below : List Level) → count_by is_file_part below < 32 → Few below
+    → Few (record { statements = statements; ends = ending.File; open_at = []; call_number = number } ∷ below)
 unfolding Few
-file_more statements below less few =
-    let part : Level = record { statements = statements; ends = ending.File; open_at = [] } in
+file_more number statements below less few =
+    let part : Level = record { statements = statements; ends = ending.File; open_at = []; call_number = number } in
     let files : count_by is_file_part (part ∷ below) ≡ 1 + count_by is_file_part below = files_of part below in
     let marks : count_by is_inner_part (part ∷ below) ≡ 0 + count_by is_inner_part below = inner_of part below in
     (omega (arith, less, files), omega (arith, few.1, marks))
 
-file_kept : (name : List ℕ) (read : Result (List TokenStatement) FileFault) (state : State) → count_by is_file_part state.levels < 32 → Few state.levels → Kept (start_file name read state)
+file_kept : (number : Option ℕ) (name : List ℕ) (read : Result (List TokenStatement) FileFault) (state : State) → count_by is_file_part state.levels < 32 → Few state.levels → Kept (start_file number name read state)
 unfolding Kept
-file_kept name (Ok statements) state less few = file_more statements state.levels less few
-file_kept name (Err fault) state less few = tt
+file_kept number name (Ok statements) state less few = file_more number statements state.levels less few
+file_kept number name (Err fault) state less few = tt
 
-there_kept : (name : List ℕ) (found : Option (List ℕ)) (state : State) → count_by is_file_part state.levels < 32 → Few state.levels → Kept (include_file name found state)
+there_kept : (number : Option ℕ) (name : List ℕ) (found : Option (List ℕ)) (state : State) → count_by is_file_part state.levels < 32 → Few state.levels → Kept (include_file number name found state)
 unfolding Kept
-there_kept name None state less few = tt
-there_kept name (Some bytes) state less few = file_kept name _ state less few
+there_kept number name None state less few = tt
+there_kept number name (Some bytes) state less few = file_kept number name _ state less few
 
-included_kept : (name : List ℕ) (contents : Option Contents) (state : State) → count_by is_file_part state.levels < 32 → Few state.levels → Kept (include_told name contents state)
+included_kept : (number : Option ℕ) (name : List ℕ) (contents : Option Contents) (state : State) → count_by is_file_part state.levels < 32 → Few state.levels → Kept (include_told number name contents state)
 unfolding Kept
-included_kept name None state less few = tt
-included_kept name (Some contents) state less few = there_kept name _ state less few
+included_kept number name None state less few = tt
+included_kept number name (Some contents) state less few = there_kept number name _ state less few
 
 include_kept : (contents : Option Contents) (pos : Pos) (operands : List SpelledToken) (level : Level) (state : State) → Few (level ∷ state.levels) → Kept (include contents pos operands level state)
 unfolding include
 include_kept contents pos operands level state few =
     made_kept pos (file_name operands) _ (λ name. tested_kept (nat_le 32 (count_by is_file_part (level ∷ state.levels))) _ _ (fails_kept _ _) (λ is.
-    let less : count_by is_file_part (level ∷ state.levels) < 32 = grind (arith, nat_tests) in included_kept name contents (under level state) less few))
+    let less : count_by is_file_part (level ∷ state.levels) < 32 = grind (arith, nat_tests) in included_kept level.call_number name contents (under level state) less few))
 
 word_kept : (known : Knowledge) (contents : Option Contents) (one : Word) (pos : Pos) (operands : List SpelledToken) (level : Level) (state : State) → Few (level ∷ state.levels) → Kept (rewritten known contents one pos operands level state)
 unfolding branch_end conditional_end
@@ -312,4 +324,87 @@ module _ {S F : Type 0} (placed : S → TokenStatement → Result S F) (known : 
   pub stay_shallow : (files : List (List ℕ)) (statements : List TokenStatement) (placer : S) (n : ℕ) (state : State) (after : S)
       → steps placed known contents n (started files statements) placer ≡ step.goes state after → IsShallow state
   unfolding Later Few
-  stay_shallow files statements placer n state after is = stays n (started files statements) state placer after (file_more statements [] (omega arith) (omega arith, omega arith)) is
+  stay_shallow files statements placer n state after is = stays n (started files statements) state placer after (file_more None statements [] (omega arith) (omega arith, omega arith)) is
+
+-- Of the open parts of the program
+
+to_few : (levels : List Level) → AreFew levels → Few levels
+unfolding Few
+to_few levels few = (few.files, few.inner)
+
+are_few : (levels : List Level) → Few levels → AreFew levels
+unfolding Few
+are_few levels few = record { files = few.0; inner = few.1 }
+
+-- a part less, and another one of the same end mark
+pub fewer_parts : (level : Level) (below : List Level) → AreFew (level ∷ below) → AreFew below
+fewer_parts level below few = are_few below (behind level below (to_few _ few))
+
+pub same_parts : (level other : Level) (below : List Level) → other.ends ≡ level.ends → AreFew (level ∷ below) → AreFew (other ∷ below)
+same_parts level other below same few = are_few _ (alike level other below same (to_few _ few))
+
+-- a file alone
+pub one_file : (level : Level) → level.ends ≡ ending.File → AreFew (level ∷ [])
+one_file level is =
+    let file : cond (list.is_file level.ends) 1 0 ≡ 1 = ap {B = ℕ} (λ e. cond (list.is_file e) 1 0) is in
+    let inner : cond (is_inner level.ends) 1 0 ≡ 0 = ap {B = ℕ} (λ e. cond (is_inner e) 1 0) is in
+    record { files = omega (arith, file, files_of level []); inner = omega (arith, inner, inner_of level []) }
+
+-- a file more
+pub file_more_parts : {E : Type 0} (result : Result Turned E) (level : Level) (old new : List Level) → EntersFile result → new ≡ old → count_by is_file_part (level ∷ old) < 32 → AreFew (level ∷ old) → LeavesFew result level new
+file_more_parts (Ok turned.Stays) level old new is same less few = absurd is
+file_more_parts (Ok turned.Leaves) level old new is same less few = absurd is
+file_more_parts (Err e) level old new is same less few = tt
+file_more_parts (Ok (turned.Enters inner)) level old new is same less few =
+    let file : cond (list.is_file (level_of inner).ends) 1 0 ≡ 1 = ap {B = ℕ} (λ e. cond (list.is_file e) 1 0) is in
+    let mark : cond (is_inner (level_of inner).ends) 1 0 ≡ 0 = ap {B = ℕ} (λ e. cond (is_inner e) 1 0) is in
+    let most = few.inner in
+    subst (λ levels. AreFew (level_of inner ∷ level ∷ levels)) (sym same)
+    (record { files = omega (arith, file, less, files_of (level_of inner) (level ∷ old)); inner = omega (arith, mark, most, inner_of (level_of inner) (level ∷ old)) })
+
+-- a word or a call that becomes this leaves few parts
+turned_few : (answer : Result Turned (Refusal MacroFault)) (wanted : Turn) (level : Level) (now : State) → IsTurn answer wanted level now → Kept wanted → LeavesFew answer level now.levels
+unfolding Kept
+turned_few (Ok turned.Stays) wanted level now is kept = let here = subst Kept is kept in are_few _ here
+turned_few (Ok (turned.Enters inner)) wanted level now is kept = let here = subst Kept is kept in are_few _ here
+turned_few (Ok turned.Leaves) wanted level now is kept = let here = subst Kept is kept in are_few _ here
+turned_few (Err (refusal.Fault fault)) wanted level now is kept = tt
+turned_few (Err refusal.NoMemory) wanted level now is kept = tt
+
+whole_few : {F : Type 0} (answer : Result Turned (Refusal MacroFault)) (got : Result Turned (ExpandFault F)) (level : Level) (below : List Level) → IsWhole answer got → LeavesFew answer level below → LeavesFew got level below
+whole_few (Ok turned) got level below whole few = subst (λ r. LeavesFew r level below) (sym whole) few
+whole_few (Err (refusal.Fault fault)) got level below whole few = subst (λ r. LeavesFew r level below) (sym whole.0) tt
+whole_few (Err refusal.NoMemory) got level below whole few = subst (λ r. LeavesFew r level below) (sym whole) tt
+
+pub refused_few : {F : Type 0} (refused : Refusal MacroFault) (got : Result Turned (ExpandFault F)) (level : Level) (below : List Level) → IsWhole (Err refused) got → LeavesFew got level below
+refused_few refused got level below whole = whole_few (Err refused) got level below whole tt
+
+pub word_few : {F : Type 0} (known : Knowledge) (contents : Option Contents) (one : Word) (pos : Pos) (operands : List SpelledToken) (before level : Level) (old now : State) (answer : Result Turned (Refusal MacroFault)) (got : Result Turned (ExpandFault F))
+    → IsWhole answer got → IsTurn answer (rewritten known contents one pos operands before old) level now → KeepsFew before old got level now
+word_few known contents one pos operands before level old now answer got whole is few =
+    whole_few answer got level now.levels whole (turned_few answer _ level now is (word_kept known contents one pos operands before old (to_few _ few)))
+
+pub call_few : {F : Type 0} (one : MacroAs) (pos : Pos) (operands : List SpelledToken) (before level : Level) (old now : State) (answer : Result Turned (Refusal MacroFault)) (got : Result Turned (ExpandFault F))
+    → IsWhole answer got → IsTurn answer (call one pos operands before old) level now → KeepsFew before old got level now
+call_few one pos operands before level old now answer got whole is few =
+    whole_few answer got level now.levels whole (turned_few answer _ level now is (call_kept one pos operands before old (to_few _ few)))
+
+-- the part that was taken away was one of them
+pub were_few : (frames below : List Frame) (top : Option Frame) → frames ≡ below ++ option_to_list top → AreFew (levels_of frames) → WereFew top (levels_of below)
+were_few frames below None e few = tt
+were_few frames below (Some top) e few = subst AreFew (popped frames below (Some top) e) few
+
+pub left_few : (frames below : List Frame) (top : Option Frame) → frames ≡ below ++ option_to_list top → AreFew (levels_of frames) → AreFew (levels_of below)
+left_few frames below None e few = subst AreFew (popped frames below None e) few
+left_few frames below (Some top) e few = fewer_parts (level_of top) (levels_of below) (subst AreFew (popped frames below (Some top) e) few)
+
+-- a part that is put in front
+pub put_few : (below : List Frame) (top : Frame) → AreFew (level_of top ∷ levels_of below) → AreFew (levels_of (below ++ top ∷ []))
+put_few below top few = subst AreFew (sym (pushed below top)) few
+
+-- as many parts as frames
+pub open_parts : (frames : List Frame) → length (levels_of frames) ≡ length frames
+open_parts frames = length-reverse (map level_of frames) ∙ length-map frames level_of
+
+pub few_parts : (levels : List Level) → AreFew levels → length levels ≤ 96
+few_parts levels few = let files = few.files in let inner = few.inner in omega (arith, files, inner, all_marks levels)

@@ -37,7 +37,7 @@ module _ {S F : Type 0} (placed : S → TokenStatement → Result S F) (known : 
 -- the list of a source without macros, of which so many statements left the head
 abbrev plain : List (List ℕ) → ℕ → List TokenStatement → State
 plain files given statements =
-    record { levels = record { statements = statements; ends = ending.File; open_at = [] } ∷ []; macros = []; begun = 0; given = given; files = files }
+    record { levels = record { statements = statements; ends = ending.File; open_at = []; call_number = None } ∷ []; macros = []; begun = 0; given = given; files = files }
 
 none_named : (name : Option (List ℕ)) → macro_named [] name ≡ None
 none_named None = refl

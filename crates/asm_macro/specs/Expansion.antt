@@ -1,6 +1,6 @@
 -- Expansion: the list of statements and end marks is rewritten at its head, until a statement is handed out (GNU as manual, ".macro",
 -- ".rept", ".irp", ".irpc", ".if", ".include").
-use Rattle.std.specs.Prelude.{ℕ, ◌+◌, ◌^◌, nat_le, Bool, true, false, if◌then◌else◌, List, [], ◌∷◌, ◌++◌, Option, Some, None, length, find, count_by, Result, Ok, Err}
+use Rattle.std.specs.Prelude.{ℕ, ◌+◌, ◌^◌, nat_le, Bool, true, false, if◌then◌else◌, List, [], ◌∷◌, ◌++◌, Option, Some, None, unwrap_or, length, find, count_by, Result, Ok, Err}
 use Rattle.std.specs.List.{list_any}
 use Rattle.std.specs.Str.{bytes_eq}
 use Rattle.asm_base.specs.Tokens.{SpelledToken}
@@ -80,11 +80,11 @@ is_inner _ = true
 abbrev pub is_inner_part : Level → Bool
 is_inner_part level = is_inner level.ends
 
--- statements and an end mark in front of the list, if not too many calls and repeats are open
-abbrev pub enter : Pos → Ending → Result (List TokenStatement) MacroCause → State → Turn
-enter pos ends made state =
+-- statements and an end mark in front of the list, in the call of this number, if in one, and if not too many calls and repeats are open
+abbrev pub enter : Pos → Option ℕ → Ending → Result (List TokenStatement) MacroCause → State → Turn
+enter pos number ends made state =
     if nat_le 64 (count_by is_inner_part state.levels) then fails NestedTooDeeply pos
-    else with_made pos made (λ statements. goes (under (level_with ends statements) state))
+    else with_made pos made (λ statements. goes (under (level_with number ends statements) state))
 
 -- Conditionals
 
@@ -141,28 +141,30 @@ with_body pos None level state on = unclosed pos level
 with_body pos (Some c) level state on = on c.inside (under (with_statements c.rest level) state)
 
 -- the copies of a body and an end mark, and nothing of an empty body
-abbrev pub repeat_copies : Pos → ℕ → List TokenStatement → State → Turn
-repeat_copies pos count [] state = goes state
-repeat_copies pos count (first ∷ others) state =
-    enter pos ending.Repeat (copies_of count (made_statements pos (body_text (first ∷ others)))) state
+abbrev pub repeat_copies : Pos → Option ℕ → ℕ → List TokenStatement → State → Turn
+repeat_copies pos number count [] state = goes state
+repeat_copies pos number count (first ∷ others) state =
+    enter pos number ending.Repeat (copies_of count (made_statements pos (body_text (first ∷ others)))) state
 
 -- a repeat becomes its copies and an end mark; with an empty body it becomes nothing
 unfoldable pub repeat : Knowledge → Pos → List SpelledToken → Level → State → Turn
 repeat known pos operands level state =
     with_made pos (repeat_count known operands) (λ count. with_body pos (cut_block block.Repeat level.statements) level state
-    (λ body now. repeat_copies pos count body now))
+    (λ body now. repeat_copies pos level.call_number count body now))
 
--- the copies of a body for the values of a line and an end mark, and nothing of an empty body
-abbrev pub each_copies : Pos → EachLineAs → List TokenStatement → State → Turn
-each_copies pos line [] state = goes state
-each_copies pos line (first ∷ others) state =
-    enter pos ending.Repeat (each_copy pos line.name state.begun (body_text (first ∷ others)) line.values) state
+-- the copies of a body for the values of a line and an end mark, and nothing of an empty body: in a call `\@` is the number of the call,
+-- and elsewhere how many calls began
+abbrev pub each_copies : Pos → Option ℕ → EachLineAs → List TokenStatement → State → Turn
+each_copies pos number line [] state = goes state
+each_copies pos number line (first ∷ others) state =
+    enter pos number ending.Repeat
+    (each_copy pos line.name (unwrap_or number state.begun) (body_text (first ∷ others)) line.values) state
 
 -- the same with a name that stands for another text in each copy
 unfoldable pub each : Pos → Result EachLineAs MacroLineCause → Level → State → Turn
 each pos read level state =
     with_read pos read (λ line. with_body pos (cut_block block.Repeat level.statements) level state
-    (λ body now. each_copies pos line body now))
+    (λ body now. each_copies pos level.call_number line body now))
 
 -- Macros
 
@@ -187,11 +189,12 @@ define pos operands level state =
     (if list_any (is_called line.name) state.macros then fails MacroAlreadyDefined pos
     else with_body pos (cut_block block.Macro level.statements) level state (λ body now. goes (add_macro line body now))))
 
--- a call becomes its body with arguments put in, and an end mark
+-- a call becomes its body with arguments put in, and an end mark; its number is how many began before it
 unfoldable pub call : MacroAs → Pos → List SpelledToken → Level → State → Turn
 call one pos operands level state =
     with_read pos (call_arguments one.parameters operands) (λ arguments.
-    enter pos ending.Call (made_statements pos (put arguments state.begun one.body)) (under level (record state { begun = state.begun + 1 })))
+    enter pos (Some state.begun) ending.Call (made_statements pos (put arguments state.begun one.body))
+    (under level (record state { begun = state.begun + 1 })))
 
 -- a macro that is known is forgotten
 abbrev pub forget : Pos → List ℕ → State → Turn
@@ -237,28 +240,28 @@ is_file _ = false
 abbrev pub is_file_part : Level → Bool
 is_file_part level = is_file level.ends
 
--- a file in front of the list, with its name behind those of the files before it
-abbrev pub start_file : List ℕ → Result (List TokenStatement) FileFault → State → Turn
-start_file name (Ok statements) state =
-    goes (under (level_with ending.File statements) (record state { files = state.files ++ name ∷ [] }))
-start_file name (Err fault) state = breaks name fault
+-- a file in front of the list, in the call of this number, if in one, with its name behind those of the files before it
+abbrev pub start_file : Option ℕ → List ℕ → Result (List TokenStatement) FileFault → State → Turn
+start_file number name (Ok statements) state =
+    goes (under (level_with number ending.File statements) (record state { files = state.files ++ name ∷ [] }))
+start_file number name (Err fault) state = breaks name fault
 
 -- a file that is there is started
-abbrev pub include_file : List ℕ → Option (List ℕ) → State → Turn
-include_file name None state = misses
-include_file name (Some bytes) state = start_file name (file_statements (length state.files) bytes) state
+abbrev pub include_file : Option ℕ → List ℕ → Option (List ℕ) → State → Turn
+include_file number name None state = misses
+include_file number name (Some bytes) state = start_file number name (file_statements (length state.files) bytes) state
 
 -- a file is started by what is told of all files
-abbrev pub include_told : List ℕ → Option Contents → State → Turn
-include_told name None state = untold
-include_told name (Some contents) state = include_file name (contents name) state
+abbrev pub include_told : Option ℕ → List ℕ → Option Contents → State → Turn
+include_told number name None state = untold
+include_told number name (Some contents) state = include_file number name (contents name) state
 
 -- an include becomes the file's statements and an end mark
 unfoldable pub include : Option Contents → Pos → List SpelledToken → Level → State → Turn
 include contents pos operands level state =
     with_made pos (file_name operands) (λ name.
     (if nat_le 32 (count_by is_file_part (level ∷ state.levels)) then fails NestedTooDeeply pos
-    else include_told name contents (under level state)))
+    else include_told level.call_number name contents (under level state)))
 
 -- The head of the list
 
@@ -330,4 +333,4 @@ turn known contents state = turn_levels known contents state.levels state
 -- the list of a source: its statements and the end mark of its file; the names of the files started so far, of which it is the last
 abbrev pub started : List (List ℕ) → List TokenStatement → State
 started files statements =
-    record { levels = level_with ending.File statements ∷ []; macros = []; begun = 0; given = 0; files = files }
+    record { levels = level_with None ending.File statements ∷ []; macros = []; begun = 0; given = 0; files = files }

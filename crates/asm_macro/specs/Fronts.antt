@@ -23,7 +23,7 @@ rest_at source at = map in_tokens (statements_left 0 source at)
 -- the list of a source without macros, of which so many statements left the head
 abbrev pub plain : List (List ℕ) → ℕ → List TokenStatement → State
 plain files given statements =
-    record { levels = level_with ending.File statements ∷ []; macros = []; begun = 0; given = given; files = files }
+    record { levels = level_with None ending.File statements ∷ []; macros = []; begun = 0; given = given; files = files }
 
 -- so many turns of the source lead there, whatever is told of files
 abbrev pub LeadsTo : {S F : Type 0} → (S → TokenStatement → Result S F) → (S → Knowledge) → List ℕ → S → ℕ → (List (List ℕ) → Step S F) → Type 0

@@ -2,6 +2,7 @@
 pub mod Expansion
 pub mod Placing
 pub mod Macros
+pub mod OpenParts
 pub mod Turning
 pub mod Heads
 pub mod Expanding

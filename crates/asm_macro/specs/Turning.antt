@@ -1,5 +1,5 @@
 -- The open parts of the program as the list that they stand for, and what becomes of its head.
-use Rattle.std.specs.Prelude.{◌≡◌, ◌≢◌, ◌⊎◌, ℕ, ◌+◌, ◌≤◌, Option, vec_len, List, [], ◌∷◌, ◌++◌, map, reverse, Bool, true, false, None, Some, Result, Ok, Err}
+use Rattle.std.specs.Prelude.{◌≡◌, ◌≢◌, ◌⊎◌, ℕ, ◌+◌, ◌≤◌, Option, vec_len, List, [], ◌∷◌, ◌++◌, Bool, true, false, None, Some, Result, Ok, Err}
 use Rattle.asm_base.specs.declared.positions.Pos.{Pos}
 use Rattle.asm_base.specs.declared.refusals.Refusal.{Refusal}
 use Rattle.asm_base.specs.declared.refusals.Refusal.TheVariants.{Fault, NoMemory}
@@ -21,11 +21,8 @@ use Rattle.asm_macro.specs.declared.turned.MacroFault.{MacroFault}
 use Rattle.asm_macro.specs.declared.turned.Turned.{Turned}
 use Rattle.asm_macro.specs.declared.turned.Turned.TheVariants as turned
 use Rattle.asm_macro.specs.Expansion.{State, Turn, goes, fails, breaks, untold, under, after_call}
+use Rattle.asm_macro.specs.OpenParts.{AreFew, levels_of}
 use Rattle.asm_macro.specs.Placing.{in_next_file}
-
--- the parts that these open ones stand for, the innermost of which is the last
-abbrev pub levels_of : List Frame → List Level
-levels_of frames = reverse (map level_of frames)
 
 -- the list that the program has
 abbrev pub state_of : Expander → State
@@ -94,12 +91,12 @@ IsRewriting (Err (Placing fault)) wanted level old now = ⊥
 IsRewriting (Err Read) wanted level old now = Unit {0}
 IsRewriting (Err outer.NoMemory) wanted level old now = Unit {0}
 
--- a file that was read is started, or its lines have a fault
-abbrev pub IsOpened : {F : Type 0} → Result Turned (ExpandFault F) → ℕ → Result (List TokenStatement) FileFault → Type 0
-IsOpened (Ok (turned.Enters inner)) file due = (statements : List TokenStatement) × (due ≡ Ok statements) × (level_of inner ≡ level_with ending.File statements)
-IsOpened (Err (Expansion cause pos)) file due = (due ≡ Err (record { cause = cause; line = pos.line })) × (pos.file ≡ file)
-IsOpened (Err outer.NoMemory) file due = Unit {0}
-IsOpened _ file due = ⊥
+-- a file that was read is started in the call of this number, if in one, or its lines have a fault
+abbrev pub IsOpened : {F : Type 0} → Result Turned (ExpandFault F) → Option ℕ → ℕ → Result (List TokenStatement) FileFault → Type 0
+IsOpened (Ok (turned.Enters inner)) number file due = (statements : List TokenStatement) × (due ≡ Ok statements) × (level_of inner ≡ level_with number ending.File statements)
+IsOpened (Err (Expansion cause pos)) number file due = (due ≡ Err (record { cause = cause; line = pos.line })) × (pos.file ≡ file)
+IsOpened (Err outer.NoMemory) number file due = Unit {0}
+IsOpened _ number file due = ⊥
 
 -- the part in front is taken off the list, if one is left
 abbrev pub TakesPart : Option Frame → State → State → Type 0
@@ -110,3 +107,20 @@ TakesPart (Some frame) before now = before ≡ under (level_of frame) now
 abbrev pub TakesOne : Option Frame → ℕ → ℕ → Type 0
 TakesOne None before now = now ≡ before
 TakesOne (Some frame) before now = before ≡ now + 1
+
+-- few parts are open behind an answer, with that part left in front of these
+abbrev pub LeavesFew : {E : Type 0} → Result Turned E → Level → List Level → Type 0
+LeavesFew (Ok turned.Stays) level below = AreFew (level ∷ below)
+LeavesFew (Ok (turned.Enters inner)) level below = AreFew (level_of inner ∷ level ∷ below)
+LeavesFew (Ok turned.Leaves) level below = AreFew below
+LeavesFew (Err e) level below = Unit {0}
+
+-- the same where few were open before
+abbrev pub KeepsFew : {E : Type 0} → Level → State → Result Turned E → Level → State → Type 0
+KeepsFew before old result level now = AreFew (before ∷ old.levels) → LeavesFew result level now.levels
+
+-- a file stands in front, or there is a fault
+abbrev pub EntersFile : {E : Type 0} → Result Turned E → Type 0
+EntersFile (Ok (turned.Enters inner)) = (level_of inner).ends ≡ ending.File
+EntersFile (Ok _) = ⊥
+EntersFile (Err e) = Unit {0}

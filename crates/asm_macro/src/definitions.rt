@@ -7,7 +7,8 @@ ghost use Rattle.macro_texts.specs.Putting.{put};
 ghost use Rattle.macro_blocks.specs.Frames.{level_of};
 ghost use Rattle.asm_macro.specs.Expansion as spec;
 ghost use Rattle.asm_macro.specs.Macros.{seen_as};
-ghost use Rattle.asm_macro.specs.Turning.{IsTurn, KeepsCounts, LeavesCall, levels_of, state_of};
+ghost use Rattle.asm_macro.specs.OpenParts.{AreFew, levels_of};
+ghost use Rattle.asm_macro.specs.Turning.{IsTurn, KeepsCounts, LeavesCall, state_of};
 
 use crate::depths::is_call;
 use crate::expander::Expander;
@@ -25,6 +26,7 @@ use std::rc::Rc;
 /// Takes the open parts away up to the innermost call, that included. It says whether there is one.
 fn leave_call(frames: &mut Vec<Part>) -> bool
     ensures after { LeavesCall result (levels_of frames.old.items) (levels_of frames.new.items) }
+    ensures few { AreFew (levels_of frames.old.items) → AreFew (levels_of frames.new.items) }
     ensures fewer { vec_len frames.new ≤ vec_len frames.old }
 {
     'parts: while let Some(outer) = frames.pop() {
@@ -105,8 +107,9 @@ impl Expander {
             return Err(fault_at(MacroCause::NestedTooDeeply, pos));
         }
         let text = self.made_text(one, &arguments)?;
+        let number = self.begun;
         self.begun += 1;
-        match Frame::call(self.alloc, text, pos) {
+        match Frame::call(self.alloc, text, pos, number) {
             Ok(callee) => Ok(Turned::Enters(Part::new(self.alloc, callee)?)),
             Err(refusal) => Err(standing(refusal, pos)),
         }

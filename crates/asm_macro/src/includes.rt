@@ -7,7 +7,7 @@ ghost use Rattle.macro_words.specs.Files.{in_file};
 ghost use Rattle.macro_blocks.specs.Frames.{level_of};
 ghost use Rattle.asm_macro.specs.Expansion as spec;
 ghost use Rattle.asm_macro.specs.Readings.{Uses, input_by};
-ghost use Rattle.asm_macro.specs.Turning.{IsOpened, IsRewriting, state_of};
+ghost use Rattle.asm_macro.specs.Turning.{EntersFile, IsOpened, IsRewriting, KeepsFew, state_of};
 
 use crate::expander::Expander;
 use crate::faults::ExpandFault;
@@ -21,9 +21,14 @@ use macro_words::{MacroCause, file_name, line_cause, line_of_cause};
 use std::alloc::Global;
 use std::rc::Rc;
 
-/// The statements of a file that was read, or the fault of its lines.
-fn open_file<F: Drop>(alloc: Global, text: Text, file: u32) -> Result<Turned, ExpandFault<F>>
-    ensures { IsOpened result file (in_file (statements_of file text)) }
+/// The statements of a file that was read, started in the call of this number, if in one, or the fault of its lines.
+fn open_file<F: Drop>(
+    alloc: Global,
+    text: Text,
+    file: u32,
+    number: Option<u64>,
+) -> Result<Turned, ExpandFault<F>>
+    ensures { IsOpened result number file (in_file (statements_of file text)) }
 {
     match fault_of_lines(alloc, &text, file) {
         Err(_) => Err(ExpandFault::NoMemory),
@@ -33,7 +38,7 @@ fn open_file<F: Drop>(alloc: Global, text: Text, file: u32) -> Result<Turned, Ex
         }
         Ok(None) => match Rc::new(alloc, text) {
             Err(_) => Err(ExpandFault::NoMemory),
-            Ok(text) => match Part::new(alloc, Frame::file(alloc, text, file, 0, 1)) {
+            Ok(text) => match Part::new(alloc, Frame::file(alloc, text, file, 0, 1, number)) {
                 Err(_) => Err(ExpandFault::NoMemory),
                 Ok(part) => Ok(Turned::Enters(part)),
             },
@@ -51,24 +56,29 @@ impl Expander {
     ) -> Result<Turned, ExpandFault<F>>
         requires { length self.old.files ≤ self.old.given }
         ensures turn { IsRewriting result
-            (spec.include_told (string_bytes name) (I.contents ins.old)
+            (spec.include_told (level_of frame.now).call_number (string_bytes name)
+            (I.contents ins.old)
             (spec.under (level_of frame.now) (state_of self.old)))
             (level_of frame.now) self.old.files (state_of self.new) }
         ensures input { Uses result
-            (spec.include_told (string_bytes name) (I.contents ins.old)
+            (spec.include_told (level_of frame.now).call_number (string_bytes name)
+            (I.contents ins.old)
             (spec.under (level_of frame.now) (state_of self.old)) ≡ spec.misses)
-            (spec.include_told (string_bytes name) (I.contents ins.old)
+            (spec.include_told (level_of frame.now).call_number (string_bytes name)
+            (I.contents ins.old)
             (spec.under (level_of frame.now) (state_of self.old)) ≡ spec.untold)
             self.old.files self.new.files
             (input_by I.contents I.rest I.faults I.missing I.taken I.history ins.old)
             (input_by I.contents I.rest I.faults I.missing I.taken I.history ins.new) }
         ensures given { self.new.given ≡ self.old.given }
         ensures parts { vec_len self.new.frames ≤ vec_len self.old.frames }
+        ensures file { EntersFile result }
+        ensures levels { (state_of self.new).levels ≡ (state_of self.old).levels }
     {
         let file = self.files.len() as u32;
         match read_text(self.alloc, ins, &name) {
             Ok(text) => match self.files.add(name) {
-                Ok(()) => open_file(self.alloc, text, file),
+                Ok(()) => open_file(self.alloc, text, file, frame.call_number()),
                 Err(_) => Err(ExpandFault::NoMemory),
             },
             Err(TextFault::TooLarge) => match self.files.add(name) {
@@ -107,6 +117,8 @@ impl Expander {
             (input_by I.contents I.rest I.faults I.missing I.taken I.history ins.new) }
         ensures given { self.new.given ≡ self.old.given }
         ensures parts { vec_len self.new.frames ≤ vec_len self.old.frames }
+        ensures few { KeepsFew (level_of frame.now) (state_of self.old)
+            result (level_of frame.now) (state_of self.new) }
     {
         let name = match file_name(self.alloc, operands) {
             Ok(name) => name,

@@ -22,6 +22,7 @@ mod sources;
 mod turned;
 mod turning;
 
+pub use expander::Expander;
 pub use expanding::expand_source;
 pub use faults::ExpandFault;
 pub use laws::{

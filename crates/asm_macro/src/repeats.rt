@@ -37,6 +37,7 @@ impl Expander {
             Err(refusal) => return Err(standing(refusal, pos)),
         };
         let first = frame.first_open(pos);
+        let call_number = frame.call_number();
         let Some(body) = frame.take_body(self.alloc, Block::Repeat)? else {
             return Err(fault_at(MacroCause::UnclosedBlock, first));
         };
@@ -46,13 +47,14 @@ impl Expander {
         if self.is_deep(frame) {
             return Err(fault_at(MacroCause::NestedTooDeeply, pos));
         }
-        match Frame::repeat(self.alloc, body, pos, count) {
+        match Frame::repeat(self.alloc, body, pos, count, call_number) {
             Ok(copies) => Ok(Turned::Enters(Part::new(self.alloc, copies)?)),
             Err(refusal) => Err(standing(refusal, pos)),
         }
     }
 
-    /// A repeat with values becomes a copy for each; with an empty body it becomes nothing.
+    /// A repeat with values becomes a copy for each; with an empty body it becomes nothing. In a call `\@` is the number of the call, and
+    /// elsewhere how many calls began.
     #[tactic(auto, unfolding(crate::specs::Expansion::each))]
     pub(crate) fn each(
         &self,
@@ -64,6 +66,7 @@ impl Expander {
             (level_of frame.old) (state_of self.now)) (level_of frame.new) (state_of self.now) }
     {
         let first = frame.first_open(pos);
+        let call_number = frame.call_number();
         let Some(body) = frame.take_body(self.alloc, Block::Repeat)? else {
             return Err(fault_at(MacroCause::UnclosedBlock, first));
         };
@@ -73,7 +76,8 @@ impl Expander {
         if self.is_deep(frame) {
             return Err(fault_at(MacroCause::NestedTooDeeply, pos));
         }
-        match Frame::each(self.alloc, body, line, self.begun, pos) {
+        let number = call_number.unwrap_or(self.begun);
+        match Frame::each(self.alloc, body, line, number, pos, call_number) {
             Ok(copies) => Ok(Turned::Enters(Part::new(self.alloc, copies)?)),
             Err(refusal) => Err(standing(refusal, pos)),
         }

@@ -7,7 +7,7 @@ ghost use Rattle.macro_blocks.specs.Frames.{level_of};
 ghost use Rattle.asm_macro.specs.Expansion as spec;
 ghost use Rattle.asm_macro.specs.Heads.{turned_head};
 ghost use Rattle.asm_macro.specs.Readings.{Uses, input_by};
-ghost use Rattle.asm_macro.specs.Turning.{IsRewriting, IsTurn, state_of};
+ghost use Rattle.asm_macro.specs.Turning.{IsRewriting, IsTurn, KeepsFew, state_of};
 
 use crate::expander::Expander;
 use crate::faults::ExpandFault;
@@ -83,6 +83,8 @@ impl Expander {
             (input_by I.contents I.rest I.faults I.missing I.taken I.history ins.new) }
         ensures given { self.new.given ≡ self.old.given }
         ensures parts { vec_len self.new.frames ≤ vec_len self.old.frames }
+        ensures few { KeepsFew (level_of frame.old) (state_of self.old)
+            result (level_of frame.new) (state_of self.new) }
     {
         match word {
             Word::If(condition) => whole(self.conditional(known, condition, pos, operands, frame)),
@@ -125,6 +127,8 @@ impl Expander {
             (input_by I.contents I.rest I.faults I.missing I.taken I.history ins.new) }
         ensures given { OnOk result (self.new.given ≡ self.old.given + 1) }
         ensures parts { vec_len self.new.frames ≤ vec_len self.old.frames }
+        ensures few { KeepsFew (level_of frame.old) (state_of self.old)
+            result (level_of frame.new) (state_of self.new) }
     {
         if self.given >= MOST_GIVEN {
             return whole(Err(fault_at(MacroCause::ExpansionTooLong, pos)));

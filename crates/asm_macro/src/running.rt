@@ -1,12 +1,13 @@
 //! Statements are taken off the list one after the other, up to its end.
 
-ghost use Rattle.std.specs.Prelude.{◌≡◌, ◌<◌, ◌≤◌, ◌+◌, IfOk, OnOk, Ok, vec_len};
+ghost use Rattle.std.specs.Prelude.{◌≡◌, ◌∷◌, ◌<◌, ◌≤◌, ◌+◌, IfOk, OnOk, Ok, vec_len};
 ghost use Rattle.macro_blocks.specs.Frames.{copies_left, level_of, text_in};
 ghost use Rattle.asm_macro.specs.declared.turned.Turned.TheVariants as turned;
 ghost use Rattle.asm_macro.specs.Expansion.{under};
 ghost use Rattle.asm_macro.specs.Readings.{input_by};
 ghost use Rattle.asm_macro.specs.Running.{Enters, Expands, Grows, RunsFrom};
-ghost use Rattle.asm_macro.specs.Turning.{TakesOne, TakesPart, state_of};
+ghost use Rattle.asm_macro.specs.OpenParts.{AreFew, WereFew};
+ghost use Rattle.asm_macro.specs.Turning.{KeepsFew, TakesOne, TakesPart, state_of};
 
 use crate::expander::Expander;
 use crate::faults::ExpandFault;
@@ -37,6 +38,8 @@ impl Expander {
         ensures copies { result ≡ Ok turned.Stays → self.new.given ≡ self.old.given
             → copies_left frame.new < copies_left frame.old }
         ensures parts { vec_len self.new.frames ≤ vec_len self.old.frames }
+        ensures few { KeepsFew (level_of frame.old) (state_of self.old)
+            result (level_of frame.new) (state_of self.new) }
     {
         let mut tokens = Vec::new(self.alloc);
         'statements: loop {
@@ -89,6 +92,8 @@ impl Expander {
             (input_by I.contents I.rest I.faults I.missing I.taken I.history ins.new) }
         ensures grows { IfOk result (λ turned. Grows turned self.old.given self.new.given) }
         ensures parts { vec_len self.new.frames ≤ vec_len self.old.frames }
+        ensures few { KeepsFew (level_of frame.old) (state_of self.old)
+            result (level_of frame.new) (state_of self.new) }
     {
         let given = self.given;
         'copies: loop {
@@ -110,17 +115,19 @@ impl Expander {
     }
 
     /// Takes the part in front off the list, if one is left.
-    #[tactic(auto, using(crate::proofs::Stacks::popped, crate::proofs::Stacks::no_levels))]
+    #[tactic(auto, using(crate::proofs::Stacks::popped, crate::proofs::Stacks::no_levels, crate::proofs::ShallowLists::were_few, crate::proofs::ShallowLists::left_few))]
     fn take_part(&mut self) -> Option<Part>
         ensures part { TakesPart result (state_of self.old) (state_of self.new) }
+        ensures few { WereFew result (state_of self.new).levels }
         ensures count { TakesOne result (vec_len self.old.frames) (vec_len self.new.frames) }
     {
         self.frames.pop()
     }
 
     /// Puts a part in front of the list.
-    #[tactic(auto, using(crate::proofs::Stacks::pushed))]
+    #[tactic(auto, using(crate::proofs::Stacks::pushed, crate::proofs::ShallowLists::put_few))]
     fn put_part(&mut self, part: Part) -> Result<(), AllocError>
+        requires { AreFew (level_of part ∷ (state_of self.old).levels) }
         ensures part { OnOk result (state_of self.new ≡ under (level_of part) (state_of self.old)) }
         ensures count { OnOk result (vec_len self.new.frames ≡ vec_len self.old.frames + 1) }
         ensures files { self.new.files ≡ self.old.files }
@@ -132,7 +139,9 @@ impl Expander {
     }
 
     /// Puts a part and one inside it in front of the list.
+    #[tactic(auto, using(crate::proofs::ShallowLists::fewer_parts))]
     fn enter(&mut self, outer: Part, inner: Part) -> Result<(), AllocError>
+        requires { AreFew (level_of inner ∷ level_of outer ∷ (state_of self.old).levels) }
         ensures part { OnOk result (state_of self.new
             ≡ under (level_of inner) (under (level_of outer) (state_of self.old))) }
         ensures count { OnOk result (vec_len self.new.frames ≡ vec_len self.old.frames + 2) }

@@ -47,7 +47,8 @@ fn expand_rest<P: KnowingPlacer, I: Inputs>(
     let Ok(text) = Rc::new(alloc, text) else {
         return Err(ExpandFault::NoMemory);
     };
-    let Ok(frames) = Part::alone(alloc, Frame::file(alloc, text, 0, at, line)) else {
+    let file = Frame::file(alloc, text, 0, at, line, None);
+    let Ok(frames) = Part::alone(alloc, file) else {
         return Err(ExpandFault::NoMemory);
     };
     let mut expander = Expander {

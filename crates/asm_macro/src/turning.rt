@@ -8,7 +8,7 @@ ghost use Rattle.macro_words.specs.Statements.{labels_of, behind_labels};
 ghost use Rattle.asm_macro.specs.Heads.{IsHead};
 ghost use Rattle.asm_macro.specs.Readings.{input_by};
 ghost use Rattle.asm_macro.specs.Running.{HandsOut, RunsFrom, headed};
-ghost use Rattle.asm_macro.specs.Turning.{state_of};
+ghost use Rattle.asm_macro.specs.Turning.{KeepsFew, state_of};
 
 use crate::expander::Expander;
 use crate::faults::ExpandFault;
@@ -80,6 +80,8 @@ impl Expander {
             (input_by I.contents I.rest I.faults I.missing I.taken I.history ins.new) }
         ensures given { OnOk result (self.old.given < self.new.given) }
         ensures parts { vec_len self.new.frames ≤ vec_len self.old.frames }
+        ensures few { KeepsFew (level_of frame.old) (state_of self.old)
+            result (level_of frame.new) (state_of self.new) }
     {
         if labels == 0 {
             return self.rewrite(head, pos, frame, placer, ins);

@@ -5,4 +5,4 @@ mod running;
 mod saying;
 mod words;
 
-pub use running::run;
+pub use running::{deliver, run};

@@ -48,9 +48,10 @@ fn make_object<O: Output>(name: &str, object: &Object, obj: &mut O) -> Result<()
     obj.finish()
 }
 
-/// Says the messages, and only then makes the file of this name with the object. It takes no memory.
+/// Says the messages, and only then makes the file of this name with the object. It is given no allocator and has no answer for want of
+/// memory: none is taken from the first message to the end of the file.
 #[tactic(auto, using(crate::proofs::Deliveries::delivered_in_part))]
-fn deliver<O: Output, C: Console>(
+pub fn deliver<O: Output, C: Console>(
     name: &str,
     object: &Object,
     messages: &[u8],
@@ -102,10 +103,11 @@ fn run_source<I: Inputs, O: Output, C: Console>(
         → HasRisen (O.faults obj.old) (O.faults obj.new)
         ⊎ HasRisen (C.faults con.old) (C.faults con.new) }
     ensures input_quiet { (result ≡ Status.ReadFault) ⊎ (I.faults ins.new ≡ I.faults ins.old) }
-    ensures missing_quiet { (result ≡ Status.ReadFault) ⊎ (result ≡ Status.NoMemory)
-        ⊎ (I.missing ins.new ≡ I.missing ins.old) }
+    ensures missing_quiet { (result ≡ Status.ReadFault) ⊎ (I.missing ins.new ≡ I.missing ins.old) }
     ensures output_quiet { (result ≡ Status.WriteFault) ⊎ (O.faults obj.new ≡ O.faults obj.old) }
     ensures console_quiet { (result ≡ Status.WriteFault) ⊎ (C.faults con.new ≡ C.faults con.old) }
+    ensures no_memory { result ≡ Status.NoMemory
+        → (C.said con.new ≡ C.said con.old) × (O.made obj.new ≡ O.made obj.old) }
     ensures input_count { I.faults ins.old ≤ I.faults ins.new }
     ensures output_count { O.faults obj.old ≤ O.faults obj.new }
     ensures console_count { C.faults con.old ≤ C.faults con.new }
@@ -169,13 +171,16 @@ pub fn run<I: Inputs, O: Output, C: Console>(
         → HasRisen (O.faults obj.old) (O.faults obj.new)
         ⊎ HasRisen (C.faults con.old) (C.faults con.new) }
     ensures input_quiet { (result ≡ Status.ReadFault) ⊎ (I.faults ins.new ≡ I.faults ins.old) }
-    ensures missing_quiet { (result ≡ Status.ReadFault) ⊎ (result ≡ Status.NoMemory)
-        ⊎ (I.missing ins.new ≡ I.missing ins.old) }
+    ensures missing_quiet { (result ≡ Status.ReadFault) ⊎ (I.missing ins.new ≡ I.missing ins.old) }
     ensures output_quiet { (result ≡ Status.WriteFault) ⊎ (O.faults obj.new ≡ O.faults obj.old) }
     ensures console_quiet { (result ≡ Status.WriteFault) ⊎ (C.faults con.new ≡ C.faults con.old) }
     ensures input_count { I.faults ins.old ≤ I.faults ins.new }
     ensures output_count { O.faults obj.old ≤ O.faults obj.new }
     ensures console_count { C.faults con.old ≤ C.faults con.new }
+
+    // Where memory is refused nothing was said, and nothing was made.
+    ensures no_memory { result ≡ Status.NoMemory
+        → (C.said con.new ≡ C.said con.old) × (O.made obj.new ≡ O.made obj.old) }
 
     // Where no call fails, the status is that of the outcome; told or not, that of the words where the console is quiet.
     ensures complete { IsQuiet (I.faults ins.old) (I.faults ins.new)

@@ -51,21 +51,21 @@ next_value each value more is =
 
 -- the text of the next copy
 pub next_text : (each : EachCopy) (value : Vec ℕ) (text : List ℕ) → each.next < length each.line.values.items → value ≡ get_or each.line.values.items each.next value
-    → text ≡ put_value each.line.name.items each.begun each.body.items value.items → all_whole each.line.name.items each.begun each.body.items (drop each.next (texts each.line.values.items)) ≡ true
+    → text ≡ put_value each.line.name.items each.number each.body.items value.items → all_whole each.line.name.items each.number each.body.items (drop each.next (texts each.line.values.items)) ≡ true
     → IsNextText each text
 next_text each value text more is made whole =
     let values = next_value each value more is in
-    let all = sym (ap (all_whole each.line.name.items each.begun each.body.items) values) ∙ whole in
-    let both = both_true (is_whole (put_value each.line.name.items each.begun each.body.items value.items) 0) (all_whole each.line.name.items each.begun each.body.items (drop (each.next + 1) (texts each.line.values.items))) all in
+    let all = sym (ap (all_whole each.line.name.items each.number each.body.items) values) ∙ whole in
+    let both = both_true (is_whole (put_value each.line.name.items each.number each.body.items value.items) 0) (all_whole each.line.name.items each.number each.body.items (drop (each.next + 1) (texts each.line.values.items))) all in
     record {
       whole = ap (λ t. is_whole t 0) made ∙ both.0;
-      statements = λ place. ap (each_left place each.line.name.items each.begun each.body.items) values ∙ ap (λ t. left_in place t 0 ++ each_from place each (each.next + 1)) (sym made);
+      statements = λ place. ap (each_left place each.line.name.items each.number each.body.items) values ∙ ap (λ t. left_in place t 0 ++ each_from place each (each.next + 1)) (sym made);
     }
 
 -- the copies behind the next one have no fault either
-pub whole_behind : (name body : List ℕ) (begun next : ℕ) (values : List (List ℕ)) → all_whole name begun body (drop next values) ≡ true → all_whole name begun body (drop (next + 1) values) ≡ true
-whole_behind name body begun next [] whole = ap (all_whole name begun body) (drop-nil (next + 1))
-whole_behind name body begun zero (value ∷ values) whole = (both_true (is_whole (put_value name begun body value) 0) (all_whole name begun body values) whole).1
-whole_behind name body begun (suc next) (value ∷ values) whole =
+pub whole_behind : (name body : List ℕ) (number next : ℕ) (values : List (List ℕ)) → all_whole name number body (drop next values) ≡ true → all_whole name number body (drop (next + 1) values) ≡ true
+whole_behind name body number next [] whole = ap (all_whole name number body) (drop-nil (next + 1))
+whole_behind name body number zero (value ∷ values) whole = (both_true (is_whole (put_value name number body value) 0) (all_whole name number body values) whole).1
+whole_behind name body number (suc next) (value ∷ values) whole =
     let one : suc next + 1 ≡ suc (next + 1) = omega arith in
-    rw one (whole_behind name body begun next values whole)
+    rw one (whole_behind name body number next values whole)

@@ -89,7 +89,7 @@ cut_seen keeps (Some c) text stop rest is =
 -- the part goes on behind these statements
 level_behind : (before now : Frame) (rest : List TokenStatement) → (level_of now).statements ≡ rest → IsSamePart before now → level_of now ≡ with_statements rest (level_of before)
 unfolding level_of
-level_behind before now rest is same = levels_same _ _ _ _ _ _ is same.ends same.opened
+level_behind before now rest is same = levels_same _ _ _ _ _ _ _ _ is same.ends same.opened same.number
 
 -- a block is passed
 pub passes_block : (first after : Search) (b : Block) (before now : Frame) (branch : Branch) → first.block ≡ b → first.keeps ≡ false → first.deep ≡ 0 → first.text.items ≡ []

@@ -53,47 +53,47 @@ one_more (Err cause) front all last is = refl
 one_more (Ok first) (Ok front) all last is = ap (before_made first) is ∙ made_twice first front last
 one_more (Ok first) (Err cause) all last is = ap (before_made first) is
 
-module _ (name body : List ℕ) (begun : ℕ) where
+module _ (name body : List ℕ) (number : ℕ) where
   -- what all copies make is what the first ones and the others make
-  made_in_two : (pos : Pos) (values others : List (List ℕ)) → each_copy pos name begun body (values ++ others) ≡ (each_copy pos name begun body values >>= λ (these : List TokenStatement). before_made these (each_copy pos name begun body others))
-  made_in_two pos [] others = before_none (each_copy pos name begun body others)
+  made_in_two : (pos : Pos) (values others : List (List ℕ)) → each_copy pos name number body (values ++ others) ≡ (each_copy pos name number body values >>= λ (these : List TokenStatement). before_made these (each_copy pos name number body others))
+  made_in_two pos [] others = before_none (each_copy pos name number body others)
   made_in_two pos (value ∷ values) others =
-      one_more (made_statements pos (put_value name begun body value)) (each_copy pos name begun body values) (each_copy pos name begun body (values ++ others)) (each_copy pos name begun body others) (made_in_two pos values others)
+      one_more (made_statements pos (put_value name number body value)) (each_copy pos name number body values) (each_copy pos name number body (values ++ others)) (each_copy pos name number body others) (made_in_two pos values others)
 
-  left_in_two : (pos : Pos) (values : List (List ℕ)) (value : List ℕ) → each_left (At pos) name begun body (values ++ value ∷ []) ≡ each_left (At pos) name begun body values ++ left_in (At pos) (put_value name begun body value) 0
-  left_in_two pos [] value = append-nil (left_in (At pos) (put_value name begun body value) 0)
+  left_in_two : (pos : Pos) (values : List (List ℕ)) (value : List ℕ) → each_left (At pos) name number body (values ++ value ∷ []) ≡ each_left (At pos) name number body values ++ left_in (At pos) (put_value name number body value) 0
+  left_in_two pos [] value = append-nil (left_in (At pos) (put_value name number body value) 0)
   left_in_two pos (first ∷ values) value =
-      ap (λ l. left_in (At pos) (put_value name begun body first) 0 ++ l) (left_in_two pos values value)
-      ∙ sym (append_assoc (left_in (At pos) (put_value name begun body first) 0) (each_left (At pos) name begun body values) (left_in (At pos) (put_value name begun body value) 0))
+      ap (λ l. left_in (At pos) (put_value name number body first) 0 ++ l) (left_in_two pos values value)
+      ∙ sym (append_assoc (left_in (At pos) (put_value name number body first) 0) (each_left (At pos) name number body values) (left_in (At pos) (put_value name number body value) 0))
 
-  whole_in_two : (values : List (List ℕ)) (value : List ℕ) → all_whole name begun body values ≡ true → is_whole (put_value name begun body value) 0 ≡ true → all_whole name begun body (values ++ value ∷ []) ≡ true
+  whole_in_two : (values : List (List ℕ)) (value : List ℕ) → all_whole name number body values ≡ true → is_whole (put_value name number body value) 0 ≡ true → all_whole name number body (values ++ value ∷ []) ≡ true
   whole_in_two [] value all one = ap (λ b. b && true) one
-  whole_in_two (first ∷ values) value all one = by_first (is_whole (put_value name begun body first) 0) all (whole_in_two values value)
+  whole_in_two (first ∷ values) value all one = by_first (is_whole (put_value name number body first) 0) all (whole_in_two values value)
     where
-      by_first : (b : Bool) → (b && all_whole name begun body values) ≡ true → (all_whole name begun body values ≡ true → is_whole (put_value name begun body value) 0 ≡ true → all_whole name begun body (values ++ value ∷ []) ≡ true)
-          → (b && all_whole name begun body (values ++ value ∷ [])) ≡ true
+      by_first : (b : Bool) → (b && all_whole name number body values) ≡ true → (all_whole name number body values ≡ true → is_whole (put_value name number body value) 0 ≡ true → all_whole name number body (values ++ value ∷ []) ≡ true)
+          → (b && all_whole name number body (values ++ value ∷ [])) ≡ true
       by_first true is more = more is one
       by_first false is more = is
 
   -- a copy more is made
-  pub made_more : (values : List (List ℕ)) (value : List ℕ) → AreMade name begun body values → HasNoLineFault 0 (put_value name begun body value) → AreMade name begun body (values ++ value ∷ [])
+  pub made_more : (values : List (List ℕ)) (value : List ℕ) → AreMade name number body values → HasNoLineFault 0 (put_value name number body value) → AreMade name number body (values ++ value ∷ [])
   made_more values value are is = record {
-    whole = whole_in_two values value are.whole (is_whole_text (put_value name begun body value) is);
+    whole = whole_in_two values value are.whole (is_whole_text (put_value name number body value) is);
     made = λ pos.
         made_in_two pos values (value ∷ [])
-        ∙ ap (λ (front : Result (List TokenStatement) MacroCause). front >>= λ (these : List TokenStatement). before_made these (each_copy pos name begun body (value ∷ []))) (are.made pos)
-        ∙ ap (λ (m : Result (List TokenStatement) MacroCause). before_made (each_left (At pos) name begun body values) (m >>= λ (first : List TokenStatement). Ok (first ++ []))) (whole_made pos (put_value name begun body value) is)
-        ∙ ap (λ l. Ok (each_left (At pos) name begun body values ++ l)) (append-nil (left_in (At pos) (put_value name begun body value) 0))
+        ∙ ap (λ (front : Result (List TokenStatement) MacroCause). front >>= λ (these : List TokenStatement). before_made these (each_copy pos name number body (value ∷ []))) (are.made pos)
+        ∙ ap (λ (m : Result (List TokenStatement) MacroCause). before_made (each_left (At pos) name number body values) (m >>= λ (first : List TokenStatement). Ok (first ++ []))) (whole_made pos (put_value name number body value) is)
+        ∙ ap (λ l. Ok (each_left (At pos) name number body values ++ l)) (append-nil (left_in (At pos) (put_value name number body value) 0))
         ∙ ap (λ (s : List TokenStatement). Ok s) (sym (left_in_two pos values value));
   }
 
   -- the next copy has a fault
-  pub fault_made : (refusal : Refusal MacroCause) (values : List (List ℕ)) (value : List ℕ) (others : List (List ℕ)) → AreMade name begun body values
-      → ((pos : Pos) → Fails refusal (made_statements pos (put_value name begun body value))) → (pos : Pos) → Fails refusal (each_copy pos name begun body (values ++ value ∷ others))
+  pub fault_made : (refusal : Refusal MacroCause) (values : List (List ℕ)) (value : List ℕ) (others : List (List ℕ)) → AreMade name number body values
+      → ((pos : Pos) → Fails refusal (made_statements pos (put_value name number body value))) → (pos : Pos) → Fails refusal (each_copy pos name number body (values ++ value ∷ others))
   fault_made refusal values value others are fails pos =
-      fails_behind refusal (each_left (At pos) name begun body values) (each_copy pos name begun body (value ∷ others)) (each_copy pos name begun body (values ++ value ∷ others))
-      (fails_first refusal (made_statements pos (put_value name begun body value)) (λ (first : List TokenStatement). each_copy pos name begun body others >>= λ (rest : List TokenStatement). Ok (first ++ rest)) (fails pos))
-      (made_in_two pos values (value ∷ others) ∙ ap (λ (front : Result (List TokenStatement) MacroCause). front >>= λ (these : List TokenStatement). before_made these (each_copy pos name begun body (value ∷ others))) (are.made pos))
+      fails_behind refusal (each_left (At pos) name number body values) (each_copy pos name number body (value ∷ others)) (each_copy pos name number body (values ++ value ∷ others))
+      (fails_first refusal (made_statements pos (put_value name number body value)) (λ (first : List TokenStatement). each_copy pos name number body others >>= λ (rest : List TokenStatement). Ok (first ++ rest)) (fails pos))
+      (made_in_two pos values (value ∷ others) ∙ ap (λ (front : Result (List TokenStatement) MacroCause). front >>= λ (these : List TokenStatement). before_made these (each_copy pos name number body (value ∷ others))) (are.made pos))
 
 -- the values up to the next one
 pub texts_more : (values : List (Vec ℕ)) (n : ℕ) (value : Vec ℕ) → n < length values → value ≡ get_or values n value → texts (take (n + 1) values) ≡ texts (take n values) ++ value.items ∷ []

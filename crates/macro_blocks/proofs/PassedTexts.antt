@@ -65,7 +65,7 @@ passed_here verdict before after frame now passes same =
     passes (later_of frame.place frame.text.value frame.alike frame.each) ∙ ap (found_by verdict after) (sym (same_later frame now same))
 
 pub both_same : (a b c : Frame) → IsSamePart a b → IsSamePart b c → IsSamePart a c
-both_same a b c one two = record { place = two.place ∙ one.place; ends = two.ends ∙ one.ends; opened = two.opened ∙ one.opened }
+both_same a b c one two = record { place = two.place ∙ one.place; ends = two.ends ∙ one.ends; opened = two.opened ∙ one.opened; number = two.number ∙ one.number }
 
 -- the same text and the same copies
 pub left_again : (a b : Frame) (at : ℕ) → IsSamePart a b → b.text.value ≡ a.text.value → left_in b.place b.text.value at ≡ left_in a.place a.text.value at

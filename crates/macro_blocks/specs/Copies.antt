@@ -9,7 +9,7 @@ use Rattle.macro_blocks.specs.Places.{left_in, each_left, is_whole}
 
 -- the statements of the copies for the values from this one on
 abbrev pub each_from : Place → EachCopy → ℕ → List TokenStatement
-each_from place each next = each_left place each.line.name.items each.begun each.body.items (drop next (texts each.line.values.items))
+each_from place each next = each_left place each.line.name.items each.number each.body.items (drop next (texts each.line.values.items))
 
 -- the statements of the copies that have texts of their own
 abbrev pub each_of : Place → EachCopy → List TokenStatement

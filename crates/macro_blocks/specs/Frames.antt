@@ -31,6 +31,7 @@ level_of frame =
       statements = left_in frame.place frame.text.value frame.at ++ later_of frame.place frame.text.value frame.alike frame.each;
       ends = frame.ends;
       open_at = frame.«open».items;
+      call_number = frame.call_number;
     }
 
 -- all but the place in the text and the copies to come is the same
@@ -38,6 +39,7 @@ pub record IsSamePart (before now : Frame) : Type 0 where
   pub place : now.place ≡ before.place
   pub ends : now.ends ≡ before.ends
   pub opened : now.«open».items ≡ before.«open».items
+  pub number : now.call_number ≡ before.call_number
 
 -- so are the text and the copies
 pub record IsSameText (before now : Frame) : Type 0 where

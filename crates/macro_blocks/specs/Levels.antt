@@ -1,5 +1,5 @@
 -- A part of the list of expansion: the statements up to an end mark, and how copies make them.
-use Rattle.std.specs.Prelude.{ℕ, ◌-◌, List, [], ◌∷◌, ◌++◌, length, take, Result, Ok}
+use Rattle.std.specs.Prelude.{ℕ, ◌-◌, List, [], ◌∷◌, ◌++◌, length, take, Option, Result, Ok}
 use Rattle.asm_base.specs.Refusals.{◌>>=◌}
 use Rattle.asm_base.specs.declared.positions.Pos.{Pos}
 use Rattle.asm_lines.specs.NextStatements.{TokenStatement}
@@ -9,12 +9,13 @@ use Rattle.macro_words.specs.Statements.{made_statements}
 use Rattle.macro_blocks.specs.declared.blocks.Ending.{Ending}
 use Rattle.macro_blocks.specs.Blocks.{repeated}
 
--- a part of the list: the statements up to an end mark, what this ends, and where the chosen conditionals begin that are open in it,
--- outermost first
+-- a part of the list: the statements up to an end mark, what this ends, where the chosen conditionals begin that are open in it,
+-- outermost first, and the number of the innermost call that it stands in, if it stands in one
 pub record Level : Type 0 where
   pub statements : List TokenStatement
   pub ends : Ending
   pub open_at : List Pos
+  pub call_number : Option ℕ
 
 -- the part with these statements left
 abbrev pub with_statements : List TokenStatement → Level → Level
@@ -33,25 +34,26 @@ first_open pos (first ∷ others) = first
 abbrev pub but_last : List Pos → List Pos
 but_last open_at = take (length open_at - 1) open_at
 
--- a part of these statements, in which no conditional is open
-abbrev pub level_with : Ending → List TokenStatement → Level
-level_with ends statements = record { statements = statements; ends = ends; open_at = [] }
+-- a part of these statements in the call of this number, if it stands in one; no conditional is open in it
+abbrev pub level_with : Option ℕ → Ending → List TokenStatement → Level
+level_with number ends statements =
+    record { statements = statements; ends = ends; open_at = []; call_number = number }
 
 -- a part of the statements that were made, or their fault
-abbrev pub entered : Ending → Result (List TokenStatement) MacroCause → Result Level MacroCause
-entered ends made = made >>= λ statements. Ok (level_with ends statements)
+abbrev pub entered : Option ℕ → Ending → Result (List TokenStatement) MacroCause → Result Level MacroCause
+entered number ends made = made >>= λ statements. Ok (level_with number ends statements)
 
 -- so many copies of what was made
 abbrev pub copies_of : ℕ → Result (List TokenStatement) MacroCause → Result (List TokenStatement) MacroCause
 copies_of count made = made >>= λ statements. Ok (repeated count statements)
 
--- a body with this text in place of a name
+-- a body with this text in place of a name, and this number in place of `\@`
 abbrev pub put_value : List ℕ → ℕ → List ℕ → List ℕ → List ℕ
-put_value name begun body text = put (record { name = name; text = text } ∷ []) begun body
+put_value name number body text = put (record { name = name; text = text } ∷ []) number body
 
 -- a copy of a body for each of these texts of a name
 abbrev pub each_copy : Pos → List ℕ → ℕ → List ℕ → List (List ℕ) → Result (List TokenStatement) MacroCause
-each_copy pos name begun body [] = Ok []
-each_copy pos name begun body (text ∷ texts) =
-    made_statements pos (put_value name begun body text) >>= λ first.
-    each_copy pos name begun body texts >>= λ others. Ok (first ++ others)
+each_copy pos name number body [] = Ok []
+each_copy pos name number body (text ∷ texts) =
+    made_statements pos (put_value name number body text) >>= λ first.
+    each_copy pos name number body texts >>= λ others. Ok (first ++ others)

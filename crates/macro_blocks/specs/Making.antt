@@ -16,11 +16,11 @@ ChecksText text (Ok u) = HasNoLineFault 0 text
 ChecksText text (Err refusal) = (pos : Pos) → Fails refusal (made_statements pos text)
 
 -- the copies of a body for these texts of a name are made
-pub record AreMade (name : List ℕ) (begun : ℕ) (body : List ℕ) (values : List (List ℕ)) : Type 0 where
-  pub whole : all_whole name begun body values ≡ true
-  pub made : (pos : Pos) → each_copy pos name begun body values ≡ Ok (each_left (At pos) name begun body values)
+pub record AreMade (name : List ℕ) (number : ℕ) (body : List ℕ) (values : List (List ℕ)) : Type 0 where
+  pub whole : all_whole name number body values ≡ true
+  pub made : (pos : Pos) → each_copy pos name number body values ≡ Ok (each_left (At pos) name number body values)
 
 -- the lines of the copies have no fault, or the first that has one has this
 abbrev pub ChecksCopies : List ℕ → ℕ → List ℕ → List (List ℕ) → Result (Unit {0}) (Refusal MacroCause) → Type 0
-ChecksCopies name begun body values (Ok u) = AreMade name begun body values
-ChecksCopies name begun body values (Err refusal) = (pos : Pos) → Fails refusal (each_copy pos name begun body values)
+ChecksCopies name number body values (Ok u) = AreMade name number body values
+ChecksCopies name number body values (Err refusal) = (pos : Pos) → Fails refusal (each_copy pos name number body values)

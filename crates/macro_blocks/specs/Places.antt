@@ -34,9 +34,9 @@ left_in place text at = map (standing place) (map in_tokens (statements_left (fi
 
 -- those of the copies of a body for these texts of a name
 abbrev pub each_left : Place → List ℕ → ℕ → List ℕ → List (List ℕ) → List TokenStatement
-each_left place name begun body [] = []
-each_left place name begun body (text ∷ texts) =
-    left_in place (put_value name begun body text) 0 ++ each_left place name begun body texts
+each_left place name number body [] = []
+each_left place name number body (text ∷ texts) =
+    left_in place (put_value name number body text) 0 ++ each_left place name number body texts
 
 -- there is no fault
 abbrev pub none_found : {A : Type 0} → Option A → Bool
@@ -49,6 +49,6 @@ is_whole text at = none_found (found_left text at)
 
 -- nor have those of the copies of a body for these texts of a name
 abbrev pub all_whole : List ℕ → ℕ → List ℕ → List (List ℕ) → Bool
-all_whole name begun body [] = true
-all_whole name begun body (text ∷ texts) =
-    is_whole (put_value name begun body text) 0 && all_whole name begun body texts
+all_whole name number body [] = true
+all_whole name number body (text ∷ texts) =
+    is_whole (put_value name number body text) 0 && all_whole name number body texts

@@ -13,28 +13,28 @@ use std::alloc::{AllocError, Global};
 pub struct EachCopy {
     pub(crate) body: Vec<u8>,
     pub(crate) line: EachLine,
-    /// How many calls began before the first copy.
-    pub(crate) begun: u64,
+    /// What `\@` stands for in the copies.
+    pub(crate) number: u64,
     pub(crate) next: usize,
     ghost within: { next ≤ length line.values.items },
-    ghost whole: { all_whole line.name.items begun body.items (drop next (texts line.values.items)) ≡ true },
+    ghost whole: { all_whole line.name.items number body.items (drop next (texts line.values.items)) ≡ true },
 }
 
-/// A body with this text in place of a name, before which so many calls began.
+/// A body with this text in place of a name, and this number in place of `\@`.
 pub(crate) fn copy_text(
     alloc: Global,
     body: &[u8],
     name: &[u8],
     value: &[u8],
-    begun: u64,
+    number: u64,
 ) -> Result<Vec<u8>, AllocError>
-    ensures { IfOk result (λ text. text.items ≡ put_value name.now begun body.now value.now) }
+    ensures { IfOk result (λ text. text.items ≡ put_value name.now number body.now value.now) }
 {
     let arguments = [Argument {
         name,
         value: Value::Bytes(value),
     }];
-    put_in(alloc, &arguments, begun, body)
+    put_in(alloc, &arguments, number, body)
 }
 
 impl EachCopy {
@@ -54,7 +54,7 @@ impl EachCopy {
                 name: Vec::new(alloc),
                 values: Vec::new(alloc),
             },
-            begun: 0,
+            number: 0,
             next: 0,
         }
     }
@@ -72,7 +72,7 @@ impl EachCopy {
         ensures { IfOk result (λ text. IsNextText self.now text.items) }
     {
         let value = &self.line.values[self.next];
-        let text = copy_text(alloc, &self.body, &self.line.name, value, self.begun)?;
+        let text = copy_text(alloc, &self.body, &self.line.name, value, self.number)?;
         Ok(text)
     }
 
@@ -82,7 +82,7 @@ impl EachCopy {
         ensures next { self.new.next ≡ self.old.next + 1 }
         ensures body { self.new.body.items ≡ self.old.body.items }
         ensures line { self.new.line ≡ self.old.line }
-        ensures begun { self.new.begun ≡ self.old.begun }
+        ensures number { self.new.number ≡ self.old.number }
     {
         self.next += 1;
     }

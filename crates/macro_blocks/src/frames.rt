@@ -52,6 +52,8 @@ pub struct Frame {
     pub(crate) ends: Ending,
     /// Where the conditionals begin that are open.
     pub(crate) open: Vec<Pos>,
+    /// The number of the innermost call that it stands in.
+    pub(crate) call_number: Option<u64>,
     ghost within: { at ≤ length text.value },
     ghost line_there: { line ≡ line_of text.value at },
     ghost whole: { is_whole text.value at ≡ true },
@@ -69,13 +71,22 @@ impl Frame {
     ghost use Rattle.macro_blocks.specs.Copies.{each_of, later_of};
     ghost use Rattle.macro_blocks.specs.Frames.{text_in, copies_left, level_of, IsSamePart, IsSameText, StandsBeforeCopy, Reads, Takes, IsOutermost};
 
-    /// The statements of a file from an offset on, whose lines have no fault from there on.
-    pub fn file(alloc: Global, text: Rc<Text>, file: u32, at: usize, line: u32) -> Frame
+    /// The statements of a file from an offset on, whose lines have no fault from there on; the file was started in the call of this
+    /// number, if in one.
+    pub fn file(
+        alloc: Global,
+        text: Rc<Text>,
+        file: u32,
+        at: usize,
+        line: u32,
+        call_number: Option<u64>,
+    ) -> Frame
         requires within { at ≤ length text.value }
         requires line { line ≡ line_of text.value at }
         requires whole { found_left text.value at ≡ None }
         ensures level { level_of result
-            ≡ level_with ending.File (map in_tokens (statements_left file text.value at)) }
+            ≡ level_with call_number ending.File
+            (map in_tokens (statements_left file text.value at)) }
         ensures text { text_in result ≡ text.value }
     {
         Frame {
@@ -87,6 +98,7 @@ impl Frame {
             place: Place::File(file),
             ends: Ending::File,
             open: Vec::new(alloc),
+            call_number,
         }
     }
 
@@ -103,6 +115,14 @@ impl Frame {
         ensures { result ≡ (level_of self.now).ends }
     {
         self.ends
+    }
+
+    /// The number of the innermost call that it stands in, if it stands in one.
+    #[tactic(auto, unfolding(crate::specs::Frames::level_of))]
+    pub fn call_number(&self) -> Option<u64>
+        ensures { result ≡ (level_of self.now).call_number }
+    {
+        self.call_number
     }
 
     /// Goes back to the beginning of the text for the next copy of it.

@@ -33,12 +33,12 @@ fn check_copies(
     alloc: Global,
     body: &[u8],
     line: &EachLine,
-    begun: u64,
+    number: u64,
 ) -> Result<(), Refusal<MacroCause>>
-    ensures { ChecksCopies line.now.name.items begun body.now (texts line.now.values.items) result }
+    ensures { ChecksCopies line.now.name.items number body.now (texts line.now.values.items) result }
 {
     for value in &line.values {
-        let bytes = copy_text(alloc, body, &line.name, value, begun)?;
+        let bytes = copy_text(alloc, body, &line.name, value, number)?;
         let text = Text::new(bytes);
         if let Err(refusal) = check_text(alloc, &text) {
             return Err(refusal);
@@ -64,10 +64,12 @@ impl Frame {
         ends: Ending,
         alike: u64,
         each: EachCopy,
+        call_number: Option<u64>,
     ) -> Frame
         requires whole { is_whole text.value 0 ≡ true }
         requires alone { 0 < alike → each.next ≡ length each.line.values.items }
-        ensures { level_of result ≡ level_with ends (left_in (place.At pos) text.value 0
+        ensures { level_of result ≡ level_with call_number ends
+            (left_in (place.At pos) text.value 0
             ++ later_of (place.At pos) text.value alike each) }
     {
         Frame {
@@ -79,68 +81,89 @@ impl Frame {
             place: Place::At(pos),
             ends,
             open: Vec::new(alloc),
+            call_number,
         }
     }
 
     /// The copies that have texts of their own, repeated here.
-    fn of_copies(alloc: Global, each: EachCopy, pos: Pos) -> Result<Frame, AllocError>
+    fn of_copies(
+        alloc: Global,
+        each: EachCopy,
+        pos: Pos,
+        call_number: Option<u64>,
+    ) -> Result<Frame, AllocError>
         ensures { IfOk result (λ frame. level_of frame
-            ≡ level_with ending.Repeat (each_of (place.At pos) each)) }
+            ≡ level_with call_number ending.Repeat (each_of (place.At pos) each)) }
     {
         let nothing = Text::new(Vec::new(alloc));
         let text = Rc::new(alloc, nothing)?;
-        Ok(Frame::made(alloc, text, pos, Ending::Repeat, 0, each))
+        Ok(Frame::made(alloc, text, pos, Ending::Repeat, 0, each, call_number))
     }
 
-    /// The body of a macro with arguments put in, called here, or the fault of its lines.
-    pub fn call(alloc: Global, text: Rc<Text>, pos: Pos) -> Result<Frame, Refusal<MacroCause>>
+    /// The body of a macro with arguments put in, called here by the call of this number, or the fault of its lines.
+    pub fn call(
+        alloc: Global,
+        text: Rc<Text>,
+        pos: Pos,
+        number: u64,
+    ) -> Result<Frame, Refusal<MacroCause>>
         ensures { GivesBy level_of result
-            (entered ending.Call (made_statements pos text.value)) }
+            (entered (Some number) ending.Call (made_statements pos text.value)) }
     {
         check_text(alloc, &text)?;
         let each = EachCopy::none(alloc);
-        Ok(Frame::made(alloc, text, pos, Ending::Call, 0, each))
+        Ok(Frame::made(alloc, text, pos, Ending::Call, 0, each, Some(number)))
     }
 
-    /// So many copies of a body, repeated here, or the fault of its lines.
+    /// So many copies of a body, repeated here in the call of this number, if in one, or the fault of its lines.
     pub fn repeat(
         alloc: Global,
         body: Vec<u8>,
         pos: Pos,
         count: u64,
+        call_number: Option<u64>,
     ) -> Result<Frame, Refusal<MacroCause>>
-        ensures { GivesBy level_of result
-            (entered ending.Repeat (copies_of count (made_statements pos body.items))) }
+        ensures { GivesBy level_of result (entered call_number ending.Repeat
+            (copies_of count (made_statements pos body.items))) }
     {
         let text = Text::new(body);
         check_text(alloc, &text)?;
         if count == 0 {
-            return Ok(Frame::of_copies(alloc, EachCopy::none(alloc), pos)?);
+            return Ok(Frame::of_copies(alloc, EachCopy::none(alloc), pos, call_number)?);
         }
         let text = Rc::new(alloc, text)?;
         let each = EachCopy::none(alloc);
-        Ok(Frame::made(alloc, text, pos, Ending::Repeat, count - 1, each))
+        Ok(Frame::made(
+            alloc,
+            text,
+            pos,
+            Ending::Repeat,
+            count - 1,
+            each,
+            call_number,
+        ))
     }
 
-    /// A copy of a body, before which so many calls began, for each of the values of a line, repeated here; or the fault of the lines of
-    /// the first that has one.
+    /// A copy of a body, in which `\@` is this number, for each of the values of a line, repeated here in the call of its number, if in
+    /// one; or the fault of the lines of the first that has one.
     pub fn each(
         alloc: Global,
         body: Vec<u8>,
         line: EachLine,
-        begun: u64,
+        number: u64,
         pos: Pos,
+        call_number: Option<u64>,
     ) -> Result<Frame, Refusal<MacroCause>>
-        ensures { GivesBy level_of result (entered ending.Repeat
-            (each_copy pos line.name.items begun body.items (texts line.values.items))) }
+        ensures { GivesBy level_of result (entered call_number ending.Repeat
+            (each_copy pos line.name.items number body.items (texts line.values.items))) }
     {
-        check_copies(alloc, &body, &line, begun)?;
+        check_copies(alloc, &body, &line, number)?;
         let each = EachCopy {
             body,
             line,
-            begun,
+            number,
             next: 0,
         };
-        Ok(Frame::of_copies(alloc, each, pos)?)
+        Ok(Frame::of_copies(alloc, each, pos, call_number)?)
     }
 }

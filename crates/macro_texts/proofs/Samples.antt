@@ -18,7 +18,7 @@ use Rattle.macro_texts.specs.Repeats.{EachLineAs, irp_line, irpc_line}
 abbrev parameter : List ℕ → ParameterKind → List ℕ → ParameterAs
 parameter name kind default = record { name = name; kind = kind; default = default }
 
--- the body of a call, before which so many calls began
+-- the body of a call, with this number in place of `\@`
 abbrev call : List ParameterAs → List ℕ → ℕ → List ℕ → Result (List ℕ) MacroLineCause
 call parameters operands number body = call_arguments parameters (tokens_of operands) >>= λ arguments. Ok (put arguments number body)
 

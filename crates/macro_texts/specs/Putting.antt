@@ -45,7 +45,7 @@ put_named (Some text) taken = record { text = text; taken = taken }
 abbrev pub longest_name : ℕ → List ℕ → List ℕ
 longest_name first rest = first ∷ take (prefix_len is_name_byte rest) rest
 
--- by the byte behind the backslash: the number of calls, nothing, or a parameter of the longest name
+-- by the byte behind the backslash: the number, nothing, or a parameter of the longest name
 unfoldable pub put_by : List ArgumentAs → ℕ → ℕ → List ℕ → PutAs
 put_by arguments number first rest =
     if first == 64 then record { text = decimal number; taken = 1 }
@@ -66,6 +66,6 @@ put_from arguments number zero (byte ∷ rest) =
     if is_plain byte then (byte ∷ put_from arguments number zero rest)
     else (put_at arguments number rest).text ++ put_from arguments number (put_at arguments number rest).taken rest
 
--- a body with arguments put in, before which so many macro calls began
+-- a body with arguments put in, and this number in place of `\@`
 abbrev pub put : List ArgumentAs → ℕ → List ℕ → List ℕ
 put arguments number body = put_from arguments number 0 body

@@ -145,7 +145,7 @@ fn push_piece(
     }
 }
 
-/// A body with arguments put in, before which so many macro calls began.
+/// A body with arguments put in, and this number in place of `\@`.
 pub fn put_in(
     alloc: Global,
     arguments: &[Argument],

@@ -14,6 +14,6 @@ file-requires-clause-line g c = refl
 
 pub returns : goal.returns
 returns g c =
-    let level = ap level_of c.in-Ok-new.ensures ∙ c.file.ensures.level ∙ ap (λ text. level_with ending.File (map in_tokens (statements_left c.args.file text 0))) c.in-Ok.ensures.ok in
+    let level = ap level_of c.in-Ok-new.ensures ∙ c.file.ensures.level ∙ ap (λ text. level_with c.args.number ending.File (map in_tokens (statements_left c.args.file text 0))) c.in-Ok.ensures.ok in
     let whole = subst (IsLineCheck c.args.file c.args.text) c.in-Ok-None.field-0-is c.in-Ok-None.ensures in
     (_, ap in_file whole.statements, level)

@@ -1,5 +1,5 @@
 -- One part behind another.
-use Rattle.std.proofs.Common.{ℕ, List, Option, Ok, Err, inl, refl, sym, ap, subst, ◌∙◌}
+use Rattle.std.proofs.Common.{ℕ, List, ◌∷◌, Option, Ok, Err, inl, refl, sym, ap, subst, ◌∙◌}
 use Rattle.asm_base.specs.Inputs.{Contents}
 use Rattle.macro_blocks.specs.Frames.{level_of}
 use Rattle.asm_macro.specs.declared.turned.Turned.{Turned}
@@ -9,7 +9,9 @@ use Rattle.asm_macro.specs.Placing.{goes, steps}
 use Rattle.asm_macro.specs.Expanding.{Comes}
 use Rattle.asm_macro.specs.Readings.{HasRead, input_by}
 use Rattle.asm_macro.specs.Running.{Expands, RunsFrom}
-use Rattle.asm_macro.specs.Turning.{state_of}
+use Rattle.asm_macro.specs.declared.faults.ExpandFault.{ExpandFault}
+use Rattle.asm_macro.specs.OpenParts.{AreFew}
+use Rattle.asm_macro.specs.Turning.{KeepsFew, state_of}
 use Rattle.asm_macro.proofs.Parts.{part_more, expand_fails, expand_ends}
 use Rattle.asm_macro.proofs.Runs.{steps_none}
 use Rattle.asm_macro.proofs.Wholes.{read_none}
@@ -72,3 +74,19 @@ returns g c =
     let Names : List (List ℕ) → Type 0 = λ names. Expands {F = g.row.P-Fault.Denot} g.P.Placer.placed g.P.KnowingPlacer.told (g.I.Inputs.contents c.args.ins.now) (state_of c.args.self.now) c.args.placer.now (Ok tt) names c.parts.placer (input_by g.I.Inputs.contents g.I.Inputs.rest g.I.Inputs.faults g.I.Inputs.missing g.I.Inputs.taken g.I.Inputs.history c.args.ins.now) (input_by g.I.Inputs.contents g.I.Inputs.rest g.I.Inputs.faults g.I.Inputs.missing g.I.Inputs.taken g.I.Inputs.history c.parts.ins) in
     subst Names (sym (ap (λ s. s.files) c.in_default.ensures.part.1))
     (expand_ends g.P.Placer.placed g.P.KnowingPlacer.told (g.I.Inputs.contents c.args.ins.now) (state_of c.args.self.now) c.args.placer.now c.parts.invariant.done.0 (state_of c.parts.self) c.parts.placer (input_by g.I.Inputs.contents g.I.Inputs.rest g.I.Inputs.faults g.I.Inputs.missing g.I.Inputs.taken g.I.Inputs.history c.args.ins.now) (input_by g.I.Inputs.contents g.I.Inputs.rest g.I.Inputs.faults g.I.Inputs.missing g.I.Inputs.taken g.I.Inputs.history c.parts.ins) c.parts.invariant.done.1 c.parts.invariant.read c.in_default.ensures.part.0)
+
+pub put_part-requires : goal.put_part-requires
+put_part-requires g c =
+    let frame = c.deref_mut.ensures.value ∙ c.into_frame-frame.ensures in
+    let Leaves : Turned → Type 0 = λ turned. KeepsFew {E = ExpandFault g.row.P-Fault.Denot} (level_of c.deref_mut.result.now) (state_of c.take_part.new.self) (Ok turned) (level_of c.run_part.new.frame) (state_of c.run_part.new.self) in
+    let before = subst (λ part. AreFew (level_of part ∷ (state_of c.take_part.new.self).levels)) (sym frame) c.in-Some.ensures.few in
+    let after = subst Leaves c.in-Ok-Stays.field-0-is c.in-Ok-Stays.ensures.few before in
+    subst (λ part. AreFew (level_of part ∷ (state_of c.run_part.new.self).levels)) (sym c.with_frame.ensures) after
+
+pub enter-requires : goal.enter-requires
+enter-requires g c =
+    let frame = c.deref_mut.ensures.value ∙ c.into_frame-frame.ensures in
+    let Leaves : Turned → Type 0 = λ turned. KeepsFew {E = ExpandFault g.row.P-Fault.Denot} (level_of c.deref_mut.result.now) (state_of c.take_part.new.self) (Ok turned) (level_of c.run_part.new.frame) (state_of c.run_part.new.self) in
+    let before = subst (λ part. AreFew (level_of part ∷ (state_of c.take_part.new.self).levels)) (sym frame) c.in-Some.ensures.few in
+    let after = subst Leaves c.in-Ok-Enters.field-0-is c.in-Ok-Enters.ensures.few before in
+    subst (λ part. AreFew (level_of c.in-Ok-Enters.inner ∷ level_of part ∷ (state_of c.run_part.new.self).levels)) (sym c.with_frame-in-Ok-Enters.ensures) after

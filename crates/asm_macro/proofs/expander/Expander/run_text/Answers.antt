@@ -13,6 +13,8 @@ use Rattle.asm_macro.specs.declared.heads.Head.{Head}
 use Rattle.asm_macro.specs.declared.turned.Turned.TheVariants as turned
 use Rattle.asm_macro.specs.Expansion.{MacroAs, under}
 use Rattle.asm_macro.specs.Heads.{IsHead}
+use Rattle.asm_macro.specs.OpenParts.{AreFew}
+use Rattle.asm_macro.proofs.ShallowLists.{fewer_parts, same_parts}
 use Rattle.asm_macro.specs.Readings.{input_by}
 use Rattle.asm_macro.specs.Running.{RunsFrom, headed}
 use Rattle.asm_macro.specs.Turning.{state_of}
@@ -23,7 +25,7 @@ use Rattle.asm_macro.proofs.Runs.{steps_none}
 use Rattle.asm_macro.proofs.expander.Expander.run_text.Goals as goal
 
 pub statements-init : goal.statements-init
-statements-init g c = record { done = (0, steps_none g.P.Placer.placed g.P.KnowingPlacer.told (g.I.Inputs.contents c.args.ins.now) _ _); text = c.requires; copies = refl; files = refl; given = omega arith; ins = refl; parts = omega arith }
+statements-init g c = record { done = (0, steps_none g.P.Placer.placed g.P.KnowingPlacer.told (g.I.Inputs.contents c.args.ins.now) _ _); text = c.requires; copies = refl; files = refl; given = omega arith; ins = refl; parts = omega arith; shallow = λ few. few }
 
 -- what was asked for behind the labels, of what stands behind them
 of_behind : (found : Option Head) (macros : List MacroAs) (n : ℕ) (tokens : List Token) (behind : List SpelledToken) → drop n (map spelled tokens) ≡ behind → IsHead found (map spelled (take (length tokens - n) (drop n tokens))) macros → IsHead found behind macros
@@ -107,6 +109,8 @@ statements-preserved g c =
       given = omega (arith, given, before);
       ins = c.statements.invariant.ins;
       parts = omega (arith, fewer, parts);
+      shallow = λ few. subst (λ below. AreFew (level_of c.take.new.self ∷ below)) (sym (ap (λ m. m.levels) now))
+          (same_parts (level_of c.statements.frame) (level_of c.take.new.self) (state_of c.statements.self).levels (sym (ap (λ l. l.ends) step)) (c.statements.invariant.shallow few));
     }
 
 pub returns-in-Ok-NextCopy-clause-run : goal.returns-in-Ok-NextCopy-clause-run
@@ -153,3 +157,19 @@ returns-in-Ok-End-clause-run g c =
     subst Later (sym c.statements.invariant.ins)
     (text_ends g.P.Placer.placed g.P.KnowingPlacer.told told start c.args.placer.now c.statements.invariant.done.0 (level_of c.statements.frame) (level_of c.take.new.self) (state_of c.statements.self) c.statements.placer (input c.args.ins.now) c.statements.invariant.done.1
     ends.1 (ap (λ l. l.open_at) (sym ends.0) ∙ c.in_default-outermost.ensures) c.statements.invariant.files)
+
+pub returns-in-Ok-Some-clause-few : goal.returns-in-Ok-Some-clause-few
+returns-in-Ok-Some-clause-few g c = λ few.
+    let Taking : Taken → Type 0 = λ taken. Takes taken c.take.new.tokens.items (level_of c.statements.frame) (level_of c.take.new.self) in
+    let step = (subst Taking c.in-Ok-Statement.field-0-is c.in-Ok-Statement.ensures.next).1 in
+    c.turn_head.ensures.few (same_parts (level_of c.statements.frame) (level_of c.take.new.self) (state_of c.statements.self).levels (sym (ap (λ l. l.ends) step)) (c.statements.invariant.shallow few))
+
+pub returns-in-Ok-NextCopy-clause-few : goal.returns-in-Ok-NextCopy-clause-few
+returns-in-Ok-NextCopy-clause-few g c = λ few.
+    let Taking : Taken → Type 0 = λ taken. Takes taken c.take.new.tokens.items (level_of c.statements.frame) (level_of c.take.new.self) in
+    let same = subst Taking c.in-Ok-NextCopy.field-0-is c.in-Ok-NextCopy.ensures.next in
+    subst (λ level. AreFew (level ∷ (state_of c.statements.self).levels)) (sym (c.in_default-begin_copy.ensures.level ∙ same)) (c.statements.invariant.shallow few)
+
+pub returns-in-Ok-End-clause-few : goal.returns-in-Ok-End-clause-few
+returns-in-Ok-End-clause-few g c = λ few.
+    fewer_parts (level_of c.statements.frame) (state_of c.statements.self).levels (c.statements.invariant.shallow few)

@@ -1,7 +1,8 @@
 -- The statements that were taken off are placed.
-use Rattle.std.proofs.Common.{◌≡◌, ℕ, ◌≤◌, ◌-◌, vec_len}
+use Rattle.std.proofs.Common.{◌≡◌, ℕ, ◌≤◌, ◌-◌, ◌∷◌, vec_len}
 use Rattle.macro_blocks.specs.Frames.{copies_left, level_of, text_in}
 use Rattle.asm_macro.specs.Expansion.{under, most_given}
+use Rattle.asm_macro.specs.OpenParts.{AreFew}
 use Rattle.asm_macro.specs.Placing.{goes, steps}
 use Rattle.asm_macro.specs.Turning.{state_of}
 use Rattle.asm_macro.proofs.expander.Expander.run_text.Given as goal
@@ -15,6 +16,7 @@ invariant-statements g l = record {
   given : l.fn.self.given ≤ l.self.given;
   ins : l.ins ≡ l.fn.ins;
   parts : vec_len l.self.frames ≤ vec_len l.fn.self.frames;
+  shallow : AreFew (level_of l.fn.frame ∷ (state_of l.fn.self).levels) → AreFew (level_of l.frame ∷ (state_of l.self).levels);
 }
 
 abbrev pub decreases-statements : goal.decreases-statements

@@ -5,6 +5,7 @@ use Rattle.asm_base.specs.Tokens.{SpelledToken, spelled}
 use Rattle.asm_lines.specs.NextStatements.{TokenStatement}
 use Rattle.macro_blocks.specs.Frames.{level_of}
 use Rattle.macro_words.specs.Statements.{labels_of}
+use Rattle.asm_macro.specs.OpenParts.{AreFew}
 use Rattle.asm_macro.specs.Running.{HandsOut}
 use Rattle.asm_macro.specs.Turning.{state_of}
 use Rattle.asm_macro.proofs.Turnings.{bare_runs, labelled_head, labels_fail}
@@ -41,3 +42,8 @@ returns-in-Err-clause-run g c =
     let some = some_labels c.args.labels s.tokens (labels_of s.tokens) (let h = c.requires.within in let e = length-map c.args.tokens.now spelled in omega (arith, h, e)) c.if-labels-eq0.false c.requires.labels in
     labels_fail g.P.Placer.placed g.P.KnowingPlacer.told (g.I.Inputs.contents c.args.ins.now) c.args.head.now s (level_of c.args.frame.now) (level_of c.args.frame.now) (state_of c.args.self.now) (state_of c.hand_out.new.self) c.args.placer.now c.hand_out.new.placer c.in-Err.fault _
     c.requires.head some (subst Handed labels c.in-Err.ensures.step)
+
+pub returns-in-Ok-clause-few : goal.returns-in-Ok-clause-few
+returns-in-Ok-clause-few g c = λ few.
+    let levels = ap (λ m. m.levels) c.in-Ok.ensures.step.2 in
+    c.rewrite-in-Ok.ensures.few (subst (λ below. AreFew (level_of c.args.frame.now ∷ below)) (sym levels) few)

@@ -6,4 +6,4 @@ use Rattle.macro_blocks.proofs.copies.EachCopy.pass.Goals as goal
 pub invariant_of-self-clause-whole : goal.invariant_of-self-clause-whole
 invariant_of-self-clause-whole c =
     let each = c.args.self.now in
-    whole_behind each.line.name.items each.body.items each.begun each.next (texts each.line.values.items) each.whole
+    whole_behind each.line.name.items each.body.items each.number each.next (texts each.line.values.items) each.whole

@@ -10,4 +10,4 @@ invariant_of-result-clause-line_there c = first_line c.args.text.value
 
 pub returns : goal.returns
 unfolding level_of
-returns c = levels_same _ _ _ _ _ _ refl refl c.new.ensures.items
+returns c = levels_same _ _ _ _ _ _ _ _ refl refl c.new.ensures.items refl

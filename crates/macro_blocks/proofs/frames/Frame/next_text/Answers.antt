@@ -21,4 +21,4 @@ returns-clause-statements c =
     let f = c.args.self.now in
     let Next : List ℕ → Type 0 = λ text. IsNextText f.each text in
     let is = subst Next (sym (c.in_ok-text.ensures.ok ∙ c.new-made.ensures)) c.in_ok-bytes.ensures in
-    next_statements f.place c.in_ok-text.text.value f.alike f.each c.pass.new.self c.requires.alike is c.pass.ensures.next c.pass.ensures.body c.pass.ensures.line c.pass.ensures.begun
+    next_statements f.place c.in_ok-text.text.value f.alike f.each c.pass.new.self c.requires.alike is c.pass.ensures.next c.pass.ensures.body c.pass.ensures.line c.pass.ensures.number

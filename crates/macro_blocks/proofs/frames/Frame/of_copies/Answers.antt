@@ -17,5 +17,5 @@ made-requires-clause-whole c =
 pub returns : goal.returns
 returns c =
     let empty : c.in_ok-text.text.value ≡ [] = c.in_ok-text.ensures.ok ∙ c.new-nothing.ensures ∙ c.new.ensures.items in
-    c.made.ensures ∙ ap (λ (text : List ℕ). level_with ending.Repeat (left_in (At c.args.pos) text 0 ++ later_of (At c.args.pos) text 0 c.args.each)) empty
-    ∙ ap (λ (left : List TokenStatement). level_with ending.Repeat (left ++ each_of (At c.args.pos) c.args.each)) (empty_left (At c.args.pos))
+    c.made.ensures ∙ ap (λ (text : List ℕ). level_with c.args.call_number ending.Repeat (left_in (At c.args.pos) text 0 ++ later_of (At c.args.pos) text 0 c.args.each)) empty
+    ∙ ap (λ (left : List TokenStatement). level_with c.args.call_number ending.Repeat (left ++ each_of (At c.args.pos) c.args.each)) (empty_left (At c.args.pos))

@@ -13,4 +13,4 @@ returns-in-Stopped-clause-passes g c =
     let T : List ℕ → Type 0 = λ text. StopsIn verdict f.place text f.at c.args.search.now c.seek.new.self c.in-Stopped.stop in
     let text : c.as_bytes.result.now ≡ f.text.value = c.as_bytes.ensures ∙ c.deref.ensures in
     stops_level verdict c.args.search.now c.seek.new.self f _ c.in-Stopped.stop (subst T text (subst S c.in-Stopped.is c.in_ok-sought.ensures.seeks))
-    (record { same = record { place = refl; ends = refl; opened = refl }; text = refl; alike = refl; each = refl }) refl
+    (record { same = record { place = refl; ends = refl; opened = refl; number = refl }; text = refl; alike = refl; each = refl }) refl
