@@ -2,3 +2,4 @@
 pub mod JumpRows
 pub mod JumpReads
 pub mod ConditionNumbers
+pub mod PaddingReads
