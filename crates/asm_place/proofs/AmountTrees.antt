@@ -26,7 +26,9 @@ use Rattle.x86_insn.specs.Amounts.{amount_tree}
 use Rattle.att_operands.specs.declared.faults.OperandCause.{OperandCause}
 use Rattle.att_operands.specs.Values.{GivesSo, IsFitting, IsAmountOf}
 use Rattle.att_insns.specs.InsnTexts.{InsnText, IsInsnOf}
-use Rattle.asm_place.specs.Coding.{shape_in, shape_of, forms_of, put_named, insn_of_trees, place_insn, place_text, place_read}
+use Rattle.asm_words.specs.declared.directives.Syntax.{Syntax}
+use Rattle.asm_words.specs.declared.directives.Syntax.TheVariants.{Att, Intel}
+use Rattle.asm_place.specs.Coding.{shape_in, shape_of, forms_of, in_text_order, put_named, insn_of_trees, place_insn, place_text, place_read}
 use Rattle.asm_place.specs.Amounts.{trees_of, place_amounts, AmountFits, InsnFits, FitsThere}
 
 -- each of these names has a symbol, from left to right
@@ -108,15 +110,23 @@ module _ (pos : Pos) (insn : Insn) (text : InsnText) (placed : Placed) (is : IsI
   abbrev moved : Tree
   moved = text.displacement.tree
 
-  same_tables : with_trees pos (trees_of insn) placed.table ≡ with_trees pos (own ∷ moved ∷ []) placed.table
+  same_tables : (syntax : Syntax) → with_trees pos (trees_of syntax insn) placed.table ≡ with_trees pos (in_text_order syntax own moved) placed.table
   unfolding with_trees
-  same_tables =
+  same_tables Att =
       same_table insn.displacement.amount moved is.displacement.amount pos (with_tree pos (amount_tree insn.immediate.amount) placed.table)
       ∙ ap (with_tree pos moved) (same_table insn.immediate.amount own is.immediate.amount pos placed.table)
+  same_tables Intel =
+      same_table insn.immediate.amount own is.immediate.amount pos (with_tree pos (amount_tree insn.displacement.amount) placed.table)
+      ∙ ap (with_tree pos own) (same_table insn.displacement.amount moved is.displacement.amount pos placed.table)
 
-  same_naming : naming_of (trees_of insn) placed.table ≡ naming_of (own ∷ moved ∷ []) placed.table
+  same_naming : (syntax : Syntax) → naming_of (trees_of syntax insn) placed.table ≡ naming_of (in_text_order syntax own moved) placed.table
   unfolding are_meant
-  same_naming =
+  same_naming Att =
+      rw (
+        same_meant insn.immediate.amount own is.immediate.amount placed.table.symbols.counts,
+        same_meant insn.displacement.amount moved is.displacement.amount placed.table.symbols.counts,
+      ) refl
+  same_naming Intel =
       rw (
         same_meant insn.immediate.amount own is.immediate.amount placed.table.symbols.counts,
         same_meant insn.displacement.amount moved is.displacement.amount placed.table.symbols.counts,
@@ -128,15 +138,16 @@ module _ (pos : Pos) (insn : Insn) (text : InsnText) (placed : Placed) (is : IsI
       rw (same_form insn.immediate.amount own is.immediate.amount known fits.immediate, same_form insn.displacement.amount moved is.displacement.amount known fits.displacement) refl
 
   -- an instruction by the trees of its amounts is the instruction by its text
-  pub text_placed : InsnFits (known_here (with_names pos (trees_of insn) placed)) insn → place_amounts pos insn placed ≡ place_text pos text placed
+  pub text_placed : InsnFits (known_here (with_names pos (trees_of placed.syntax insn) placed)) insn → place_amounts pos insn placed ≡ place_text pos text placed
   unfolding place_insn
   text_placed fits =
-      let named = with_names pos (trees_of insn) placed in
-      let made = naming_of (own ∷ moved ∷ []) placed.table in
-      ap (λ shape. insn_of_trees pos shape (naming_of (trees_of insn) placed.table) (amount_tree insn.immediate.amount) (amount_tree insn.displacement.amount) named) (same_shape insn text is)
-      ∙ (ap (λ naming. insn_of_trees pos (shape_in text) naming (amount_tree insn.immediate.amount) (amount_tree insn.displacement.amount) named) same_naming
+      let syntax = placed.syntax in
+      let named = with_names pos (trees_of syntax insn) placed in
+      let made = naming_of (in_text_order syntax own moved) placed.table in
+      ap (λ shape. insn_of_trees pos shape (naming_of (trees_of syntax insn) placed.table) (amount_tree insn.immediate.amount) (amount_tree insn.displacement.amount) named) (same_shape insn text is)
+      ∙ (ap (λ naming. insn_of_trees pos (shape_in text) naming (amount_tree insn.immediate.amount) (amount_tree insn.displacement.amount) named) (same_naming syntax)
       ∙ (ap (λ read. read >>= λ forms. put_named pos (shape_in text) made forms named) (same_forms (known_here named) fits)
-      ∙ ap (λ table. insn_of_trees pos (shape_in text) made own moved (with_table placed table)) same_tables))
+      ∙ ap (λ table. insn_of_trees pos (shape_in text) made own moved (with_table placed table)) (same_tables syntax)))
 
 -- an instruction that was read is placed by its text
 pub read_placed : {T : Type 0} (pos : Pos) (insn : Insn) (due : Result InsnText OperandCause) (placed new : Placed) (result : Result T (Refusal PlaceCause))

@@ -28,7 +28,7 @@ use Rattle.x86_encode.specs.FieldPlaces.{EncodingsApart}
 use Rattle.x86_encode.specs.Filling.{Coding}
 use Rattle.asm_place.specs.declared.codes.InsnForms.{InsnForms}
 use Rattle.asm_place.specs.declared.codes.CodeField.{CodeField}
-use Rattle.asm_place.specs.Coding.{InsnShape, shape_in, forms_of, values_in, of_code, fields_of, put_code, keeps_place, put_by_jump, put_coded, put_insn, place_insn, place_text, place_read, lone_code, insn_by, place_coded, place_instruction}
+use Rattle.asm_place.specs.Coding.{InsnShape, shape_in, forms_of, in_text_order, values_in, of_code, fields_of, put_code, keeps_place, put_by_jump, put_coded, put_insn, place_insn, place_text, place_read, lone_code, insn_by, place_coded, place_instruction}
 use Rattle.asm_place.specs.Placing.{place_body, place_label, place_unlabelled, place_labelled, has_wide_label, place_tokens}
 use Rattle.asm_place.specs.Sources.{pos_at, place, place_all}
 use Rattle.asm_place.specs.Instructions.{behind_labels, instruction_written, run_end, with_more, IsContinued, Grows, IsWithin, AreWithin}
@@ -269,7 +269,7 @@ text_put : EncodingsApart → (pos : Pos) (text : InsnText) (before placed : Pla
     → IsTextPut pos text before placed
 unfolding place_insn
 text_put places pos text before placed no_jump is =
-    let trees = text.immediate.tree ∷ text.displacement.tree ∷ [] in
+    let trees = in_text_order before.syntax text.immediate.tree text.displacement.tree in
     let named = with_names pos trees before in
     both_ok _ _ placed is (λ forms forms_are named_is.
     both_ok _ _ placed named_is (λ put put_is end_is.

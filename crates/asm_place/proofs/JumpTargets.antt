@@ -12,7 +12,7 @@ use Rattle.asm_uses.specs.Tables.{naming_of}
 use Rattle.asm_values.specs.State.{Placed, with_names, here, known_here}
 use Rattle.att_insns.specs.InsnTexts.{InsnText}
 use Rattle.asm_place.specs.declared.codes.InsnForms.{InsnForms}
-use Rattle.asm_place.specs.Coding.{shape_in, forms_of, place_insn, place_text}
+use Rattle.asm_place.specs.Coding.{shape_in, forms_of, in_text_order, place_insn, place_text}
 use Rattle.asm_place.specs.Placing.{has_wide_label, place_unlabelled, place_labelled, place_tokens}
 use Rattle.asm_place.specs.Sources.{pos_at, place, place_all}
 use Rattle.asm_place.specs.Instructions.{behind_labels}
@@ -49,7 +49,7 @@ rest_is pos tokens text placed labels next written labels_are is =
 module _ (frames : FramesKeep) (s : TokenStatement) (later : List TokenStatement) (placed whole : Placed) (text : InsnText) (stands : PlacesStand placed)
     (jump : IsJump (pos_at s.file s.line) s.tokens text placed) where
   abbrev trees : List Tree
-  trees = text.immediate.tree ∷ text.displacement.tree ∷ []
+  trees = in_text_order jump.labels.syntax text.immediate.tree text.displacement.tree
 
   abbrev named : Placed
   named = with_names (pos_at s.file s.line) trees jump.labels

@@ -25,7 +25,7 @@ use Rattle.att_operands.specs.declared.faults.OperandCause.{OperandCause}
 use Rattle.att_insns.specs.InsnTexts.{InsnText}
 use Rattle.asm_place.specs.declared.codes.InsnForms.{InsnForms}
 use Rattle.asm_place.specs.declared.codes.CodeField.{CodeField}
-use Rattle.asm_place.specs.Coding.{InsnShape, shape_in, forms_of, values_in, of_operands, of_code, fields_of, put_rest, put_code, keeps_place, put_coded, put_by_jump, put_insn, from_own_place, place_insn, place_read, lone_code, insn_by, place_coded, place_instruction}
+use Rattle.asm_place.specs.Coding.{InsnShape, shape_in, forms_of, in_text_order, values_in, of_operands, of_code, fields_of, put_rest, put_code, keeps_place, put_coded, put_by_jump, put_insn, from_own_place, place_insn, place_read, lone_code, insn_by, place_coded, place_instruction}
 use Rattle.asm_place.specs.Sources.{pos_at, located, place, place_all}
 use Rattle.asm_place.specs.declared.place_faults.FaultAt.{FaultAt}
 use Rattle.asm_place.specs.Faults.{is_file_too_large, is_too_large, statement_fault}
@@ -70,10 +70,11 @@ put_insn_steps pos shape forms placed = put_by_jump_steps shape.jump pos shape f
 insn_steps : (pos : Pos) (shape : InsnShape) (own moved : Tree) (placed : Placed) → Steps placed (place_insn pos shape own moved placed)
 unfolding place_insn
 insn_steps pos shape own moved placed =
-    let named = with_names pos (own ∷ moved ∷ []) placed in
+    let trees = in_text_order placed.syntax own moved in
+    let named = with_names pos trees placed in
     after (forms_of (known_here named) own moved)
     (λ forms. grown placed (put_insn_steps pos shape forms named)
-    (λ put. after (end_naming pos (naming_of (own ∷ moved ∷ []) placed.table) (here named) (keeps_place (known_here named).place forms) put.table)
+    (λ put. after (end_naming pos (naming_of trees placed.table) (here named) (keeps_place (known_here named).place forms) put.table)
     (λ table. made (with_table put table) (still put))))
 
 read_steps : (pos : Pos) (read : Result InsnText OperandCause) (placed : Placed) → Steps placed (place_read pos read placed)

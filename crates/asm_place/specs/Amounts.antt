@@ -1,5 +1,5 @@
 -- The amounts of an instruction's values, and the trees that they stand for.
-use Rattle.std.specs.Prelude.{◌≡◌, ℕ, ◌∷◌, [], List, Option, None, Some, Result, Ok, Err}
+use Rattle.std.specs.Prelude.{◌≡◌, ℕ, List, Option, None, Some, Result, Ok, Err}
 use Rattle.asm_base.specs.declared.refusals.Refusal.{Refusal}
 use Rattle.asm_base.specs.declared.refusals.Refusal.TheVariants.{Fault, NoMemory}
 use Rattle.asm_base.specs.declared.positions.Pos.{Pos}
@@ -15,11 +15,12 @@ use Rattle.x86_insn.specs.declared.amounts.Amount.TheVariants as amount
 use Rattle.x86_insn.specs.declared.insns.Insn.{Insn}
 use Rattle.x86_insn.specs.Amounts.{amount_tree}
 use Rattle.att_operands.specs.Values.{IsFitting}
-use Rattle.asm_place.specs.Coding.{shape_of, place_insn}
+use Rattle.asm_words.specs.declared.directives.Syntax.{Syntax}
+use Rattle.asm_place.specs.Coding.{shape_of, in_text_order, place_insn}
 
--- the trees of the amounts of an instruction's values, the immediate's first
-abbrev pub trees_of : Insn → List Tree
-trees_of insn = amount_tree insn.immediate.amount ∷ amount_tree insn.displacement.amount ∷ []
+-- the trees of the amounts of an instruction's values, in the order of its text
+abbrev pub trees_of : Syntax → Insn → List Tree
+trees_of syntax insn = in_text_order syntax (amount_tree insn.immediate.amount) (amount_tree insn.displacement.amount)
 
 -- the instruction by the trees of its amounts
 abbrev pub place_amounts : Pos → Insn → Placed → Result Placed PlaceCause
@@ -42,8 +43,8 @@ pub record InsnFits (known : Knowledge) (insn : Insn) : Type 0 where
 
 -- so it is where the names of the instruction have symbols, unless the call wanted memory
 abbrev pub FitsThere : {T : Type 0} → Result T (Refusal PlaceCause) → Pos → Insn → Placed → Type 0
-FitsThere (Ok done) pos insn placed = InsnFits (known_here (with_names pos (trees_of insn) placed)) insn
-FitsThere (Err (Fault cause)) pos insn placed = InsnFits (known_here (with_names pos (trees_of insn) placed)) insn
+FitsThere (Ok done) pos insn placed = InsnFits (known_here (with_names pos (trees_of placed.syntax insn) placed)) insn
+FitsThere (Err (Fault cause)) pos insn placed = InsnFits (known_here (with_names pos (trees_of placed.syntax insn) placed)) insn
 FitsThere (Err NoMemory) pos insn placed = Unit {0}
 
 -- the symbol, where one is told, is that of the name of the amount

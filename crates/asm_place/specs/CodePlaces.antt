@@ -20,7 +20,7 @@ use Rattle.x86_encode.specs.Encoding.{encoding_of}
 use Rattle.x86_encode.specs.Filling.{Coding}
 use Rattle.asm_place.specs.declared.codes.InsnForms.{InsnForms}
 use Rattle.asm_place.specs.declared.codes.CodeField.{CodeField}
-use Rattle.asm_place.specs.Coding.{view_in, shape_in, forms_of, values_in, fields_of, lone_code, insn_by, jump_by}
+use Rattle.asm_place.specs.Coding.{view_in, shape_in, forms_of, in_text_order, values_in, fields_of, lone_code, insn_by, jump_by}
 use Rattle.asm_place.specs.Placing.{place_label}
 use Rattle.asm_place.specs.Instructions.{behind_labels, instruction_written, next_item, next_offset}
 
@@ -65,7 +65,7 @@ labelled pos (first ∷ second ∷ rest) placed =
 
 -- what is known of values where an instruction stands, once each name in it has a symbol
 abbrev pub known_in : Pos → InsnText → Placed → Knowledge
-known_in pos text placed = known_here (with_names pos (text.immediate.tree ∷ text.displacement.tree ∷ []) placed)
+known_in pos text placed = known_here (with_names pos (in_text_order placed.syntax text.immediate.tree text.displacement.tree) placed)
 
 -- the forms of the values of an instruction, behind the labels in front of it, and its encoding with the values that are known there
 pub record IsCoded (pos : Pos) (tokens : List SpelledToken) (text : InsnText) (before : Placed) : Type 0 where

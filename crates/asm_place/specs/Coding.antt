@@ -256,10 +256,16 @@ put_named pos shape naming forms named =
 abbrev pub insn_of_trees : Pos → InsnShape → Naming → Tree → Tree → Placed → Result Placed PlaceCause
 insn_of_trees pos shape naming own moved named = forms_of (known_here named) own moved >>= λ forms. put_named pos shape naming forms named
 
+-- the trees of an immediate and of a displacement in the order of the text: an immediate stands before memory in AT&T syntax, and behind it in Intel
+-- syntax
+abbrev pub in_text_order : Syntax → Tree → Tree → List Tree
+in_text_order Att own moved = own ∷ moved ∷ []
+in_text_order Intel own moved = moved ∷ own ∷ []
+
 -- the names of these trees become symbols, and then the same
 unfoldable pub place_insn : Pos → InsnShape → Tree → Tree → Placed → Result Placed PlaceCause
 place_insn pos shape own moved placed =
-    insn_of_trees pos shape (naming_of (own ∷ moved ∷ []) placed.table) own moved (with_names pos (own ∷ moved ∷ []) placed)
+    insn_of_trees pos shape (naming_of (in_text_order placed.syntax own moved) placed.table) own moved (with_names pos (in_text_order placed.syntax own moved) placed)
 
 -- an instruction whose values are texts
 abbrev pub place_text : Pos → InsnText → Placed → Result Placed PlaceCause

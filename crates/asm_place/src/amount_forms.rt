@@ -7,6 +7,7 @@ ghost use Rattle.asm_expr.specs.Trees.{tree_of};
 ghost use Rattle.asm_operands.specs.Expressions.{form_in};
 ghost use Rattle.asm_symbols.specs.Looking.{told};
 ghost use Rattle.asm_symbols.specs.SymbolMap.{names, index_of};
+ghost use Rattle.asm_words.specs.declared.directives.Syntax.TheVariants.{Att, Intel};
 ghost use Rattle.asm_uses.specs.Tables.{with_tree, with_trees, is_meant, naming_of};
 ghost use Rattle.asm_uses.specs.Places.{uses_place};
 ghost use Rattle.asm_values.specs.PlacedBy.{placed_by};
@@ -24,6 +25,7 @@ use asm_uses::{
     uses_place,
 };
 use asm_values::{Assembler, texts_are_no_place};
+use asm_words::Syntax;
 use x86_insn::{Amount, Insn};
 
 /// The form of a value where its instruction stands, and whether it keeps the place.
@@ -82,15 +84,43 @@ pub(crate) struct InsnNames {
     pub(crate) displacement: Option<SymId>,
 }
 
-/// The names of an instruction have symbols from now on, whatever room there is.
+/// The same where memory stands first: the symbol of the displacement is told where no name follows.
+#[inline(never)]
+#[tactic(auto, unfolding(asm_uses::specs::Tables::with_tree, asm_uses::specs::Tables::with_trees, asm_uses::specs::Tables::are_meant, asm_uses::specs::Tables::is_meant))]
+fn intern_turned(table: &mut SymbolUses, pos: Pos, insn: &Insn) -> Result<InsnNames, NoMemory>
+    ensures ok { OnOk result (table.new ≡ with_trees pos (trees_of Intel insn.now) table.old) }
+    ensures naming { IfOk result (λ made.
+        made.naming ≡ naming_of (trees_of Intel insn.now) table.old) }
+    ensures symbol { IfOk result (λ made.
+        IsSymbolOf table.new.symbols insn.now.displacement.amount made.displacement) }
+{
+    let before = table.symbols().len();
+    let moved = intern_amount(table, pos, &insn.displacement.amount)?;
+    if let Amount::Number(_) = insn.immediate.amount {
+        return Ok(InsnNames {
+            naming: Naming {
+                before,
+                meant: moved.meant,
+            },
+            displacement: moved.symbol,
+        });
+    }
+    let own = intern_amount(table, pos, &insn.immediate.amount)?;
+    Ok(InsnNames {
+        naming: Naming {
+            before,
+            meant: moved.meant && own.meant,
+        },
+        displacement: None,
+    })
+}
+
+/// The names of an instruction in AT&T syntax have symbols from now on, whatever room there is.
 #[tactic(auto, unfolding(asm_uses::specs::Tables::with_trees, asm_uses::specs::Tables::are_meant))]
-pub(crate) fn intern_amounts(
-    table: &mut SymbolUses,
-    pos: Pos,
-    insn: &Insn,
-) -> Result<InsnNames, NoMemory>
-    ensures ok { OnOk result (table.new ≡ with_trees pos (trees_of insn.now) table.old) }
-    ensures naming { IfOk result (λ made. made.naming ≡ naming_of (trees_of insn.now) table.old) }
+fn intern_straight(table: &mut SymbolUses, pos: Pos, insn: &Insn) -> Result<InsnNames, NoMemory>
+    ensures ok { OnOk result (table.new ≡ with_trees pos (trees_of Att insn.now) table.old) }
+    ensures naming { IfOk result (λ made.
+        made.naming ≡ naming_of (trees_of Att insn.now) table.old) }
     ensures symbol { IfOk result (λ made.
         IsSymbolOf table.new.symbols insn.now.displacement.amount made.displacement) }
 {
@@ -104,6 +134,27 @@ pub(crate) fn intern_amounts(
         },
         displacement: moved.symbol,
     })
+}
+
+/// The names of an instruction have symbols from now on, in the order of its text, whatever room
+/// there is.
+#[inline(always)]
+pub(crate) fn intern_amounts(
+    table: &mut SymbolUses,
+    pos: Pos,
+    syntax: Syntax,
+    insn: &Insn,
+) -> Result<InsnNames, NoMemory>
+    ensures ok { OnOk result (table.new ≡ with_trees pos (trees_of syntax insn.now) table.old) }
+    ensures naming { IfOk result (λ made.
+        made.naming ≡ naming_of (trees_of syntax insn.now) table.old) }
+    ensures symbol { IfOk result (λ made.
+        IsSymbolOf table.new.symbols insn.now.displacement.amount made.displacement) }
+{
+    match syntax {
+        Syntax::Att => intern_straight(table, pos, insn),
+        Syntax::Intel => intern_turned(table, pos, insn),
+    }
 }
 
 /// What is known of a symbol is a number of the program.

@@ -66,7 +66,7 @@ fn place_named(assembler: &mut Assembler, pos: Pos, insn: &Insn) -> Result<(), P
     ensures fits { FitsThere result pos insn.now (placed_by assembler.old) }
     ensures kept { assembler.new.notes ≡ assembler.old.notes }
 {
-    let made = intern_amounts(&mut assembler.table, pos, insn)?;
+    let made = intern_amounts(&mut assembler.table, pos, assembler.syntax, insn)?;
     amounts_fit(assembler, insn, made.displacement);
     place_interned(assembler, pos, insn, made)
 }
