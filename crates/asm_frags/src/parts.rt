@@ -164,7 +164,7 @@ impl<P: Phase> Section<P> {
     }
 }
 
-/// Puts bytes behind these. Most are few: a lone one needs no copy of a slice.
+/// Puts bytes behind these. Most are few: one, two and four need no copy of a slice where there is room.
 #[inline(always)]
 fn append(bytes: &mut Vec<u8>, more: &[u8]) -> Result<(), AllocError>
     ensures ok { OnOk result (bytes.new.items ≡ bytes.old.items ++ more.now) }
@@ -175,6 +175,18 @@ fn append(bytes: &mut Vec<u8>, more: &[u8]) -> Result<(), AllocError>
             Ok(()) => Ok(()),
             Err(_) => Err(AllocError),
         },
+        [a, b] if bytes.capacity() - bytes.len() >= 2 => {
+            bytes.push_reserved(*a);
+            bytes.push_reserved(*b);
+            Ok(())
+        }
+        [a, b, c, d] if bytes.capacity() - bytes.len() >= 4 => {
+            bytes.push_reserved(*a);
+            bytes.push_reserved(*b);
+            bytes.push_reserved(*c);
+            bytes.push_reserved(*d);
+            Ok(())
+        }
         _ => bytes.extend_from_slice(more),
     }
 }

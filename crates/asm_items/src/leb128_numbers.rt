@@ -8,12 +8,14 @@ ghost use Rattle.asm_items.specs.Leb128Numbers as spec;
 ghost use Rattle.asm_operands.specs.Operands.{operands_of};
 ghost use Rattle.asm_operands.specs.Sums.{sum_tree};
 ghost use Rattle.asm_values.specs.PlacedBy.{placed_by, PlacesBy};
+ghost use Rattle.asm_values.specs.State.{put_bytes};
+ghost use Rattle.item_bytes.specs.Leb128.{least_leb128};
 
 use asm_base::{Pos, Token};
 use asm_expr::{Expr, Linear};
 use asm_operands::{FewSums, Operands, PlaceCause, PlaceFault, Sum, expressions, few_sums};
 use asm_uses::{View, forms, one_uses_place, sum_form_in, uses_place};
-use asm_values::{Assembler, sums_have_the_forms_of_trees};
+use asm_values::{Assembler, no_name_is_allowed, only_number, sums_have_the_forms_of_trees};
 use item_bytes::least_leb128;
 use item_contents::Growth;
 use std::alloc::Global;
@@ -104,8 +106,9 @@ fn place_sum(assembler: &mut Assembler, pos: Pos, signed: bool, sum: &Sum) -> Re
     assembler.table.end_naming(pos, naming, spot, keeps)
 }
 
-/// `.uleb128`, `.sleb128`: without a tree where it is one number that is a sum.
-pub fn place_leb128(
+/// Numbers, of which one may have a name: without a tree where it is one number that is a sum.
+#[inline(never)]
+fn place_named(
     assembler: &mut Assembler,
     pos: Pos,
     signed: bool,
@@ -118,5 +121,37 @@ pub fn place_leb128(
     match few_sums(tokens) {
         Some(FewSums::One(sum)) => place_sum(assembler, pos, signed, &sum),
         _ => place_any(assembler, pos, signed, tokens),
+    }
+}
+
+/// The bytes of a number.
+fn put_constant(
+    assembler: &mut Assembler,
+    pos: Pos,
+    signed: bool,
+    value: u64,
+) -> Result<(), PlaceFault>
+    ensures placed { PlacesBy (put_bytes pos (least_leb128 signed value))
+        assembler.old assembler.new result }
+    ensures kept { assembler.new.notes ≡ assembler.old.notes }
+{
+    assembler.put_bytes(pos, least_leb128(signed, value).as_slice())
+}
+
+/// `.uleb128`, `.sleb128`: at once where it is one number.
+pub fn place_leb128(
+    assembler: &mut Assembler,
+    pos: Pos,
+    signed: bool,
+    tokens: &[Token],
+) -> Result<(), PlaceFault>
+    ensures placed { PlacesBy (spec.place_leb128 pos signed (map spelled tokens.now))
+        assembler.old assembler.new result }
+    ensures kept { assembler.new.notes ≡ assembler.old.notes }
+{
+    no_name_is_allowed();
+    match only_number(tokens) {
+        Some(value) => put_constant(assembler, pos, signed, value),
+        None => place_named(assembler, pos, signed, tokens),
     }
 }

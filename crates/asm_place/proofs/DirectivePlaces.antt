@@ -1,5 +1,5 @@
 -- Directives keep it so that each symbol that has a place stands in its section.
-use Rattle.std.proofs.Common.{◌≡◌, ℕ, Bool, true, false, List, [], ◌∷◌, length, Option, None, Some, Result, Ok, Err, refl}
+use Rattle.std.proofs.Common.{◌≡◌, ℕ, nat_le, Bool, true, false, List, [], ◌∷◌, length, Option, None, Some, Result, Ok, Err, refl}
 use Rattle.std.specs.Prelude.{◌^◌, codes, unwrap_or}
 use Rattle.std.specs.List.{list_any, count_by}
 use Rattle.asm_operands.specs.declared.place_faults.PlaceCause.{PlaceCause}
@@ -32,6 +32,7 @@ use Rattle.asm_operands.specs.Operands.{name_of, operands_of, is_dot, begins_wit
 use Rattle.asm_operands.specs.Expressions.{expression_of, form_in, constant_in, up_to_three_listed, up_to_three_trees, up_to_three_forms}
 use Rattle.asm_uses.specs.Places.{uses_place, spot_at, known_at, end_naming}
 use Rattle.asm_values.specs.State.{Placed, with_table, with_names, here, known_here, unless_dot}
+use Rattle.asm_values.specs.KnownOperands.{KnownOperands}
 use Rattle.asm_values.specs.DataItems.{put_by, put_forms, is_cut, cut_notes}
 use Rattle.asm_operands.specs.Results.{all_steps, if_some}
 use Rattle.asm_declarations.specs.SectionChanges.{bare, with_current, popped}
@@ -48,7 +49,7 @@ use Rattle.asm_words.specs.declared.directives.Syntax.{Syntax}
 use Rattle.asm_words.specs.declared.directives.Syntax.TheVariants.{Att, Intel}
 use Rattle.asm_place.specs.SyntaxWords.{with_syntax, says_names, place_syntax}
 use Rattle.asm_declarations.specs.Idents.{items_in, comment_bytes, comment_header, place_ident, place_file, one_string, file_name}
-use Rattle.asm_values.specs.Data.{put_data, place_data, place_strings, with_named, place_zero, place_skip, place_fill}
+use Rattle.asm_values.specs.Data.{put_data, place_data, place_strings, put_space_by, with_filled, with_named, place_zero, place_skip, place_fill}
 use Rattle.asm_items.specs.Alignments.{is_code, place_align}
 use Rattle.asm_items.specs.Orgs.{known_origin, origin_by, place_org}
 use Rattle.asm_items.specs.Leb128Numbers.{put_number_by, put_numbers, put_leb128, some_expressions, place_leb128}
@@ -113,18 +114,28 @@ item_walk pos naming item placed stands =
     (λ pushed stays. closes_on naming.before placed pushed _ stays
     (table_close naming.before pushed (allowed naming pushed.table) stays.stands (allowed_stand pushed.sections naming pushed.table)))
 
+-- space, as plain bytes or as an item
+put_space_walk : (few : Bool) (pos : Pos) (count value : ℕ) (placed : Placed) → PlacesStand placed → Walks placed (put_space_by few pos count value placed)
+put_space_walk true pos count value placed stands = bytes_walk pos placed.current _ placed stands
+put_space_walk false pos count value placed stands = after (space_of count value) (λ item. push_walk pos placed.current item placed stands)
+
+filled_walk : (pos : Pos) (given : KnownOperands) (count value : ℕ) → PlacesStand given.placed → Fine (Closes given.naming.before given.placed) (with_filled pos given count value)
+filled_walk pos given count value stands =
+    step (put_space_walk (nat_le count 16) pos count value given.placed stands)
+    (λ filled stays. closes_on given.naming.before given.placed filled _ stays
+    (table_close given.naming.before filled (allowed given.naming filled.table) stays.stands (allowed_stand filled.sections given.naming filled.table)))
+
 zero_walk : (pos : Pos) (tokens : List SpelledToken) (placed : Placed) → PlacesStand placed → Walks placed (place_zero pos tokens placed)
 unfolding place_zero
 zero_walk pos tokens placed stands =
     step (known_walk pos placed 1 (operands_of tokens) stands)
-    (λ given asked. given_walk placed given _ asked (after (space_of given.values.first 0) (λ item. item_walk pos given.naming item given.placed asked.gains.stands)))
+    (λ given asked. given_walk placed given _ asked (filled_walk pos given given.values.first 0 asked.gains.stands))
 
 skip_walk : (pos : Pos) (tokens : List SpelledToken) (placed : Placed) → PlacesStand placed → Walks placed (place_skip pos tokens placed)
 unfolding place_skip
 skip_walk pos tokens placed stands =
     step (known_walk pos placed 2 (operands_of tokens) stands)
-    (λ given asked. given_walk placed given _ asked
-    (after (space_of given.values.first (unwrap_or given.values.second 0)) (λ item. item_walk pos given.naming item given.placed asked.gains.stands)))
+    (λ given asked. given_walk placed given _ asked (filled_walk pos given given.values.first (unwrap_or given.values.second 0) asked.gains.stands))
 
 fill_walk : (pos : Pos) (tokens : List SpelledToken) (placed : Placed) → PlacesStand placed → Walks placed (place_fill pos tokens placed)
 unfolding place_fill

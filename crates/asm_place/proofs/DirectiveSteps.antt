@@ -1,5 +1,5 @@
 -- Directives only add to sections.
-use Rattle.std.proofs.Common.{ℕ, Bool, true, false, List, [], ◌∷◌, Option, None, Some, Result, Ok, sym, subst}
+use Rattle.std.proofs.Common.{ℕ, nat_le, Bool, true, false, List, [], ◌∷◌, Option, None, Some, Result, Ok, sym, subst}
 use Rattle.std.specs.Prelude.{◌^◌, codes, unwrap_or}
 use Rattle.std.specs.List.{list_any, count_by}
 use Rattle.asm_operands.specs.declared.place_faults.PlaceCause.{PlaceCause}
@@ -48,7 +48,7 @@ use Rattle.asm_words.specs.declared.directives.FrameDirective.{FrameDirective}
 use Rattle.asm_frames.specs.Placing.{place_frame}
 use Rattle.asm_words.specs.declared.directives.Syntax.{Syntax}
 use Rattle.asm_words.specs.declared.directives.Syntax.TheVariants.{Att, Intel}
-use Rattle.asm_values.specs.Data.{put_data, place_data, place_strings, with_named, place_zero, place_skip, place_fill}
+use Rattle.asm_values.specs.Data.{put_data, place_data, place_strings, put_space_by, with_filled, with_named, place_zero, place_skip, place_fill}
 use Rattle.asm_items.specs.Alignments.{is_code, place_align}
 use Rattle.asm_items.specs.Orgs.{known_origin, origin_by, place_org}
 use Rattle.asm_items.specs.Leb128Numbers.{put_number_by, put_numbers, put_leb128, some_expressions, place_leb128}
@@ -102,18 +102,27 @@ known_steps pos placed most operands =
     (λ trees. after (up_to_three_forms (known_here (with_names pos (up_to_three_listed trees) placed)) trees)
     (λ forms. after (up_to_three_constants forms) (λ values. made _ (still placed))))
 
+-- space, as plain bytes or as an item
+put_space_steps : (few : Bool) (pos : Pos) (count value : ℕ) (placed : Placed) → Steps placed (put_space_by few pos count value placed)
+put_space_steps true pos count value placed = bytes_steps pos placed.current _ placed
+put_space_steps false pos count value placed = after (space_of count value) (λ item. push_steps pos placed.current item placed)
+
+filled_steps : (pos : Pos) (given : KnownOperands) (count value : ℕ) → Steps given.placed (with_filled pos given count value)
+filled_steps pos given count value =
+    grown given.placed (put_space_steps (nat_le count 16) pos count value given.placed)
+    (λ filled. after (allowed given.naming filled.table) (λ table. made (with_table filled table) (still filled)))
+
 zero_steps : (pos : Pos) (tokens : List SpelledToken) (placed : Placed) → Steps placed (place_zero pos tokens placed)
 unfolding place_zero
 zero_steps pos tokens placed =
     step (known_steps pos placed 1 (operands_of tokens))
-    (λ given led. from placed given.placed led (after (space_of given.values.first 0) (λ item. item_steps pos given.naming item given.placed)))
+    (λ given led. from placed given.placed led (filled_steps pos given given.values.first 0))
 
 skip_steps : (pos : Pos) (tokens : List SpelledToken) (placed : Placed) → Steps placed (place_skip pos tokens placed)
 unfolding place_skip
 skip_steps pos tokens placed =
     step (known_steps pos placed 2 (operands_of tokens))
-    (λ given led. from placed given.placed led
-    (after (space_of given.values.first (unwrap_or given.values.second 0)) (λ item. item_steps pos given.naming item given.placed)))
+    (λ given led. from placed given.placed led (filled_steps pos given given.values.first (unwrap_or given.values.second 0)))
 
 fill_steps : (pos : Pos) (tokens : List SpelledToken) (placed : Placed) → Steps placed (place_fill pos tokens placed)
 unfolding place_fill

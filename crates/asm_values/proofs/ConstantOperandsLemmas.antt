@@ -1,5 +1,5 @@
 -- Operands of numbers alone are read, counted and named as their statement has it, and space of them is placed so.
-use Rattle.std.proofs.Common.{◌≡◌, ℕ, Bool, true, false, nat_le, List, [], ◌∷◌, ◌++◌, Option, None, Some, Result, Ok, Err, option_map, unwrap_or, is_ok, map, length, refl, sym, ap, ◌∙◌, arith}
+use Rattle.std.proofs.Common.{◌≡◌, ℕ, ◌%◌, ◌^◌, Bool, true, false, nat_le, replicate, List, [], ◌∷◌, ◌++◌, Option, None, Some, Result, Ok, Err, option_map, unwrap_or, is_ok, map, length, refl, sym, ap, ◌∙◌, arith}
 use Rattle.std.specs.Option.{option_to_list}
 use Rattle.std.specs.Prelude.{◌==◌}
 use Rattle.std.proofs.lemmas.Bool.{false≢true}
@@ -13,20 +13,20 @@ use Rattle.expr_texts.specs.Reading.{reading, read_at}
 use Rattle.asm_expr.specs.Trees.{Tree}
 use Rattle.item_contents.specs.declared.contents.Content.{Content}
 use Rattle.asm_frags.specs.Sections.{put_into}
-use Rattle.asm_frags.specs.Writing.{LooseSection, new_item, item_put}
+use Rattle.asm_frags.specs.Writing.{LooseSection, new_item, item_put, bytes_put}
 use Rattle.asm_operands.specs.Constants.{IsConstant, FindsConstant}
 use Rattle.asm_operands.specs.declared.place_faults.PlaceCause.{PlaceCause}
 use Rattle.asm_operands.specs.declared.up_to_three.UpToThree.{UpToThree}
-use Rattle.asm_values.specs.ConstantOperands.{NamesNothing, IsFirstConstant, IsNextConstant, no_naming, AreConstants, FindsFirst, put_space_of, put_units_of}
+use Rattle.asm_values.specs.ConstantOperands.{NamesNothing, IsFirstConstant, IsNextConstant, no_naming, AreConstants, FindsFirst, IsOnlyNumber, put_units_of}
 use Rattle.asm_operands.specs.ExprFaults.{in_statement}
 use Rattle.asm_operands.specs.Expressions.{alone, expression_of, form_in, constant_in, up_to_three_listed, first_tree, next_tree, next_tree_if, no_more, up_to_three_trees, up_to_three_forms, up_to_three_constants}
 use Rattle.asm_values.specs.KnownOperands.{KnownOperands, known_values, known_operands}
 use Rattle.asm_operands.specs.LayerFaults.{of_sections}
-use Rattle.asm_operands.specs.Operands.{operands_of}
-use Rattle.asm_values.specs.Data.{with_item, place_zero, place_skip, place_fill}
+use Rattle.asm_operands.specs.Operands.{operands_of, each}
+use Rattle.asm_values.specs.Data.{put_space_by, put_space, with_filled, with_item, place_zero, place_skip, place_fill}
 use Rattle.asm_operands.specs.Results.{if_some}
 use Rattle.asm_words.specs.Spaces.{space_of, units_of, unit_size}
-use Rattle.asm_values.specs.State.{Placed, with_table, with_names, known_here, push_item, push_into}
+use Rattle.asm_values.specs.State.{Placed, with_table, with_names, known_here, put_bytes, put_bytes_into, push_item, push_into}
 use Rattle.asm_uses.specs.Tables.{naming_of, allowed}
 use Rattle.asm_values.proofs.NameLemmas.{one_nothing, none_nothing, more_nothing, none_allowed, nothing_named}
 
@@ -191,29 +191,47 @@ module _ (pos : Pos) (placed : Placed) (values : UpToThree ℕ) where
   item_so (Ok item) = one_so item
   item_so (Err fault) = refl
 
+  bytes_so : (bytes : List ℕ) → (put_bytes pos bytes placed >>= λ filled. allowed given.naming filled.table >>= λ table. Ok (with_table filled table)) ≡ put_bytes pos bytes placed
+  unfolding put_bytes_into given
+  bytes_so bytes = pushed_so (of_sections (put_into (bytes_put pos bytes) placed.sections placed.current))
+
+  space_by : (few : Bool) (count value : ℕ)
+      → (put_space_by few pos count value placed >>= λ filled. allowed given.naming filled.table >>= λ table. Ok (with_table filled table)) ≡ put_space_by few pos count value placed
+  unfolding given
+  space_by true count value = bytes_so (replicate count (value % 2 ^ 8))
+  space_by false count value = more (space_of count value)
+    where
+      more : (item : Result Content PlaceCause)
+          → ((item >>= λ item. push_item pos item placed) >>= λ filled. allowed given.naming filled.table >>= λ table. Ok (with_table filled table))
+          ≡ (item >>= λ item. push_item pos item placed)
+      more (Ok item) = one_so item
+      more (Err fault) = refl
+
+  space_so : (count value : ℕ) → with_filled pos given count value ≡ put_space pos count value placed
+  unfolding given
+  space_so count value = space_by (nat_le count 16) count value
+
   units_so : (count value : ℕ) (size : Result ℕ PlaceCause)
       → (size >>= λ size. units_of count size value >>= with_item pos given) ≡ (size >>= λ size. units_of count size value >>= λ item. push_item pos item placed)
   units_so count value (Ok size) = item_so (units_of count size value)
   units_so count value (Err fault) = refl
 
 module _ (pos : Pos) (tokens : List SpelledToken) (operands : List (List SpelledToken)) (values : UpToThree ℕ) (placed : Placed) (is : operands ≡ operands_of tokens) where
-  pub zero_so : AreConstants 1 operands values → put_space_of pos values.first 0 placed ≡ place_zero pos tokens placed
+  pub zero_so : AreConstants 1 operands values → put_space pos values.first 0 placed ≡ place_zero pos tokens placed
   unfolding place_zero given
   zero_so all = sym
-      (ap (λ these. known_operands pos placed 1 these >>= λ (given : KnownOperands). space_of given.values.first 0 >>= with_item pos given) (sym is)
-      ∙ (ap (λ given. given >>= λ (given : KnownOperands). space_of given.values.first 0 >>= with_item pos given) (all.counts pos placed)
-      ∙ item_so pos placed values (space_of values.first 0)))
+      (ap (λ these. known_operands pos placed 1 these >>= λ (given : KnownOperands). with_filled pos given given.values.first 0) (sym is)
+      ∙ (ap (λ given. given >>= λ (given : KnownOperands). with_filled pos given given.values.first 0) (all.counts pos placed)
+      ∙ space_so pos placed values values.first 0))
 
   pub skip_so : (value : ℕ) → value ≡ unwrap_or values.second 0 → AreConstants 2 operands values
-      → put_space_of pos values.first value placed ≡ place_skip pos tokens placed
+      → put_space pos values.first value placed ≡ place_skip pos tokens placed
   unfolding place_skip given
   skip_so value value_is all =
-      ap (λ n. put_space_of pos values.first n placed) value_is
-      ∙ sym (ap (λ these. known_operands pos placed 2 these >>= λ (given : KnownOperands).
-      space_of given.values.first (unwrap_or given.values.second 0) >>= with_item pos given) (sym is)
-      ∙ (ap (λ given. given >>= λ (given : KnownOperands). space_of given.values.first (unwrap_or given.values.second 0) >>= with_item pos given)
-      (all.counts pos placed)
-      ∙ item_so pos placed values (space_of values.first (unwrap_or values.second 0))))
+      ap (λ n. put_space pos values.first n placed) value_is
+      ∙ sym (ap (λ these. known_operands pos placed 2 these >>= λ (given : KnownOperands). with_filled pos given given.values.first (unwrap_or given.values.second 0)) (sym is)
+      ∙ (ap (λ given. given >>= λ (given : KnownOperands). with_filled pos given given.values.first (unwrap_or given.values.second 0)) (all.counts pos placed)
+      ∙ space_so pos placed values values.first (unwrap_or values.second 0)))
 
   pub fill_so : (value : ℕ) → value ≡ unwrap_or values.third 0 → AreConstants 3 operands values
       → put_units_of pos values.first values.second value placed ≡ place_fill pos tokens placed
@@ -225,3 +243,31 @@ module _ (pos : Pos) (tokens : List SpelledToken) (operands : List (List Spelled
       ∙ (ap (λ given. given >>= λ (given : KnownOperands). unit_size given.values.second >>= λ size.
       units_of given.values.first size (unwrap_or given.values.third 0) >>= with_item pos given) (all.counts pos placed)
       ∙ units_so pos placed values values.first (unwrap_or values.third 0) (unit_size values.second)))
+
+-- ONE OPERAND ALONE
+
+ok_parts : {A : Type 0} (one other : A) → ◌≡◌ {A = Result A PlaceCause} (Ok one) (Ok other) → one ≡ other
+ok_parts one other is = cc
+
+read_first : (read : Result Tree PlaceCause) (rest behind : List (List SpelledToken)) (tree : Tree)
+    → ◌>>=◌ {B = Tree × List (List SpelledToken)} read (λ made. Ok (made, rest)) ≡ Ok (tree, behind)
+    → (read ≡ Ok tree) × (rest ≡ behind)
+read_first (Ok made) rest behind tree is =
+    let pair = ok_parts (made, rest) (tree, behind) is in
+    (ap (λ (p : Tree × List (List SpelledToken)). Ok p.0) pair, ap (λ (p : Tree × List (List SpelledToken)). p.1) pair)
+read_first (Err fault) rest behind tree is = absurd cc
+
+-- a number is the only operand where none is left behind it
+pub only_finds : (tokens : List SpelledToken) (operands behind : List (List SpelledToken)) (value : ℕ) → operands ≡ operands_of tokens → behind ≡ []
+    → IsFirstConstant operands behind value → IsOnlyNumber tokens value
+unfolding first_tree each
+only_finds tokens [] behind value is none first = absurd cc
+only_finds tokens (operand ∷ rest) behind value is none first =
+    let parts = read_first (expression_of operand) rest behind first.tree first.reads in
+    record {
+      tree = first.tree;
+      reads = ap (each expression_of) (sym is ∙ ap (λ others. operand ∷ others) (parts.1 ∙ none))
+          ∙ ap (λ read. read >>= λ one. each expression_of [] >>= λ others. Ok (one ∷ others)) parts.0;
+      counts = first.counts;
+      names = first.names;
+    }

@@ -6,6 +6,7 @@ mod SetLemmas
 mod NamedTreeLemmas
 mod PutTwice
 mod NameLemmas
+mod FewBytes
 mod SumLemmas
 mod PlainLemmas
 mod LongSumLemmas

@@ -10,10 +10,11 @@ use Rattle.asm_expr.specs.Trees.{Tree}
 use Rattle.asm_operands.specs.declared.place_faults.PlaceCause.{PlaceCause}
 use Rattle.asm_uses.specs.declared.tables.Naming.{Naming}
 use Rattle.asm_operands.specs.declared.up_to_three.UpToThree.{UpToThree}
-use Rattle.asm_operands.specs.Expressions.{form_in, first_tree, next_tree_if}
+use Rattle.asm_operands.specs.Expressions.{expression_of, form_in, first_tree, next_tree_if}
+use Rattle.asm_operands.specs.Operands.{operands_of, each}
 use Rattle.asm_values.specs.KnownOperands.{known_operands}
 use Rattle.asm_operands.specs.Results.{if_some}
-use Rattle.asm_words.specs.Spaces.{space_of, units_of, unit_size}
+use Rattle.asm_words.specs.Spaces.{units_of, unit_size}
 use Rattle.asm_values.specs.State.{Placed, push_item}
 use Rattle.asm_uses.specs.Tables.{Table, with_trees, are_meant}
 
@@ -40,6 +41,18 @@ pub record IsNextConstant (may : Bool) (operands behind : List (List SpelledToke
 abbrev pub no_naming : Table → Naming
 no_naming table = record { before = length table.symbols.symbols; meant = true }
 
+-- the only operand is this number, whatever is known, and names nothing
+pub record IsOnlyNumber (tokens : List SpelledToken) (value : ℕ) : Type 0 where
+  pub tree : Tree
+  pub reads : each expression_of (operands_of tokens) ≡ Ok (tree ∷ [])
+  pub counts : (known : Knowledge) → form_in known tree ≡ Ok (constant_form value)
+  pub names : NamesNothing (tree ∷ [])
+
+-- a number that is found is the only operand; where none is found nothing is said
+abbrev pub FindsOnlyNumber : List SpelledToken → Option ℕ → Type 0
+FindsOnlyNumber tokens (Some value) = IsOnlyNumber tokens value
+FindsOnlyNumber tokens None = Unit {0}
+
 -- these are the values of the operands, whatever is known, and the operands name nothing
 pub record AreConstants (most : ℕ) (operands : List (List SpelledToken)) (values : UpToThree ℕ) : Type 0 where
   pub counts : (pos : Pos) (placed : Placed) → known_operands pos placed most operands ≡ Ok (record { naming = no_naming placed.table; placed = placed; values = values })
@@ -58,10 +71,6 @@ FindsNext may operands behind None = Unit {0}
 abbrev pub FindsConstants : ℕ → List (List SpelledToken) → Option (UpToThree ℕ) → Type 0
 FindsConstants most operands (Some values) = AreConstants most operands values
 FindsConstants most operands None = Unit {0}
-
--- so many bytes of a value last in the current section
-abbrev pub put_space_of : Pos → ℕ → ℕ → Placed → Result Placed PlaceCause
-put_space_of pos count value placed = space_of count value >>= λ item. push_item pos item placed
 
 -- so many units of a size and a value last in the current section
 abbrev pub put_units_of : Pos → ℕ → Option ℕ → ℕ → Placed → Result Placed PlaceCause

@@ -1,5 +1,5 @@
 -- What data and space place.
-use Rattle.std.specs.Prelude.{ℕ, Bool, List, unwrap_or, Result, Ok}
+use Rattle.std.specs.Prelude.{ℕ, ◌%◌, ◌^◌, nat_le, Bool, true, false, List, replicate, unwrap_or, Result, Ok}
 use Rattle.std.specs.List.{list_any, count_by}
 use Rattle.asm_operands.specs.declared.place_faults.PlaceCause.{PlaceCause}
 use Rattle.asm_base.specs.declared.positions.Pos.{Pos}
@@ -48,6 +48,20 @@ place_data pos size tokens placed = each expression_of (operands_of tokens) >>= 
 unfoldable pub place_strings : Pos → Bool → List SpelledToken → Placed → Result Placed PlaceCause
 place_strings pos ended tokens placed = joined_strings ended (operands_of tokens) >>= λ bytes. put_bytes pos bytes placed
 
+-- so many bytes of a value last in the current section: few of them beside the plain bytes there, more as an item
+abbrev pub put_space_by : Bool → Pos → ℕ → ℕ → Placed → Result Placed PlaceCause
+put_space_by true pos count value placed = put_bytes pos (replicate count (value % 2 ^ 8)) placed
+put_space_by false pos count value placed = space_of count value >>= λ item. push_item pos item placed
+
+-- few are at most 16
+abbrev pub put_space : Pos → ℕ → ℕ → Placed → Result Placed PlaceCause
+put_space pos count value placed = put_space_by (nat_le count 16) pos count value placed
+
+-- the same, and then the names of the operands are allowed or refused
+abbrev pub with_filled : Pos → KnownOperands → ℕ → ℕ → Result Placed PlaceCause
+with_filled pos given count value =
+    put_space pos count value given.placed >>= λ filled. allowed given.naming filled.table >>= λ table. Ok (with_table filled table)
+
 -- the item is put, and then the names of its operands are allowed or refused
 abbrev pub with_named : Pos → Naming → Content → Placed → Result Placed PlaceCause
 with_named pos naming item named = push_item pos item named >>= λ pushed. allowed naming pushed.table >>= λ table. Ok (with_table pushed table)
@@ -59,13 +73,12 @@ with_item pos given item = with_named pos given.naming item given.placed
 -- `.zero`
 unfoldable pub place_zero : Pos → List SpelledToken → Placed → Result Placed PlaceCause
 place_zero pos tokens placed =
-    known_operands pos placed 1 (operands_of tokens) >>= λ given. space_of given.values.first 0 >>= with_item pos given
+    known_operands pos placed 1 (operands_of tokens) >>= λ given. with_filled pos given given.values.first 0
 
 -- `.skip`, `.space`
 unfoldable pub place_skip : Pos → List SpelledToken → Placed → Result Placed PlaceCause
 place_skip pos tokens placed =
-    known_operands pos placed 2 (operands_of tokens) >>= λ given.
-    space_of given.values.first (unwrap_or given.values.second 0) >>= with_item pos given
+    known_operands pos placed 2 (operands_of tokens) >>= λ given. with_filled pos given given.values.first (unwrap_or given.values.second 0)
 
 -- `.fill`
 unfoldable pub place_fill : Pos → List SpelledToken → Placed → Result Placed PlaceCause

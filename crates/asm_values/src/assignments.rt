@@ -5,7 +5,8 @@ use crate::few_sums::{NamedNumber, named_number};
 use asm_base::{Pos, Token};
 use asm_expr::constant_form;
 use asm_operands::{
-    NamedExpr, NamedSum, Operands, PlaceFault, expression_of, named_sum, named_tree, symbol_name,
+    NamedExpr, NamedSum, Operands, PlaceFault, expression_of, is_name, named_sum, named_tree,
+    sum_operand, symbol_name,
 };
 use asm_uses::{Naming, View, form_in, sum_form_in, uses_place};
 
@@ -104,9 +105,10 @@ impl Assembler {
         }
     }
 
-    /// `name = expression`, by the token of the name and those behind the sign.
+    /// `name = expression` of any name and expression.
+    #[inline(never)]
     #[tactic(auto, unfolding(crate::specs::Assignments::place_assignment))]
-    pub fn place_assignment(
+    fn place_any_assignment(
         &mut self,
         pos: Pos,
         token: &Token,
@@ -120,5 +122,28 @@ impl Assembler {
         let name = symbol_name(self.alloc, token)?;
         let expr = expression_of(self.alloc, tokens)?;
         self.assign_words(pos, false, &NamedExpr { name, expr })
+    }
+
+    /// `name = expression`, by the token of the name and those behind the sign: without a tree where
+    /// the value is a sum.
+    #[tactic(auto, unfolding(crate::specs::Assignments::place_assignment, asm_operands::specs::Operands::symbol_name, asm_operands::specs::Expressions::expression_of))]
+    pub fn place_assignment(
+        &mut self,
+        pos: Pos,
+        token: &Token,
+        tokens: &[Token],
+    ) -> Result<(), PlaceFault>
+        ensures placed { PlacesBy
+            (place_assignment pos (spelled token.now) (map spelled tokens.now))
+            self.old self.new result }
+        ensures kept { self.new.notes ≡ self.old.notes }
+    {
+        if is_name(token) {
+            if let Some(sum) = sum_operand(tokens) {
+                let name = token.bytes;
+                return self.assign_sum(pos, false, &NamedSum { name, sum });
+            }
+        }
+        self.place_any_assignment(pos, token, tokens)
     }
 }

@@ -155,6 +155,7 @@ impl Assembler {
     }
 
     /// `.byte` and the others: where a name stands in front, the operands are no numbers.
+    #[inline(always)]
     pub fn place_data(
         &mut self,
         pos: Pos,

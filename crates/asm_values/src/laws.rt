@@ -1,6 +1,9 @@
 //! What holds of the symbols that a statement names, and of the forms of sums.
 
-ghost use Rattle.std.specs.Prelude.{◌≡◌, ℕ, List, Some, Ok};
+ghost use Rattle.std.specs.Prelude.{◌≡◌, ℕ, ◌%◌, ◌^◌, List, Some, Ok, replicate};
+ghost use Rattle.item_contents.specs.Contents.{fill_bytes};
+ghost use Rattle.asm_uses.specs.Tables.{Table, allowed};
+ghost use Rattle.asm_values.specs.ConstantOperands.{no_naming};
 ghost use Rattle.asm_expr.specs.declared.naming.Name.TheVariants.{Plain};
 ghost use Rattle.asm_symbols.specs.declared.entries.Spot.{Spot};
 ghost use Rattle.asm_symbols.specs.SymbolMap.{SymbolMap, names, index_of};
@@ -21,6 +24,20 @@ pub fn texts_are_no_place()
     ensures { (map : SymbolMap) (spot : Spot) (text : List ℕ) (index : ℕ)
         → index_of (Plain text) (names map.symbols) ≡ Some index
         → IsElsewhere map (known_at map spot) index }
+{}
+
+/// Where an operand names nothing no symbol came that could be refused.
+#[tactic(auto, using(crate::proofs::NameLemmas::none_allowed))]
+pub fn no_name_is_allowed()
+    ensures { (table : Table) → allowed (no_naming table) table ≡ Ok table }
+{}
+
+/// Few bytes of a value, which stand beside the plain bytes of a section, are those of a fill.
+#[tactic(auto, using(crate::proofs::FewBytes::few_filled))]
+pub fn few_bytes_are_a_fill()
+    ensures { (count value : ℕ)
+        → fill_bytes (record { count = count; size = 1; value = value })
+        ≡ replicate count (value % 2 ^ 8) }
 {}
 
 /// The form of a sum, at the place of a statement, is that of its tree.

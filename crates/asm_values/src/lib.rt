@@ -17,6 +17,8 @@ mod texts;
 
 pub use assemblers::{Assembler, Placed};
 pub use known_operands::KnownOperands;
-pub use laws::{sums_have_the_forms_of_trees, texts_are_no_place};
-pub use operand_constants::constant_operands;
+pub use laws::{
+    few_bytes_are_a_fill, no_name_is_allowed, sums_have_the_forms_of_trees, texts_are_no_place,
+};
+pub use operand_constants::{constant_operands, only_number};
 pub use stacks::Entered;

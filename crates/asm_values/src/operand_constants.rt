@@ -1,8 +1,11 @@
 //! One to three operands that are numbers alone: their values, without trees and forms.
 
+ghost use Rattle.std.specs.Prelude.{map};
+ghost use Rattle.asm_base.specs.Tokens.{spelled};
 ghost use Rattle.asm_operands.specs.OperandParts.{operands_left};
-ghost use Rattle.asm_values.specs.ConstantOperands.{FindsFirst, FindsNext, FindsConstants};
+ghost use Rattle.asm_values.specs.ConstantOperands.{FindsFirst, FindsNext, FindsConstants, FindsOnlyNumber};
 
+use asm_base::Token;
 use asm_operands::{Operands, UpToThree, constant_operand};
 
 /// The value of the next operand, which has to be there.
@@ -11,6 +14,19 @@ fn first_constant(operands: &mut Operands) -> Option<u64>
     ensures { FindsFirst (operands_left operands.old) (operands_left operands.new) result }
 {
     constant_operand(operands.next()?)
+}
+
+/// The number that the only operand is. None says nothing of the operands.
+#[inline(always)]
+pub fn only_number(tokens: &[Token]) -> Option<u64>
+    ensures { FindsOnlyNumber (map spelled tokens.now) result }
+{
+    let mut operands = Operands::new(tokens);
+    let value = first_constant(&mut operands)?;
+    match operands.next() {
+        None => Some(value),
+        Some(_) => None,
+    }
 }
 
 /// The value of the next operand, which may be missing, or empty, where one may be there.

@@ -9,12 +9,13 @@ use asm_words::{space_of, unit_size, units_of};
 use item_contents::Content;
 
 impl Assembler {
-    ghost use Rattle.std.specs.Prelude.{◌≡◌, map};
+    ghost use Rattle.std.specs.Prelude.{◌≡◌, ◌≤◌, ◌%◌, ◌^◌, map, replicate};
     ghost use Rattle.asm_base.specs.Tokens.{spelled};
     ghost use Rattle.asm_expr.specs.Trees.{tree_of};
     ghost use Rattle.asm_base.specs.Refusals.{Gives};
-    ghost use Rattle.asm_values.specs.ConstantOperands.{put_space_of, put_units_of};
-    ghost use Rattle.asm_values.specs.Data.{with_named, place_zero, place_skip, place_fill};
+    ghost use Rattle.asm_values.specs.ConstantOperands.{put_units_of};
+    ghost use Rattle.asm_values.specs.State.{put_bytes};
+    ghost use Rattle.asm_values.specs.Data.{put_space, with_named, place_zero, place_skip, place_fill};
     ghost use Rattle.asm_values.specs.PlacedBy.{placed_by, PlacesBy};
 
     /// Puts an item, and then allows or refuses the names of its operands.
@@ -27,11 +28,25 @@ impl Assembler {
         self.table.allow(naming)
     }
 
-    /// So many bytes, whose operands name nothing.
-    fn put_space_of(&mut self, pos: Pos, count: u64, value: u64) -> Result<(), PlaceFault>
-        ensures placed { PlacesBy (put_space_of pos count value) self.old self.new result }
+    /// At most 16 bytes of a value, as plain bytes: an item would cost more than they do.
+    fn put_few(&mut self, pos: Pos, count: usize, value: u8) -> Result<(), PlaceFault>
+        requires { count ≤ 16 }
+        ensures placed { PlacesBy (put_bytes pos (replicate count value))
+            self.old self.new result }
         ensures kept { self.new.notes ≡ self.old.notes }
     {
+        let bytes = [value; 16];
+        self.put_bytes(pos, &bytes[..count])
+    }
+
+    /// So many bytes of a value.
+    fn put_space(&mut self, pos: Pos, count: u64, value: u64) -> Result<(), PlaceFault>
+        ensures placed { PlacesBy (put_space pos count value) self.old self.new result }
+        ensures kept { self.new.notes ≡ self.old.notes }
+    {
+        if count <= 16 {
+            return self.put_few(pos, count as usize, (value % 256) as u8);
+        }
         let item = space_of(count, value)?;
         self.push_item(pos, item)
     }
@@ -61,8 +76,8 @@ impl Assembler {
         ensures kept { self.new.notes ≡ self.old.notes }
     {
         let given = self.known_operands(pos, 1, &mut Operands::new(tokens))?;
-        let item = space_of(given.values.first, 0)?;
-        self.push_named(pos, given.naming, item)
+        self.put_space(pos, given.values.first, 0)?;
+        self.table.allow(given.naming)
     }
 
     /// `.skip`, `.space` of any operands.
@@ -74,8 +89,9 @@ impl Assembler {
         ensures kept { self.new.notes ≡ self.old.notes }
     {
         let given = self.known_operands(pos, 2, &mut Operands::new(tokens))?;
-        let item = space_of(given.values.first, given.values.second.unwrap_or(0))?;
-        self.push_named(pos, given.naming, item)
+        let value = given.values.second.unwrap_or(0);
+        self.put_space(pos, given.values.first, value)?;
+        self.table.allow(given.naming)
     }
 
     /// `.fill` of any operands.
@@ -99,7 +115,7 @@ impl Assembler {
         ensures kept { self.new.notes ≡ self.old.notes }
     {
         match constant_operands(1, Operands::new(tokens)) {
-            Some(values) => self.put_space_of(pos, values.first, 0),
+            Some(values) => self.put_space(pos, values.first, 0),
             None => self.place_any_zero(pos, tokens),
         }
     }
@@ -111,7 +127,7 @@ impl Assembler {
         ensures kept { self.new.notes ≡ self.old.notes }
     {
         match constant_operands(2, Operands::new(tokens)) {
-            Some(values) => self.put_space_of(pos, values.first, values.second.unwrap_or(0)),
+            Some(values) => self.put_space(pos, values.first, values.second.unwrap_or(0)),
             None => self.place_any_skip(pos, tokens),
         }
     }

@@ -8,6 +8,6 @@ use Rattle.asm_values.proofs.assemblers.Assembler.place_zero.Goals as goal
 
 pub returns-in-Some-clause-placed : goal.returns-in-Some-clause-placed
 returns-in-Some-clause-placed c =
-    subst (Gives (placed_by c.put_space_of.new.self) c.put_space_of.result)
+    subst (Gives (placed_by c.put_space.new.self) c.put_space.result)
     (zero_so c.args.pos (map spelled c.args.tokens.now) _ c.in-Some.values (placed_by c.args.self.now) c.new.ensures c.in-Some.ensures)
-    c.put_space_of.ensures.placed
+    c.put_space.ensures.placed
