@@ -13,7 +13,6 @@ use Rattle.asm_symbols.specs.declared.entries.Symbol.{Symbol}
 use Rattle.asm_frags.specs.Writing.{LooseSection}
 use Rattle.asm_relax.specs.Placing.{placed_section}
 use Rattle.asm_relax.specs.Settling.{LaidSections, planned}
-use Rattle.elf_object.specs.Image.{image_of}
 use Rattle.asm_values.specs.State.{Placed, nothing_placed}
 use Rattle.asm_place.specs.declared.place_faults.FaultAt.{FaultAt}
 use Rattle.asm_place.specs.ProcedurePlaces.{StandInOrder}
@@ -36,7 +35,7 @@ use Rattle.asm_front.proofs.FramedSections.{TableFacts, is_framed, tables_within
 use Rattle.asm_front.proofs.FramedSymbols.{frame_stands, holds_items}
 use Rattle.asm_front.proofs.JumpsInObject.{JumpFacts}
 use Rattle.asm_front.proofs.LowLayouts.{all_small, layout_low}
-use Rattle.asm_front.proofs.ObjectReads.{Makes, assembly_is, none_over}
+use Rattle.asm_front.proofs.ObjectReads.{Makes, origin, none_over}
 use Rattle.asm_front.proofs.PlacedFacts.{PlaceFacts}
 use Rattle.asm_front.proofs.SmallSections.{sections_small}
 
@@ -116,22 +115,27 @@ placed_ready table placing facts statements no_warn whole is =
 
 -- the frame table of an object reads as the directives of its procedures mean
 pub frames_read_back : AreSettled → TableFacts → PlaceFacts → JumpFacts → FrameFacts → (flags : Flags) (handed : List TokenStatement) (made : NotedObject)
-    → Makes flags handed made → FramesReadBack flags handed made.object
-frames_read_back settled table placing facts frames_facts flags handed made e frame frames whole tables laid all are framed_is is =
+    (e : Makes flags handed made)
+    → FramesReadBack made.object e.whole (origin flags handed made e).tables.symbols (origin flags handed made e).laid
+frames_read_back settled table placing facts frames_facts flags handed made e frame frames are =
+    let from = origin flags handed made e in
+    let whole = from.whole in
+    let tables = from.tables in
+    let laid = from.laid in
+    let all = from.places in
     let no_warn = flags.no_warn in
     let stands = facts.places handed (nothing_placed no_warn) whole all (facts.starts no_warn) in
     let ordered = frames_facts.ordered handed no_warn whole all in
-    let closed = all_closed flags.fatal_warnings whole made (e whole all) in
+    let closed = all_closed flags.fatal_warnings whole made e.ends in
     let covered = subst (All (IsCovered whole.sections)) (sym closed ∙ are) (frames_covered whole stands ordered closed) in
     let ready = placed_ready table placing facts handed no_warn whole all in
     let with_table : placed (frame ∷ frames) (tables_of whole.table.symbols whole.sections) ≡ Ok tables =
-    sym (ap (λ (all : List Frame). placed all (tables_of whole.table.symbols whole.sections)) are) ∙ framed_is in
-    let same : made.object ≡ image_of tables.symbols laid = assembly_is flags handed made handed whole tables laid refl all framed_is is e in
-    let none = none_over flags handed made handed whole tables laid refl all framed_is is e in
-    let laid_is = settled.layouts.settled tables.symbols tables.sections laid is in
+    sym (ap (λ (all : List Frame). placed all (tables_of whole.table.symbols whole.sections)) are) ∙ from.frames in
+    let none = none_over flags handed made e in
+    let laid_is = settled.layouts.settled tables.symbols tables.sections laid from.settles in
     let small = sections_small facts.addresses laid
     (subst (λ (all : LaidSections). map placed_section all ≡ all) (sym laid_is) (settled.placed tables.symbols (planned tables.symbols tables.sections))) (all_small laid none) in
-    let within = (is_framed table whole tables (placing.within handed (nothing_placed no_warn) whole all (placing.begins no_warn)) framed_is).within in
+    let within = (is_framed table whole tables (placing.within handed (nothing_placed no_warn) whole all (placing.begins no_warn)) from.frames).within in
     let low = layout_low facts.rise facts.count tables.symbols tables.sections within (sym (ap first_over laid_is) ∙ none) in
-    subst (λ (file : List ℕ). TableReads file tables.symbols laid (frame ∷ frames)) (sym same)
-    (frames_facts.read frame frames (tables_of whole.table.symbols whole.sections) tables laid ready covered with_table is (record { small = small; rows = low }))
+    subst (λ (file : List ℕ). TableReads file tables.symbols laid (frame ∷ frames)) (sym from.image)
+    (frames_facts.read frame frames (tables_of whole.table.symbols whole.sections) tables laid ready covered with_table from.settles (record { small = small; rows = low }))

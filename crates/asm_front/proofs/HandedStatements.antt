@@ -53,16 +53,17 @@ by_lines : Places → InOrder → (flags : Flags) (contents : Contents) (name : 
     → assembly_by flags.fatal_warnings name (expansion placed_after told_by (Some contents) (name ∷ []) (nothing_placed flags.no_warn) lines) ≡ assembled made files
     → Makes flags (handed_by flags.no_warn contents name lines) made
 unfolding expansion
-by_lines places in_order flags contents name (Err cause) made files is whole all = absurd cc
-by_lines places in_order flags contents name (Ok statements) made files is whole all =
+by_lines places in_order flags contents name (Err cause) made files is = absurd cc
+by_lines places in_order flags contents name (Ok statements) made files is =
     let empty = nothing_placed flags.no_warn in
     let list = started (name ∷ []) (map in_tokens statements) in
     let end = ended_is flags.fatal_warnings name (steps placed_after told_by (Some contents) most_turns list empty) made files is in
-    let placed : place_all (handed placed_after told_by (Some contents) most_turns list empty) empty ≡ Ok end.1 =
-    sym (in_order (handed placed_after told_by (Some contents) most_turns list empty) empty)
-    ∙ places told_by (name ∷ []) (map in_tokens statements) (Some contents) empty most_turns end.0 end.1 end.2 in
-    let same : end.1 ≡ whole = cc in
-    ap (λ (all : Placed). finished flags.fatal_warnings all.sections all.table all.procedures all.notes) (sym same) ∙ end.3
+    record {
+      whole = end.1;
+      places = sym (in_order (handed placed_after told_by (Some contents) most_turns list empty) empty)
+          ∙ places told_by (name ∷ []) (map in_tokens statements) (Some contents) empty most_turns end.0 end.1 end.2;
+      ends = end.3;
+    }
 
 -- the object of a source is made of the statements that are handed out
 pub handed_makes : Places → InOrder → (flags : Flags) (contents : Contents) (name source : List ℕ) (made : NotedObject) (files : List (List ℕ))

@@ -1,5 +1,5 @@
 -- Direct jumps stand in the object, and read as the jumps that were written.
-use Rattle.std.proofs.Common.{◌≡◌, ℕ, zero, suc, ◌+◌, ◌-◌, ◌^◌, ◌<◌, ◌≤◌, inl, inr, not, nat_lt, nat_le, Bool, true, false, List, ◌∷◌, ◌++◌, Option, Some, None, Ok, drop, length, refl, sym, ap, ◌∙◌, subst, arith}
+use Rattle.std.proofs.Common.{◌≡◌, ℕ, zero, suc, ◌+◌, ◌-◌, ◌^◌, ◌<◌, ◌≤◌, inl, inr, not, nat_lt, nat_le, Bool, true, false, cond, List, ◌∷◌, ◌++◌, Option, Some, None, Ok, drop, length, refl, sym, ap, ◌∙◌, subst, arith}
 use Rattle.std.specs.Prelude.{◌==◌, slice_get, option_map, unwrap_or, IfSome}
 use Rattle.std.specs.Option.{option_map_or}
 use Rattle.std.proofs.lemmas.Bool.{or_cases, ltb-true, leb-true}
@@ -28,7 +28,7 @@ use Rattle.item_bytes.specs.Levels.{IsSignedWithin}
 use Rattle.item_bytes.specs.Levels.{jump_size}
 use Rattle.assigned_forms.specs.Linked.{linked}
 use Rattle.item_rows.specs.ItemRows.{all_rows, rows_of, levels_of}
-use Rattle.asm_relax.specs.FieldValues.{held_value}
+use Rattle.asm_relax.specs.FieldValues.{held_value, DistancesLead}
 use Rattle.asm_relax.specs.ItemValues.{AreLow, IsInItem, HasRoom}
 use Rattle.asm_relax.specs.KeptSections.{kept_section}
 use Rattle.asm_relax.specs.Placing.{placed_from, shift_of}
@@ -44,7 +44,7 @@ use Rattle.x86_table.specs.Reads.{Reads, ReadsOneWay}
 use Rattle.att_insns.specs.InsnTexts.{InsnText}
 use Rattle.asm_values.specs.State.{Placed, nothing_placed}
 use Rattle.asm_place.specs.Instructions.{next_offset, AreWithin}
-use Rattle.asm_place.specs.CodePlaces.{insn_in, jump_in}
+use Rattle.asm_place.specs.CodePlaces.{ValueForms, insn_in, jump_in}
 use Rattle.asm_place.specs.SymbolPlaces.{AreUpTo, PlacesStand}
 use Rattle.asm_place.specs.JumpPlaces.{IsJump, jump_form, items_so_far, jump_field, JumpStandsAt, JumpStands, jump_written}
 use Rattle.asm_place.specs.Sources.{pos_at, place_all}
@@ -52,7 +52,7 @@ use Rattle.x86_insn.specs.declared.amounts.FieldKind.TheVariants as kind
 use Rattle.eh_frame.specs.Pieces.{Tables}
 use Rattle.asm_front.specs.Ending.{Flags, first_over, framed}
 use Rattle.asm_front.specs.declared.ending.NotedObject.{NotedObject}
-use Rattle.asm_front.specs.ReadsBack.{file_place, final_value, has_no_bits, JumpReadsAt, JumpReadsBack, JumpsReadBack}
+use Rattle.asm_front.specs.ReadsBack.{file_place, final_value, has_no_bits, jump_value, LeadsToLabel, JumpReadsAt, JumpReadsBack, JumpsReadBack}
 use Rattle.asm_front.proofs.FramedSections.{TableFacts, is_framed, jump_stays}
 use Rattle.asm_front.proofs.FramedSymbols.{labels_framed, symbols_framed, forms_framed}
 use Rattle.asm_front.proofs.PlacedFacts.{PlaceFacts}
@@ -62,8 +62,9 @@ use Rattle.asm_front.proofs.JumpFields.{stands_in_item, jump_constant}
 use Rattle.asm_front.proofs.LowLayouts.{layout_low}
 use Rattle.asm_front.proofs.OwnPlaces.{names_own_place}
 use Rattle.asm_front.proofs.SettledObjects.{AreSettled, drop_stands}
-use Rattle.asm_front.proofs.ObjectReads.{Makes, reads_code, assembly_is, none_over}
+use Rattle.asm_front.proofs.ObjectReads.{Makes, origin, all_placed, reads_code, none_over}
 use Rattle.asm_front.proofs.SmallForms.{held_small, final_small}
+use Rattle.asm_front.proofs.SmallSections.{shift_next}
 
 -- what is known of all jumps: where their items stand in the sections and in the object, and what their bytes read as
 pub record JumpFacts : Type 0 where
@@ -79,6 +80,9 @@ pub record JumpFacts : Type 0 where
       → jump_distance true (jump_bytes condition true distance) ≡ distance
   pub short : (condition : Option Condition) (distance : ℕ) → distance < 2 ^ 64 → IsSignedWithin (2 ^ 7) distance
       → jump_distance false (jump_bytes condition false distance) ≡ distance
+  pub sized : (condition : Option Condition) (near : Bool) (distance : ℕ)
+      → length (jump_bytes condition near distance) ≡ jump_size (is_conditional condition) (cond near 1 0)
+  pub lead : DistancesLead
   pub room : SettledHaveRoom
   pub rise : (symbols : SymbolMap) (sections : LaidSections) → AllRise (shifts_of (rows_of symbols sections) (levels_of (rows_of symbols sections))) sections
   pub count : (symbols : SymbolMap) (levels : List ℕ) (sections : LaidSections) → length (shifts_of (rows_of symbols sections) levels) ≡ all_rows sections
@@ -169,6 +173,18 @@ module _ (settled : AreSettled) (facts : JumpFacts) (symbols : SymbolMap) (secti
       subst (λ v. PieceAt (image_of symbols laid) (file_place symbols laid n item offset) (jump_bytes condition is_near v)) holds_value
       (subst (λ at. PieceAt (image_of symbols laid) at (item_bytes symbols laid kept content item_size)) place there)
 
+  -- the place behind it is as many bytes further as its size
+  place_behind : (count : ℕ) → count ≡ item_size → file_place symbols laid n item offset + count ≡ file_place symbols laid n (item + 1) offset
+  place_behind count same =
+      let next = shift_next kept.items item 0 settled_item got.2 in
+      let one : item + 1 ≡ suc item = omega arith in
+      let here : file_place symbols laid n item offset ≡ section_offset symbols laid n + (offset + shift_of item 0 kept.items) =
+      ap (λ f. section_offset symbols laid n + option_map_or (λ (s : SectionOf LaidItem). moved s.items item offset) f 0) found in
+      let there : file_place symbols laid n (item + 1) offset ≡ section_offset symbols laid n + (offset + shift_of (suc item) 0 kept.items) =
+      ap (λ f. section_offset symbols laid n + option_map_or (λ (s : SectionOf LaidItem). moved s.items (item + 1) offset) f 0) found
+      ∙ ap (λ k. section_offset symbols laid n + (offset + shift_of k 0 kept.items)) one in
+      omega (arith, next, here, there, same)
+
   -- it has the size of a level at which there is room for the value, where its row tells that
   has_room : AreLow symbols (levels_of (rows_of symbols (planned symbols sections))) (planned symbols sections)
       → IsInItem symbols (planned symbols sections) (substituted_field (linked symbols) field) → HasRoomFor symbols laid (Jump condition) item_size (substituted_field (linked symbols) field)
@@ -192,6 +208,16 @@ within_four value is = elim (or_cases (nat_lt value (2 ^ 31)) (nat_le (2 ^ 64 - 
 not_short : (condition : Option Condition) (size level : ℕ) → size ≡ jump_size (is_conditional condition) (suc level) → not (size == 2) ≡ true
 not_short None size level is = ap (λ n. not (n == 2)) is
 not_short (Some condition) size level is = ap (λ n. not (n == 2)) is
+
+-- the bytes of a jump are as many as the size of its level
+length_is : JumpFacts → (condition : Option Condition) (size level value : ℕ) → size ≡ level_size (Jump condition) level
+    → length (jump_bytes condition (not (size == 2)) value) ≡ size
+length_is facts condition size zero value is =
+    let near : not (size == 2) ≡ false = ap (λ n. not (n == 2)) is in
+    facts.sized condition (not (size == 2)) value ∙ ap (λ b. jump_size (is_conditional condition) (cond b 1 0)) near ∙ sym is
+length_is facts condition size (suc level) value is =
+    let near = not_short condition size level is in
+    facts.sized condition (not (size == 2)) value ∙ ap (λ b. jump_size (is_conditional condition) (cond b 1 0)) near ∙ sym is
 
 -- a value for which there is room is held whole
 room_held : JumpFacts → (condition : Option Condition) (size level : ℕ) (held : Option ℕ) → unwrap_or held 0 < 2 ^ 64 → fits_signed Four (unwrap_or held 0) ≡ true
@@ -219,6 +245,16 @@ jump_at one_way facts text condition near bytes rest at distance jump stands hel
           (subst (λ d. Reads code (jump_written text (length code) d)) held (facts.read text condition near distance jump));
       ends = refl;
     }
+
+-- the distance of a jump to a label leads there from its end
+leads_to_label : JumpFacts → (symbols : SymbolMap) (laid : LaidSections) (pos : Pos) (text : InsnText) (forms : ValueForms) (placed : Placed)
+    → LeadsToLabel symbols laid pos text forms placed
+leads_to_label facts symbols laid pos text forms placed symbol number address target apart free there =
+    let field = substituted_field (linked symbols) (jump_field pos text (jump_form forms) placed) in
+    let got = facts.lead symbols laid field symbol number address (record { kind = refl; form = target; behind = omega arith }) free apart there in
+    let value : jump_value symbols laid pos text forms placed ≡ got.0 = ap (λ v. unwrap_or v 0) got.1 in
+    let leads = got.2 in
+    omega (arith, value, leads)
 
 -- a direct jump among statements that are placed reads back as it in the object of their layout, where no section of that is too large
 pub jump_reads_back : AreSettled → ReadsOneWay → TableFacts → PlaceFacts → JumpFacts → (no_warn : Bool) (front : List TokenStatement) (s : TokenStatement) (later : List TokenStatement)
@@ -265,12 +301,16 @@ jump_reads_back settled one_way table placing facts no_warn front s later text c
     record {
       jump = there.jump;
       reads = jump_at one_way facts text condition (not (bytes == 2)) object piece.rest at distance jump (ap (drop at) same ∙ drop_stands (image_of symbols laid) at _ piece) held;
+      behind = place_behind settled facts symbols sections laid n item offset pos condition field is stands takes
+          (length (jump_bytes condition (not (bytes == 2)) distance)) (length_is facts condition bytes room.level distance room.sized);
+      leads = leads_to_label facts symbols laid pos text there.jump.forms placed;
     }
 
 -- each direct jump that is handed out reads back as it
-pub jumps_read_back : AreSettled → ReadsOneWay → TableFacts → PlaceFacts → JumpFacts → (flags : Flags) (handed : List TokenStatement) (made : NotedObject) → Makes flags handed made
-    → JumpsReadBack flags handed made.object
-jumps_read_back settled one_way table placing facts flags handed made e before after s text condition placed whole tables laid are front all framed_is is written jump filed =
-    jump_reads_back settled one_way table placing facts flags.no_warn before s after text condition placed whole tables laid made.object front all framed_is is
-    (assembly_is flags handed made (before ++ s ∷ after) whole tables laid are all framed_is is e)
-    (none_over flags handed made (before ++ s ∷ after) whole tables laid are all framed_is is e) written jump filed
+pub jumps_read_back : AreSettled → ReadsOneWay → TableFacts → PlaceFacts → JumpFacts → (flags : Flags) (handed : List TokenStatement) (made : NotedObject)
+    (e : Makes flags handed made)
+    → JumpsReadBack flags handed made.object (origin flags handed made e).tables.symbols (origin flags handed made e).laid
+jumps_read_back settled one_way table placing facts flags handed made e s text condition placed reached written jump filed =
+    let from = origin flags handed made e in
+    jump_reads_back settled one_way table placing facts flags.no_warn reached.before s reached.after text condition placed from.whole from.tables from.laid made.object
+    reached.places (all_placed flags handed made e s placed reached) from.frames from.settles from.image (none_over flags handed made e) written jump filed

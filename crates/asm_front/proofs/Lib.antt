@@ -1,6 +1,7 @@
 -- The proofs of this crate.
 mod Lists
 mod SettledObjects
+mod StatementSplits
 mod ObjectReads
 mod FaultLaws
 mod ToldFiles
@@ -20,10 +21,9 @@ mod LowLayouts
 mod OwnPlaces
 mod FramedSections
 mod PlacedFacts
-mod StatementSplits
 mod FramedSymbols
-mod JumpsInObject
 mod SmallSections
+mod JumpsInObject
 mod FramesInObject
 mod CodesInObject
 mod HandedStatements

@@ -1,6 +1,7 @@
 -- Written bytes read back: the bytes of an instruction stand in the object.
 use Rattle.std.proofs.Common.{◌≡◌, ℕ, ◌+◌, ◌≤◌, ◌&&◌, not, Bool, true, false, cond, List, [], ◌∷◌, ◌++◌, Option, Some, None, Result, Ok, Err, length, drop, refl, sym, ap, ◌∙◌, subst, arith}
 use Rattle.std.specs.Prelude.{slice_get}
+use Rattle.asm_base.specs.Refusals.{◌>>=◌}
 use Rattle.asm_base.specs.Tokens.{SpelledToken}
 use Rattle.asm_base.specs.declared.notes.Noted.{Noted}
 use Rattle.asm_base.specs.declared.positions.Pos.{Pos}
@@ -33,10 +34,11 @@ use Rattle.elf_object.specs.Places.{IsFiled, IsBetween}
 use Rattle.asm_front.specs.Ending.{Flags, first_warning, warned_end, made_end, first_over, unless_over, laid_end, noted, unclosed, first_line, framed, framed_end, unless_open, finished}
 use Rattle.asm_front.specs.declared.ending.Ended.{Ended}
 use Rattle.asm_front.specs.declared.ending.NotedObject.{NotedObject}
-use Rattle.asm_front.specs.ReadsBack.{ReadsAt, file_place, BareReadBack}
+use Rattle.asm_front.specs.ReadsBack.{Origin, IsReached, AreReached, ReadsAt, file_place, BareReadBack}
 use Rattle.asm_front.proofs.FramedSections.{TableFacts, is_framed, bytes_stay}
 use Rattle.asm_front.proofs.PlacedFacts.{PlaceFacts}
 use Rattle.asm_front.proofs.SettledObjects.{AreSettled, drop_stands}
+use Rattle.asm_front.proofs.StatementSplits.{all_split}
 
 -- plain bytes that stand in a section stand in the object at their place
 pub object_stands : AreSettled → (symbols : SymbolMap) (sections : List LooseSection) (laid : LaidSections) (n item offset : ℕ) (bytes : List ℕ) → layout_of symbols sections ≡ Ok laid
@@ -102,15 +104,17 @@ unless_over_is : (over : Option Pos) (answer : Result (List ℕ) Ended) (made : 
 unless_over_is None answer made e = (refl, e)
 unless_over_is (Some pos) answer made e = absurd cc
 
-laid_is : (fatal : Bool) (table : Table) (notes : List Noted) (answer : Result LaidSections LayoutFault) (laid : LaidSections) (made : List ℕ)
-    → answer ≡ Ok laid → laid_end fatal table notes answer ≡ Ok made → (made ≡ image_of table.symbols laid) × (first_over laid ≡ None)
-laid_is fatal table notes (Ok sections) laid made is e =
-    let same : sections ≡ laid = cc in
+-- the layout of an object, of which no section is too large
+laid_is : (fatal : Bool) (table : Table) (notes : List Noted) (answer : Result LaidSections LayoutFault) (made : List ℕ) → laid_end fatal table notes answer ≡ Ok made
+    → (laid : LaidSections) × (answer ≡ Ok laid) × (made ≡ image_of table.symbols laid) × (first_over laid ≡ None)
+laid_is fatal table notes (Ok sections) made e =
     let parts = unless_over_is (first_over sections) (made_end fatal table notes (object_of table.symbols sections)) made e in (
-      made_is fatal table notes (object_fault table.symbols sections) (image_of table.symbols sections) made parts.1 ∙ ap (image_of table.symbols) same,
-      sym (ap first_over same) ∙ parts.0,
+      sections,
+      refl,
+      made_is fatal table notes (object_fault table.symbols sections) (image_of table.symbols sections) made parts.1,
+      parts.0,
     )
-laid_is fatal table notes (Err fault) laid made is e = absurd cc
+laid_is fatal table notes (Err fault) made e = absurd cc
 
 noted_is : (notes : List Noted) (answer : Result (List ℕ) Ended) (made : NotedObject) → noted notes answer ≡ Ok made → answer ≡ Ok made.object
 noted_is notes (Ok object) made e = cc
@@ -121,52 +125,86 @@ unless_open_is : (place : Option Pos) (notes : List Noted) (answer : Result Note
 unless_open_is None notes answer made e = e
 unless_open_is (Some pos) notes answer made e = absurd cc
 
--- the object that is made at the end is that of the layout with the frame table, of which no section is too large
-finished_is : (fatal : Bool) (whole : Placed) (tables : Tables) (laid : LaidSections) (made : NotedObject) → framed whole ≡ Ok tables
-    → layout_of tables.symbols tables.sections ≡ Ok laid
-    → finished fatal whole.sections whole.table whole.procedures whole.notes ≡ Ok made → (made.object ≡ image_of tables.symbols laid) × (first_over laid ≡ None)
+-- the frame table of an object
+tables_are : (fatal : Bool) (table : Table) (pos : Pos) (notes : List Noted) (answer : Result Tables FragCause) (made : NotedObject) → framed_end fatal table pos notes answer ≡ Ok made
+    → (tables : Tables) × (answer ≡ Ok tables)
+    × (noted notes (laid_end fatal (with_map table tables.symbols) notes (layout_of tables.symbols tables.sections)) ≡ Ok made)
+tables_are fatal table pos notes (Ok tables) made e = (tables, refl, e)
+tables_are fatal table pos notes (Err cause) made e = absurd cc
+
+-- what was placed comes to this object: with a frame table, and a layout of which no section is too large
+pub record IsFinished (whole : Placed) (object : List ℕ) : Type 0 where
+  pub tables : Tables
+  pub frames : framed whole ≡ Ok tables
+  pub laid : LaidSections
+  pub settles : layout_of tables.symbols tables.sections ≡ Ok laid
+  pub image : object ≡ image_of tables.symbols laid
+  pub none_over : first_over laid ≡ None
+
+finished_is : (fatal : Bool) (whole : Placed) (made : NotedObject) → finished fatal whole.sections whole.table whole.procedures whole.notes ≡ Ok made → IsFinished whole made.object
 unfolding finished
-finished_is fatal whole tables laid made are is e =
-    let table = with_map whole.table tables.symbols in
+finished_is fatal whole made e =
     let pos = first_line (frames_of whole.procedures) in
-    let answer = layout_of tables.symbols tables.sections in
     let closed : framed_end fatal whole.table pos whole.notes (framed whole) ≡ Ok made =
     unless_open_is (unclosed whole.procedures) whole.notes (framed_end fatal whole.table pos whole.notes (framed whole)) made e in
-    let made_is : noted whole.notes (laid_end fatal table whole.notes answer) ≡ Ok made =
-    subst (λ (r : Result Tables FragCause). framed_end fatal whole.table pos whole.notes r ≡ Ok made) are closed in
-    laid_is fatal table whole.notes answer laid made.object is (noted_is whole.notes (laid_end fatal table whole.notes answer) made made_is)
+    let table = tables_are fatal whole.table pos whole.notes (framed whole) made closed in
+    let answer = layout_of table.0.symbols table.0.sections in
+    let full = with_map whole.table table.0.symbols in
+    let laid = laid_is fatal full whole.notes answer made.object (noted_is whole.notes (laid_end fatal full whole.notes answer) made table.2) in
+    record { tables = table.0; frames = table.1; laid = laid.0; settles = laid.1; image = laid.2; none_over = laid.3 }
 
--- the statements that are handed out have this object, with these notes
-abbrev pub Makes : Flags → List TokenStatement → NotedObject → Type 0
-Makes flags handed made = (whole : Placed) → place_all handed (nothing_placed flags.no_warn) ≡ Ok whole
-    → finished flags.fatal_warnings whole.sections whole.table whole.procedures whole.notes ≡ Ok made
+-- the statements that are handed out are all placed, and what they place has this object, with these notes
+pub record Makes (flags : Flags) (handed : List TokenStatement) (made : NotedObject) : Type 0 where
+  pub whole : Placed
+  pub places : place_all handed (nothing_placed flags.no_warn) ≡ Ok whole
+  pub ends : finished flags.fatal_warnings whole.sections whole.table whole.procedures whole.notes ≡ Ok made
 
-module _ (flags : Flags) (handed : List TokenStatement) (made : NotedObject) (statements : List TokenStatement) (whole : Placed) (tables : Tables) (laid : LaidSections)
-    (are : handed ≡ statements) (all : place_all statements (nothing_placed flags.no_warn) ≡ Ok whole) (framed_is : framed whole ≡ Ok tables)
-    (is : layout_of tables.symbols tables.sections ≡ Ok laid) (makes : Makes flags handed made) where
-  -- their object is that of the layout of what they placed, of which no section is too large
-  assembled_is : (made.object ≡ image_of tables.symbols laid) × (first_over laid ≡ None)
-  assembled_is =
-      finished_is flags.fatal_warnings whole tables laid made framed_is is (makes whole (ap (λ list. place_all list (nothing_placed flags.no_warn)) are ∙ all))
+module _ (flags : Flags) (handed : List TokenStatement) (made : NotedObject) (makes : Makes flags handed made) where
+  pub end : IsFinished makes.whole made.object
+  end = finished_is flags.fatal_warnings makes.whole made makes.ends
 
-  pub assembly_is : made.object ≡ image_of tables.symbols laid
-  assembly_is = assembled_is.0
+  abbrev pub origin : Origin flags handed made.object
+  origin = record { whole = makes.whole; tables = end.tables; laid = end.laid; places = makes.places; frames = end.frames; settles = end.settles; image = end.image }
 
-  pub none_over : first_over laid ≡ None
-  none_over = assembled_is.1
+  pub none_over : first_over origin.laid ≡ None
+  none_over = end.none_over
+
+  -- all statements are placed: those before one that is reached, it, and those behind it
+  pub all_placed : (s : TokenStatement) (placed : Placed) (reached : IsReached flags handed s placed)
+      → place_all (reached.before ++ s ∷ reached.after) (nothing_placed flags.no_warn) ≡ Ok makes.whole
+  all_placed s placed reached = sym (ap (λ list. place_all list (nothing_placed flags.no_warn)) reached.all) ∙ makes.places
+
+  before_placed : (before after : List TokenStatement) (s : TokenStatement) (all : handed ≡ before ++ s ∷ after) (answer : Result Placed FaultAt)
+      → place_all before (nothing_placed flags.no_warn) ≡ answer → (answer >>= place_all (s ∷ after)) ≡ Ok makes.whole
+      → (placed : Placed) × IsReached flags handed s placed
+  before_placed before after s all (Ok placed) is whole = (placed, record { before = before; after = after; all = all; places = is })
+  before_placed before after s all (Err fault) is whole = absurd cc
+
+  pub are_reached : AreReached flags handed
+  are_reached before after s all =
+      let empty = nothing_placed flags.no_warn in
+      before_placed before after s all (place_all before empty) refl
+      (sym (all_split before (s ∷ after) empty) ∙ sym (ap (λ list. place_all list empty) all) ∙ makes.places)
 
 -- each instruction without operands that is handed out reads back
-pub bare_read_back : AreSettled → ReadsOneWay → BareCodesRead → TableFacts → PlaceFacts → (flags : Flags) (handed : List TokenStatement) (made : NotedObject) → Makes flags handed made
-    → BareReadBack flags handed made.object
-bare_read_back settled one_way read table facts flags handed made e before after s coded placed whole tables laid are front all framed_is is written =
+pub bare_read_back : AreSettled → ReadsOneWay → BareCodesRead → TableFacts → PlaceFacts → (flags : Flags) (handed : List TokenStatement) (made : NotedObject)
+    (e : Makes flags handed made)
+    → BareReadBack flags handed made.object (origin flags handed made e).tables.symbols (origin flags handed made e).laid
+bare_read_back settled one_way read table facts flags handed made e s coded placed reached written =
+    let from = origin flags handed made e in
     let empty = nothing_placed flags.no_warn in
     let begins = facts.begins flags.no_warn in
-    let stands = facts.bare_stands before s after empty placed whole coded begins front all written in
-    let grows = (is_framed table whole tables (facts.within (before ++ s ∷ after) empty whole all begins) framed_is).grows in
+    let before = reached.before in
+    let after = reached.after in
+    let whole = from.whole in
+    let tables = from.tables in
+    let laid = from.laid in
+    let all = all_placed flags handed made e s placed reached in
+    let stands = facts.bare_stands before s after empty placed whole coded begins reached.places all written in
+    let grows = (is_framed table whole tables (facts.within (before ++ s ∷ after) empty whole all begins) from.frames).grows in
     let holds = bytes_stay whole.sections tables.sections placed.current (next_item placed) (next_offset placed) coded.bytes grows stands in
     let symbols = tables.symbols in
     let at = file_place symbols laid placed.current (next_item placed) (next_offset placed) in
-    let same : made.object ≡ image_of symbols laid = assembly_is flags handed made (before ++ s ∷ after) whole tables laid are all framed_is is e in
-    let there = object_stands settled symbols tables.sections laid placed.current (next_item placed) (next_offset placed) coded.bytes is holds in
-    reads_code one_way made.object coded.bytes there.rest at coded.insn (ap (drop at) same ∙ drop_stands (image_of symbols laid) at coded.bytes there)
+    let there = object_stands settled symbols tables.sections laid placed.current (next_item placed) (next_offset placed) coded.bytes from.settles holds in
+    reads_code one_way made.object coded.bytes there.rest at coded.insn (ap (drop at) from.image ∙ drop_stands (image_of symbols laid) at coded.bytes there)
     (written_reads read placed.syntax (behind_labels s.tokens) coded written)

@@ -14,7 +14,7 @@ use Rattle.asm_front.specs.Ending.{last_item, whole_size}
 use Rattle.asm_front.proofs.LowLayouts.{IsSmall}
 
 -- an item moves what stands behind it by its size
-shift_next : (items : List LaidItem) (index shift : ℕ) (item : LaidItem) → slice_get items index ≡ Some item
+pub shift_next : (items : List LaidItem) (index shift : ℕ) (item : LaidItem) → slice_get items index ≡ Some item
     → shift_of (suc index) shift items ≡ shift_of index shift items + item.size
 shift_next [] index shift item there = absurd (none-some item there)
 shift_next (one ∷ items) zero shift item there = ap (λ (i : LaidItem). shift + i.size) (same_Some one item there)

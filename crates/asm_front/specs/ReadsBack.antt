@@ -1,14 +1,19 @@
 -- The bytes of an object, read back: the instructions at their places, and the frame table.
-use Rattle.std.specs.Prelude.{ℕ, ◌+◌, ◌≡◌, ◌==◌, Bool, false, List, ◌∷◌, ◌++◌, drop, length, Option, None, Some, unwrap_or, Result, Ok, Err, slice_get}
+use Rattle.std.specs.Prelude.{ℕ, ◌+◌, ◌-◌, ◌^◌, ◌≡◌, ◌==◌, Bool, false, List, [], ◌∷◌, ◌++◌, drop, length, Option, None, Some, unwrap_or, Result, Ok, Err, slice_get}
 use Rattle.std.specs.Option.{option_map_or}
 use Rattle.asm_base.specs.Inputs.{Contents}
 use Rattle.asm_base.specs.declared.positions.Pos.{Pos}
+use Rattle.asm_expr.specs.Forms.{wrapped, term_of}
+use Rattle.asm_expr.specs.Knowledge.{label}
 use Rattle.asm_lines.specs.NextStatements.{TokenStatement}
 use Rattle.asm_symbols.specs.SymbolMap.{SymbolMap}
 use Rattle.asm_frags.specs.declared.fields.Field.{Field}
+use Rattle.asm_frags.specs.Fields.{own_place}
 use Rattle.asm_frags.specs.Substituting.{substituted_field}
 use Rattle.assigned_forms.specs.Linked.{linked}
+use Rattle.item_rows.specs.Links.{is_linked}
 use Rattle.asm_relax.specs.FieldValues.{held_value}
+use Rattle.asm_relax.specs.Final.{address_of, final_told}
 use Rattle.asm_relax.specs.Settling.{LaidSections, layout_of}
 use Rattle.elf_file.specs.Sections.{no_bits}
 use Rattle.item_bytes.specs.declared.jumps.Condition.{Condition}
@@ -30,6 +35,7 @@ use Rattle.asm_place.specs.CodePlaces.{FieldInCode, ValueForms, insn_in, jump_in
 use Rattle.asm_place.specs.JumpPlaces.{IsJump, jump_form, items_so_far, jump_field, jump_written}
 use Rattle.asm_place.specs.Sources.{pos_at, place_all}
 use Rattle.asm_place.specs.Instructions.{instruction_of, next_item, next_offset}
+use Rattle.elf_object.specs.Image.{image_of}
 use Rattle.elf_object.specs.Places.{section_offset, moved}
 use Rattle.asm_front.specs.Ending.{Flags, framed}
 use Rattle.asm_front.specs.Assembly.{handed_of}
@@ -54,13 +60,34 @@ file_place symbols sections number item offset =
 abbrev pub next_place : SymbolMap → LaidSections → Placed → ℕ
 next_place symbols laid placed = file_place symbols laid placed.current (next_item placed) (next_offset placed)
 
+-- what the object of the statements that are handed out is made of: they are all placed, the frame table of their procedures comes to what they
+-- place, and both are laid out
+pub record Origin (flags : Flags) (handed : List TokenStatement) (object : List ℕ) : Type 0 where
+  pub whole : Placed
+  pub tables : Tables
+  pub laid : LaidSections
+  pub places : place_all handed (nothing_placed flags.no_warn) ≡ Ok whole
+  pub frames : framed whole ≡ Ok tables
+  pub settles : layout_of tables.symbols tables.sections ≡ Ok laid
+  pub image : object ≡ image_of tables.symbols laid
+
+-- the statement is handed out, and those before it place this
+pub record IsReached (flags : Flags) (handed : List TokenStatement) (s : TokenStatement) (placed : Placed) : Type 0 where
+  pub before : List TokenStatement
+  pub after : List TokenStatement
+  pub all : handed ≡ before ++ s ∷ after
+  pub places : place_all before (nothing_placed flags.no_warn) ≡ Ok placed
+
+-- each statement that is handed out is reached: those before it can be placed
+abbrev pub AreReached : Flags → List TokenStatement → Type 0
+AreReached flags handed =
+    (before after : List TokenStatement) (s : TokenStatement) → handed ≡ before ++ s ∷ after → (placed : Placed) × IsReached flags handed s placed
+
 -- each instruction without operands and prefix that is handed out reads back at its place, where the statements before it end
-abbrev pub BareReadBack : Flags → List TokenStatement → List ℕ → Type 0
-BareReadBack flags handed object =
-    (before after : List TokenStatement) (s : TokenStatement) (coded : Coded) (placed whole : Placed) (tables : Tables) (laid : LaidSections)
-    → handed ≡ before ++ s ∷ after → place_all before (nothing_placed flags.no_warn) ≡ Ok placed
-    → place_all (before ++ s ∷ after) (nothing_placed flags.no_warn) ≡ Ok whole → framed whole ≡ Ok tables → layout_of tables.symbols tables.sections ≡ Ok laid
-    → instruction_of placed.syntax s ≡ Some coded → ReadsAt object (next_place tables.symbols laid placed) coded.insn
+abbrev pub BareReadBack : Flags → List TokenStatement → List ℕ → SymbolMap → LaidSections → Type 0
+BareReadBack flags handed object symbols laid =
+    (s : TokenStatement) (coded : Coded) (placed : Placed) → IsReached flags handed s placed
+    → instruction_of placed.syntax s ≡ Some coded → ReadsAt object (next_place symbols laid placed) coded.insn
 
 -- WITH OPERANDS OR A PREFIX
 
@@ -121,13 +148,11 @@ has_no_bits laid number = option_map_or (λ section. section.kind == no_bits) (s
 
 -- each instruction with operands or a prefix that is handed out and is no direct jump reads back at its place, where its section has bytes in the
 -- file
-abbrev pub CodesReadBack : Flags → List TokenStatement → List ℕ → Type 0
-CodesReadBack flags handed object =
-    (before after : List TokenStatement) (s : TokenStatement) (text : InsnText) (placed whole : Placed) (tables : Tables) (laid : LaidSections)
-    → handed ≡ before ++ s ∷ after → place_all before (nothing_placed flags.no_warn) ≡ Ok placed
-    → place_all (before ++ s ∷ after) (nothing_placed flags.no_warn) ≡ Ok whole → framed whole ≡ Ok tables → layout_of tables.symbols tables.sections ≡ Ok laid
+abbrev pub CodesReadBack : Flags → List TokenStatement → List ℕ → SymbolMap → LaidSections → Type 0
+CodesReadBack flags handed object symbols laid =
+    (s : TokenStatement) (text : InsnText) (placed : Placed) → IsReached flags handed s placed
     → insn_in placed.syntax s ≡ Some text → jump_in text ≡ None → has_no_bits laid placed.current ≡ false
-    → InsnReadsBack object tables.symbols laid s text placed
+    → InsnReadsBack object symbols laid s text placed
 
 -- DIRECT JUMPS
 
@@ -147,36 +172,59 @@ pub record JumpReadsAt (bytes : List ℕ) (at : ℕ) (text : InsnText) (distance
   pub reads : ReadsAt bytes at (jump_written text size distance)
   pub ends : length reads.code ≡ size
 
+-- the place in the file behind that item
+abbrev pub jump_end : SymbolMap → LaidSections → Placed → ℕ
+jump_end symbols laid placed = file_place symbols laid placed.current (items_so_far placed + 1) (next_offset placed)
+
+-- the same place as an address of the section, as labels have it
+abbrev pub end_address : LaidSections → Placed → ℕ
+end_address laid placed = address_of laid placed.current (items_so_far placed + 1) (next_offset placed)
+
+-- what the target of the jump comes to with assigned symbols but weak aliases expanded: a symbol and a number, less the place of the field
+abbrev pub IsTarget : SymbolMap → ValueForms → ℕ → ℕ → Type 0
+IsTarget symbols forms symbol number =
+    linked symbols (jump_form forms) ≡ record { terms = term_of symbol 1 ∷ term_of own_place (2 ^ 64 - 1) ∷ []; constant = number }
+
+-- where the target is a label of the jump's section and a number, and not the linker's to find: the address of the label and the number is the end
+-- of the jump and the distance (modulo 2^64)
+abbrev pub LeadsToLabel : SymbolMap → LaidSections → Pos → InsnText → ValueForms → Placed → Type 0
+LeadsToLabel symbols laid pos text forms placed =
+    (symbol number address : ℕ) → IsTarget symbols forms symbol number → (symbol == own_place) ≡ false
+    → is_linked symbols (substituted_field (linked symbols) (jump_field pos text (jump_form forms) placed)) ≡ false
+    → final_told symbols laid symbol ≡ label placed.current address
+    → wrapped (end_address laid placed + jump_value symbols laid pos text forms placed) ≡ wrapped (address + number)
+
 -- the statement, put where these end, reads back in the object as the jump that is meant, short or near: over all of its distance, to its target
 pub record JumpReadsBack (object : List ℕ) (symbols : SymbolMap) (laid : LaidSections) (s : TokenStatement) (text : InsnText) (placed : Placed) : Type 0 where
   pub jump : IsJump (pos_at s.file s.line) s.tokens text placed
   pub reads : JumpReadsAt object (jump_place symbols laid placed) text (jump_value symbols laid (pos_at s.file s.line) text jump.forms placed)
+  pub behind : jump_place symbols laid placed + reads.size ≡ jump_end symbols laid placed
+  pub leads : LeadsToLabel symbols laid (pos_at s.file s.line) text jump.forms placed
 
 -- each direct jump that is handed out reads back at its place, where its section has bytes in the file
-abbrev pub JumpsReadBack : Flags → List TokenStatement → List ℕ → Type 0
-JumpsReadBack flags handed object =
-    (before after : List TokenStatement) (s : TokenStatement) (text : InsnText) (condition : Option Condition) (placed whole : Placed) (tables : Tables) (laid : LaidSections)
-    → handed ≡ before ++ s ∷ after → place_all before (nothing_placed flags.no_warn) ≡ Ok placed
-    → place_all (before ++ s ∷ after) (nothing_placed flags.no_warn) ≡ Ok whole → framed whole ≡ Ok tables → layout_of tables.symbols tables.sections ≡ Ok laid
+abbrev pub JumpsReadBack : Flags → List TokenStatement → List ℕ → SymbolMap → LaidSections → Type 0
+JumpsReadBack flags handed object symbols laid =
+    (s : TokenStatement) (text : InsnText) (condition : Option Condition) (placed : Placed) → IsReached flags handed s placed
     → insn_in placed.syntax s ≡ Some text → jump_in text ≡ Some condition → has_no_bits laid placed.current ≡ false
-    → JumpReadsBack object tables.symbols laid s text placed
+    → JumpReadsBack object symbols laid s text placed
 
 -- FRAME TABLES
 
 -- where there are procedures, the CIE stands in `.eh_frame` in the object, and behind it the FDE of each, which at each distance from the procedure's beginning
 -- gives the row that its directives mean, and none from its end on
-abbrev pub FramesReadBack : Flags → List TokenStatement → List ℕ → Type 0
-FramesReadBack flags handed object =
-    (frame : Frame) (frames : List Frame) (whole : Placed) (tables : Tables) (laid : LaidSections) → place_all handed (nothing_placed flags.no_warn) ≡ Ok whole
-    → frames_of whole.procedures ≡ frame ∷ frames → framed whole ≡ Ok tables → layout_of tables.symbols tables.sections ≡ Ok laid
-    → TableReads object tables.symbols laid (frame ∷ frames)
+abbrev pub FramesReadBack : List ℕ → Placed → SymbolMap → LaidSections → Type 0
+FramesReadBack object whole symbols laid =
+    (frame : Frame) (frames : List Frame) → frames_of whole.procedures ≡ frame ∷ frames → TableReads object symbols laid (frame ∷ frames)
 
--- each instruction that is handed out reads back in the object, where its section has bytes in the file, and so does the frame table of all procedures
+-- the object is made of what is handed out: each instruction of that reads back in it, where its section has bytes in the file, and so does the frame
+-- table of all procedures
 pub record ReadsBack (flags : Flags) (handed : List TokenStatement) (object : List ℕ) : Type 0 where
-  pub bare : BareReadBack flags handed object
-  pub coded : CodesReadBack flags handed object
-  pub jumps : JumpsReadBack flags handed object
-  pub frames : FramesReadBack flags handed object
+  pub made : Origin flags handed object
+  pub reached : AreReached flags handed
+  pub bare : BareReadBack flags handed object made.tables.symbols made.laid
+  pub coded : CodesReadBack flags handed object made.tables.symbols made.laid
+  pub jumps : JumpsReadBack flags handed object made.tables.symbols made.laid
+  pub frames : FramesReadBack object made.whole made.tables.symbols made.laid
 
 -- ANSWERS
 

@@ -22,7 +22,8 @@ use asm_place::{
     placing_within, procedures_stand_in_order,
 };
 use asm_relax::{
-    layouts_keep_sections, rows_rise, settled_is_placed, settled_items_have_room, sizes_add_up,
+    distances_lead_to_labels, layouts_keep_sections, rows_rise, settled_is_placed,
+    settled_items_have_room, sizes_add_up,
 };
 use eh_frame::{labels_stand, pieces_are_found};
 use elf_object::{bytes_stand, items_stand, values_stand};
@@ -46,9 +47,10 @@ pub fn told_files_are_known()
         → expansion_of no_warn (Some contents) name source ≡ untold → ⊥ }
 {}
 
-/// Each instruction that the expansion of a source hands out stands in the object, where the statements before it end, as bytes that
-/// read as it, with the values that its fields have there, and as no other instruction. A direct jump, short or near,
-/// reads as the jump to its target. The frame table of the procedures stands in the object: at each place of a procedure its
+/// The object is that of a layout of all that the expansion of a source hands out. Each instruction of it stands in the object,
+/// where the statements before it end, as bytes that read as it, with the values that its fields have there, and as no other
+/// instruction. A direct jump, short or near, reads as the jump to its target: a label stands as far from the place behind the
+/// jump as the jump's bytes say. The frame table of the procedures stands in the object: at each place of a procedure its
 /// entry gives, by its bytes, the row that the procedure's directives mean there.
 pub fn written_reads_back()
     ensures { (flags : Flags) (contents : Contents) (name source : List ℕ) (made : NotedObject)
@@ -69,6 +71,7 @@ pub fn written_reads_back()
     sizes_add_up();
     settled_items_have_room();
     rows_rise();
+    distances_lead_to_labels();
     coefficients_add();
     placing_within();
     places_stand();
