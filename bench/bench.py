@@ -232,6 +232,51 @@ def zeros() -> Iterator[str]:
     yield from itertools.repeat("# \n")
 
 
+def unlettered() -> Iterator[str]:
+    """Instructions as people write them, without a letter for their size, half a million of them by `.rept`; the rest of the lines in comments."""
+    yield "\t.rept 125000\n\tadd $1, %rax\n\tmov %rsp, %rbp\n\tpush %rbx\n\tlea 8(%rax), %rcx\n\t.endr\n"
+    yield from itertools.repeat("# \n")
+
+
+def cancelling() -> Iterator[str]:
+    """Two expressions of numbers a line, in the first of which a name cancels."""
+    yield "\t.data\n.L0:\n"
+    yield from itertools.repeat("\t.long (7 + 3) * 4 - (.L0 - .L0) | 1 << 3, 7 == 3 || 7 > 2\n")
+
+
+def assigned() -> Iterator[str]:
+    """Symbols that are assigned by `=`, each by the one before it and a number."""
+    yield "link_0 = 1\n"
+    for n in itertools.count():
+        yield f"link_{n + 1} = link_{n}+1\n"
+
+
+def unsigned_numbers() -> Iterator[str]:
+    """A number in groups of seven bits a line, as tables of exceptions and debug information have them."""
+    for n in itertools.count():
+        yield f"\t.uleb128 {n * 37 % 20000}\n"
+
+
+def signed_numbers() -> Iterator[str]:
+    """The same with a sign."""
+    for n in itertools.count():
+        yield f"\t.sleb128 -{n * 37 % 20000}\n"
+
+
+def byte_lines() -> Iterator[str]:
+    """A byte a line."""
+    for n in itertools.count():
+        yield f"\t.byte {n * 37 % 256}\n"
+
+
+def debug() -> Iterator[str]:
+    """What gcc makes of `programs.c` at -O2 with debug information, over and over with other names, without `.loc` and numbered `.file`, and without the
+    lines that name sections for these."""
+    made = re.sub(r"^\t\.(?:loc|file \d|cfi_personality|cfi_lsda)[^\n]*\n", "", compiled("-g", "-gno-as-loc-support", NO_TABLES, str(PROGRAMS)), flags=re.MULTILINE)
+    pieces = cut_behind_names(made)
+    return (f"_{n}".join(pieces) for n in itertools.count())
+
+
 def space() -> Iterator[str]:
     """Sections that are one fill of 1 GiB each."""
     for n in itertools.count():
@@ -246,9 +291,11 @@ SIZES_IN_LINES = [10_000, 100_000, 1_000_000]
 SOURCES_OF_LINES: list[tuple[Callable[[], Iterator[str]], list[int]]] = [
     (code, SIZES_IN_LINES), (functions, SIZES_IN_LINES), (frames, [100_000]), (intel, [100_000]), (programs, SIZES_IN_LINES), (data, SIZES_IN_LINES), (relocations, SIZES_IN_LINES),
     (distances, [100_000]), (fills, [100_000]), (alignments, [100_000]), (jumps, [400_000]), (cascade, [10_000]), (leb128, [64_000]), (sections, [60_000]),
-    (chain, [20_000]), (chain_back, [20_000]), (sums, [10_000]), (calls, [20_000]), (copies, [4]), (zeros, [3]), (space, [16]),
+    (chain, [20_000]), (chain_back, [20_000]), (sums, [10_000]), (calls, [20_000]), (copies, [4]), (zeros, [3]),
+    (unlettered, [6]), (cancelling, [300_000]), (assigned, [100_000]), (unsigned_numbers, [300_000]), (signed_numbers, [300_000]), (byte_lines, [300_000]), (debug, [160_000]),
+    (space, [16]),
 ]
-SOURCES_OF_GCC = [code, functions, frames, intel, programs]
+SOURCES_OF_GCC = [code, functions, frames, intel, programs, debug]
 
 
 @dataclass
