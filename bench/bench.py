@@ -270,9 +270,8 @@ def byte_lines() -> Iterator[str]:
 
 
 def debug() -> Iterator[str]:
-    """What gcc makes of `programs.c` at -O2 with debug information, over and over with other names, without `.loc` and numbered `.file`, and without the
-    lines that name sections for these."""
-    made = re.sub(r"^\t\.(?:loc|file \d|cfi_personality|cfi_lsda)[^\n]*\n", "", compiled("-g", "-gno-as-loc-support", NO_TABLES, str(PROGRAMS)), flags=re.MULTILINE)
+    """What gcc makes of `programs.c` at -O2 with debug information, over and over, each time with other names, without `.loc` and numbered `.file`."""
+    made = re.sub(r"^\t\.(?:loc|file \d)[^\n]*\n", "", compiled("-g", "-gno-as-loc-support", str(PROGRAMS)), flags=re.MULTILINE)
     pieces = cut_behind_names(made)
     return (f"_{n}".join(pieces) for n in itertools.count())
 
