@@ -1,5 +1,5 @@
 -- What happened to the files of an input: which were started, in order, and which of them were read to their end.
-use Rattle.std.specs.Prelude.{◌≡◌, ℕ, ◌<◌, ◌==◌, ◌&&◌, nat_lt, List, [], ◌∷◌, ◌++◌, flat_map, if◌then◌else◌, Option, Result, Ok, Err}
+use Rattle.std.specs.Prelude.{◌≡◌, ℕ, ◌<◌, ◌==◌, ◌&&◌, nat_lt, List, [], ◌∷◌, ◌++◌, flat_map, if◌then◌else◌, take, Option, Result, Ok, Err}
 use Rattle.std.specs.Option.{option_map}
 use Rattle.asm_base.specs.declared.reading.TextFault.{TextFault}
 use Rattle.asm_base.specs.declared.reading.TextFault.TheVariants.{TooLarge, Read, NoMemory}
@@ -48,3 +48,7 @@ HappensToFile name (Ok text) before now = now ≡ happened before (whole_file na
 HappensToFile name (Err TooLarge) before now = now ≡ happened before (starts name ∷ [])
 HappensToFile name (Err Read) before now = Unit {0}
 HappensToFile name (Err NoMemory) before now = Unit {0}
+
+-- the first so many of these events happened, in their order, and nothing else
+abbrev pub HappensInFront : List FileEvent → Option (List FileEvent) → Option (List FileEvent) → Type 0
+HappensInFront events before now = (n : ℕ) × (now ≡ happened before (take n events))

@@ -1,11 +1,11 @@
 //! Reading a source file whole.
 
-ghost use Rattle.std.specs.Prelude.{◌≡◌, ◌⊎◌, ◌+◌, ◌<◌, ◌≤◌, length, OnOk, IfOk, IfErr, vec_len};
+ghost use Rattle.std.specs.Prelude.{◌≡◌, ◌⊎◌, ◌+◌, ◌<◌, ◌≤◌, [], ◌∷◌, length, OnOk, IfOk, IfErr, vec_len};
 ghost use Rattle.std.specs.Io.KnownBytes.{IsAtEnd};
 ghost use Rattle.asm_base.specs.Counts.{grown};
 ghost use Rattle.asm_base.specs.declared.reading.TextFault.TheVariants.{Read, NoMemory};
 ghost use Rattle.asm_base.specs.Inputs.{CountsMissing};
-ghost use Rattle.asm_base.specs.History.{end_events, happened, HappensToFile, HappensToRest};
+ghost use Rattle.asm_base.specs.History.{end_events, ends, happened, whole_file, HappensInFront, HappensToFile, HappensToRest};
 ghost use Rattle.asm_base.specs.WholeFile.{most_bytes, ReadsOn, StopsReading, ReadsRest, ReadsName, HasReadCause, TakesBytes};
 
 use crate::outside::{Failed, Inputs};
@@ -57,6 +57,7 @@ fn make_buffer(alloc: Global, bytes: usize) -> Result<Vec<u8>, AllocError>
 }
 
 /// Reads the next bytes of the started file to the end of those already read, and answers how many.
+#[tactic(auto, using(crate::proofs::WholeFileLemmas::end_in_front, crate::proofs::WholeFileLemmas::nothing_happened))]
 fn read_piece<I: Inputs>(
     ins: &mut I,
     buffer: &mut [u8],
@@ -77,6 +78,7 @@ fn read_piece<I: Inputs>(
     ensures history { IfOk result (λ count.
         I.history ins.new ≡ happened (I.history ins.old) (end_events 1 count)) }
     ensures unread { result ≡ Err TextFault.Read → I.history ins.new ≡ I.history ins.old }
+    ensures front { HappensInFront (ends ∷ []) (I.history ins.old) (I.history ins.new) }
     ensures contents { I.contents ins.new ≡ I.contents ins.old }
     ensures missing { I.missing ins.new ≡ I.missing ins.old }
 {
@@ -88,13 +90,14 @@ fn read_piece<I: Inputs>(
 }
 
 /// Reads what is left of the started file.
-#[tactic(auto, using(crate::proofs::WholeFileLemmas::read_whole, crate::proofs::WholeFileLemmas::read_too_much, crate::proofs::WholeFileLemmas::read_stopped, crate::proofs::WholeFileLemmas::taken_stopped))]
+#[tactic(auto, using(crate::proofs::WholeFileLemmas::read_whole, crate::proofs::WholeFileLemmas::read_too_much, crate::proofs::WholeFileLemmas::read_stopped, crate::proofs::WholeFileLemmas::taken_stopped, crate::proofs::WholeFileLemmas::nothing_happened, crate::proofs::WholeFileLemmas::end_happened))]
 fn read_rest<I: Inputs>(alloc: Global, ins: &mut I) -> Result<Text, TextFault>
     ensures text { ReadsRest (I.rest ins.old) result (I.rest ins.new) }
     ensures cause { HasReadCause result (I.faults ins.old) (I.faults ins.new) }
     ensures taken { TakesBytes result (I.taken ins.old) (I.taken ins.new) }
     ensures whole { OnOk result (IsAtEnd (I.rest ins.new)) }
     ensures history { HappensToRest result (I.history ins.old) (I.history ins.new) }
+    ensures front { HappensInFront (ends ∷ []) (I.history ins.old) (I.history ins.new) }
     ensures contents { I.contents ins.new ≡ I.contents ins.old }
     ensures missing { I.missing ins.new ≡ I.missing ins.old }
 {
@@ -122,6 +125,8 @@ pub fn read_text<I: Inputs>(alloc: Global, ins: &mut I, name: &str) -> Result<Te
     ensures taken { TakesBytes result (I.taken ins.old) (I.taken ins.new) }
     ensures whole { OnOk result (IsAtEnd (I.rest ins.new)) }
     ensures history { HappensToFile name.now result (I.history ins.old) (I.history ins.new) }
+    ensures front { HappensInFront (whole_file name.now)
+        (I.history ins.old) (I.history ins.new) }
     ensures contents { I.contents ins.new ≡ I.contents ins.old }
     ensures unchanged { result ≡ Err TextFault.Read
         ⊎ (I.missing ins.new ≡ I.missing ins.old) }
