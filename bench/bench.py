@@ -205,6 +205,12 @@ def chain_back() -> Iterator[str]:
         yield f"\t.set link_{n}, link_{n + 1} + 1\n"
 
 
+def late_chain() -> Iterator[str]:
+    """16,000 assigned symbols, each by the one that is assigned behind it; the last is a label."""
+    yield "".join(f"\t.set link_{n}, link_{n + 1} + 1\n" for n in range(15_999)) + "link_15999:\n"
+    yield from itertools.repeat("# \n")
+
+
 def sums() -> Iterator[str]:
     """Assigned symbols, each the sum of the next two, which are assigned later."""
     for n in itertools.count():
@@ -218,6 +224,27 @@ def calls() -> Iterator[str]:
            "\t.irp reg, rax, rcx\n\tpush %\\reg\n\t.endr\n.endm\n")
     for n in itertools.count():
         yield f"\tpair {n % 100}, {n % 77}\n\tpair second={n % 50}, first=1, to=y\n"
+
+
+def macros() -> Iterator[str]:
+    """Calls of a macro of eight statements, two of which are conditional."""
+    yield (".macro frame size, save:req, clear=0\n\tpushq %rbp\n\tmovq %rsp, %rbp\n\tsubq $\\size, %rsp\n\tmovq \\save, 8(%rsp)\n"
+           "\t.if \\clear\n\txorl %eax, %eax\n\t.endif\n\tleave\n.endm\n")
+    for n in itertools.count():
+        yield f"\tframe {16 + n % 50 * 8}, %rbx\n\tframe 64, save=%r12, clear=1\n"
+
+
+def load() -> Iterator[str]:
+    """100,000 small functions, each with a call of the next one, a branch over it, and a repeat."""
+    for n in range(100_000):
+        yield (f"\t.type f{n},@function\nf{n}:\tpush %rbp\n\tmov %rsp,%rbp\n\tpush %rbx\n\tmov %edi,%ebx\n\ttest %ebx,%ebx\n\tje 1f\n\tcall f{(n + 1) % 100_000}\n"
+               f"\t.rept {(5 * n + 100_000) % 28}\n\tmov $4096,%eax\n\t.endr\n1:\tpop %rbx\n\tpop %rbp\n\tret\n\t.size f{n},.-f{n}\n")
+    yield from itertools.repeat("# \n")
+
+
+def empty() -> Iterator[str]:
+    """No statement at all."""
+    return itertools.repeat("# \n")
 
 
 def copies() -> Iterator[str]:
@@ -290,9 +317,9 @@ SIZES_IN_LINES = [10_000, 100_000, 1_000_000]
 SOURCES_OF_LINES: list[tuple[Callable[[], Iterator[str]], list[int]]] = [
     (code, SIZES_IN_LINES), (functions, SIZES_IN_LINES), (frames, [100_000]), (intel, [100_000]), (programs, SIZES_IN_LINES), (data, SIZES_IN_LINES), (relocations, SIZES_IN_LINES),
     (distances, [100_000]), (fills, [100_000]), (alignments, [100_000]), (jumps, [400_000]), (cascade, [10_000]), (leb128, [64_000]), (sections, [60_000]),
-    (chain, [20_000]), (chain_back, [20_000]), (sums, [10_000]), (calls, [20_000]), (copies, [4]), (zeros, [3]),
+    (chain, [20_000]), (chain_back, [20_000]), (late_chain, [16_000]), (sums, [10_000]), (calls, [20_000]), (macros, [40_000]), (load, [1_500_000]), (copies, [4]), (zeros, [3]),
     (unlettered, [6]), (cancelling, [300_000]), (assigned, [100_000]), (unsigned_numbers, [300_000]), (signed_numbers, [300_000]), (byte_lines, [300_000]), (debug, [160_000]),
-    (space, [16]),
+    (empty, [1]), (space, [16]),
 ]
 SOURCES_OF_GCC = [code, functions, frames, intel, programs, debug]
 
@@ -377,7 +404,7 @@ def memory_folder() -> str | None:
 
 
 def row_of(name: str, size: Size, ours: Measured, theirs: Measured) -> list[str]:
-    ratio = "-" if ours.instead or theirs.instead else f"{ours.seconds / max(theirs.seconds, 1e-3):.2f}"
+    ratio = "-" if ours.instead or theirs.instead else f"{ours.seconds / max(theirs.seconds, 1e-6):.2f}"
     times = [ours.shown(ours.seconds, 3), ours.shown(ours.seconds / size.lines * 1e9, 0), theirs.shown(theirs.seconds, 3), ratio]
     return [name, f"{size.bytes / MIB:.1f}", f"{size.lines}", *times, ours.shown(ours.memory, 1), theirs.shown(theirs.memory, 1)]
 
