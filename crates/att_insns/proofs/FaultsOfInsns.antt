@@ -117,6 +117,7 @@ size_refused insn two =
     let open_size = two.not_fixed in
     rw (open_size, none) refl
 
+-- the instruction has two sizes, and the fault is that none is known
 record TwoSizes (insn : InsnText) (cause : OperandCause) : Type 0 where
   has : HasTwoSizes insn
   is : cause ≡ UnknownOperandSize
@@ -191,6 +192,7 @@ source_refused own insn two =
     ap (λ (r : Rule). meant_by r insn) two.by_source ∙ ap (λ (b : Bool). cond b (from_unsized (unsized insn)) (Ok (moved insn))) two.unsaid
     ∙ unsized_refused insn two.at two.wider two.stands two.form
 
+-- the source has two sizes, and the fault is that none is known
 record TwoSources (own : Rule) (insn : InsnText) (cause : OperandCause) : Type 0 where
   has : HasTwoSources own insn
   is : cause ≡ UnknownOperandSize

@@ -70,6 +70,7 @@ one_fails q (x ∷ xs) h = elim (and_cases (q x) (list_all q xs) h) [
   | inr g ↦ let rest = one_fails q xs g in record { at = suc rest.at; row = rest.row; stands = rest.stands; fails = rest.fails }
 ]
 
+-- the row is a form of the instruction
 abbrev pub form_of : InsnText → Row → Bool
 form_of insn r = is_form insn.name.0 insn.first insn.second insn.third r
 

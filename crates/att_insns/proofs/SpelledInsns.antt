@@ -124,6 +124,7 @@ abbrev size_of : Option ℕ → ℕ
 size_of None = 0
 size_of (Some letter) = letter_size letter
 
+-- the operand size that a text in lower case fixes
 abbrev folded_size : List ℕ → ℕ
 folded_size low = size_of (slice_get low (length low - 1))
 

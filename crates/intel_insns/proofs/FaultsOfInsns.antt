@@ -120,6 +120,7 @@ size_refused bits insn two =
     let open_size = two.not_fixed in
     rw open_size none
 
+-- the instruction has two sizes, and the fault is that none is known
 record TwoSizes (bits : ℕ) (insn : InsnText) (cause : OperandCause) : Type 0 where
   has : HasTwoSizes bits insn
   is : cause ≡ UnknownOperandSize
@@ -186,6 +187,7 @@ source_refused own filled two =
     let unsaid = two.unsaid in
     ap (λ (r : Rule). meant_by r filled) two.by_source ∙ rw unsaid (unsized_refused filled.insn two.at two.wider two.stands two.form)
 
+-- the source has two sizes, and the fault is that none is known
 record TwoSources (own : Rule) (filled : FilledText) (cause : OperandCause) : Type 0 where
   has : HasTwoSources own filled
   is : cause ≡ UnknownOperandSize

@@ -60,6 +60,7 @@ abbrev pub bare_fits : Bool → Row → Bool
 bare_fits true r = (reg_of r.shape absent == 0) && fits r no_fields
 bare_fits false r = not (has_bit (sorts r.shape r.first) 0 && (has_bit (sorts r.shape r.second) 0 && has_bit (sorts r.shape r.third) 0))
 
+-- the same of each of these rows
 abbrev pub all_bare_fit : List Row → Bool
 all_bare_fit [] = true
 all_bare_fit (r ∷ rows) = bare_fits (is_bare r) r && all_bare_fit rows
@@ -248,6 +249,7 @@ made_bare i r e b =
     let h : reg_of r.shape absent ≡ 0 = eqb-true _ _ (and_parts (reg_of r.shape absent == 0) (fits r no_fields) (subst (λ (t : Bool). bare_fits t r ≡ true) b (bare_fit_at i r e))).0 in
     (w.0, ap (λ (o : Option RowAt). option_map (coding_at (bare_view r)) o) w.1 ∙ ap (λ (c : Coding). Some (record { row = w.0; coding = c })) (coding_bare r h))
 
+-- an instruction by what a view of it says
 abbrev view_with : ℕ → ℕ → Prefix → Seen → Seen → Seen → View
 view_with name size word first second third = record { name = record { 0 = name }; size = size; «prefix» = word; first = first; second = second; third = third }
 

@@ -25,6 +25,7 @@ use Rattle.x86_encode.proofs.Turning.{IsMade, Makes, IsMadeBack, MakesBack, IsAn
 
 -- THE PROGRAM'S FIELDS OF FIELDS
 
+-- what a place names
 abbrev place_in : Location → Place
 place_in nowhere = place.Absent
 place_in (direct n) = place.Direct n
@@ -32,6 +33,7 @@ place_in (from_rip d) = place.Rip
 place_in (bare i d) = place.Bare i
 place_in (based b i s w d) = place.Based b i s w
 
+-- the displacement of a place
 abbrev moved_in : Location → Option ℕ
 moved_in nowhere = None
 moved_in (direct n) = None
@@ -46,6 +48,7 @@ located_in (from_rip d) = refl
 located_in (bare i d) = refl
 located_in (based b i s w d) = refl
 
+-- all fields, as the program has them
 abbrev parts_of : Fields → Parts
 parts_of p = record {
   «prefix» = p.«prefix»;

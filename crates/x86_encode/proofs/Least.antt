@@ -26,6 +26,7 @@ use Rattle.x86_encode.proofs.Fitted.{Fit, fit_of, fit_size}
 
 -- THE LEAST PLACE
 
+-- a place with no more bytes than it needs
 abbrev pub least : Location → Location
 least nowhere = nowhere
 least (direct n) = direct n
@@ -33,6 +34,7 @@ least (from_rip d) = from_rip d
 least (bare i d) = bare i d
 least (based b i s w d) = based b i (needs_sib i b) (least_width b d) d
 
+-- the fields with that place
 abbrev pub relaid : Fields → Fields
 relaid p = record { «prefix» = p.«prefix»; segment = p.segment; bare_rex = p.bare_rex; reg = p.reg; low = p.low; place = least p.place; held = p.held }
 
@@ -72,6 +74,7 @@ relaid_bits r p = rw (least_x p.place, least_b p.place) refl
 abbrev by_tests : Bool → Bool → Width
 by_tests a b = if a then width.Absent else (if b then width.Byte else width.Long)
 
+-- a width in which the displacement fits, with no more bytes than another one
 record Widths (w d : Width) (v : ℕ) (b : ℕ) : Type 0 where
   fits : displacement_fits d (Some v) ≡ true
   mode : mode_fits d b ≡ true
@@ -90,6 +93,7 @@ widths width.Long v b true y e f m h = let p = and_parts _ _ e in record { fits 
 widths width.Long v b false true e f m h = record { fits = f; mode = refl; size = inr (omega arith) }
 widths width.Long v b false false e f m h = record { fits = h; mode = refl; size = inl refl }
 
+-- the least width of a displacement, which fits with no more bytes than another one
 record LeastWidth (w : Width) (d : Option ℕ) (b : ℕ) : Type 0 where
   fits : displacement_fits (least_width b d) d ≡ true
   mode : mode_fits (least_width b d) b ≡ true
@@ -103,6 +107,7 @@ least_widths w (Some v) b m h =
     let d = widths w v b ((v == 0) && not (b % 8 == 5)) (is_signed 8 64 v) refl refl m h in
     record { fits = d.fits; mode = d.mode; size = d.size }
 
+-- the least form of SIB, which fits with no more bytes than another one
 record LeastSib (s : Bool) (i : Index) (b : ℕ) : Type 0 where
   fits : sib_fits (needs_sib i b) i b ≡ true
   size : (needs_sib i b ≡ s) ⊎ (length (based_sib (needs_sib i b) i b) < length (based_sib s i b))
@@ -148,6 +153,7 @@ least_place reg (based b i s w d) h =
     let ds = least_widths w d b t.0 t.1 in
     record { fits = and_from _ _ p.0 (and_from _ _ q.0 (and_from _ _ sb.fits (and_from _ _ ds.mode ds.fits))); size = based_size reg b i s (needs_sib i b) w (least_width b d) d sb.size ds.size }
 
+-- the least place, which fits the row with no more bytes than the one that it is made of
 record LeastModrm (m : Shape) (reg : ℕ) (p : Location) : Type 0 where
   fits : place_fits m (least p) ≡ true
   size : (least p ≡ p) ⊎ (length (modrm_bytes m reg (least p)) < length (modrm_bytes m reg p))

@@ -27,6 +27,7 @@ use Rattle.x86_encode.proofs.Least.{least}
 
 -- WHICH OPERAND A ROLE TAKES
 
+-- the operand that a role of the row takes, with its pattern
 pub record Picked (f : Pattern → Bool) (r : Row) (insn : View) (x : Pattern → Seen) : Type 0 where
   pub at : Pattern
   pub held : Seen

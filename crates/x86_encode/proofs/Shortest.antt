@@ -109,6 +109,7 @@ least_row insn = least_of insn 0 the_rows
 
 -- THE SAME AS THE SEARCH
 
+-- a row with its index
 abbrev row_with : ℕ → Row → RowAt
 row_with n r = record { row = n; r = r }
 

@@ -106,12 +106,15 @@ held_there immediate.Rel32 fits = refl
 abbrev low_role : Row → Bool
 low_role r = not (has_low r.shape) || has is_low r
 
+-- a row with ModRM.reg has a pattern for it
 abbrev reg_role : Row → Bool
 reg_role r = not (has_reg r.shape) || has is_reg r
 
+-- a row with ModRM.rm has a pattern for it
 abbrev rm_role : Row → Bool
 rm_role r = not (has_rm r.shape) || has is_rm r
 
+-- a row with an immediate has a pattern for it
 abbrev held_role : Row → Bool
 held_role r = not (has_held r.immediate) || has is_held r
 

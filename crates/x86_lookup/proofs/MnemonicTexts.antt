@@ -154,6 +154,7 @@ texts_exactly text named = record { found = text_found text named; is = is_text 
 
 -- THE ROWS' OWN NAMES
 
+-- what is found for the mnemonic names the same rows, unless its size is 32 bits
 abbrev known_by : Named → Option Named → Bool
 known_by named found = (named.size == 32) || are_alike named found
 
@@ -177,6 +178,7 @@ lower_fixes : (last : Option ℕ) → fixed_by last ≡ size_of (option_map to_a
 lower_fixes None = refl
 lower_fixes (Some letter) = refl
 
+-- the operand size that the last letter of a text in lower case fixes
 abbrev low_size : List ℕ → ℕ
 low_size low = size_of (slice_get low (length low - 1))
 
@@ -188,6 +190,7 @@ last_low text =
 same_last : (one other : List ℕ) → str_to_ascii_lowercase one ≡ str_to_ascii_lowercase other → last_size one ≡ last_size other
 same_last one other h = last_low one ∙ ap low_size h ∙ sym (last_low other)
 
+-- the mnemonic whose text in lower case is this one
 abbrev low_mnemonic : List ℕ → Option Named
 low_mnemonic low = find (λ named. bytes_eq low (str_to_ascii_lowercase (text_of named))) the_att_names
 
@@ -210,6 +213,7 @@ abbrev fits_stem : ℕ → Named → Option Named → Bool
 fits_stem size found None = true
 fits_stem size found (Some named) = not (named.size == 0) || names_sized named size found
 
+-- the same of a mnemonic whose last letter may fix no size
 abbrev fits : ℕ → Named → Option Named → Bool
 fits size found base = cond (size == 0) true (fits_stem size found base)
 

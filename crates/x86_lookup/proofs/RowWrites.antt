@@ -19,6 +19,7 @@ agree : all_agree the_rows ≡ true
 unfolding the_rows
 agree = refl
 
+-- destinations by their numbers
 abbrev destinations_at : ℕ → Destinations
 destinations_at n = if n == 0 then destinations.Nothing else (if n == 1 then destinations.First else (destinations.FirstAndSecond))
 
@@ -30,6 +31,7 @@ destinations_is destinations.FirstAndSecond = refl
 destinations_same : (x y : Destinations) → (destinations_number x == destinations_number y) ≡ true → x ≡ y
 destinations_same x y h = sym (destinations_is x) ∙ ap destinations_at (eqb-true (destinations_number x) (destinations_number y) h) ∙ destinations_is y
 
+-- implied registers by their numbers
 abbrev implied_at : ℕ → Implied
 implied_at n = if n == 0 then implied.Absent else (if n == 1 then implied.Rax else (if n == 2 then implied.Rcx else (if n == 3 then implied.Rdx else (if n == 4 then implied.Rsp else (if n == 5 then implied.Rdi else (if n == 6 then implied.RaxRdx else (if n == 7 then implied.RaxRsi else (if n == 8 then implied.RsiRdi else (if n == 9 then implied.RspRbp else (if n == 10 then implied.RaxRcxR11 else (if n == 11 then implied.RaxRbxRcxRdx else (implied.Xmm0))))))))))))
 
@@ -51,6 +53,7 @@ implied_is implied.Xmm0 = refl
 implied_same : (x y : Implied) → (implied_number x == implied_number y) ≡ true → x ≡ y
 implied_same x y h = sym (implied_is x) ∙ ap implied_at (eqb-true (implied_number x) (implied_number y) h) ∙ implied_is y
 
+-- kinds of stores by their numbers
 abbrev store_at : ℕ → StoreKind
 store_at n = if n == 0 then kind.Absent else (if n == 1 then kind.Operand else (if n == 2 then kind.BitString else (if n == 3 then kind.PushQuad else (if n == 4 then kind.PushWord else (kind.Unfixed)))))
 
