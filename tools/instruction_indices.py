@@ -180,10 +180,10 @@ def codes_file(rows: list[Row], names: list[Name]) -> str:
 
 # ---- The keys of rows
 
-# A bit for each sort of operand that a row takes, as `specs/Keys.antt` of x86_encode numbers them. A register of a class may be al, cl, ax, eax or rax, which
+# A bit for each sort of operand that a pattern takes, as `specs/Keys.antt` of x86_lookup numbers them. Of the registers of each size those of number 0, and cl,
 # have bits of their own.
-REGISTERS = {"Byte": 0x186, "High": 0x4, "Word": 0x208, "Long": 0x410, "Quad": 0x820, "Xmm": 0x40}
-ACCUMULATORS = {"Byte": 0x80, "High": 0x4, "Word": 0x200, "Long": 0x400, "Quad": 0x800, "Xmm": 0x40}
+REGISTERS = {"Byte": 0x182, "High": 0x182, "Word": 0x208, "Long": 0x410, "Quad": 0x820, "Xmm": 0x44}
+ACCUMULATORS = {"Byte": 0x80, "High": 0x80, "Word": 0x200, "Long": 0x400, "Quad": 0x800, "Xmm": 0x4}
 MEMORY = 0x1000
 OTHERS = {"Absent": 0x1, "Cl": 0x100, "One": 0x8000, "Immediate": 0xA000, "Target": 0x4000}
 WORDS = {"Absent": 0, "Lock": 1, "Rep": 2, "Repe": 4, "Notrack": 8}
@@ -227,11 +227,10 @@ macro_rules! keys {
 """
 
 
-def sorts_of(row: Row, operand: Operand) -> int:
-    """The sorts that the operand of the row takes."""
+def sorts_of(operand: Operand) -> int:
+    """The sorts that the pattern of an operand takes."""
     if operand.kind == "RegMem":
-        register = 0 if row.rm == "Memory" else REGISTERS[operand.register]
-        return register | (0 if row.rm == "Register" else MEMORY)
+        return REGISTERS[operand.register] | MEMORY
     if operand.kind in ("Reg", "Low"):
         return REGISTERS[operand.register]
     if operand.kind == "Accumulator":
@@ -248,7 +247,7 @@ def least_length(row: Row) -> int:
 def key_of(row: Row) -> str:
     """The key of a row, as it stands in the file."""
     operands = [*row.operands, *[Operand("Absent")] * 3][:3]
-    sorts = " ".join(f"0x{sorts_of(row, operand):04X}" for operand in operands)
+    sorts = " ".join(f"0x{sorts_of(operand):04X}" for operand in operands)
     return f"{row.size:>2} {WORDS[row.words]} {least_length(row):>2} {sorts};"
 
 
@@ -271,7 +270,7 @@ def files(crates: pathlib.Path) -> dict[pathlib.Path, str]:
     rows = read_table(table)
     lists = [(syntax, f"{prefix}_SLOTS", read_names(names, f"{prefix}_NAMES")) for syntax, prefix in (("AT&T", "ATT"), ("Intel", "INTEL"))]
     return {names / "spans.rt": spans_file(rows), names / "slots.rt": slots_file(lists), names / "bare_codes.rt": codes_file(rows, lists[0][2]),
-            crates / "x86_encode/src/keys.rt": keys_file(rows)}
+            names / "row_keys.rt": keys_file(rows)}
 
 
 def main() -> int:

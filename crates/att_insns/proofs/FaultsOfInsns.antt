@@ -17,7 +17,8 @@ use Rattle.att_operands.specs.Spells.{IsSpelledIn}
 use Rattle.att_operands.specs.Failing.{HasFault as OperandHasFault}
 use Rattle.att_insns.specs.InsnTexts.{InsnText, blank, with_operand}
 use Rattle.att_insns.specs.Rules.{is_branch}
-use Rattle.att_insns.specs.Sizes.{is_form, agrees, size_by, size_left, of_size, sized}
+use Rattle.x86_lookup.specs.Forms.{is_form}
+use Rattle.att_insns.specs.Sizes.{agrees, size_by, size_left, of_size, sized}
 use Rattle.att_insns.specs.Sources.{word_name, source_name, renamed, unless_form, from_unsized, said_bits, meant_by}
 use Rattle.att_insns.specs.Heads.{Head, head, head_of}
 use Rattle.att_insns.specs.Reading.{operand_then, operands_at, with_all, finished, insn_by, insn_of}
@@ -100,7 +101,7 @@ unlike insn one other found form also differ all i j stands also_stands =
     let alike : other.size ≡ found.size = eqb-true other.size found.size (rw also at there) in
     both_ways (other.size == one.size) differ (eq-eqb other.size one.size (alike ∙ sym same))
 
-refused_by : (insn : InsnText) (found : Option Row) → HasTwoSizes insn → find (form_of insn) the_rows ≡ found
+pub refused_by : (insn : InsnText) (found : Option Row) → HasTwoSizes insn → find (form_of insn) the_rows ≡ found
     → size_by insn.name.0 insn.first insn.second insn.third found ≡ Err UnknownOperandSize
 refused_by insn None two is = absurd (both_ways (form_of insn two.one) (none_passes (form_of insn) the_rows two.at two.one is two.stands) two.form)
 refused_by insn (Some r) two is =

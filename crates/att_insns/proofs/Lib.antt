@@ -1,7 +1,7 @@
 pub mod WorkedTexts
 pub mod Fillings
-pub mod RowSearches
 pub mod SizesFound
 pub mod SpelledInsns
 pub mod ReadInsns
 pub mod FaultsOfInsns
+pub mod SizesLeft

@@ -7,7 +7,8 @@ use Rattle.x86_table.specs.Rows.{the_rows}
 use Rattle.att_operands.specs.declared.faults.OperandCause.{OperandCause}
 use Rattle.att_operands.specs.declared.faults.OperandCause.TheVariants.{UnknownOperandSize}
 use Rattle.att_insns.specs.InsnTexts.{InsnText}
-use Rattle.att_insns.specs.Sizes.{is_form, agrees, size_by, size_left, of_size, sized}
+use Rattle.x86_lookup.specs.Forms.{is_form}
+use Rattle.att_insns.specs.Sizes.{agrees, size_by, size_left, of_size, sized}
 use Rattle.att_insns.specs.Spells.{HaveSize, HasSize, fixed, left, formless, with_size}
 
 pub some_is : {A : Type 0} {m n : A} → Some m ≡ Some n → m ≡ n
@@ -43,7 +44,7 @@ none_passes p (x ∷ xs) (suc j) r h e = elim (cases_Bool (p x)) [
 ]
 
 -- where none passes, nothing is found
-none_found : (p : Row → Bool) (xs : List Row) → ((j : ℕ) (r : Row) → slice_get xs j ≡ Some r → p r ≡ false) → find p xs ≡ None
+pub none_found : (p : Row → Bool) (xs : List Row) → ((j : ℕ) (r : Row) → slice_get xs j ≡ Some r → p r ≡ false) → find p xs ≡ None
 none_found p [] h = refl
 none_found p (x ∷ xs) h = let f = h 0 x refl in rw f (none_found p xs (λ j r e. h (suc j) r e))
 
@@ -82,7 +83,7 @@ agree insn size have = all_from (agrees insn.name.0 insn.first insn.second insn.
       | inr f ↦ rw f refl
     ])
 
-left_by : (insn : InsnText) (i : ℕ) (r : Row) (found : Option Row) → slice_get the_rows i ≡ Some r → form_of insn r ≡ true → HaveSize insn r.size
+pub left_by : (insn : InsnText) (i : ℕ) (r : Row) (found : Option Row) → slice_get the_rows i ≡ Some r → form_of insn r ≡ true → HaveSize insn r.size
     → find (form_of insn) the_rows ≡ found → size_by insn.name.0 insn.first insn.second insn.third found ≡ Ok r.size
 left_by insn i r None e t have is = absurd (both_ways (form_of insn r) (none_passes (form_of insn) the_rows i r is e) t)
 left_by insn i r (Some s) e t have is =

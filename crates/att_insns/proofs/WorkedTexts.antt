@@ -18,7 +18,8 @@ use Rattle.att_operands.specs.Marks.{mark_by, ends_by, begins_by}
 use Rattle.att_operands.specs.Addresses.{scale_by, index_at, address_at}
 use Rattle.att_operands.specs.Values.{suffix_by, names_by, numbers_by, before_name, without_suffix, value_at, begun_at}
 use Rattle.att_operands.specs.OperandTexts.{displaced, memory_at, place_at, operand_at}
-use Rattle.att_insns.specs.Sizes.{takes_all, size_left}
+use Rattle.x86_lookup.specs.Forms.{takes_all}
+use Rattle.att_insns.specs.Sizes.{size_left}
 use Rattle.att_insns.specs.Sources.{from_unsized}
 use Rattle.att_insns.specs.Heads.{head_of}
 use Rattle.att_insns.specs.Reading.{with_all, insn_of}

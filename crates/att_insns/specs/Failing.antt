@@ -14,7 +14,7 @@ use Rattle.att_operands.specs.Spells.{IsMark, SpellsOperand}
 use Rattle.att_operands.specs.Failing.{HasFault as OperandHasFault, HasFaultExactly as OperandFaultsExactly}
 use Rattle.att_insns.specs.InsnTexts.{InsnText}
 use Rattle.att_insns.specs.Rules.{is_branch}
-use Rattle.att_insns.specs.Sizes.{is_form}
+use Rattle.x86_lookup.specs.Forms.{is_form}
 use Rattle.att_insns.specs.Sources.{word_name, said_bits, meant_by}
 use Rattle.att_insns.specs.Reading.{insn_of}
 use Rattle.att_insns.specs.Spells.{IsHead, WritesAll, filled_by}

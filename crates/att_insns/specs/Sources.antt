@@ -12,7 +12,7 @@ use Rattle.att_operands.specs.declared.faults.OperandCause.{OperandCause}
 use Rattle.att_operands.specs.declared.faults.OperandCause.TheVariants.{UnknownOperandSize}
 use Rattle.att_insns.specs.InsnTexts.{InsnText}
 use Rattle.att_insns.specs.Rules.{no_name, ruled}
-use Rattle.att_insns.specs.Sizes.{width, is_form}
+use Rattle.x86_lookup.specs.Forms.{width, is_form}
 
 -- the name of the move from 8 bits, from 16 bits
 abbrev pub word_name : ℕ → ℕ

@@ -12,7 +12,7 @@ use Rattle.att_operands.specs.OperandTexts.{OperandText, ReadPart, operand_at}
 use Rattle.att_operands.specs.Spells.{IsMark, SpellsOperand, ends, IsReadWhole, IsSpelledIn}
 use Rattle.att_insns.specs.InsnTexts.{InsnText, blank, with_operands}
 use Rattle.att_insns.specs.Rules.{is_branch}
-use Rattle.att_insns.specs.Sizes.{is_form}
+use Rattle.x86_lookup.specs.Forms.{is_form}
 use Rattle.att_insns.specs.Sources.{meant_by}
 
 -- The text writes operands, at most so many, with commas between.

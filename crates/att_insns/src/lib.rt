@@ -14,6 +14,6 @@ mod sources;
 pub use laws::{faults_of_an_insn, one_insn, read_is_spelled, spelled_is_read, worked_insns};
 pub use reading::{blank, read_insn, read_into};
 pub use rules::{apply, is_branch, long_memory};
-pub use sizes::{Slots, takes_all, width};
+pub use sizes::width;
 pub use slots::is_absent;
 pub use sources::{by_bits, source_bits};

@@ -1,18 +1,16 @@
 //! The moves that extend a source of fewer bits, by how many it has.
 
-ghost use Rattle.std.specs.Prelude.{◌≡◌, option_map};
-ghost use Rattle.std.specs.List.{find};
-ghost use Rattle.x86_table.specs.Rows.{the_rows};
+ghost use Rattle.std.specs.Prelude.{◌≡◌};
 ghost use Rattle.att_operands.specs.Values.{ValueText};
 ghost use Rattle.att_insns.specs.InsnTexts.{InsnText, IsInsnOf, text_of, HasTexts};
 ghost use Rattle.att_insns.specs.Sources.{word_name, long_name, source_name, source_bits, from_unsized, by_bits, said_bits, by_source, meant_by};
 ghost use Rattle.att_insns.specs.Reading.{Makes};
 
 use crate::rules::{apply_text, is_by_source};
-use crate::sizes::{Slots, first_form, width};
+use crate::sizes::width;
 use att_operands::{OperandCause, OperandFault};
 use x86_insn::{Insn, Mnemonic, Slot};
-use x86_lookup::Rule;
+use x86_lookup::{FormSize, Rule, form_size};
 use x86_table::mnemonics::integers::{MOVSX_BYTE, MOVSX_WORD, MOVSXD, MOVZX_BYTE, MOVZX_WORD};
 
 /// The name of the move from 8 bits, from 16 bits.
@@ -63,15 +61,14 @@ pub fn source_bits(bits: u8, source: Slot) -> u8
 }
 
 /// The source in memory says no size: it has 8 bits, if it can't have 16.
-#[tactic(auto, unfolding(crate::specs::Sources::from_unsized))]
 fn from_unsized(insn: &Insn) -> Result<(), OperandFault>
     ensures { (i d : ValueText) → HasTexts insn.now i d
         → Makes insn.now result (from_unsized (text_of insn.now i d)) }
 {
-    let slots = Slots(insn.first, insn.second, insn.third);
-    match first_form(Mnemonic(word_name(insn.name.0)), slots) {
-        Some(_) => Err(OperandFault::Fault(OperandCause::UnknownOperandSize)),
-        None => Ok(()),
+    match form_size(Mnemonic(word_name(insn.name.0)), insn, 0) {
+        FormSize::Absent => Ok(()),
+        FormSize::One(_) => Err(OperandFault::Fault(OperandCause::UnknownOperandSize)),
+        FormSize::Several => Err(OperandFault::Fault(OperandCause::UnknownOperandSize)),
     }
 }
 

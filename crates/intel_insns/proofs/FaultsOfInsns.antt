@@ -14,7 +14,7 @@ use Rattle.att_operands.specs.declared.faults.OperandCause.{OperandCause}
 use Rattle.att_operands.specs.declared.faults.OperandCause.TheVariants.{UnknownMnemonic, BadOperand, UnknownOperandSize}
 use Rattle.att_insns.specs.InsnTexts.{InsnText, blank}
 use Rattle.att_insns.specs.Rules.{is_branch}
-use Rattle.att_insns.specs.Sizes.{is_form}
+use Rattle.x86_lookup.specs.Forms.{is_form}
 use Rattle.att_insns.specs.Sources.{word_name, source_name, renamed, source_bits, unless_form, from_unsized, by_bits}
 use Rattle.intel_operands.specs.OperandTexts.{SizedText, ReadPart, operand_at}
 use Rattle.intel_operands.specs.Spells.{IsSpelledIn}
@@ -103,7 +103,7 @@ unlike bits insn one other found form also differ all i j stands also_stands =
     let alike : other.size ≡ found.size = eqb-true other.size found.size (rw also at there) in
     both_ways (other.size == one.size) differ (eq-eqb other.size one.size (alike ∙ sym same))
 
-refused_by : (bits : ℕ) (insn : InsnText) (found : Option Row) → HasTwoSizes bits insn → find (form_of bits insn) the_rows ≡ found
+pub refused_by : (bits : ℕ) (insn : InsnText) (found : Option Row) → HasTwoSizes bits insn → find (form_of bits insn) the_rows ≡ found
     → sized_by bits insn found ≡ Err UnknownOperandSize
 refused_by bits insn None two is = absurd (both_ways (form_of bits insn two.one) (none_passes (form_of bits insn) the_rows two.at two.one is two.stands) two.form)
 refused_by bits insn (Some r) two is =

@@ -44,7 +44,7 @@ none_passes p (x ∷ xs) (suc j) r h e = elim (cases_Bool (p x)) [
 ]
 
 -- where none passes, nothing is found
-none_found : (p : Row → Bool) (xs : List Row) → ((j : ℕ) (r : Row) → slice_get xs j ≡ Some r → p r ≡ false) → find p xs ≡ None
+pub none_found : (p : Row → Bool) (xs : List Row) → ((j : ℕ) (r : Row) → slice_get xs j ≡ Some r → p r ≡ false) → find p xs ≡ None
 none_found p [] h = refl
 none_found p (x ∷ xs) h = let f = h 0 x refl in rw f (none_found p xs (λ j r e. h (suc j) r e))
 

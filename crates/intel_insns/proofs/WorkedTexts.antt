@@ -22,9 +22,9 @@ use Rattle.intel_sums.specs.Sums.{is_loose, is_register, kept, with_token}
 use Rattle.intel_operands.specs.Words.{is_word, bits_of}
 use Rattle.intel_operands.specs.Symbols.{is_symbol, has_symbol, is_numeric, are_numbers, names_place}
 use Rattle.intel_operands.specs.OperandTexts.{value_of, has_register, lone_register, segment_of, has_bracket, closes_bracket, bracketed, sized, outline_of, operand_of as text_operand, is_no_comma, operand_at}
-use Rattle.att_insns.specs.Sizes.{takes_all}
 use Rattle.att_insns.specs.Sources.{from_unsized}
-use Rattle.intel_insns.specs.Sizes.{takes_sized, size_left}
+use Rattle.x86_lookup.specs.Forms.{takes_all, takes_sized}
+use Rattle.intel_insns.specs.Sizes.{size_left}
 use Rattle.intel_insns.specs.Heads.{mnemonic_of, head_of}
 use Rattle.intel_insns.specs.Reading.{with_all, insn_of}
 use Rattle.intel_insns.specs.WorkedInsns.{WorkedPlain, WorkedBranches, WorkedRules, WorkedRefusals, WorkedInsns}

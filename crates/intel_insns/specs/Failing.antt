@@ -15,7 +15,7 @@ use Rattle.intel_operands.specs.Spells.{SpellsOperand}
 use Rattle.intel_operands.specs.Failing.{front_of, HasFault as OperandHasFault, HasFaultExactly as OperandFaultsExactly}
 use Rattle.att_insns.specs.InsnTexts.{InsnText}
 use Rattle.att_insns.specs.Rules.{is_branch}
-use Rattle.att_insns.specs.Sizes.{is_form}
+use Rattle.x86_lookup.specs.Forms.{is_form}
 use Rattle.att_insns.specs.Sources.{word_name, source_bits}
 use Rattle.intel_insns.specs.InsnTexts.{FilledText}
 use Rattle.intel_insns.specs.Rules.{meant_by}

@@ -2,7 +2,6 @@
 pub mod InsnTexts
 pub mod Rules
 pub mod Sizes
-pub mod UsualSizes
 pub mod Heads
 pub mod Reading
 pub mod Spells

@@ -8,7 +8,6 @@ mod laws;
 mod reading;
 mod rules;
 mod sizes;
-mod usual_sizes;
 
 pub use laws::{faults_of_an_insn, one_insn, read_is_spelled, spelled_is_read, worked_insns};
 pub use reading::{read_insn, read_into};

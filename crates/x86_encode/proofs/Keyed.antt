@@ -8,25 +8,24 @@ use Rattle.x86_insn.specs.declared.insns.Prefix.{Prefix}
 use Rattle.x86_table.specs.declared.forms.Row.{Row}
 use Rattle.x86_table.specs.declared.forms.Immediate.{Immediate}
 use Rattle.x86_table.specs.declared.forms.Repeat.{Repeat}
-use Rattle.x86_table.specs.declared.forms.Rm.{Rm}
 use Rattle.x86_table.specs.declared.forms.Shape.{Shape}
 use Rattle.x86_table.specs.declared.forms.Pattern.{Pattern}
 use Rattle.x86_table.specs.declared.forms.Words.{Words}
 use Rattle.x86_insn.specs.declared.registers.Class.TheVariants as class
 use Rattle.x86_table.specs.declared.forms.Pattern.TheVariants as pattern
 use Rattle.x86_insn.specs.declared.insns.Prefix.TheVariants as prefix
-use Rattle.x86_table.specs.declared.forms.Rm.TheVariants as rm
 use Rattle.x86_table.specs.declared.forms.Shape.TheVariants as shape
 use Rattle.x86_table.specs.declared.forms.Words.TheVariants as words
 use Rattle.x86_insn.specs.Views.{Seen, absent, register, immediate as shown_immediate, memory, target, View}
 use Rattle.x86_table.specs.Bytes.{has_rex, bytes_of}
 use Rattle.x86_table.specs.Fields.{Location, nowhere, direct, from_rip, bare, based, Fields}
-use Rattle.x86_table.specs.Fits.{some_place_fits, is_memory, rm_fits, is_nowhere, place_fits, is_byte, is_middle, is_no_segment, takes_none, may_rep, may_repe, may_repne, may_lock, may_notrack, prefix_fits}
+use Rattle.x86_table.specs.Fits.{some_place_fits, is_memory, rm_fits, is_nowhere, place_fits, is_middle, is_no_segment, takes_none, may_rep, may_repe, may_repne, may_lock, may_notrack, prefix_fits}
 use Rattle.x86_table.specs.Reads.{register_shown, from_start, place_shown, shown}
 use Rattle.x86_table.specs.Rows.{the_rows}
 use Rattle.x86_encode.specs.Building.{built, takes}
 use Rattle.x86_encode.specs.Codes.{plain_immediate, plain_target, plain_memory, normal}
-use Rattle.x86_encode.specs.Keys.{the_keys, either, register_sort, immediate_sort, sort, register_sorts, rm_sorts, place_sorts, first_sort, sorts, words_of, key_of, has_bit, has_word, admits}
+use Rattle.x86_lookup.specs.Keys.{the_keys, either, register_sort, register_sorts, first_sort, has_bit}
+use Rattle.x86_encode.specs.Keys.{immediate_sort, sort, place_sorts, sorts, words_of, key_of, has_word, admits}
 use Rattle.x86_encode.proofs.Complete.{taken}
 use Rattle.x86_encode.proofs.Fitted.{fit_of}
 
@@ -40,50 +39,34 @@ two k x y z false false h i j = j
 
 -- a register of the class
 reg_has : (c : Class) (n : ℕ) → has_bit (register_sorts c) (register_sort c n) ≡ true
-reg_has class.Byte n = two 390 7 8 1 (n == 0) (n == 1) refl refl refl
-reg_has class.High n = refl
+reg_has class.Byte n = two 386 7 8 1 (n == 0) (n == 1) refl refl refl
+reg_has class.High n = two 386 7 8 1 (n == 0) (n == 1) refl refl refl
 reg_has class.Word n = two 520 9 3 3 (n == 0) false refl refl refl
 reg_has class.Long n = two 1040 10 4 4 (n == 0) false refl refl refl
 reg_has class.Quad n = two 2080 11 5 5 (n == 0) false refl refl refl
-reg_has class.Xmm n = refl
+reg_has class.Xmm n = two 68 2 6 6 (n == 0) false refl refl refl
 
 any_has : (c : Class) (n : ℕ) → has_bit (4096 + register_sorts c) (register_sort c n) ≡ true
-any_has class.Byte n = two 4486 7 8 1 (n == 0) (n == 1) refl refl refl
-any_has class.High n = refl
+any_has class.Byte n = two 4482 7 8 1 (n == 0) (n == 1) refl refl refl
+any_has class.High n = two 4482 7 8 1 (n == 0) (n == 1) refl refl refl
 any_has class.Word n = two 4616 9 3 3 (n == 0) false refl refl refl
 any_has class.Long n = two 5136 10 4 4 (n == 0) false refl refl refl
 any_has class.Quad n = two 6176 11 5 5 (n == 0) false refl refl refl
-any_has class.Xmm n = refl
+any_has class.Xmm n = two 4164 2 6 6 (n == 0) false refl refl refl
 
--- ah, ch, dh, bh among the bytes
-byte_high : (c : Class) → is_byte c ≡ true → has_bit (register_sorts c) 2 ≡ true
-byte_high class.Byte h = refl
-byte_high class.High h = cc
-byte_high class.Word h = cc
-byte_high class.Long h = cc
-byte_high class.Quad h = cc
-byte_high class.Xmm h = cc
+-- ah, ch, dh, bh are among the bytes
+high : (k n : ℕ) (b : Bool) → has_bit k (register_sort class.Byte n) ≡ true → has_bit k (register_sort (if b then class.High else class.Byte) n) ≡ true
+high k n true h = h
+high k n false h = h
 
-any_high : (c : Class) → is_byte c ≡ true → has_bit (4096 + register_sorts c) 2 ≡ true
-any_high class.Byte h = refl
-any_high class.High h = cc
-any_high class.Word h = cc
-any_high class.Long h = cc
-any_high class.Quad h = cc
-any_high class.Xmm h = cc
-
-middle : (k n : ℕ) (b : Bool) → has_bit k (register_sort class.Byte n) ≡ true → has_bit k 2 ≡ true → has_bit k (register_sort (if b then class.High else class.Byte) n) ≡ true
-middle k n true h i = i
-middle k n false h i = h
-
-shown_register : (k : ℕ) (rex : Bool) (c : Class) (n : ℕ) → has_bit k (register_sort c n) ≡ true → (is_byte c ≡ true → has_bit k 2 ≡ true) → has_bit k (sort (register_shown rex c n)) ≡ true
-shown_register k true c n h i = h
-shown_register k false class.Byte n h i = middle k n (is_middle n) h (i refl)
-shown_register k false class.High n h i = h
-shown_register k false class.Word n h i = h
-shown_register k false class.Long n h i = h
-shown_register k false class.Quad n h i = h
-shown_register k false class.Xmm n h i = h
+shown_register : (k : ℕ) (rex : Bool) (c : Class) (n : ℕ) → has_bit k (register_sort c n) ≡ true → has_bit k (sort (register_shown rex c n)) ≡ true
+shown_register k true c n h = h
+shown_register k false class.Byte n h = high k n (is_middle n) h
+shown_register k false class.High n h = h
+shown_register k false class.Word n h = h
+shown_register k false class.Long n h = h
+shown_register k false class.Quad n h = h
+shown_register k false class.Xmm n h = h
 
 any_memory : (c : Class) → has_bit (4096 + register_sorts c) 12 ≡ true
 any_memory class.Byte = refl
@@ -94,20 +77,12 @@ any_memory class.Quad = refl
 any_memory class.Xmm = refl
 
 -- what a place shows
-rm_has : (m : Rm) (rex : Bool) (c : Class) (len : ℕ) (s : Option Segment) (p : Location) → some_place_fits p ≡ true → rm_fits m p ≡ true → has_bit (rm_sorts m c) (sort (place_shown rex c len s p)) ≡ true
-rm_has m rex c len s nowhere h i = cc
-rm_has rm.Any rex c len s (direct n) h i = shown_register (4096 + register_sorts c) rex c n (any_has c n) (any_high c)
-rm_has rm.Any rex c len s (from_rip d) h i = any_memory c
-rm_has rm.Any rex c len s (bare x d) h i = any_memory c
-rm_has rm.Any rex c len s (based b x sb w d) h i = any_memory c
-rm_has rm.Memory rex c len s (direct n) h i = cc
-rm_has rm.Memory rex c len s (from_rip d) h i = refl
-rm_has rm.Memory rex c len s (bare x d) h i = refl
-rm_has rm.Memory rex c len s (based b x sb w d) h i = refl
-rm_has rm.Register rex c len s (direct n) h i = shown_register (register_sorts c) rex c n (reg_has c n) (byte_high c)
-rm_has rm.Register rex c len s (from_rip d) h i = cc
-rm_has rm.Register rex c len s (bare x d) h i = cc
-rm_has rm.Register rex c len s (based b x sb w d) h i = cc
+some_place_has : (rex : Bool) (c : Class) (len : ℕ) (s : Option Segment) (p : Location) → some_place_fits p ≡ true → has_bit (4096 + register_sorts c) (sort (place_shown rex c len s p)) ≡ true
+some_place_has rex c len s nowhere h = cc
+some_place_has rex c len s (direct n) h = shown_register (4096 + register_sorts c) rex c n (any_has c n)
+some_place_has rex c len s (from_rip d) h = any_memory c
+some_place_has rex c len s (bare x d) h = any_memory c
+some_place_has rex c len s (based b x sb w d) h = any_memory c
 
 no_place_has : (rex : Bool) (c : Class) (len : ℕ) (s : Option Segment) (p : Location) → is_nowhere p ≡ true → has_bit 1 (sort (place_shown rex c len s p)) ≡ true
 no_place_has rex c len s nowhere h = refl
@@ -121,8 +96,8 @@ e_has shape.Plain rex c len s p h = no_place_has rex c len s p h
 e_has shape.Low rex c len s p h = no_place_has rex c len s p h
 e_has shape.LowNotFirst rex c len s p h = no_place_has rex c len s p h
 e_has (shape.Fixed b) rex c len s p h = no_place_has rex c len s p h
-e_has (shape.Digit d m) rex c len s p h = let k = and_parts (some_place_fits p) (rm_fits m p) h in rm_has m rex c len s p k.0 k.1
-e_has (shape.Slash m) rex c len s p h = let k = and_parts (some_place_fits p) (rm_fits m p) h in rm_has m rex c len s p k.0 k.1
+e_has (shape.Digit d m) rex c len s p h = some_place_has rex c len s p (and_parts (some_place_fits p) (rm_fits m p) h).0
+e_has (shape.Slash m) rex c len s p h = some_place_has rex c len s p (and_parts (some_place_fits p) (rm_fits m p) h).0
 
 first_has : (c : Class) → has_bit (first_sort c) (register_sort c 0) ≡ true
 first_has class.Byte = refl
@@ -162,8 +137,8 @@ slot : (i : Immediate) (m : Shape) (rex : Bool) (len : ℕ) (p : Fields) (q : Pa
 slot i m rex len p pattern.Absent o h e = at_sort 1 (sort o) 0 (ap sort e) refl
 slot i m rex len p (pattern.RegMem c n) o h e =
     at_sort (place_sorts m c) (sort o) (sort (place_shown rex c len p.segment p.place)) (sym (plain_sort o) ∙ ap sort e) (e_has m rex c len p.segment p.place h)
-slot i m rex len p (pattern.Reg c) o h e = at_sort (register_sorts c) (sort o) (sort (register_shown rex c p.reg)) (ap sort e) (shown_register (register_sorts c) rex c p.reg (reg_has c p.reg) (byte_high c))
-slot i m rex len p (pattern.Low c) o h e = at_sort (register_sorts c) (sort o) (sort (register_shown rex c p.low)) (ap sort e) (shown_register (register_sorts c) rex c p.low (reg_has c p.low) (byte_high c))
+slot i m rex len p (pattern.Reg c) o h e = at_sort (register_sorts c) (sort o) (sort (register_shown rex c p.reg)) (ap sort e) (shown_register (register_sorts c) rex c p.reg (reg_has c p.reg))
+slot i m rex len p (pattern.Low c) o h e = at_sort (register_sorts c) (sort o) (sort (register_shown rex c p.low)) (ap sort e) (shown_register (register_sorts c) rex c p.low (reg_has c p.low))
 slot i m rex len p (pattern.Accumulator c) o h e = at_sort (first_sort c) (sort o) (register_sort c 0) (ap sort e) (first_has c)
 slot i m rex len p pattern.Cl o h e = at_sort 256 (sort o) 8 (ap sort e) refl
 slot i m rex len p pattern.One o h e = at_sort 32768 (sort o) 15 (ap sort e) refl

@@ -1,53 +1,31 @@
 -- What a row admits, by a key, how many bytes it has at least, and what is found.
-use Rattle.std.specs.Prelude.{◌≡◌, ◌<◌, ◌+◌, ◌/◌, ◌%◌, ◌^◌, ◌==◌, ◌&&◌, Bool, List, None, Option, Some, false, length, nat_le, slice_get, true, ℕ}
+use Rattle.std.specs.Prelude.{◌≡◌, ◌<◌, ◌+◌, ◌==◌, ◌&&◌, Bool, List, None, Option, Some, false, length, nat_le, slice_get, true, ℕ}
 use Rattle.x86_insn.specs.declared.registers.Class.{Class}
 use Rattle.x86_insn.specs.declared.insns.Prefix.{Prefix}
 use Rattle.x86_table.specs.declared.forms.Row.{Row}
 use Rattle.x86_table.specs.declared.forms.Immediate.{Immediate}
-use Rattle.x86_table.specs.declared.forms.Rm.{Rm}
 use Rattle.x86_table.specs.declared.forms.Shape.{Shape}
 use Rattle.x86_table.specs.declared.forms.Pattern.{Pattern}
 use Rattle.x86_table.specs.declared.forms.Words.{Words}
 use Rattle.x86_table.specs.declared.parts.Width.{Width}
-use Rattle.x86_encode.specs.declared.keys.Key.{Key}
+use Rattle.x86_lookup.specs.declared.row_keys.Key.{Key}
 use Rattle.x86_encode.specs.declared.keying.Sorts.{Sorts}
 use Rattle.x86_encode.specs.declared.searching.Found.{Found}
-use Rattle.x86_insn.specs.declared.registers.Class.TheVariants as class
 use Rattle.x86_table.specs.declared.forms.Immediate.TheVariants as immediate
 use Rattle.x86_table.specs.declared.forms.Pattern.TheVariants as pattern
 use Rattle.x86_insn.specs.declared.insns.Prefix.TheVariants as prefix
-use Rattle.x86_table.specs.declared.forms.Rm.TheVariants as rm
 use Rattle.x86_table.specs.declared.forms.Shape.TheVariants as shape
 use Rattle.x86_table.specs.declared.parts.Width.TheVariants as width
 use Rattle.x86_table.specs.declared.forms.Words.TheVariants as words
-use Rattle.x86_encode.specs.declared.keys.TheConstants.{KEYS}
 use Rattle.x86_insn.specs.Views.{Seen, absent, register, immediate as shown_immediate, memory, target, View}
 use Rattle.x86_table.specs.Bytes.{first_byte, size_byte, repeat_byte, lock_byte, bit, rex_bits, rex_byte, escape_byte, second_escape, bytes_of}
 use Rattle.x86_table.specs.Fields.{Location, nowhere, direct, from_rip, bare, based, Fields, fields_of}
 use Rattle.x86_table.specs.Rows.{the_rows}
+use Rattle.x86_lookup.specs.Keys.{either, register_sort, register_sorts, first_sort, has_bit}
 use Rattle.x86_encode.specs.Building.{built, takes}
 use Rattle.x86_encode.specs.Codes.{OrderedCodes, Before, HasNoOrderedCode}
 
--- the keys of the rows, in order
-unfoldable pub the_keys : List Key
-the_keys = KEYS
-
 -- THE SORT OF AN OPERAND, BELOW 16
-
--- by two tests
-abbrev pub either : Bool → Bool → ℕ → ℕ → ℕ → ℕ
-either true b x y z = x
-either false true x y z = y
-either false false x y z = z
-
--- the sort of a register
-abbrev pub register_sort : Class → ℕ → ℕ
-register_sort class.Byte n = either (n == 0) (n == 1) 7 8 1
-register_sort class.High n = 2
-register_sort class.Word n = either (n == 0) false 9 3 3
-register_sort class.Long n = either (n == 0) false 10 4 4
-register_sort class.Quad n = either (n == 0) false 11 5 5
-register_sort class.Xmm n = 6
 
 -- the sort of an immediate
 abbrev pub immediate_sort : Option ℕ → ℕ
@@ -64,38 +42,14 @@ sort (target v) = 14
 
 -- THE SORTS THAT A PATTERN SHOWS, A BIT EACH
 
--- the registers of a class
-abbrev pub register_sorts : Class → ℕ
-register_sorts class.Byte = 390
-register_sorts class.High = 4
-register_sorts class.Word = 520
-register_sorts class.Long = 1040
-register_sorts class.Quad = 2080
-register_sorts class.Xmm = 64
-
--- what ModRM.rm may name
-abbrev pub rm_sorts : Rm → Class → ℕ
-rm_sorts rm.Any c = 4096 + register_sorts c
-rm_sorts rm.Memory c = 4096
-rm_sorts rm.Register c = register_sorts c
-
--- the same by the shape of the row
+-- what ModRM.rm may name, by the shape of the row
 abbrev pub place_sorts : Shape → Class → ℕ
 place_sorts shape.Plain c = 1
 place_sorts shape.Low c = 1
 place_sorts shape.LowNotFirst c = 1
 place_sorts (shape.Fixed b) c = 1
-place_sorts (shape.Digit d m) c = rm_sorts m c
-place_sorts (shape.Slash m) c = rm_sorts m c
-
--- the register 0 of a class
-abbrev pub first_sort : Class → ℕ
-first_sort class.Byte = 128
-first_sort class.High = 4
-first_sort class.Word = 512
-first_sort class.Long = 1024
-first_sort class.Quad = 2048
-first_sort class.Xmm = 64
+place_sorts (shape.Digit d m) c = 4096 + register_sorts c
+place_sorts (shape.Slash m) c = 4096 + register_sorts c
 
 -- the sorts of a pattern
 abbrev pub sorts : Shape → Pattern → ℕ
@@ -195,10 +149,6 @@ abbrev pub key_of : Row → Key
 key_of r = record { size = r.size; words = words_of r.words; least_length = least_length r; first = sorts r.shape r.first; second = sorts r.shape r.second; third = sorts r.shape r.third }
 
 -- WHETHER A KEY ADMITS AN INSTRUCTION
-
--- the bit at this place
-abbrev pub has_bit : ℕ → ℕ → Bool
-has_bit k a = k / 2 ^ a % 2 == 1
 
 -- the prefix word is among these
 abbrev pub has_word : ℕ → Prefix → Bool

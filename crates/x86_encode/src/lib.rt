@@ -7,7 +7,6 @@ mod encoding;
 mod filling;
 mod immediates;
 mod keying;
-mod keys;
 mod laws;
 mod lengths;
 mod making;

@@ -8,11 +8,11 @@ ghost use Rattle.x86_encode.specs.Codes.{named};
 ghost use Rattle.x86_encode.specs.Keys.{least_length, is_reached, Steps, Finds};
 
 use crate::building::{Laid, built};
-use crate::keying::{admits, keys, sorts_of};
+use crate::keying::{admits, sorts_of};
 use crate::lengths::{has_rex, length_of};
 use crate::showing::shows;
 use x86_insn::{Insn, Mnemonic, Values};
-use x86_lookup::{rows, rows_of_size};
+use x86_lookup::{keys, rows, rows_of_size};
 use x86_table::{Parts, Row, parts_fit};
 
 /// A row by its index, with the fields of the instruction in it and the number of their bytes.

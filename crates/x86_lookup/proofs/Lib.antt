@@ -5,6 +5,9 @@ mod RowLookups
 mod RowWrites
 mod NameLookups
 mod MnemonicTexts
+mod KeyFacts
+mod PatternSorts
+mod FormSizes
 mod RowNames
 mod BareLookups
 mod BareReadings
