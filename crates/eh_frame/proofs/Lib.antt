@@ -10,5 +10,6 @@ mod WorkedLemmas
 mod ApartLemmas
 mod FoundLemmas
 mod TableLemmas
+mod AddedNames
 mod LabelPlaces
 mod FormLemmas

@@ -37,7 +37,8 @@ label_at at number = record { spot = spot_of at number; means = refl; place = re
 abbrev IsNewLabel : Symbol → Type 0
 IsNewLabel label = (at : SectionPlace) × (label.name ≡ place_name at) × IsLabelAt at label
 
-label_same : (map : SymbolMap) → GetsLabels map map
+-- a map that stays gets none
+pub label_same : (map : SymbolMap) → GetsLabels map map
 label_same map = record { labels = []; all = sym (append-nil map.symbols); each = All-nil IsNewLabel; files = refl; counts = refl; sizes = refl }
 
 label_on : (before middle after : SymbolMap) → GetsLabels before middle → GetsLabels middle after → GetsLabels before after

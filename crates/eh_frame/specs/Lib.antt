@@ -8,5 +8,6 @@ pub mod Labels
 pub mod Standing
 pub mod Found
 pub mod StandingPlaces
+pub mod Additions
 pub mod Reading
 pub mod WorkedTables

@@ -15,6 +15,7 @@ ghost use Rattle.eh_frame.specs.Entries.{behind_pieces};
 ghost use Rattle.eh_frame.specs.Pieces.{Piece, plain, Tables, Takes, piece_put, pieces_put};
 ghost use Rattle.eh_frame.specs.Placing.{end_of, entries_put, placed, table_put};
 ghost use Rattle.eh_frame.specs.Labels.{GetsLabels, NamesPlace, PlacesAreLabels};
+ghost use Rattle.eh_frame.specs.Additions.{TablesAddLittle};
 ghost use Rattle.eh_frame.specs.Marks.{HaveTwoTerms, place_name, with_label};
 ghost use Rattle.eh_frame.specs.Refused.{HasZerosAlone};
 ghost use Rattle.eh_frame.specs.WorkedTables.{WorkedTables};
@@ -105,6 +106,12 @@ pub fn pieces_are_found()
     ensures table { (frame : FrameValue) (frames : List FrameValue) (tables after : Tables)
         → All IsWithin tables.sections → placed (frame ∷ frames) tables ≡ Ok after
         → IsPlaced frame frames tables after }
+{}
+
+/// A table brings at most one section, `.eh_frame`, and symbols whose names take no bytes; sections keep their
+/// names, and files stay.
+pub fn tables_add_little()
+    ensures { TablesAddLittle }
 {}
 
 /// The form of a distance between marks with two symbols is the one symbol, less the other, and a number.
