@@ -16,5 +16,6 @@ mod LowPlaceLemmas
 mod NearFields
 mod ItemValueLemmas
 mod RoomLemmas
+mod RangeLemmas
 mod LayoutNeeds
 mod SettledRoom

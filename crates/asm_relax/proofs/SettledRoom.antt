@@ -28,6 +28,7 @@ use Rattle.asm_relax.specs.Settling.{LaidItem, LaidSections, settled_sections}
 use Rattle.asm_relax.specs.SettledRoom.{SettledHaveRoom}
 use Rattle.asm_relax.proofs.LayingLemmas.{next_shift, laid_there, shift_behind as shift_after, first_row, section_long, row_inside, rows_are_all}
 use Rattle.asm_relax.proofs.LayoutNeeds.{layout_enough}
+use Rattle.asm_relax.proofs.RangeLemmas.{near_room}
 use Rattle.asm_relax.proofs.ShiftTail.{tail_from, shifts_are, ranked_within}
 
 -- THE ROW OF AN ITEM
@@ -247,4 +248,5 @@ settled_room hold room within ranked map sections number index at section item k
       sized = sized;
       room = room_by map sections laid kind shifts (slice_index levels place) field distance refl (hold map levels sections field few low stands)
           (room map levels sections field kind place row.row few low stands row.there size enough);
+      near = near_room map laid number at section field found has;
     }

@@ -9,6 +9,7 @@ pub mod LowPlaces
 pub mod RowBounds
 pub mod Settling
 pub mod ItemValues
+pub mod ValueRanges
 pub mod SettledRoom
 pub mod KeptSections
 pub mod RisingRows

@@ -10,13 +10,16 @@ use Rattle.item_rows.specs.ItemRows.{rows_of, levels_of}
 use Rattle.asm_relax.specs.FieldValues.{held_value}
 use Rattle.asm_relax.specs.ItemValues.{IsInItem, AreLow, HasRoom}
 use Rattle.asm_relax.specs.Settling.{LaidSections, LaidItem, settled_sections}
+use Rattle.asm_relax.specs.ValueRanges.{HasNearRoom}
 
--- an item of this size that grows with the value of this field has the size of a level at which there is room for the value, if the field has one
+-- an item of this size that grows with the value of this field has the size of a level at which there is room for the value, if the field has one: so
+-- has a near jump in its four bytes, where the layout has no fault
 pub record HasRoomFor (map : SymbolMap) (sections : LaidSections) (kind : Growth) (size : ℕ) (field : Field) : Type 0 where
   pub level : ℕ
   pub within : level ≤ top_of kind
   pub sized : size ≡ level_size kind level
   pub room : IfSome (held_value map sections field) (HasRoom kind level)
+  pub near : HasNearRoom map sections field
 
 -- so has each item of settled sections that grows, where rows are moved by less than 2^64, and all symbols stand in the sections
 abbrev pub SettledHaveRoom : Type 0

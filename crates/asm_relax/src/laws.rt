@@ -13,6 +13,7 @@ ghost use Rattle.asm_relax.specs.Layout.{laid_by, laid_out, without_addresses, A
 ghost use Rattle.asm_relax.specs.Placing.{placed_from, placed_section, shift_of};
 ghost use Rattle.asm_relax.specs.Settling.{LaidItem, LaidSections, settled_sections};
 ghost use Rattle.asm_relax.specs.SettledRoom.{SettledHaveRoom};
+ghost use Rattle.asm_relax.specs.ValueRanges.{ValuesAreInRange};
 ghost use Rattle.asm_levels.specs.declared.rows.Row.{Row as TheRow};
 ghost use Rattle.asm_levels.specs.Needs.{need, tops};
 ghost use Rattle.level_ranks.specs.Ranks.{IsLayout};
@@ -131,8 +132,14 @@ pub fn items_have_room_for_their_values()
     advances_hold_their_distance();
 }
 
+/// Where a layout has no fault, each field that has a value holds it in its size, as its kind says.
+#[tactic(auto, using(crate::proofs::RangeLemmas::values_in_range))]
+pub fn values_are_in_range()
+    ensures { ValuesAreInRange }
+{}
+
 /// An item of a layout that grows has the size of a level at which it has room for the value that
-/// the object holds in it.
+/// the object holds in it; and where the layout has no fault, so has a near jump in its four bytes.
 pub fn settled_items_have_room()
     ensures { SettledHaveRoom }
 {

@@ -18,7 +18,7 @@ pub use laws::{
     all_else_is_kept, distances_lead_to_labels, fields_hold_their_distances,
     items_have_room_for_their_values, items_stand_in_row, layouts_keep_sections, rows_rise,
     settled_by_the_ranking, settled_is_placed, settled_items_have_room, sizes_add_up,
-    stretches_keep_distance,
+    stretches_keep_distance, values_are_in_range,
 };
 pub use places::{address_in, address_of, section_size};
 pub use plan_states::PlanState;
