@@ -314,6 +314,7 @@ space_words_walk pos placed most tokens stands =
         grows = grown_twice placed.sections owned.sections given.placed.sections own.grows asked.gains.grows;
         more = omega (arith, first, last);
         stands = asked.gains.stands;
+        alike = λ few fit. asked.gains.alike (omega (arith, few, first)) (own.alike (omega (arith, few, last)) fit);
       };
       base = refl;
     })))

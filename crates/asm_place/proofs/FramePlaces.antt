@@ -26,9 +26,11 @@ module _ (sections : List LooseSection) where
   abbrev HasItemsAt : ℕ → Place → Type 0
   HasItemsAt number place = HasItems sections number place.item
 
+  -- a procedure that stands has its places there,
   frame_has : (frame : Frame) → ProcedureStands sections frame → HasPlaces HasItemsAt frame
   frame_has frame stands = record { start = stands.start; stop = stands.stop; ops = stands.ops }
 
+  -- and one that has them stands
   frame_stands : (frame : Frame) → HasPlaces HasItemsAt frame → ProcedureStands sections frame
   frame_stands frame has = record { start = has.start; stop = has.stop; ops = has.ops }
 
@@ -36,6 +38,7 @@ module _ (sections : List LooseSection) where
 here_has : (placed : Placed) → PlacesStand placed → HasItems placed.sections (here placed).place.section (here placed).place.place.item
 here_has placed stands = spot_stands placed.sections placed.current stands.current
 
+-- directives at one place keep procedures standing
 lines_stand : (placed : Placed) (lines : List CfiLine) (last : Procedures) → PlacesStand placed → taken_from placed.procedures (map (line_here placed) lines) ≡ Ok last
     → All (ProcedureStands placed.sections) (frames_of last)
 lines_stand placed lines last stands is =
@@ -65,7 +68,7 @@ only_stays pos placed after stands only =
         symbols = names.stands.symbols;
         procedures = lines_stand placed only.lines only.procedures stands only.taken;
       };
-      fits = allows.few;
+      fits = λ fit. allows.few (λ le. names.alike le fit);
     }
 
 -- a frame directive keeps all places standing

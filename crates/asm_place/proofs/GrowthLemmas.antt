@@ -1,7 +1,7 @@
 -- Sections that are continued: by nothing, by bytes, a field or an item; and the list by a section.
-use Rattle.std.proofs.Common.{◌≡◌, ◌≢◌, ℕ, zero, suc, ◌+◌, ◌≤◌, ◌⊎◌, inl, inr, Bool, true, false, cond, List, [], ◌∷◌, ◌++◌, All, codes, length, replicate, Option, Some, set, slice_get, refl, sym, ap, subst, ◌∙◌, arith, append-nil, append_assoc, length-append}
+use Rattle.std.proofs.Common.{◌≡◌, ◌≢◌, ℕ, zero, suc, ◌+◌, ◌≤◌, ◌<◌, ◌⊎◌, inl, inr, Bool, true, false, cond, List, [], ◌∷◌, ◌++◌, All, codes, length, replicate, Option, Some, set, slice_get, refl, sym, ap, subst, ◌∙◌, arith, append-nil, append_assoc, length-append}
 use Rattle.std.proofs.lemmas.Option.{none-some, same_Some}
-use Rattle.std.proofs.lemmas.List.{length-replicate}
+use Rattle.std.proofs.lemmas.List.{length-replicate, length-set}
 use Rattle.std.proofs.lemmas.List.Elements.{All-from_recursion, All-nil, All-cons, All-head, All-tail, All-append, All-push, All-set, All-weaker}
 use Rattle.asm_base.specs.declared.positions.Pos.{Pos}
 use Rattle.asm_expr.specs.Forms.{Form}
@@ -20,6 +20,7 @@ use Rattle.asm_frags.specs.Sections.{section_flags, first_sections}
 use Rattle.asm_frags.specs.Writing.{LooseItem, LooseSection, ends_in_run, new_item, item_behind, with_item, with_run, with_bytes, with_field, with_growing}
 use Rattle.asm_values.specs.State.{nothing_placed}
 use Rattle.asm_place.specs.Instructions.{with_more, IsContinued, Grows, IsWithin, AreWithin}
+use Rattle.asm_place.specs.SourceSizes.{HasShortName, AreFewSections}
 use Rattle.asm_place.proofs.FieldOrder.{stand_more, stand_both, stand_last}
 
 -- two numbers are one or not
@@ -71,6 +72,7 @@ told_by tells false one other same = same
 abbrev holding : LooseSection → List ℕ → List Field → List LooseItem → LooseSection
 holding section bytes fields items = record section { bytes = bytes; fields = fields; items = items }
 
+-- what holds the same is the same
 same_holding : (section : LooseSection) (b1 b2 : List ℕ) (f1 f2 : List Field) (i1 i2 : List LooseItem) → b1 ≡ b2 → f1 ≡ f2 → i1 ≡ i2
     → holding section b1 f1 i1 ≡ holding section b2 f2 i2
 same_holding section b1 b2 f1 f2 i1 i2 bytes fields items =
@@ -113,11 +115,13 @@ pub record IsAdded (section new : LooseSection) : Type 0 where
   pub continued : IsContinued section (Some new)
   pub within : IsWithin section → IsWithin new
 
--- the same of sections
+-- the same of sections, of which few with short names stay few with short names
 pub record Adds (before after : List LooseSection) : Type 0 where
   pub grows : Grows before after
   pub within : AreWithin before → AreWithin after
+  pub few : AreFewSections before → AreFewSections after
 
+-- nothing is put
 grows_not : (sections : List LooseSection) → Grows sections sections
 grows_not sections = record { kept = λ number section there. subst (IsContinued section) (sym there) (continued_not section) }
 
@@ -140,11 +144,17 @@ grows_by before number section new there continued = record {
   ];
 }
 
+-- sections that stay
 pub adds_nothing : (sections : List LooseSection) → Adds sections sections
-adds_nothing sections = record { grows = grows_not sections; within = λ all. all }
+adds_nothing sections = record { grows = grows_not sections; within = λ all. all; few = λ few. few }
 
+-- what is added to twice is added to
 pub adds_on : (before between after : List LooseSection) → Adds before between → Adds between after → Adds before after
-adds_on before between after first later = record { grows = grows_on before between after first.grows later.grows; within = λ all. later.within (first.within all) }
+adds_on before between after first later = record {
+  grows = grows_on before between after first.grows later.grows;
+  within = λ all. later.within (first.within all);
+  few = λ few. later.few (first.few few);
+}
 
 -- something is put into one section
 pub adds_to : (before : List LooseSection) (number : ℕ) (section new : LooseSection) → slice_get before number ≡ Some section → IsAdded section new
@@ -152,17 +162,31 @@ pub adds_to : (before : List LooseSection) (number : ℕ) (section new : LooseSe
 adds_to before number section new there added = record {
   grows = grows_by before number section new there added.continued;
   within = λ all. All-set IsWithin before number new (added.within (All-there IsWithin before number section there all)) all;
+  few = λ few.
+      let count = few.few in
+      let name : new.name ≡ section.name =
+      ap (λ (s : LooseSection). s.name) (same_Some new (with_more section added.continued.bytes added.continued.fields added.continued.items) added.continued.there) in
+      let short = All-there HasShortName before number section there few.named in
+      record {
+        few = omega (arith, count, length-set before number new);
+        named = All-set HasShortName before number new (omega (arith, short, ap length name)) few.named;
+      };
 }
 
--- a section more, which has no fields and no items
-pub adds_section : (before : List LooseSection) (new : LooseSection) → new.fields ≡ [] → new.items ≡ [] → Adds before (before ++ new ∷ [])
-adds_section before new no_fields no_items = record {
+-- a section more, which has no fields and no items, and a short name; and there were fewer than there may be
+pub adds_section : (before : List LooseSection) (new : LooseSection) → new.fields ≡ [] → new.items ≡ [] → length before < 30003 → HasShortName new
+    → Adds before (before ++ new ∷ [])
+adds_section before new no_fields no_items room short = record {
   grows = record { kept = λ number section there. subst (IsContinued section) (sym (get_append before (new ∷ []) number section there)) (continued_not section) };
   within = λ all. All-push IsWithin before new all (record {
     fields = subst (All (λ (field : Field). field_end field ≤ length new.bytes)) (sym no_fields) (All-nil _);
     apart = subst (FieldsStand new.bytes 0) (sym no_fields) tt;
     items = subst (All (λ (item : LooseItem). item.offset ≤ length new.bytes)) (sym no_items) (All-nil _);
   });
+  few = λ few. record {
+    few = omega (arith, room, length-append before (new ∷ []));
+    named = All-push HasShortName before new few.named short;
+  };
 }
 
 -- an item
@@ -196,6 +220,7 @@ growing_field pos number kind suffix form section = record {
   form = form;
 }
 
+-- with its field it is put last
 pub growing_added : (pos : Pos) (number : ℕ) (kind : Growth) (suffix : Option Suffix) (form : Form) (section : LooseSection)
     → IsAdded section (with_growing pos number kind suffix form section)
 growing_added pos number kind suffix form section =
@@ -223,6 +248,7 @@ run_by : (test : Bool) (pos : Pos) (section : LooseSection) → IsAdded section 
 run_by true pos section = record { continued = continued_not section; within = λ within. within }
 run_by false pos section = item_added (new_item pos Run) section
 
+-- so it is whichever is last
 pub run_added : (pos : Pos) (section : LooseSection) → IsAdded section (with_run pos section)
 run_added pos section = run_by (ends_in_run section.items) pos section
 
@@ -264,6 +290,7 @@ bytes_are_more pos more section =
     same_holding (with_run pos section) _ _ _ _ _ _ (ap (λ bytes. bytes ++ more) (run_keeps (λ s. s.bytes) pos section refl))
     (append-nil (with_run pos section).fields) (append-nil (with_run pos section).items)
 
+-- bytes that are put
 pub bytes_added : (pos : Pos) (more : List ℕ) (section : LooseSection) → IsAdded section (with_bytes pos more section)
 bytes_added pos more section =
     added_on section (with_run pos section) _ (run_added pos section)
@@ -274,12 +301,14 @@ abbrev field_of : Pos → ℕ → FieldSize → FieldRole → Form → LooseSect
 field_of pos number size role form section =
     record { pos = pos; item = length (with_run pos section).items; offset = length section.bytes; section = number; size = size; role = role; in_item = false; form = form }
 
+-- bytes and a field over them behind a run that is last
 field_is_more : (pos : Pos) (number : ℕ) (size : FieldSize) (role : FieldRole) (form : Form) (section : LooseSection)
     → with_more (with_run pos section) (replicate (width size) 0) (field_of pos number size role form section ∷ []) [] ≡ with_field pos number size role form section
 field_is_more pos number size role form section =
     same_holding (with_run pos section) _ _ _ _ _ _ (ap (λ bytes. bytes ++ replicate (width size) 0) (run_keeps (λ s. s.bytes) pos section refl))
     (ap (λ fields. fields ++ field_of pos number size role form section ∷ []) (run_keeps (λ s. s.fields) pos section refl)) (append-nil (with_run pos section).items)
 
+-- a field that is put
 pub field_added : (pos : Pos) (number : ℕ) (size : FieldSize) (role : FieldRole) (form : Form) (section : LooseSection) → IsAdded section (with_field pos number size role form section)
 field_added pos number size role form section =
     let run = with_run pos section in
@@ -301,8 +330,17 @@ new_within name flags kind entry_size = record {
   items = All-nil (λ (item : LooseItem). item.offset ≤ 0);
 }
 
+-- they hold all that they have
 pub nothing_within : (no_warn : Bool) → AreWithin (nothing_placed no_warn).sections
 unfolding first_sections
 nothing_within no_warn =
     All-from_recursion IsWithin first_sections
     (new_within (codes ".text") (section_flags 6) 1 0, (new_within (codes ".data") (section_flags 3) 1 0, (new_within (codes ".bss") (section_flags 3) 8 0, tt)))
+
+-- the first sections are few, and their names short
+pub nothing_few : (no_warn : Bool) → AreFewSections (nothing_placed no_warn).sections
+unfolding first_sections
+nothing_few no_warn = record {
+  few = omega arith;
+  named = All-from_recursion HasShortName first_sections (omega arith, (omega arith, (omega arith, tt)));
+}

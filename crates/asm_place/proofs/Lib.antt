@@ -20,6 +20,7 @@ mod CodeLaws
 mod JumpLaws
 mod NamedSymbols
 mod GivenNames
+mod SymbolLimits
 mod SymbolTables
 mod PlaceSteps
 mod KnownWalks

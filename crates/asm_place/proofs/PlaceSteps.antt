@@ -48,6 +48,7 @@ use Rattle.cfi_directives.specs.Procedures.{frames_of}
 use Rattle.asm_place.specs.SymbolPlaces.{HasItems, MeaningStands, SymbolStands, ProcedureStands, PlacesStand}
 use Rattle.asm_place.proofs.GrowthLemmas.{All-there, continued_on}
 use Rattle.asm_place.proofs.SectionSteps.{there_adds, entered_adds}
+use Rattle.asm_place.proofs.SymbolLimits.{AreFit}
 use Rattle.asm_place.proofs.SymbolTables.{Names, Tables, Allows, trees_stand, allowed_stand}
 
 -- WHAT IS KEPT
@@ -56,36 +57,41 @@ use Rattle.asm_place.proofs.SymbolTables.{Names, Tables, Allows, trees_stand, al
 abbrev pub count : Placed → ℕ
 count placed = length placed.table.symbols.symbols
 
--- sections and the list of symbols only grow, and all places stand
+-- sections and the list of symbols only grow, all places stand, and where no symbol comes all are within the limits if they were
 pub record Gains (before after : Placed) : Type 0 where
   pub grows : Grows before.sections after.sections
   pub more : count before ≤ count after
   pub stands : PlacesStand after
+  pub alike : count after ≤ count before → AreFit before.table.symbols → AreFit after.table.symbols
 
--- and there are at most 2^24 symbols where there were
+-- and symbols and files are within the limits where they were
 pub record Stays (before after : Placed) : Type 0 where
   pub grows : Grows before.sections after.sections
   pub more : count before ≤ count after
   pub stands : PlacesStand after
-  pub fits : count before ≤ 2 ^ 24 → count after ≤ 2 ^ 24
+  pub fits : AreFit before.table.symbols → AreFit after.table.symbols
 
--- where names were asked for since there were so many symbols, there are at most 2^24 in the end if there were then
+-- where names were asked for since there were so many symbols, all are within the limits in the end if they were with no more symbols than that
 pub record Closes (base : ℕ) (before after : Placed) : Type 0 where
   pub grows : Grows before.sections after.sections
   pub more : count before ≤ count after
   pub stands : PlacesStand after
-  pub few : base ≤ 2 ^ 24 → count after ≤ 2 ^ 24
+  pub few : (count before ≤ base → AreFit before.table.symbols) → AreFit after.table.symbols
 
+-- steps that keep it so
 abbrev pub Walks : {E : Type 0} → Placed → Result Placed E → Type 0
 Walks before = Fine (Stays before)
 
+-- sections that stay
 pub not_grown : (sections : List LooseSection) → Grows sections sections
 not_grown sections = (adds_nothing sections).grows
 
+-- sections that grow twice
 pub grown_twice : (one two three : List LooseSection) → Grows one two → Grows two three → Grows one three
 grown_twice one two three first last =
     record { kept = λ number section there. continued_on section _ _ (first.kept number section there) (λ s is. last.kept number s is) }
 
+-- a step behind another
 pub stays_on : {E : Type 0} (before between : Placed) (r : Result Placed E) → Stays before between → Walks between r → Walks before r
 stays_on before between (Ok x) stays later =
     let first = stays.more in
@@ -95,7 +101,7 @@ stays_on before between (Ok x) stays later =
         grows = grown_twice before.sections between.sections x.sections stays.grows later.holds.grows;
         more = omega (arith, first, last);
         stands = later.holds.stands;
-        fits = λ few. later.holds.fits (stays.fits few);
+        fits = λ fit. later.holds.fits (stays.fits fit);
       };
     }
 stays_on before between (Err fault) stays later = refused fault
@@ -110,7 +116,7 @@ closes_on base before between (Ok x) stays later =
         grows = grown_twice before.sections between.sections x.sections stays.grows later.holds.grows;
         more = omega (arith, first, last);
         stands = later.holds.stands;
-        few = later.holds.few;
+        few = λ old. later.holds.few (λ le. stays.fits (old (omega (arith, le, first))));
       };
     }
 closes_on base before between (Err fault) stays later = refused fault
@@ -125,20 +131,23 @@ closed before named (Ok x) gains later =
         grows = grown_twice before.sections named.sections x.sections gains.grows later.holds.grows;
         more = omega (arith, first, last);
         stands = later.holds.stands;
-        fits = later.holds.few;
+        fits = λ fit. later.holds.few (λ le. gains.alike le fit);
       };
     }
 closed before named (Err fault) gains later = refused fault
 
+-- the same of steps one after the other
 pub walked : {E : Type 0} (before : Placed) {r : Result Placed E} {f : Placed → Result Placed E} → Walks before r → ((x : Placed) → PlacesStand x → Walks x (f x)) → Walks before (r >>= f)
 walked before {f = f} first later = step first (λ x stays. stays_on before x (f x) stays (later x stays.stands))
 
+-- what two laws say of one answer
 both_fine : {A E : Type 0} {P Q : A → Type 0} (r : Result A E) → Fine P r → Fine Q r → Fine (λ x. P x × Q x) r
 both_fine (Ok x) one other = made x (one.holds, other.holds)
 both_fine (Err fault) one other = refused fault
 
+-- nothing is placed
 pub unmoved : (placed : Placed) → PlacesStand placed → Stays placed placed
-unmoved placed stands = record { grows = not_grown placed.sections; more = omega arith; stands = stands; fits = λ few. few }
+unmoved placed stands = record { grows = not_grown placed.sections; more = omega arith; stands = stands; fits = λ fit. fit }
 
 -- what stands in sections stands there when they have grown
 pub items_grow : (before after : List LooseSection) (number items : ℕ) → Grows before after → HasItems before number items → HasItems after number items
@@ -147,6 +156,7 @@ items_grow before after number items grows has =
     let enough = has.enough in
     record { section = with_more has.section later.bytes later.fields later.items; there = later.there; enough = omega (arith, enough, length-append has.section.items later.items) }
 
+-- what a symbol is stands where sections have grown
 meaning_grows : (before after : List LooseSection) (last : ℕ) → Grows before after → (meant : Meaning) → MeaningStands before last meant → MeaningStands after last meant
 meaning_grows before after last grows meaning.Undefined stands = tt
 meaning_grows before after last grows (meaning.Label spot) stands = items_grow before after spot.place.section spot.place.place.item grows stands
@@ -168,6 +178,7 @@ procedures_grow before after grows frames stand =
 abbrev pub EntryStands : List LooseSection → Entered → Type 0
 EntryStands sections entered = HasItems sections entered.current 0 × HasItems sections entered.previous 0
 
+-- sections alone grow
 pub sections_stay : (placed : Placed) (sections : List LooseSection) → Grows placed.sections sections → PlacesStand placed → Stays placed (record placed { sections = sections })
 sections_stay placed sections grows stands = record {
   grows = grows;
@@ -183,9 +194,10 @@ sections_stay placed sections grows stands = record {
         (λ symbol was. (meaning_grows placed.sections sections (count placed) grows symbol.meaning was.0, was.1)) placed.table.symbols.symbols stands.symbols;
     procedures = procedures_grow placed.sections sections grows (frames_of placed.procedures) stands.procedures;
   };
-  fits = λ few. few;
+  fits = λ fit. fit;
 }
 
+-- symbols alone change
 pub table_stays : (placed : Placed) (table : Table) → Tables placed.sections placed.table table → PlacesStand placed → Stays placed (with_table placed table)
 table_stays placed table kept stands = record {
   grows = not_grown placed.sections;
@@ -194,13 +206,16 @@ table_stays placed table kept stands = record {
   fits = kept.fits;
 }
 
+-- names alone come
 pub table_gains : (placed : Placed) (table : Table) → Names placed.sections placed.table.symbols table.symbols → PlacesStand placed → Gains placed (with_table placed table)
 table_gains placed table kept stands = record {
   grows = not_grown placed.sections;
   more = kept.more;
   stands = record { current = stands.current; previous = stands.previous; stack = stands.stack; first = stands.first; symbols = kept.kept stands.symbols; procedures = stands.procedures };
+  alike = kept.alike;
 }
 
+-- names are allowed
 pub table_closes : (base : ℕ) (placed : Placed) (table : Table) → Allows placed.sections base placed.table table → PlacesStand placed → Closes base placed (with_table placed table)
 table_closes base placed table kept stands = record {
   grows = not_grown placed.sections;
@@ -209,14 +224,16 @@ table_closes base placed table kept stands = record {
   few = kept.few;
 }
 
+-- another section is entered
 pub current_stays : (number : ℕ) (placed : Placed) → HasItems placed.sections number 0 → PlacesStand placed → Stays placed (with_current number placed)
 current_stays number placed there stands = record {
   grows = not_grown placed.sections;
   more = omega arith;
   stands = record { current = there; previous = stands.current; stack = stands.stack; first = stands.first; symbols = stands.symbols; procedures = stands.procedures };
-  fits = λ few. few;
+  fits = λ fit. fit;
 }
 
+-- notes change nothing of it, behind what closes a statement,
 pub notes_close : (notes : List Noted) (base : ℕ) (before placed : Placed) → Closes base before placed → Closes base before (with_notes notes placed)
 notes_close notes base before placed closes = record {
   grows = closes.grows;
@@ -225,22 +242,25 @@ notes_close notes base before placed closes = record {
   few = closes.few;
 }
 
+-- nor alone
 pub notes_stay : (notes : List Noted) (placed : Placed) → PlacesStand placed → Stays placed (with_notes notes placed)
 notes_stay notes placed stands = record {
   grows = not_grown placed.sections;
   more = omega arith;
   stands = record { current = stands.current; previous = stands.previous; stack = stands.stack; first = stands.first; symbols = stands.symbols; procedures = stands.procedures };
-  fits = λ few. few;
+  fits = λ fit. fit;
 }
 
+-- nor does the syntax
 pub syntax_stays : (syntax : Syntax) (placed : Placed) → PlacesStand placed → Stays placed (with_syntax syntax placed)
 syntax_stays syntax placed stands = record {
   grows = not_grown placed.sections;
   more = omega arith;
   stands = record { current = stands.current; previous = stands.previous; stack = stands.stack; first = stands.first; symbols = stands.symbols; procedures = stands.procedures };
-  fits = λ few. few;
+  fits = λ fit. fit;
 }
 
+-- the names of expressions become symbols
 pub names_gain : (pos : Pos) (trees : List Tree) (placed : Placed) → PlacesStand placed → Gains placed (with_names pos trees placed)
 names_gain pos trees placed stands = table_gains placed (with_trees pos trees placed.table) (trees_stand placed.sections pos trees placed.table) stands
 
@@ -261,12 +281,14 @@ table_close base placed r stands fine = step fine (λ table kept. made (with_tab
 
 -- WHAT IS PUT
 
+-- something is put into a section
 put_walk : (put : LooseSection → Result LooseSection FragCause) → ((section : LooseSection) → Fine (IsAdded section) (put section)) → (number : ℕ) (placed : Placed) → PlacesStand placed
     → Walks placed (put_section put number placed)
 put_walk put puts number placed stands =
     step (there_adds put puts placed.sections number (slice_get placed.sections number) refl)
     (λ sections adds. made (record placed { sections = sections }) (sections_stay placed sections adds.grows stands))
 
+-- bytes
 pub bytes_walk : (pos : Pos) (number : ℕ) (bytes : List ℕ) (placed : Placed) → PlacesStand placed → Walks placed (put_bytes_into pos number bytes placed)
 unfolding put_bytes_into
 bytes_walk pos number bytes placed stands =
@@ -274,6 +296,7 @@ bytes_walk pos number bytes placed stands =
     (λ section. either (takes_zeros_alone section && not (list_all is_zero bytes)) (refused _) (made (with_bytes pos bytes section) (bytes_added pos bytes section)))
     number placed stands
 
+-- a field
 pub field_walk : (pos : Pos) (number : ℕ) (size : FieldSize) (role : FieldRole) (form : Form) (placed : Placed) → PlacesStand placed
     → Walks placed (put_field_into pos number size role form placed)
 unfolding put_field_into
@@ -282,6 +305,7 @@ field_walk pos number size role form placed stands =
     (λ section. either (takes_zeros_alone section) (refused _)
     (made (with_field pos number size role form section) (field_added pos number size role form section))) number placed stands
 
+-- an item
 pub push_walk : (pos : Pos) (number : ℕ) (item : Content) (placed : Placed) → PlacesStand placed → Walks placed (push_into pos number item placed)
 unfolding push_into
 push_walk pos number item placed stands =
@@ -289,6 +313,7 @@ push_walk pos number item placed stands =
     (λ section. either (takes_zeros_alone section && not (is_known_zeros item)) (refused _)
     (made (with_item (new_item pos item) section) (item_added (new_item pos item) section))) number placed stands
 
+-- an item that grows
 pub growing_walk : (pos : Pos) (number : ℕ) (kind : Growth) (suffix : Option Suffix) (form : Form) (placed : Placed) → PlacesStand placed
     → Walks placed (put_growing_into pos number kind suffix form placed)
 unfolding put_growing_into
@@ -299,13 +324,16 @@ growing_walk pos number kind suffix form placed stands =
 
 -- SECTIONS THAT ARE ENTERED
 
+-- the section of this number is there
 abbrev IsThere : List LooseSection × ℕ → Type 0
 IsThere pair = HasItems pair.0 pair.1 0
 
+-- what is put last is there
 last_there : (sections : List LooseSection) (new : LooseSection) → slice_get (sections ++ new ∷ []) (length sections) ≡ Some new
 last_there [] new = refl
 last_there (section ∷ sections) new = last_there sections new
 
+-- a new section is there
 new_there : (sections : List LooseSection) (name : List ℕ) (header : Header) (test : Bool) → let new = new_section name (section_flags header.flags) header.kind header.entry_size in
     Fine IsThere (numbered (cond test (Ok (length sections, sections ++ new ∷ [])) (Err frag.BadSection)))
 new_there sections name header true =
@@ -313,26 +341,31 @@ new_there sections name header true =
     made _ (record { section = new; there = last_there sections new; enough = omega arith })
 new_there sections name header false = refused _
 
+-- so is one that is there already, if it is like that
 alike_there : (sections : List LooseSection) (number : ℕ) (test : Bool) → HasItems sections number 0
     → Fine IsThere (numbered (cond test (Ok (number, sections)) (Err frag.BadSection)))
 alike_there sections number true has = made _ has
 alike_there sections number false has = refused _
 
+-- by the section that is found
 known_there : (sections : List LooseSection) (number : ℕ) (found : Option LooseSection) (header : Header) → slice_get sections number ≡ found
     → Fine IsThere (numbered (entered_there sections number found (section_flags header.flags) header.kind header.entry_size))
 known_there sections number None header is = refused _
 known_there sections number (Some section) header is =
     alike_there sections number (is_alike section (section_flags header.flags) header.kind header.entry_size) (record { section = section; there = is; enough = omega arith })
 
+-- by the number of its name
 by_there : (sections : List LooseSection) (number : Option ℕ) (name : List ℕ) (header : Header)
     → Fine IsThere (numbered (entered_by sections number name (section_flags header.flags) header.kind header.entry_size))
 by_there sections None name header = new_there sections name header (nat_lt (length sections) 30003)
 by_there sections (Some number) name header = known_there sections number (slice_get sections number) header refl
 
+-- by its name
 entered_is_there : (sections : List LooseSection) (name : List ℕ) (header : Header) → Fine IsThere (entered_as sections name header)
 unfolding entered_as
 entered_is_there sections name header = either (nat_lt (2 ^ 16) (length name)) (refused BadSection) (by_there sections (section_number name sections) name header)
 
+-- `.section` by its words
 enter_walk : (pos : Pos) (words : SectionWords) (placed : Placed) → PlacesStand placed → Walks placed (enter_words pos words placed)
 unfolding enter_words
 enter_walk pos words placed stands =
@@ -350,10 +383,12 @@ enter_walk pos words placed stands =
     (table_close (count placed) (with_current pair.1 (record named { sections = pair.0 })) (allowed (naming_of trees placed.table) named.table) there.stands
     (allowed_stand pair.0 (naming_of trees placed.table) named.table)))))))
 
+-- and by its tokens
 pub section_walk : (pos : Pos) (tokens : List SpelledToken) (placed : Placed) → PlacesStand placed → Walks placed (place_section pos tokens placed)
 unfolding place_section
 section_walk pos tokens placed stands = after (section_words (operands_of tokens)) (λ words. enter_walk pos words placed stands)
 
+-- `.pushsection`
 pub pushed_walk : (pos : Pos) (tokens : List SpelledToken) (placed : Placed) → PlacesStand placed → Walks placed (place_pushed pos tokens placed)
 unfolding place_pushed
 pushed_walk pos tokens placed stands =
@@ -373,6 +408,7 @@ pushed_walk pos tokens placed stands =
       fits = stays.fits;
     }))
 
+-- a section that is come back to
 back_walk : (entered : Option Entered) (placed : Placed) → slice_get placed.stack (length placed.stack - 1) ≡ entered → PlacesStand placed → Walks placed (back_to entered placed)
 back_walk None placed is stands = refused _
 back_walk (Some entered) placed is stands =
@@ -388,9 +424,10 @@ back_walk (Some entered) placed is stands =
         symbols = stands.symbols;
         procedures = stands.procedures;
       };
-      fits = λ few. few;
+      fits = λ fit. fit;
     })
 
+-- `.popsection`
 pub popped_walk : (placed : Placed) → PlacesStand placed → Walks placed (popped placed)
 unfolding popped
 popped_walk placed stands = back_walk _ placed refl stands

@@ -30,7 +30,8 @@ use Rattle.asm_place.specs.Sources.{pos_at, located, place, place_all}
 use Rattle.asm_place.specs.declared.place_faults.FaultAt.{FaultAt}
 use Rattle.asm_place.specs.Faults.{is_file_too_large, is_too_large, statement_fault}
 use Rattle.asm_place.specs.Instructions.{Grows, AreWithin}
-use Rattle.asm_place.proofs.GrowthLemmas.{nothing_within}
+use Rattle.asm_place.specs.SourceSizes.{AreFewSections}
+use Rattle.asm_place.proofs.GrowthLemmas.{nothing_within, nothing_few}
 use Rattle.asm_uses.specs.Tables.{changed_by, naming_of}
 use Rattle.asm_place.proofs.Walks.{FramesKeep, made, refused, after, either}
 use Rattle.asm_place.proofs.ProcedureSteps.{DirectivesKeep, nothing_fit, Led, Steps, still, grown, stand_in_order}
@@ -44,6 +45,7 @@ rest_steps : (pos : Pos) (bytes : List ℕ) (placed : Placed) → Steps placed (
 rest_steps pos [] placed = made placed (still placed)
 rest_steps pos (byte ∷ bytes) placed = bytes_steps pos placed.current (byte ∷ bytes) placed
 
+-- the bytes of an instruction and its fields
 put_code_steps : (pos : Pos) (bytes : List ℕ) (from : ℕ) (fields : List CodeField) (placed : Placed) → Steps placed (put_code pos bytes from fields placed)
 unfolding put_code
 put_code_steps pos bytes from [] placed = rest_steps pos (drop from bytes) placed
@@ -52,21 +54,25 @@ put_code_steps pos bytes from (field ∷ fields) placed =
     (λ put. field_steps pos put.current field.size field.role field.form put))
     (λ held. put_code_steps pos bytes (field.at + width field.size) fields held)
 
+-- by its encoding
 put_coded_steps : (pos : Pos) (shape : InsnShape) (forms : InsnForms) (placed : Placed) → Steps placed (put_coded pos shape forms placed)
 unfolding put_coded
 put_coded_steps pos shape forms placed =
     after (of_code (encoding_of shape.view (values_in forms))) (λ coding. put_code_steps pos coding.bytes 0 (fields_of shape forms coding) placed)
 
+-- a direct jump is an item that grows
 put_by_jump_steps : (jump : Option (Option Condition)) (pos : Pos) (shape : InsnShape) (forms : InsnForms) (placed : Placed)
     → Steps placed (put_by_jump jump pos shape forms placed)
 put_by_jump_steps None pos shape forms placed = put_coded_steps pos shape forms placed
 put_by_jump_steps (Some condition) pos shape forms placed =
     growing_steps pos placed.current (Jump condition) shape.displacement (from_own_place forms.displacement) placed
 
+-- either
 put_insn_steps : (pos : Pos) (shape : InsnShape) (forms : InsnForms) (placed : Placed) → Steps placed (put_insn pos shape forms placed)
 unfolding put_insn
 put_insn_steps pos shape forms placed = put_by_jump_steps shape.jump pos shape forms placed
 
+-- an instruction by its values
 insn_steps : (pos : Pos) (shape : InsnShape) (own moved : Tree) (placed : Placed) → Steps placed (place_insn pos shape own moved placed)
 unfolding place_insn
 insn_steps pos shape own moved placed =
@@ -77,14 +83,17 @@ insn_steps pos shape own moved placed =
     (λ put. after (end_naming pos (naming_of trees placed.table) (here named) (keeps_place (known_here named).place forms) put.table)
     (λ table. made (with_table put table) (still put))))
 
+-- one that was read
 read_steps : (pos : Pos) (read : Result InsnText OperandCause) (placed : Placed) → Steps placed (place_read pos read placed)
 read_steps pos read placed =
     after (of_operands read) (λ text. insn_steps pos (shape_in text) text.immediate.tree text.displacement.tree placed)
 
+-- one by its mnemonic alone, or any other
 coded_steps : (pos : Pos) (code : Option (List ℕ)) (tokens : List SpelledToken) (placed : Placed) → Steps placed (place_coded pos code tokens placed)
 coded_steps pos None tokens placed = read_steps pos (insn_by placed.syntax tokens) placed
 coded_steps pos (Some bytes) tokens placed = bytes_steps pos placed.current bytes placed
 
+-- and by its tokens
 instruction_steps : (pos : Pos) (tokens : List SpelledToken) (placed : Placed) → Steps placed (place_instruction pos tokens placed)
 unfolding place_instruction
 instruction_steps pos tokens placed = coded_steps pos (lone_code placed.syntax tokens) tokens placed
@@ -98,12 +107,14 @@ module _ (frames : FramesKeep) where
       (either (not (is_name first)) (refused UnknownMnemonic)
       (either (begins_with_dot first.bytes) (directive_steps frames pos first.bytes rest placed) (instruction_steps pos (first ∷ rest) placed)))
 
+  -- a label
   label_steps : (pos : Pos) (token : SpelledToken) (placed : Placed) → Steps placed (place_label pos token placed)
   unfolding place_label
   label_steps pos token placed =
       after (label_symbol pos token placed.table >>= changed_by (λ map index. defined map index (Label (here placed))))
       (λ table. dot_steps (is_dot token) placed (with_table placed table) (still placed))
 
+  -- labels one after the other, and what stands behind them
   labelled_steps : (pos : Pos) (tokens : List SpelledToken) (placed : Placed) → Steps placed (place_labelled pos tokens placed)
   unfolding place_labelled
   labelled_steps pos [] placed = made _ (still placed)
@@ -112,6 +123,7 @@ module _ (frames : FramesKeep) where
       either (is_label first second) (grown placed (label_steps pos first placed) (λ labels. labelled_steps pos rest labels))
       (body_steps pos first (second ∷ rest) placed)
 
+  -- a statement
   tokens_steps : (pos : Pos) (tokens : List SpelledToken) (placed : Placed) → Steps placed (place_tokens pos tokens placed)
   unfolding place_tokens
   tokens_steps pos tokens placed = either (has_wide_label tokens) (refused NumberTooWide) (labelled_steps pos tokens placed)
@@ -121,10 +133,12 @@ module _ (frames : FramesKeep) where
   located_steps s notes before (Ok more) steps = made more steps.holds
   located_steps s notes before (Err fault) steps = refused _
 
+  -- a statement in its place
   place_steps : (s : TokenStatement) (placed : Placed) → Steps placed (place s placed)
   unfolding place
   place_steps s placed = located_steps s placed.notes placed _ (tokens_steps (pos_at s.file s.line) s.tokens placed)
 
+  -- all of them
   statements_steps : (statements : List TokenStatement) (placed : Placed) → Steps placed (place_all statements placed)
   unfolding place_all
   statements_steps [] placed = made _ (still placed)
@@ -134,11 +148,17 @@ module _ (frames : FramesKeep) where
   all_led : (statements : List TokenStatement) (before placed : Placed) → place_all statements before ≡ Ok placed → Led before placed
   all_led statements before placed is = IfOk-at_ok (Led before) is (statements_steps statements before).holds
 
+  -- so each section grows,
   pub all_grow : (statements : List TokenStatement) (before placed : Placed) → place_all statements before ≡ Ok placed → Grows before.sections placed.sections
   all_grow statements before placed is = (all_led statements before placed is).adds.grows
 
+  -- and keeps its fields and items within its bytes
   pub all_within : (statements : List TokenStatement) (before placed : Placed) → place_all statements before ≡ Ok placed → AreWithin before.sections → AreWithin placed.sections
   all_within statements before placed is = (all_led statements before placed is).adds.within
+
+  -- few sections with short names stay so
+  pub all_few : (statements : List TokenStatement) (no_warn : Bool) (placed : Placed) → place_all statements (nothing_placed no_warn) ≡ Ok placed → AreFewSections placed.sections
+  all_few statements no_warn placed is = (all_led statements (nothing_placed no_warn) placed is).adds.few (nothing_few no_warn)
 
   -- the procedures of all statements stand in order
   pub all_in_order : DirectivesKeep → (statements : List TokenStatement) (no_warn : Bool) (placed : Placed) → place_all statements (nothing_placed no_warn) ≡ Ok placed
@@ -168,10 +188,12 @@ not_of_reading tokens BadSymbolUse = refl
 not_of_reading tokens CfiOutsideProcedure = refl
 not_of_reading tokens UnbalancedCfiState = refl
 
+-- so it is with a fault in its place
 located_fault : (s : TokenStatement) (notes : List Noted) (answer : Result Placed PlaceCause) (stop : FaultAt) → located s notes answer ≡ Err stop → is_file_too_large stop.fault ≡ false
 located_fault s notes (Ok more) stop is = cc
 located_fault s notes (Err fault) stop is = IfErr-at_err (λ (at : FaultAt). is_file_too_large at.fault ≡ false) is (not_of_reading s.tokens fault)
 
+-- and with the first of two steps
 first_fault : (r : Result Placed FaultAt) (f : Placed → Result Placed FaultAt) (stop : FaultAt)
     → (r ≡ Err stop → is_file_too_large stop.fault ≡ false) → ((x : Placed) → f x ≡ Err stop → is_file_too_large stop.fault ≡ false)
     → (r >>= f) ≡ Err stop → is_file_too_large stop.fault ≡ false

@@ -1,7 +1,8 @@
 -- What is put into sections, and which are entered: sections are only added to.
 use Rattle.std.proofs.Common.{◌≡◌, ℕ, Bool, true, false, cond, List, [], ◌∷◌, ◌++◌, length, Option, None, Some, Result, Ok, Err, refl, slice_get}
-use Rattle.std.specs.Prelude.{◌&&◌, ◌^◌, nat_lt, not}
+use Rattle.std.specs.Prelude.{◌&&◌, ◌^◌, ◌≤◌, nat_lt, not}
 use Rattle.std.specs.List.{list_all}
+use Rattle.std.proofs.lemmas.Bool.{ltb-true, ltb-false}
 use Rattle.asm_operands.specs.declared.place_faults.PlaceCause.TheVariants.{BadSection}
 use Rattle.asm_base.specs.declared.positions.Pos.{Pos}
 use Rattle.asm_base.specs.Tokens.{SpelledToken}
@@ -27,26 +28,30 @@ use Rattle.asm_words.specs.SectionWords.{SectionWords, section_words}
 use Rattle.asm_declarations.specs.SectionChanges.{with_current, option_trees, numbered, entered_as, enter_words, place_section, entered_now, place_pushed, back_to, popped, entry_size_in, header_by}
 use Rattle.asm_place.proofs.GrowthLemmas.{Adds, IsAdded, adds_nothing, adds_to, adds_section, item_added, bytes_added, field_added, growing_added}
 use Rattle.asm_uses.specs.Tables.{naming_of, allowed}
-use Rattle.asm_place.proofs.Walks.{Fine, made, refused, step, after, either}
+use Rattle.asm_place.proofs.Walks.{Fine, made, refused, step, after, either, either_by}
 use Rattle.asm_place.proofs.ProcedureSteps.{Steps, leads_by, still, grown}
 
 -- something is put into a section
 module _ (put : LooseSection → Result LooseSection FragCause) (puts : (section : LooseSection) → Fine (IsAdded section) (put section)) where
+  -- one that is found
   put_adds : (sections : List LooseSection) (number : ℕ) (section : LooseSection) (new : Result LooseSection FragCause) → slice_get sections number ≡ Some section
       → Fine (IsAdded section) new → Fine (Adds sections) (of_sections (with_section_or_fault sections number new))
   put_adds sections number section (Ok new) there added = made _ (adds_to sections number section new there added.holds)
   put_adds sections number section (Err fault) there added = refused _
 
+  -- the section of a number, if it is there
   pub there_adds : (sections : List LooseSection) (number : ℕ) (found : Option LooseSection) → slice_get sections number ≡ found
       → Fine (Adds sections) (of_sections (put_into_there put sections number found))
   there_adds sections number None there = refused _
   there_adds sections number (Some section) there = put_adds sections number section (put section) there (puts section)
 
+  -- what was placed leads to what is put
   put_steps : (number : ℕ) (placed : Placed) → Steps placed (put_section put number placed)
   put_steps number placed =
       step (there_adds placed.sections number (slice_get placed.sections number) refl)
       (λ sections adds. made (record placed { sections = sections }) (leads_by placed.sections sections placed.procedures adds))
 
+-- bytes
 pub bytes_steps : (pos : Pos) (number : ℕ) (bytes : List ℕ) (placed : Placed) → Steps placed (put_bytes_into pos number bytes placed)
 unfolding put_bytes_into
 bytes_steps pos number bytes placed =
@@ -54,6 +59,7 @@ bytes_steps pos number bytes placed =
     (λ section. either (takes_zeros_alone section && not (list_all is_zero bytes)) (refused _) (made (with_bytes pos bytes section) (bytes_added pos bytes section)))
     number placed
 
+-- a field
 pub field_steps : (pos : Pos) (number : ℕ) (size : FieldSize) (role : FieldRole) (form : Form) (placed : Placed) → Steps placed (put_field_into pos number size role form placed)
 unfolding put_field_into
 field_steps pos number size role form placed =
@@ -61,6 +67,7 @@ field_steps pos number size role form placed =
     (λ section. either (takes_zeros_alone section) (refused _)
     (made (with_field pos number size role form section) (field_added pos number size role form section))) number placed
 
+-- an item
 pub push_steps : (pos : Pos) (number : ℕ) (item : Content) (placed : Placed) → Steps placed (push_into pos number item placed)
 unfolding push_into
 push_steps pos number item placed =
@@ -68,6 +75,7 @@ push_steps pos number item placed =
     (λ section. either (takes_zeros_alone section && not (is_known_zeros item)) (refused _)
     (made (with_item (new_item pos item) section) (item_added (new_item pos item) section))) number placed
 
+-- an item that grows
 pub growing_steps : (pos : Pos) (number : ℕ) (kind : Growth) (suffix : Option Suffix) (form : Form) (placed : Placed)
     → Steps placed (put_growing_into pos number kind suffix form placed)
 unfolding put_growing_into
@@ -77,30 +85,39 @@ growing_steps pos number kind suffix form placed =
     (made (with_growing pos number kind suffix form section) (growing_added pos number kind suffix form section))) number placed
 
 -- a section that is entered
-new_adds : (sections : List LooseSection) (name : List ℕ) (header : Header) (test : Bool) → let new = new_section name (section_flags header.flags) header.kind header.entry_size in
+new_adds : (sections : List LooseSection) (name : List ℕ) (header : Header) → length name ≤ 2 ^ 16 → (test : Bool) → nat_lt (length sections) 30003 ≡ test
+    → let new = new_section name (section_flags header.flags) header.kind header.entry_size in
     Fine (λ pair. Adds sections pair.0) (numbered (cond test (Ok (length sections, sections ++ new ∷ [])) (Err frag.BadSection)))
-new_adds sections name header true = made _ (adds_section sections (new_section name (section_flags header.flags) header.kind header.entry_size) refl refl)
-new_adds sections name header false = refused _
+new_adds sections name header short true is =
+    made _ (adds_section sections (new_section name (section_flags header.flags) header.kind header.entry_size) refl refl (ltb-true (length sections) 30003 is) short)
+new_adds sections name header short false is = refused _
 
+-- a section that is there
 alike_adds : (sections : List LooseSection) (number : ℕ) (test : Bool)
     → Fine (λ pair. Adds sections pair.0) (numbered (cond test (Ok (number, sections)) (Err frag.BadSection)))
 alike_adds sections number true = made _ (adds_nothing sections)
 alike_adds sections number false = refused _
 
+-- if it is like that
 known_adds : (sections : List LooseSection) (number : ℕ) (found : Option LooseSection) (header : Header)
     → Fine (λ pair. Adds sections pair.0) (numbered (entered_there sections number found (section_flags header.flags) header.kind header.entry_size))
 known_adds sections number None header = refused _
 known_adds sections number (Some section) header = alike_adds sections number (is_alike section (section_flags header.flags) header.kind header.entry_size)
 
-by_adds : (sections : List LooseSection) (number : Option ℕ) (name : List ℕ) (header : Header)
+-- by the number that the name has
+by_adds : (sections : List LooseSection) (number : Option ℕ) (name : List ℕ) (header : Header) → length name ≤ 2 ^ 16
     → Fine (λ pair. Adds sections pair.0) (numbered (entered_by sections number name (section_flags header.flags) header.kind header.entry_size))
-by_adds sections None name header = new_adds sections name header (nat_lt (length sections) 30003)
-by_adds sections (Some number) name header = known_adds sections number (slice_get sections number) header
+by_adds sections None name header short = new_adds sections name header short (nat_lt (length sections) 30003) refl
+by_adds sections (Some number) name header short = known_adds sections number (slice_get sections number) header
 
+-- by its name
 pub entered_adds : (sections : List LooseSection) (name : List ℕ) (header : Header) → Fine (λ pair. Adds sections pair.0) (entered_as sections name header)
 unfolding entered_as
-entered_adds sections name header = either (nat_lt (2 ^ 16) (length name)) (refused BadSection) (by_adds sections (section_number name sections) name header)
+entered_adds sections name header =
+    either_by (nat_lt (2 ^ 16) (length name)) (λ long. refused BadSection)
+    (λ short. by_adds sections (section_number name sections) name header (ltb-false (2 ^ 16) (length name) short))
 
+-- `.section` by its words
 enter_steps : (pos : Pos) (words : SectionWords) (placed : Placed) → Steps placed (enter_words pos words placed)
 unfolding enter_words
 enter_steps pos words placed =
@@ -111,19 +128,23 @@ enter_steps pos words placed =
     (λ pair adds. after (allowed (naming_of trees placed.table) named.table)
     (λ table. made (with_table (with_current pair.1 (record named { sections = pair.0 })) table) (leads_by placed.sections pair.0 placed.procedures adds)))))
 
+-- and by its tokens
 pub section_steps : (pos : Pos) (tokens : List SpelledToken) (placed : Placed) → Steps placed (place_section pos tokens placed)
 unfolding place_section
 section_steps pos tokens placed = after (section_words (operands_of tokens)) (λ words. enter_steps pos words placed)
 
+-- `.pushsection`
 pub pushed_steps : (pos : Pos) (tokens : List SpelledToken) (placed : Placed) → Steps placed (place_pushed pos tokens placed)
 unfolding place_pushed
 pushed_steps pos tokens placed =
     grown placed (section_steps pos tokens placed) (λ entered. made (record entered { stack = entered.stack ++ entered_now placed ∷ [] }) (still entered))
 
+-- a section that is come back to
 back_steps : (entered : Option Entered) (placed : Placed) → Steps placed (back_to entered placed)
 back_steps None placed = refused _
 back_steps (Some entered) placed = made _ (still placed)
 
+-- `.popsection`
 pub popped_steps : (placed : Placed) → Steps placed (popped placed)
 unfolding popped
 popped_steps placed = back_steps _ placed

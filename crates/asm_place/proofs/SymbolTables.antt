@@ -1,7 +1,7 @@
 -- What the changes of the symbol table keep: each symbol that has a place stands in its section, and forms name symbols that are there, or the next one.
 use Rattle.std.proofs.Common.{◌≡◌, ℕ, zero, suc, inl, inr, Bool, true, false, cond, ◌+◌, ◌≤◌, ◌++◌, length, List, [], ◌∷◌, Option, None, Some, Result, Ok, Err, All, refl, sym, ap, ◌∙◌, subst, arith, length-append}
-use Rattle.std.specs.Prelude.{◌^◌, ◌&&◌, ◌||◌, nat_le, nat_lt, slice_get, is_some}
-use Rattle.std.proofs.lemmas.Bool.{and_parts, or_cases, ltb-true, leb-true}
+use Rattle.std.specs.Prelude.{◌&&◌, ◌||◌, nat_le, slice_get, is_some}
+use Rattle.std.proofs.lemmas.Bool.{and_parts, or_cases, leb-true}
 use Rattle.std.proofs.lemmas.Option.{same_Some}
 use Rattle.std.proofs.lemmas.List.Elements.{All-nil, All-cons, All-head, All-tail, All-push, All-weaker}
 use Rattle.asm_expr.specs.declared.naming.Name.TheVariants as naming
@@ -32,7 +32,7 @@ use Rattle.asm_symbols.specs.Assigning.{form_fault_at, with_form}
 use Rattle.asm_symbols.specs.Attributes.{with_binding, with_kind, with_visibility, with_size, with_next_size, bound_as, bound_by, bound}
 use Rattle.asm_symbols.specs.Counting.{meant_name, next_named}
 use Rattle.asm_symbols.specs.Defining.{meant, redefined, with_defined, defined_by, defined}
-use Rattle.asm_symbols.specs.Interning.{name_size, names_size, is_within_limits, undefined, with_name, named, interned, has_room, with_file}
+use Rattle.asm_symbols.specs.Interning.{is_within_limits, undefined, with_name, named, interned, has_room, with_file}
 use Rattle.asm_symbols.specs.LeadsBack.{leads_back, assigned_by, assigned}
 use Rattle.asm_symbols.specs.SymbolMap.{SymbolMap, names, index_of, changed, with_meaning}
 use Rattle.asm_uses.specs.Attributes.{said, say_all, kind_said, sized, as_space, space_kind, define_space}
@@ -48,60 +48,66 @@ use Rattle.asm_symbols.specs.declared.entries.SymbolAttribute.TheVariants.{Bind,
 use Rattle.asm_place.specs.SymbolPlaces.{AreUpTo, IsGiven, MeaningStands, NameStands, SymbolStands, SymbolsStand}
 use Rattle.asm_place.proofs.GivenNames.{GivenAt, meant_given, given_stands, found_given, form_takes}
 use Rattle.asm_place.proofs.NamedSymbols.{up_to_more}
-use Rattle.asm_place.proofs.Walks.{Fine, made, refused, step, after, either}
+use Rattle.asm_place.proofs.SymbolLimits.{AreFit, fit_alike, changed_long, changed_names, put_last, changed_last, fit_symbol, fit_file}
+use Rattle.asm_place.proofs.Walks.{Fine, made, refused, step, after, either_by}
 
 -- what a layer answers is as fine as a statement's
 of_fine : {A : Type 0} {P : A → Type 0} (answer : Result A SymCause) → Fine P answer → Fine P (of_symbols answer)
 of_fine (Ok x) fine = made x fine.holds
 of_fine (Err fault) fine = refused _
 
--- what is put last is there
-put_last : (symbols : List Symbol) (last : Symbol) → slice_get (symbols ++ last ∷ []) (length symbols) ≡ Some last
-put_last [] last = refl
-put_last (symbol ∷ symbols) last = put_last symbols last
-
 module _ (sections : List LooseSection) where
   -- a symbol that has a place stands in its section, a form names no symbol above this one, and a label alone has the name of a place, its own
   abbrev pub Stands : ℕ → Symbol → Type 0
   Stands last symbol = SymbolStands sections last symbol
 
-  -- no symbol goes, and all stand so where they did
+  -- no symbol goes, all stand so where they did, and where none comes all are within the limits if they were
   pub record Names (before after : SymbolMap) : Type 0 where
     pub more : length before.symbols ≤ length after.symbols
     pub kept : SymbolsStand sections before.symbols → SymbolsStand sections after.symbols
+    pub alike : length after.symbols ≤ length before.symbols → AreFit before → AreFit after
 
-  -- and there are at most 2^24 symbols where there were
+  -- and symbols and files are within the limits where they were
   pub record Maps (before after : SymbolMap) : Type 0 where
     pub more : length before.symbols ≤ length after.symbols
     pub kept : SymbolsStand sections before.symbols → SymbolsStand sections after.symbols
-    pub fits : length before.symbols ≤ 2 ^ 24 → length after.symbols ≤ 2 ^ 24
+    pub fits : AreFit before → AreFit after
 
+  -- the same of tables
   abbrev pub Tables : Table → Table → Type 0
   Tables before after = Maps before.symbols after.symbols
 
-  -- where names were asked for since there were so many symbols, there are at most 2^24 in the end if there were then
+  -- where names were asked for since there were so many symbols, all are within the limits in the end if they were with no more symbols than that
   pub record Allows (base : ℕ) (before after : Table) : Type 0 where
     pub more : length before.symbols.symbols ≤ length after.symbols.symbols
     pub kept : SymbolsStand sections before.symbols.symbols → SymbolsStand sections after.symbols.symbols
-    pub few : base ≤ 2 ^ 24 → length after.symbols.symbols ≤ 2 ^ 24
+    pub few : (length before.symbols.symbols ≤ base → AreFit before.symbols) → AreFit after.symbols
 
+  -- a map that stays
   pub same : (map : SymbolMap) → Maps map map
-  same map = record { more = omega arith; kept = λ all. all; fits = λ few. few }
+  same map = record { more = omega arith; kept = λ all. all; fits = λ fit. fit }
 
+  -- a change behind another
   pub both : (one two three : SymbolMap) → Maps one two → Maps two three → Maps one three
   both one two three first last =
       let more = first.more in
       let still = last.more in
-      record { more = omega arith; kept = λ all. last.kept (first.kept all); fits = λ few. last.fits (first.fits few) }
+      record { more = omega arith; kept = λ all. last.kept (first.kept all); fits = λ fit. last.fits (first.fits fit) }
 
+  -- no name more
   pub named_so : (map : SymbolMap) → Names map map
-  named_so map = record { more = omega arith; kept = λ all. all }
+  named_so map = record { more = omega arith; kept = λ all. all; alike = λ few fit. fit }
 
+  -- names, and more names
   pub named_both : (one two three : SymbolMap) → Names one two → Names two three → Names one three
   named_both one two three first last =
       let more = first.more in
       let still = last.more in
-      record { more = omega arith; kept = λ all. last.kept (first.kept all) }
+      record {
+        more = omega arith;
+        kept = λ all. last.kept (first.kept all);
+        alike = λ few fit. last.alike (omega (arith, few, more)) (first.alike (omega (arith, few, still)) fit);
+      }
 
   -- where more symbols may be named, all stand as before
   stands_more : (last more : ℕ) → last ≤ more → (meant : Meaning) → MeaningStands sections last meant → MeaningStands sections more meant
@@ -111,12 +117,7 @@ module _ (sections : List LooseSection) where
   stands_more last more le (meaning.Space spot) stands = stands
   stands_more last more le (meaning.Assigned form) stands = up_to_more last more form.terms le stands
 
-  changed_long : (change : Symbol → Symbol) (symbols : List Symbol) (index : ℕ) → length (changed change symbols index) ≡ length symbols
-  unfolding changed
-  changed_long change [] index = refl
-  changed_long change (symbol ∷ rest) zero = refl
-  changed_long change (symbol ∷ rest) (suc index) = ap suc (changed_long change rest index)
-
+  -- all stand where one is changed that stands as before
   changed_all : (last : ℕ) (change : Symbol → Symbol) (symbols : List Symbol) (index : ℕ)
       → ((symbol : Symbol) → slice_get symbols index ≡ Some symbol → Stands last symbol → Stands last (change symbol))
       → All (Stands last) symbols → All (Stands last) (changed change symbols index)
@@ -128,24 +129,26 @@ module _ (sections : List LooseSection) where
       All-cons (Stands last) symbol (changed change rest index) (All-head (Stands last) symbol rest all)
       (changed_all last change rest index stands (All-tail (Stands last) symbol rest all))
 
-  -- a change of the symbol that is there, by which it stands as before
+  -- a change of the symbol that is there, by which it stands as before and keeps its name
   one_stands : (change : Symbol → Symbol) (map : SymbolMap) (index : ℕ) (after : SymbolMap) → after.symbols ≡ changed change map.symbols index
+      → after.files ≡ map.files → ((symbol : Symbol) → (change symbol).name ≡ symbol.name)
       → ((symbol : Symbol) → slice_get map.symbols index ≡ Some symbol → Stands (length map.symbols) symbol → Stands (length map.symbols) (change symbol))
       → Maps map after
-  one_stands change map index after is stands =
+  one_stands change map index after is files name stands =
       let long : length after.symbols ≡ length map.symbols = ap (λ (all : List Symbol). length all) is ∙ changed_long change map.symbols index in
       record {
         more = omega (arith, long);
         kept = λ all.
             subst (λ (last : ℕ). All (Stands last) after.symbols) (sym long)
             (subst (All (Stands (length map.symbols))) (sym is) (changed_all (length map.symbols) change map.symbols index stands all));
-        fits = λ few. omega (arith, long, few);
+        fits = fit_alike map after long (ap names is ∙ changed_names change name map.symbols index) files;
       }
 
   -- a change by which any symbol stands as before
   changed_stand : (change : Symbol → Symbol) (map : SymbolMap) (index : ℕ) (after : SymbolMap) → after.symbols ≡ changed change map.symbols index
+      → after.files ≡ map.files → ((symbol : Symbol) → (change symbol).name ≡ symbol.name)
       → ((symbol : Symbol) → Stands (length map.symbols) symbol → Stands (length map.symbols) (change symbol)) → Maps map after
-  changed_stand change map index after is stands = one_stands change map index after is (λ symbol there. stands symbol)
+  changed_stand change map index after is files name stands = one_stands change map index after is files name (λ symbol there. stands symbol)
 
   -- one symbol more, which stands
   pushed_stand : (symbols : List Symbol) (one : Symbol) → Stands (length symbols + 1) one → SymbolsStand sections symbols → SymbolsStand sections (symbols ++ one ∷ [])
@@ -156,12 +159,14 @@ module _ (sections : List LooseSection) where
       (All-weaker (Stands (length symbols)) (Stands (length symbols + 1))
       (λ symbol stood. (stands_more (length symbols) (length symbols + 1) (omega arith) symbol.meaning stood.0, stood.1)) symbols all) stands)
 
+  -- a symbol of which nothing is known stands
   more_stand : (map : SymbolMap) (name : Name) → IsGiven name → Names map (with_name map name)
   more_stand map name given =
       let long : length (map.symbols ++ undefined name ∷ []) ≡ length map.symbols + 1 = length-append map.symbols (undefined name ∷ []) in
       record {
         more = omega (arith, long);
         kept = pushed_stand map.symbols (undefined name) (tt, given);
+        alike = λ few fit. absurd (omega (arith, long, few));
       }
 
   -- names
@@ -173,27 +178,20 @@ module _ (sections : List LooseSection) where
       by true = named_so map
       by false = more_stand map name given
 
-  -- where there is room for a name, there are at most 2^24 symbols with it
-  room_fits : (map : SymbolMap) (name : Name) → has_room map name ≡ true → length map.symbols + 1 ≤ 2 ^ 24
-  room_fits map name room =
-      let test = (and_parts (nat_lt (length map.symbols + length map.files) (2 ^ 24)) (nat_le (names_size map + name_size name) (2 ^ 31)) room).0 in
-      let few = ltb-true (length map.symbols + length map.files) (2 ^ 24) test in
-      omega (arith, few)
-
   -- the symbol that is put last has the name
   last_given : (map : SymbolMap) (name : Name) → IsGiven name → GivenAt (with_name map name) (length map.symbols)
   last_given map name given symbol there =
       subst (λ (s : Symbol). IsGiven s.name) (same_Some (undefined name) symbol (sym (put_last map.symbols (undefined name)) ∙ there)) given
 
+  -- a new name, where there is room for it
   added_stand : (test : Bool) (map : SymbolMap) (name : Name) → IsGiven name → has_room map name ≡ test
       → Fine (λ (pair : SymbolMap × ℕ). Maps map pair.0 × GivenAt pair.0 pair.1) (cond test (Ok (with_name map name, length map.symbols)) (Err BadSymbolUse))
   added_stand true map name given room =
       let new = more_stand map name given in
-      let few = room_fits map name room in
-      let long : length (map.symbols ++ undefined name ∷ []) ≡ length map.symbols + 1 = length-append map.symbols (undefined name ∷ []) in
-      made _ ((record { more = new.more; kept = new.kept; fits = λ before. omega (arith, few, long) }, last_given map name given))
+      made _ ((record { more = new.more; kept = new.kept; fits = λ before. fit_symbol map name room }, last_given map name given))
   added_stand false map name given room = refused _
 
+  -- a name, new or not
   named_stand : (map : SymbolMap) (name : Name) → IsGiven name → Fine (λ (pair : SymbolMap × ℕ). Maps map pair.0 × GivenAt pair.0 pair.1) (named map name)
   unfolding named
   named_stand map name given = by (index_of name (names map.symbols)) refl
@@ -203,20 +201,24 @@ module _ (sections : List LooseSection) where
       by (Some index) is = rw is (made (map, index) (same map, found_given name given map.symbols index is))
       by None is = rw is (added_stand (has_room map name) map name given refl)
 
+  -- the same in a table
   found_stand : (pos : Pos) (table : Table) (found : Result (SymbolMap × ℕ) SymCause)
       → Fine (λ (pair : SymbolMap × ℕ). Maps table.symbols pair.0 × GivenAt pair.0 pair.1) found
       → Fine (λ (pair : Table × ℕ). Tables table pair.0 × GivenAt pair.0.symbols pair.1) (found_in pos table found)
   found_stand pos table found fine = step (of_fine found fine) (λ pair kept. made _ kept)
 
+  -- the symbol of a name
   pub symbol_stand : (pos : Pos) (name : Name) → IsGiven name → (table : Table)
       → Fine (λ (pair : Table × ℕ). Tables table pair.0 × GivenAt pair.0.symbols pair.1) (symbol_of pos name table)
   unfolding symbol_of
   symbol_stand pos name given table = found_stand pos table (named table.symbols name) (named_stand table.symbols name given)
 
+  -- the next instance of a numeric label
   next_stand : (pos : Pos) (number : ℕ) (table : Table) → Fine (λ (pair : Table × ℕ). Tables table pair.0 × GivenAt pair.0.symbols pair.1) (next_symbol pos number table)
   unfolding next_symbol next_named
   next_stand pos number table = found_stand pos table (next_named table.symbols number) (named_stand table.symbols _ tt)
 
+  -- a label by its token
   pub label_stand : (pos : Pos) (spelled : SpelledToken) (table : Table)
       → Fine (λ (pair : Table × ℕ). Tables table pair.0 × GivenAt pair.0.symbols pair.1) (label_symbol pos spelled table)
   unfolding label_symbol
@@ -238,6 +240,7 @@ module _ (sections : List LooseSection) where
   unfolding table_with_name
   with_name_stand pos name given table = interned_stand table.symbols name given
 
+  -- those of an expression
   pub tree_stand : (pos : Pos) (tree : Tree) (table : Table) → Names table.symbols (with_tree pos tree table).symbols
   unfolding with_tree
   tree_stand pos (expr.number value) table = named_so table.symbols
@@ -248,6 +251,7 @@ module _ (sections : List LooseSection) where
       named_both table.symbols (with_tree pos left table).symbols (with_tree pos right (with_tree pos left table)).symbols (tree_stand pos left table)
       (tree_stand pos right (with_tree pos left table))
 
+  -- those of several
   pub trees_stand : (pos : Pos) (trees : List Tree) (table : Table) → Names table.symbols (with_trees pos trees table).symbols
   unfolding with_trees
   trees_stand pos [] table = named_so table.symbols
@@ -260,10 +264,12 @@ module _ (sections : List LooseSection) where
   onto before between tables {r = Ok x} first later = made x (both before.symbols between.symbols (tables x).symbols first later.holds)
   onto before between tables {r = Err fault} first later = refused fault
 
+  -- a change of a symbol that is found
   pub change_stand : (change : SymbolMap → ℕ → Result SymbolMap SymCause) (found : Table × ℕ) → Fine (Maps found.0.symbols) (change found.0.symbols found.1)
       → Fine (Tables found.0) (changed_by change found)
   change_stand change found fine = step (of_fine (change found.0.symbols found.1) fine) (λ map kept. made _ kept)
 
+  -- a change of the symbol of a name
   pub named_change_stand : (pos : Pos) (change : SymbolMap → ℕ → Result SymbolMap SymCause) (name : Name) → IsGiven name → (table : Table)
       → ((map : SymbolMap) (index : ℕ) → GivenAt map index → Fine (Maps map) (change map index)) → Fine (Tables table) (change_named pos change name table)
   named_change_stand pos change name given table fine =
@@ -277,6 +283,7 @@ module _ (sections : List LooseSection) where
   abbrev RedefinedStands : Name → Option Binding → Meaning → Meaning → Type 0
   RedefinedStands name binding now new = NameStands name binding now → (last : ℕ) → MeaningStands sections last new × NameStands name binding new
 
+  -- a symbol that is defined anew
   redefined_stand : (name : Name) (binding : Option Binding) (now : Meaning) (what : Definition) → DefinitionStands what → Fine (RedefinedStands name binding now) (redefined now what)
   redefined_stand name binding meaning.Undefined what stands = made (meant what) (λ given last. (stands last, given_stands name binding (meant what) given))
   redefined_stand name binding (meaning.Label spot) what stands = refused _
@@ -286,6 +293,7 @@ module _ (sections : List LooseSection) where
   redefined_stand name binding (meaning.Assigned form) (definition.Common size align) stands = refused _
   redefined_stand name binding (meaning.Assigned form) (definition.Space spot) stands = refused _
 
+  -- a definition
   pub defined_stand : (what : Definition) → DefinitionStands what → (map : SymbolMap) (index : ℕ) → Fine (Maps map) (defined map index what)
   unfolding defined
   defined_stand what stands map index = by (slice_get map.symbols index) refl
@@ -294,10 +302,11 @@ module _ (sections : List LooseSection) where
       by None is = refused _
       by (Some symbol) is =
           step (redefined_stand symbol.name symbol.binding symbol.meaning what stands)
-          (λ now new. made _ (one_stands (with_meaning now) map index (with_defined map index symbol.name what now) refl
+          (λ now new. made _ (one_stands (with_meaning now) map index (with_defined map index symbol.name what now) refl refl (λ one. refl)
           (λ one there stood. subst (λ (s : Symbol). NameStands s.name s.binding s.meaning → MeaningStands sections (length map.symbols) now × NameStands s.name s.binding now)
           (same_Some symbol one (sym is ∙ there)) (λ named. new named (length map.symbols)) stood.1)))
 
+  -- an assignment
   pub assigned_stand : (form : Form) (once : Bool) (map : SymbolMap) (index : ℕ) → AreUpTo (length map.symbols) form.terms
       → Fine (Maps map) (assigned map index form once)
   unfolding assigned
@@ -306,12 +315,14 @@ module _ (sections : List LooseSection) where
       by : (fault : Option SymCause) (back : Bool) → form_fault_at map index once ≡ fault → Fine (Maps map) (assigned_by fault back (with_form map index form))
       by (Some fault) back is = refused _
       by None true is = refused _
-      by None false is = made _ (one_stands (with_meaning (meaning.Assigned form)) map index (with_form map index form) refl
+      by None false is = made _ (one_stands (with_meaning (meaning.Assigned form)) map index (with_form map index form) refl refl (λ one. refl)
           (λ one there stood. (named, form_takes map index once one there is stood.1)))
 
+  -- a kind that is said
   pub kind_stand : (kind : Kind) (map : SymbolMap) (index : ℕ) → Fine (Maps map) (kind_said kind map index)
-  kind_stand kind map index = made _ (changed_stand (with_kind kind) map index _ refl (λ one stood. stood))
+  kind_stand kind map index = made _ (changed_stand (with_kind kind) map index _ refl refl (λ one. refl) (λ one stood. stood))
 
+  -- a binding that is said
   bound_stand : (binding : Binding) (map : SymbolMap) (index : ℕ) → GivenAt map index → Fine (Maps map) (bound map index binding)
   unfolding bound
   bound_stand binding map index given = by (slice_get map.symbols index)
@@ -320,14 +331,16 @@ module _ (sections : List LooseSection) where
       by None = refused _
       by (Some symbol) =
           after (bound_as symbol.meaning symbol.binding binding)
-          (λ now. made _ (one_stands (with_binding now) map index _ refl
+          (λ now. made _ (one_stands (with_binding now) map index _ refl refl (λ one. refl)
           (λ one there stood. (stood.0, given_stands one.name (Some now) one.meaning (given one there)))))
 
+  -- an attribute of a symbol
   said_stand : (attribute : SymbolAttribute) (map : SymbolMap) (index : ℕ) → GivenAt map index → Fine (Maps map) (said attribute map index)
   said_stand (Bind binding) map index given = bound_stand binding map index given
   said_stand (See visibility) map index given =
-      made _ (changed_stand (with_visibility visibility) map index _ refl (λ one stood. stood))
+      made _ (changed_stand (with_visibility visibility) map index _ refl refl (λ one. refl) (λ one stood. stood))
 
+  -- the same of several symbols
   pub say_all_stand : (pos : Pos) (attribute : SymbolAttribute) (names : List Name) → All IsGiven names → (table : Table)
       → Fine (Tables table) (say_all pos attribute names table)
   unfolding say_all all_steps
@@ -336,9 +349,11 @@ module _ (sections : List LooseSection) where
       step (named_change_stand pos (said attribute) name (All-head IsGiven name names given) table (said_stand attribute))
       (λ next kept. onto table next (λ t. t) kept (say_all_stand pos attribute names (All-tail IsGiven name names given) next))
 
+  -- a size that is said
   next_size_stand : (size : Form) (map : SymbolMap) (index : ℕ) → Maps map (with_next_size size map index)
-  next_size_stand size map index = changed_stand (with_size size (map.sizes + 1)) map index (with_next_size size map index) refl (λ one stood. stood)
+  next_size_stand size map index = changed_stand (with_size size (map.sizes + 1)) map index (with_next_size size map index) refl refl (λ one. refl) (λ one stood. stood)
 
+  -- the same of a symbol that is found
   pub sized_stand : (pos : Pos) (form : Form) (found : Table × ℕ) → Tables found.0 (sized pos form found)
   sized_stand pos form found = next_size_stand form found.0.symbols found.1
 
@@ -347,27 +362,27 @@ module _ (sections : List LooseSection) where
   allows_on {r = Ok after} base before between first later =
       let more = first.more in
       let still = later.holds.more in
-      made after (record { more = omega (arith, more, still); kept = λ all. later.holds.kept (first.kept all); few = later.holds.few })
+      made after (record { more = omega (arith, more, still); kept = λ all. later.holds.kept (first.kept all); few = λ old. later.holds.few (λ le. first.fits (old (omega (arith, le, more)))) })
   allows_on {r = Err fault} base before between first later = refused fault
 
+  -- and a change behind what is allowed
   allows_behind : {r : Result Table PlaceCause} (base : ℕ) (before between : Table) → Allows base before between → Fine (Tables between) r → Fine (Allows base before) r
   allows_behind {r = Ok after} base before between first later =
       let more = first.more in
       let still = later.holds.more in
-      made after (record { more = omega (arith, more, still); kept = λ all. later.holds.kept (first.kept all); few = λ base_few. later.holds.fits (first.few base_few) })
+      made after (record { more = omega (arith, more, still); kept = λ all. later.holds.kept (first.kept all); few = λ old. later.holds.fits (first.few old) })
   allows_behind {r = Err fault} base before between first later = refused fault
 
+  -- names that are allowed
   pub allowed_stand : (naming : Naming) (table : Table) → Fine (Allows naming.before table) (allowed naming table)
   unfolding allowed
   allowed_stand naming table = by (naming.meant && (nat_le (length table.symbols.symbols) naming.before || is_within_limits table.symbols)) refl
     where
-      within : (few : naming.before ≤ 2 ^ 24) → (nat_le (length table.symbols.symbols) naming.before || is_within_limits table.symbols) ≡ true → length table.symbols.symbols ≤ 2 ^ 24
-      within few test = elim (or_cases (nat_le (length table.symbols.symbols) naming.before) (is_within_limits table.symbols) test) [
-        | inl old ↦ (let le = leb-true (length table.symbols.symbols) naming.before old in omega (arith, le, few))
-        | inr new ↦
-            (let part = (and_parts (nat_le (length table.symbols.symbols + length table.symbols.files) (2 ^ 24)) (nat_le (names_size table.symbols) (2 ^ 31)) new).0 in
-            let le = leb-true (length table.symbols.symbols + length table.symbols.files) (2 ^ 24) part in
-            omega (arith, le))
+      within : (length table.symbols.symbols ≤ naming.before → AreFit table.symbols) → (nat_le (length table.symbols.symbols) naming.before || is_within_limits table.symbols) ≡ true
+          → AreFit table.symbols
+      within old test = elim (or_cases (nat_le (length table.symbols.symbols) naming.before) (is_within_limits table.symbols) test) [
+        | inl no_more ↦ old (leb-true (length table.symbols.symbols) naming.before no_more)
+        | inr new ↦ new
       ]
 
       by : (test : Bool) → (naming.meant && (nat_le (length table.symbols.symbols) naming.before || is_within_limits table.symbols)) ≡ test
@@ -376,10 +391,11 @@ module _ (sections : List LooseSection) where
           made table (record {
             more = omega arith;
             kept = λ all. all;
-            few = λ few. within few (and_parts naming.meant (nat_le (length table.symbols.symbols) naming.before || is_within_limits table.symbols) is).1;
+            few = λ old. within old (and_parts naming.meant (nat_le (length table.symbols.symbols) naming.before || is_within_limits table.symbols) is).1;
           })
       by false is = refused _
 
+  -- space for a symbol
   pub define_space_stand : (naming : Naming) (symbol size : ℕ) (what : Definition) (table : Table) → DefinitionStands what
       → Fine (Allows naming.before table) (define_space naming symbol size what table)
   unfolding define_space
@@ -392,32 +408,29 @@ module _ (sections : List LooseSection) where
       space_stand : (map : SymbolMap) → Maps map (as_space size map symbol)
       space_stand map =
           both map (with_next_size (constant_form size) map symbol) (as_space size map symbol) (next_size_stand (constant_form size) map symbol)
-          (changed_stand (with_kind (space_kind map symbol)) (with_next_size (constant_form size) map symbol) symbol (as_space size map symbol) refl (λ one stood. stood))
+          (changed_stand (with_kind (space_kind map symbol)) (with_next_size (constant_form size) map symbol) symbol (as_space size map symbol) refl refl (λ one. refl) (λ one stood. stood))
 
   -- the map has this name last, and the index is its symbol's
   record IsPushed (map : SymbolMap) (name : Name) (after : SymbolMap) (index : ℕ) : Type 0 where
     map_is : after ≡ with_name map name
     at : index ≡ length map.symbols
-    few : length map.symbols + 1 ≤ 2 ^ 24
+    fits : AreFit (with_name map name)
 
+  -- a new name is put last where there is room for it
   push_by : (test : Bool) (map : SymbolMap) (name : Name) → has_room map name ≡ test
       → Fine (λ (pair : SymbolMap × ℕ). IsPushed map name pair.0 pair.1) (cond test (Ok (with_name map name, length map.symbols)) (Err BadSymbolUse))
-  push_by true map name room = made _ (record { map_is = refl; at = refl; few = room_fits map name room })
+  push_by true map name room = made _ (record { map_is = refl; at = refl; fits = fit_symbol map name room })
   push_by false map name room = refused _
 
+  -- a name that is new is put last
   name_pushed : (map : SymbolMap) (name : Name) → index_of name (names map.symbols) ≡ None → Fine (λ (pair : SymbolMap × ℕ). IsPushed map name pair.0 pair.1) (named map name)
   unfolding named
   name_pushed map name is = rw is (push_by (has_room map name) map name refl)
 
-  changed_last : (change : Symbol → Symbol) (symbols : List Symbol) (last : Symbol) → changed change (symbols ++ last ∷ []) (length symbols) ≡ symbols ++ change last ∷ []
-  unfolding changed
-  changed_last change [] last = refl
-  changed_last change (symbol ∷ symbols) last = ap (λ rest. symbol ∷ rest) (changed_last change symbols last)
-
   -- the place itself becomes a label of its own name
-  label_pushed : (map : SymbolMap) (spot : Spot) → DefinitionStands (definition.Label spot) → length map.symbols + 1 ≤ 2 ^ 24
+  label_pushed : (map : SymbolMap) (spot : Spot) → DefinitionStands (definition.Label spot) → AreFit (with_name map (here_name spot))
       → Maps map (with_defined (with_name map (here_name spot)) (length map.symbols) (here_name spot) (definition.Label spot) (meaning.Label spot))
-  label_pushed map spot stands few =
+  label_pushed map spot stands fits =
       let last = undefined (here_name spot) in
       let label = with_meaning (meaning.Label spot) last in
       let is = changed_last (with_meaning (meaning.Label spot)) map.symbols last in
@@ -426,20 +439,26 @@ module _ (sections : List LooseSection) where
       record {
         more = omega (arith, long);
         kept = λ all. subst (SymbolsStand sections) (sym is) (pushed_stand map.symbols label (stands (length map.symbols + 1), inr (refl, refl)) all);
-        fits = λ before. omega (arith, few, long);
+        fits = λ before.
+            fit_alike (with_name map (here_name spot)) (with_defined (with_name map (here_name spot)) (length map.symbols) (here_name spot) (definition.Label spot) (meaning.Label spot))
+            (changed_long (with_meaning (meaning.Label spot)) (map.symbols ++ last ∷ []) (length map.symbols))
+            (changed_names (with_meaning (meaning.Label spot)) (λ one. refl) (map.symbols ++ last ∷ []) (length map.symbols)) refl fits;
       }
 
+  -- the label is defined where its name was put
   place_defined : (map after : SymbolMap) (index : ℕ) (spot : Spot) → DefinitionStands (definition.Label spot) → IsPushed map (here_name spot) after index
       → Fine (Maps map) (defined after index (definition.Label spot))
   unfolding defined
   place_defined map after index spot stands is =
-      rw is.map_is (rw is.at (rw (put_last map.symbols (undefined (here_name spot))) (made _ (label_pushed map spot stands is.few))))
+      rw is.map_is (rw is.at (rw (put_last map.symbols (undefined (here_name spot))) (made _ (label_pushed map spot stands is.fits))))
 
+  -- the name of the place is put last
   place_named : (pos : Pos) (name : Name) (table : Table) → index_of name (names table.symbols.symbols) ≡ None
       → Fine (λ (found : Table × ℕ). IsPushed table.symbols name found.0.symbols found.1) (symbol_of pos name table)
   unfolding symbol_of
   place_named pos name table is = step (of_fine (named table.symbols name) (name_pushed table.symbols name is)) (λ pair pushed. made _ pushed)
 
+  -- the place becomes a symbol of its own
   place_stand : (pos : Pos) (spot : Spot) (table : Table) → DefinitionStands (definition.Label spot) → index_of (here_name spot) (names table.symbols.symbols) ≡ None
       → Fine (Tables table) (change_named pos (λ map index. defined map index (definition.Label spot)) (here_name spot) table)
   place_stand pos spot table stands is =
@@ -447,6 +466,7 @@ module _ (sections : List LooseSection) where
       (λ found pushed. step (of_fine (defined found.0.symbols found.1 (definition.Label spot)) (place_defined table.symbols found.0.symbols found.1 spot stands pushed))
       (λ map kept. made _ kept))
 
+  -- names that are allowed, and the place where a form keeps it
   pub end_stand : (pos : Pos) (naming : Naming) (spot : Spot) (keeps : Bool) (table : Table) → DefinitionStands (definition.Label spot)
       → Fine (Allows naming.before table) (end_naming pos naming spot keeps table)
   unfolding name_here
@@ -460,8 +480,10 @@ module _ (sections : List LooseSection) where
       here false next = made next (same next.symbols)
       here true next = here_found (index_of (here_name spot) (names next.symbols.symbols)) next refl
 
+  -- the name of a file
   pub file_stand : (name : Name) (table : Table) → Fine (Tables table) (file_named name table)
   unfolding with_file
   file_stand name table =
-      step (of_fine (with_file table.symbols name) (either (has_room table.symbols name) (made _ (record { more = omega arith; kept = λ all. all; fits = λ few. few })) (refused _)))
+      step (of_fine (with_file table.symbols name) (either_by (has_room table.symbols name)
+      (λ room. made _ (record { more = omega arith; kept = λ all. all; fits = λ fit. fit_file table.symbols name room })) (λ full. refused _)))
       (λ map kept. made _ kept)

@@ -1,5 +1,5 @@
 -- Steps one after the other: what is known of what they make.
-use Rattle.std.proofs.Common.{Bool, true, false, cond, List, Result, Ok, Err}
+use Rattle.std.proofs.Common.{◌≡◌, refl, Bool, true, false, cond, List, Result, Ok, Err}
 use Rattle.std.specs.Result.{IfOk}
 use Rattle.asm_base.specs.Refusals.{◌>>=◌}
 use Rattle.asm_base.specs.Tokens.{SpelledToken}
@@ -13,9 +13,11 @@ use Rattle.asm_frames.specs.Keeping.{OnlyNames}
 pub record Fine {A E : Type 0} (P : A → Type 0) (result : Result A E) : Type 0 where
   pub holds : IfOk result P
 
+-- a step that makes this
 pub made : {A E : Type 0} {P : A → Type 0} (x : A) → P x → Fine {E = E} P (Ok x)
 made x is = record { holds = is }
 
+-- a step that is refused makes nothing
 pub refused : {A E : Type 0} {P : A → Type 0} (fault : E) → Fine {A = A} P (Err fault)
 refused fault = record { holds = tt }
 
@@ -47,3 +49,8 @@ FramesKeep = (directive : FrameDirective) (pos : Pos) (tokens : List SpelledToke
 pub either : {A E : Type 0} {P : A → Type 0} (test : Bool) {r s : Result A E} → Fine P r → Fine P s → Fine P (cond test r s)
 either true one other = one
 either false one other = other
+
+-- the same where each branch knows what the test says
+pub either_by : {A E : Type 0} {P : A → Type 0} (test : Bool) {r s : Result A E} → (test ≡ true → Fine P r) → (test ≡ false → Fine P s) → Fine P (cond test r s)
+either_by true one other = one refl
+either_by false one other = other refl

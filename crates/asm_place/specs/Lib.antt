@@ -11,3 +11,4 @@ pub mod CodePlaces
 pub mod JumpPlaces
 pub mod SymbolPlaces
 pub mod ProcedurePlaces
+pub mod SourceSizes

@@ -15,6 +15,7 @@ ghost use Rattle.att_insns.specs.InsnTexts.{InsnText};
 ghost use Rattle.asm_place.specs.CodePlaces.{insn_written, insn_in, is_instruction, BeginsAsInstruction, IsInsnPut, InsnStands, jump_in};
 ghost use Rattle.asm_place.specs.SymbolPlaces.{AreUpTo, PlacesStand};
 ghost use Rattle.asm_place.specs.ProcedurePlaces.{StandInOrder};
+ghost use Rattle.asm_place.specs.SourceSizes.{IsSmall};
 ghost use Rattle.asm_place.specs.JumpPlaces.{IsJump, IsJumpPut, JumpStands, jump_written};
 ghost use Rattle.item_bytes.specs.Jumps.{jump_bytes, jump_distance};
 ghost use Rattle.x86_table.specs.Reads.{Reads};
@@ -171,6 +172,15 @@ pub fn places_stand()
         → (jump : IsJump (pos_at s.file s.line) s.tokens text placed)
         → place_all (s ∷ later) placed ≡ Ok whole → insn_in placed.syntax s ≡ Some text
         → AreUpTo (length whole.table.symbols.symbols) jump.forms.displacement.terms }
+{
+    frame_directives_keep_all_else();
+}
+
+/// What all statements place has at most 30,003 sections, whose names have at most 2^16 bytes, and at most
+/// 2^24 symbols and names of files, which have at most 2^31 bytes.
+pub fn sources_are_small()
+    ensures { (statements : List TokenStatement) (no_warn : Bool) (placed : Placed)
+        → place_all statements (nothing_placed no_warn) ≡ Ok placed → IsSmall placed }
 {
     frame_directives_keep_all_else();
 }

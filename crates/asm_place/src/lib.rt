@@ -15,7 +15,7 @@ mod syntax_words;
 pub use laws::{
     encoding_items, encoding_stands, instruction_items, instruction_stands, jump_items,
     jumps_are_put, jumps_read, places_stand, placing_grows, placing_in_order,
-    placing_is_not_reading, placing_within, procedures_stand_in_order,
+    placing_is_not_reading, placing_within, procedures_stand_in_order, sources_are_small,
 };
 pub use place_faults::{BoxedFault, FaultAt};
 pub use sources::StatementPlacer;
