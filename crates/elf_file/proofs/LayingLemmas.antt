@@ -1,6 +1,7 @@
 -- Sections, laid out one behind the other.
-use Rattle.std.proofs.Common.{◌≡◌, ℕ, ◌+◌, ◌-◌, ◌*◌, ◌<◌, ◌≤◌, List, [], ◌∷◌, ◌++◌, map, length, get_or, drop, refl, sym, ap, ◌∙◌, arith, append_assoc, length-append}
+use Rattle.std.proofs.Common.{◌≡◌, ℕ, ◌+◌, ◌-◌, ◌*◌, ◌^◌, ◌<◌, ◌≤◌, All, List, [], ◌∷◌, ◌++◌, map, length, get_or, drop, refl, sym, ap, ◌∙◌, subst, arith, append_assoc, length-append}
 use Rattle.std.proofs.lemmas.List.{drop_more, length-map}
+use Rattle.std.proofs.lemmas.List.Elements.{All-nil, All-cons, All-head, All-tail}
 use Rattle.std.specs.Global.{Vec}
 use Rattle.std.specs.Prelude.{codes}
 use Rattle.item_contents.specs.Contents.{repeated}
@@ -8,9 +9,11 @@ use Rattle.elf_file.proofs.Repeats.{repeated-one, length-repeated}
 use Rattle.elf_file.specs.declared.sections.FileSection.{FileSection}
 use Rattle.elf_file.specs.Fields.{half, word, xword}
 use Rattle.elf_file.specs.Image.{null_header, next_multiple, gap, body_from, bodies_from, header_from, headers_from, header_end, header_table, elf_header, file_of, all_names, with_names, file_with}
+use Rattle.elf_file.specs.Limits.{EntryFits}
 use Rattle.elf_file.specs.Sections.{SectionEntry, string_section}
 use Rattle.elf_file.specs.StringTable.{name_offsets, string_table_of}
 use Rattle.elf_file.specs.Views.{section_view}
+use Rattle.elf_file.proofs.FilePlaces.{header_length}
 
 -- zeros up to a multiple are a gap
 pub gap_put : (old new : List ℕ) (alignment at end : ℕ) → new ≡ old ++ repeated (end - at) (0 ∷ []) → end ≡ next_multiple alignment at → new ≡ old ++ gap alignment at
@@ -92,3 +95,36 @@ file_made sections shown pushed last names header bytes pieces all table end cou
     let third : file_of names entries ≡ file_of (name_offsets (all_names before)) (with_names before) =
     ap (λ (ns : List ℕ). file_of ns entries) place ∙ ap (λ (ss : List SectionEntry). file_of (name_offsets (all_names before)) ss) whole in
     first ∙ second ∙ third
+
+-- where the numbers of a section fit, and those of the sections after it, so do those of all that are left
+pub numbers_step : (section : FileSection) (rest more all : List FileSection) → rest ≡ section ∷ more → EntryFits (section_view section)
+    → (All EntryFits (map section_view rest) → All EntryFits (map section_view all)) → All EntryFits (map section_view more) → All EntryFits (map section_view all)
+numbers_step section rest more all is one before later =
+    before (subst (λ (ss : List FileSection). All EntryFits (map section_view ss)) (sym is) (All-cons EntryFits (section_view section) (map section_view more) one later))
+
+-- no section is left
+pub numbers_end : (rest all : List FileSection) → length rest ≡ 0 → (All EntryFits (map section_view rest) → All EntryFits (map section_view all)) → All EntryFits (map section_view all)
+numbers_end [] all none before = before (All-nil EntryFits)
+numbers_end (s ∷ ss) all none before = absurd (omega arith)
+
+-- the numbers of the sections before the last one fit
+pub numbers_before : (sections pushed : List FileSection) (last : FileSection) → pushed ≡ sections ++ last ∷ [] → All EntryFits (map section_view pushed)
+    → All EntryFits (map section_view sections)
+numbers_before sections pushed last more all = front sections (subst (λ (ss : List FileSection). All EntryFits (map section_view ss)) more all)
+  where
+    front : (ss : List FileSection) → All EntryFits (map section_view (ss ++ last ∷ [])) → All EntryFits (map section_view ss)
+    front [] fit = All-nil EntryFits
+    front (s ∷ ss) fit =
+        let rest = map section_view (ss ++ last ∷ []) in
+        All-cons EntryFits (section_view s) (map section_view ss) (All-head EntryFits (section_view s) rest fit) (front ss (All-tail EntryFits (section_view s) rest fit))
+
+-- the file has as many bytes as its header, its bodies and its header table
+pub file_small : (header pieces all : List ℕ) (table : Vec ℕ) (end count whole : ℕ) → header ≡ elf_header end count → end ≡ header_end + length pieces → all ≡ pieces ++ table.items
+    → whole ≡ end + length table.items → whole < 2 ^ 64 → length (header ++ all) < 2 ^ 64
+file_small header pieces all table end count whole begins ends put sum low =
+    let first = ap (λ (bytes : List ℕ). length bytes) begins in
+    let long : length (elf_header end count) ≡ header_end = header_length end count in
+    let second = ap (λ (bytes : List ℕ). length bytes) put in
+    let third : length (pieces ++ table.items) ≡ length pieces + length table.items = length-append pieces table.items in
+    let both : length (header ++ all) ≡ length header + length all = length-append header all in
+    omega arith

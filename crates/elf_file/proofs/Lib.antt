@@ -4,9 +4,9 @@ mod LoopSteps
 mod Repeats
 mod PieceLemmas
 mod MixedLemmas
-mod LayingLemmas
 mod ObjectLemmas
 mod WaitingLemmas
 pub mod FilePlaces
+mod LayingLemmas
 mod NamePlaces
 mod HeaderPlaces

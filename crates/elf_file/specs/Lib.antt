@@ -4,6 +4,7 @@ pub mod StringTable
 pub mod TableEntries
 pub mod Pieces
 pub mod Sections
+pub mod Limits
 pub mod Image
 pub mod Reader
 pub mod Places

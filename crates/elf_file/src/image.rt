@@ -1,7 +1,8 @@
 //! The bytes of an ELF64 relocatable object file (gABI, chapter 4; psABI for AMD64, chapter 4).
 
-ghost use Rattle.std.specs.Prelude.{◌≡◌, ◌+◌, ◌<◌, ◌≤◌, ◌++◌, map, length, vec_len, IfOk, IfSome, OnOk};
+ghost use Rattle.std.specs.Prelude.{◌≡◌, ◌+◌, ◌^◌, ◌<◌, ◌≤◌, ◌++◌, All, map, length, vec_len, IfOk, IfSome, OnOk};
 ghost use Rattle.elf_file.specs.Image as spec;
+ghost use Rattle.elf_file.specs.Limits.{EntryFits};
 ghost use Rattle.elf_file.specs.Pieces.{flat};
 ghost use Rattle.elf_file.specs.StringTable.{string_table_of, name_offsets};
 ghost use Rattle.elf_file.specs.Views.{section_view, ends_at};
@@ -57,6 +58,7 @@ struct Laid {
 impl Laid {
     ghost use Rattle.std.specs.Prelude.{◌≡◌, ◌+◌, ◌++◌, length, OnOk};
     ghost use Rattle.elf_file.specs.Image as spec;
+    ghost use Rattle.elf_file.specs.Limits.{EntryFits};
     ghost use Rattle.elf_file.specs.Pieces.{piece_bytes, flat};
     ghost use Rattle.elf_file.specs.Sections.{content_size, file_bytes};
     ghost use Rattle.elf_file.specs.Views.{section_view, content_view, ends_at};
@@ -118,6 +120,7 @@ impl Laid {
             ≡ self.old.headers.items
             ++ spec.header_from self.old.end name (section_view section.entry)) }
         ensures ends { OnOk result (ends_at self.new.end self.new.pieces) }
+        ensures numbers { EntryFits (section_view section.entry) }
     {
         self.put_gap(section.alignment)?;
         let size = section.body.size().ok_or(AllocError)?;
@@ -136,6 +139,7 @@ fn lay_out(alloc: Global, names: &[usize], sections: Vec<FileSection>) -> Result
     ensures headers { IfOk result (λ l. l.headers.items
         ≡ spec.header_table names.now (map section_view sections.entry.items)) }
     ensures ends { IfOk result (λ l. ends_at l.end l.pieces) }
+    ensures numbers { OnOk result (All EntryFits (map section_view sections.entry.items)) }
 {
     let mut laid = Laid {
         pieces: Pieces::new(alloc),
@@ -197,13 +201,17 @@ impl Model for ElfFile {
 /// The file of these sections, and last the table of their names.
 #[tactic(auto, unfolding(crate::specs::Image::file_of, crate::specs::Image::with_names))]
 pub fn laid_file(alloc: Global, sections: Vec<FileSection>) -> Result<ElfFile, AllocError>
-    ensures { IfOk result (λ f. f ≡ spec.file_with (map section_view sections.entry.items)) }
+    ensures file { IfOk result (λ f. f ≡ spec.file_with (map section_view sections.entry.items)) }
+    ensures numbers { OnOk result (All EntryFits (map section_view sections.entry.items)) }
+    ensures size { IfOk result (λ f. length f < 2 ^ 64) }
 {
     let mut sections = sections;
     let names = name_table(alloc, &sections)?;
     sections.push(string_section(b".shstrtab", names.bytes))?;
     let count = sections.len() + 1;
     let laid = lay_out(alloc, &names.offsets, sections)?;
+    // No file has 2^64 bytes.
+    laid.end.checked_add(laid.headers.len()).ok_or(AllocError)?;
     let header = elf_header(laid.end, count);
     let mut pieces = laid.pieces;
     pieces.put(Piece::Bytes(laid.headers))?;
