@@ -1,6 +1,7 @@
 -- Loops over lists that put what they make of each element behind what they have.
-use Rattle.std.proofs.Common.{◌≡◌, ℕ, ◌+◌, ◌<◌, ◌≤◌, Bool, true, false, cond, List, [], ◌∷◌, ◌++◌, length, get_or, drop, map, Option, None, Some, refl, sym, ap, ◌∙◌, append-nil, append_assoc}
+use Rattle.std.proofs.Common.{◌≡◌, ℕ, ◌+◌, ◌<◌, ◌≤◌, Bool, true, false, cond, List, [], ◌∷◌, ◌++◌, length, get_or, drop, map, Option, None, Some, All, refl, sym, ap, subst, ◌∙◌, append-nil, append_assoc}
 use Rattle.std.proofs.lemmas.List.{at_drop_all, at_drop_more}
+use Rattle.std.proofs.lemmas.List.Elements.{All-cons}
 use Rattle.asm_symbols.specs.declared.entries.Symbol.{Symbol}
 use Rattle.asm_symbols.specs.SymbolMap.{SymbolMap}
 use Rattle.asm_relax.specs.Settling.{LaidSections}
@@ -57,3 +58,10 @@ pub standing_put : (out more : List Standing) (standing : Standing) (one : Optio
 standing_put out more standing one rest next whole is put front before =
     ap (λ xs. xs ++ map standing_of next) put ∙ append_assoc out (standing ∷ []) (map standing_of next)
     ∙ ap (λ z. out ++ (z ∷ map standing_of next)) is ∙ ap (λ ys. out ++ map standing_of ys) (sym front) ∙ before
+
+-- where what holds of all that are left makes it hold of all, what holds of those after the next one does
+pub holds_next : {X Y : Type 0} (view : X → Y) (P : Y → Type 0) (xs : List X) (i : ℕ) (d : X) → i < length xs → P (view (get_or xs i d))
+    → (All P (map view (drop i xs)) → All P (map view xs)) → All P (map view (drop (i + 1) xs)) → All P (map view xs)
+holds_next view P xs i d inside one before later =
+    before (subst (λ (rest : List _). All P (map view rest)) (sym (at_drop_more (λ rest. rest) xs i d inside))
+    (All-cons P (view (get_or xs i d)) (map view (drop (i + 1) xs)) one later))

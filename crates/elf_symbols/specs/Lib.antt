@@ -4,5 +4,6 @@ pub mod SymbolValues
 pub mod Aliases
 pub mod Targets
 pub mod SymbolTable
+pub mod Limits
 pub mod Numbers
 pub mod Views

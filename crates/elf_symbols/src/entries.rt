@@ -2,6 +2,7 @@
 
 ghost use Rattle.std.specs.Prelude.{◌≡◌, ◌<◌, IfOk, option_map};
 ghost use Rattle.assigned_forms.specs.Expanding.{AreExpansions};
+ghost use Rattle.elf_symbols.specs.Limits.{SymbolFits};
 ghost use Rattle.elf_symbols.specs.SymbolTable as spec;
 ghost use Rattle.elf_symbols.specs.Views.{symbol_view};
 
@@ -100,7 +101,8 @@ fn section_index_of(headers: &[usize], section: SymbolSection) -> usize
 /// The entry of a symbol whose name stands at this offset (`Elf64_Sym`); sections have these header indices.
 #[tactic(auto, unfolding(crate::specs::Views::symbol_view))]
 pub(crate) fn symbol_bytes(headers: &[usize], name: usize, symbol: &TableSymbol) -> [u8; 24]
-    ensures { result ≡ spec.symbol_bytes headers.now name (symbol_view symbol.now) }
+    ensures bytes { result ≡ spec.symbol_bytes headers.now name (symbol_view symbol.now) }
+    ensures numbers { SymbolFits (symbol_view symbol.now) }
 {
     elf_symbol(
         name,

@@ -1,6 +1,7 @@
 //! The symbol table and the string table of its names (gABI, chapter 4, "Symbol Table").
 
-ghost use Rattle.std.specs.Prelude.{◌≡◌, ◌++◌, map, length, OnOk, IfOk};
+ghost use Rattle.std.specs.Prelude.{◌≡◌, ◌++◌, All, map, length, OnOk, IfOk};
+ghost use Rattle.elf_symbols.specs.Limits.{SymbolFits};
 ghost use Rattle.elf_symbols.specs.SymbolTable.{symbol_names, symbol_table_of, symbol_bytes};
 ghost use Rattle.elf_file.specs.StringTable.{string_table_of, ended_name, name_offset_after};
 ghost use Rattle.elf_symbols.specs.Views.{symbol_view};
@@ -24,6 +25,7 @@ impl SymbolTable {
             symbol.now.name.now) (symbol_view symbol.now)) }
         ensures strings { OnOk result (self.new.strings.items
             ≡ self.old.strings.items ++ ended_name symbol.now.name.now) }
+        ensures numbers { OnOk result (SymbolFits (symbol_view symbol.now)) }
     {
         let name = put_name(&mut self.strings, symbol.name)?;
         self.entries
@@ -42,6 +44,7 @@ pub fn symbol_table(
         ≡ symbol_table_of headers.now (map symbol_view symbols.now)) }
     ensures strings { IfOk result (λ t. t.strings.items
         ≡ string_table_of (symbol_names (map symbol_view symbols.now))) }
+    ensures numbers { OnOk result (All SymbolFits (map symbol_view symbols.now)) }
 {
     let room = symbols.len().saturating_add(1).saturating_mul(SYM_SIZE);
     let mut entries = Vec::with_capacity(alloc, room)?;

@@ -1,5 +1,6 @@
 -- The tables so far, and what is to come, are the whole tables.
-use Rattle.std.proofs.Common.{◌≡◌, ◌++◌, drop, length, map}
+use Rattle.std.proofs.Common.{◌≡◌, ◌++◌, All, drop, length, map}
+use Rattle.elf_symbols.specs.Limits.{SymbolFits}
 use Rattle.elf_symbols.specs.SymbolTable.{symbol_names, symbol_table_of, all_symbol_bytes}
 use Rattle.elf_file.specs.StringTable.{strings, string_table_of, name_offsets_after}
 use Rattle.elf_symbols.specs.Views.{symbol_view}
@@ -12,4 +13,5 @@ invariant-loop-symbol l = record {
       ≡ symbol_table_of l.headers (map symbol_view l.symbols);
   strings : l.table.strings.items ++ strings (symbol_names (map symbol_view (drop l.symbol-index l.symbols)))
       ≡ string_table_of (symbol_names (map symbol_view l.symbols));
+  numbers : All SymbolFits (map symbol_view (drop l.symbol-index l.symbols)) → All SymbolFits (map symbol_view l.symbols);
 }
