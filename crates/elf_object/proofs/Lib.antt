@@ -6,6 +6,7 @@ mod MarkLemmas
 mod MixedLemmas
 mod TakenBytes
 mod ImageLemmas
+mod FittingNumbers
 mod ItemBytes
 mod PatchLemmas
 mod KeptForms
@@ -14,4 +15,5 @@ mod ItemPlaces
 mod TableOrder
 mod Targets
 mod RelocationLemmas
+mod OneRelocation
 mod TableNumbers

@@ -5,9 +5,11 @@ pub mod Faults
 pub mod Naming
 pub mod Sections
 pub mod Image
+pub mod Limits
 pub mod Objects
 pub mod Places
 pub mod TableLaws
 pub mod RelocationLaws
+pub mod FieldRelocations
 pub mod Views
 pub mod Marking

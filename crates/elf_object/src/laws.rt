@@ -1,5 +1,6 @@
 //! Laws of the definitions.
 
+ghost use Rattle.elf_object.specs.FieldRelocations.{RelocationsAreOfFields, SaidFieldsHaveOne, ValuelessFieldsHaveOne, ValuesHaveNone};
 ghost use Rattle.elf_object.specs.Places.{BytesStand, ValuesStand, ItemsStand, PlacesAreAddresses};
 ghost use Rattle.elf_object.specs.RelocationLaws.{RelocationsMeanForms};
 ghost use Rattle.elf_object.specs.TableLaws.{LocalsFirst, TargetsStand};
@@ -58,3 +59,12 @@ pub fn relocations_mean_forms()
 {
     cancelled_labels_keep_the_value();
 }
+
+/// The relocations of a section of an object are those of its fields without a value: one of each, in
+/// their order, at the place of the field.
+pub fn fields_have_one_relocation()
+    ensures all { RelocationsAreOfFields }
+    ensures said { SaidFieldsHaveOne }
+    ensures valueless { ValuelessFieldsHaveOne }
+    ensures valued { ValuesHaveNone }
+{}

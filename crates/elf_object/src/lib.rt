@@ -14,7 +14,7 @@ mod sections;
 
 pub use faults::{ObjectCause, ObjectFault};
 pub use laws::{
-    bytes_stand, items_stand, locals_first, places_are_addresses, relocations_mean_forms,
-    targets_stand, values_stand,
+    bytes_stand, fields_have_one_relocation, items_stand, locals_first, places_are_addresses,
+    relocations_mean_forms, targets_stand, values_stand,
 };
 pub use object::Object;

@@ -1,9 +1,10 @@
 //! The object of sections and symbols.
 
-ghost use Rattle.std.specs.Prelude.{◌≡◌, map, IfOk};
+ghost use Rattle.std.specs.Prelude.{◌≡◌, map, IfOk, OnOk};
 ghost use Rattle.asm_base.specs.Refusals.{Returns};
 ghost use Rattle.assigned_forms.specs.Expanding.{AreExpansions};
 ghost use Rattle.elf_object.specs.Image.{image_with};
+ghost use Rattle.elf_object.specs.Limits.{NumbersFit, NumbersFitWith};
 ghost use Rattle.elf_object.specs.Objects.{object_of};
 ghost use Rattle.elf_object.specs.Sections.{source_section};
 ghost use Rattle.elf_object.specs.Views.{held_entry, relocations_in};
@@ -47,9 +48,11 @@ fn image<'a>(
     requires expanded { AreExpansions at.symbols.now expansions.now }
     requires entries { map held_entry held.items
         ≡ map (source_section at.symbols.now at.sections.now) at.sections.now }
-    ensures { IfOk result (λ f. f
+    ensures file { IfOk result (λ f. f
         ≡ image_with at.entry.symbols.now at.entry.sections.now (map relocations_in
         held.entry.items)) }
+    ensures numbers { OnOk result (NumbersFitWith at.entry.symbols.now at.entry.sections.now
+        (map relocations_in held.entry.items)) }
 {
     let named = named_by(alloc, &held, at.symbols.len())?;
     let headers = headers_of(alloc, &held)?;
@@ -65,7 +68,8 @@ fn image<'a>(
 #[inline(never)]
 #[tactic(auto, unfolding(crate::specs::Faults::object_fault, crate::specs::Image::image_of))]
 fn made(alloc: Global, at: Placement) -> Result<Object, ObjectFault>
-    ensures { Returns result (object_of at.entry.symbols.now at.entry.sections.now) }
+    ensures object { Returns result (object_of at.entry.symbols.now at.entry.sections.now) }
+    ensures numbers { OnOk result (NumbersFit at.entry.symbols.now at.entry.sections.now) }
 {
     if let Some(fault) = undefined_fault(at) {
         return Err(ObjectFault::Fault(fault));
@@ -84,6 +88,7 @@ impl Object {
     ghost use Rattle.asm_base.specs.Counts.{HasCause};
     ghost use Rattle.asm_base.specs.Output.{after_write};
     ghost use Rattle.asm_base.specs.Refusals.{Returns};
+    ghost use Rattle.elf_object.specs.Limits.{NumbersFit};
     ghost use Rattle.elf_object.specs.Objects.{object_of};
 
     /// The object of sections that are laid out and of their symbols, or the first fault.
@@ -92,7 +97,8 @@ impl Object {
         sections: Sections<Laid>,
         symbols: &Symbols,
     ) -> Result<Object, ObjectFault>
-        ensures { Returns result (object_of symbols.now sections) }
+        ensures object { Returns result (object_of symbols.now sections) }
+        ensures numbers { OnOk result (NumbersFit symbols.now sections) }
     {
         let at = Placement {
             symbols,

@@ -1,15 +1,19 @@
 -- The sections of the file are those of the definition.
-use Rattle.std.proofs.Common.{◌≡◌, List, length, map, ap, subst, ◌∙◌}
+use Rattle.std.proofs.Common.{◌≡◌, List, length, map, sym, ap, subst, ◌∙◌}
+use Rattle.std.proofs.lemmas.List.{length-map}
 use Rattle.std.specs.Result.{IfOk}
 use Rattle.elf_file.specs.Image.{file_with}
 use Rattle.elf_object.specs.Image.{before_names, image_with}
 use Rattle.elf_object.specs.declared.contents.HeldSection.{HeldSection}
 use Rattle.elf_object.specs.Naming.{named_of}
 use Rattle.elf_file.specs.Sections.{SectionEntry}
-use Rattle.elf_object.specs.Sections.{next_header, header_indices}
+use Rattle.elf_file.specs.Views.{section_view}
+use Rattle.elf_object.specs.Sections.{source_section, next_header, header_indices}
+use Rattle.elf_symbols.specs.SymbolTable.{table_of}
 use Rattle.elf_symbols.specs.Views.{symbol_view, numbers_view, named_view}
 use Rattle.elf_object.specs.Views.{held_entry, relocations_in}
 use Rattle.elf_object.proofs.MarkLemmas.{named_long, threads_long}
+use Rattle.elf_object.proofs.FittingNumbers.{numbers_fit}
 use Rattle.elf_object.proofs.ImageLemmas.{sections_made}
 use Rattle.elf_object.proofs.object.image.Goals as goal
 
@@ -36,4 +40,11 @@ returns c =
     c.in_ok-sections.sections.items c.push.new.self.items c.push-2.new.self.items c.symbol_section.result c.string_section.result
     c.in_ok-listing.ensures.numbers next c.in_ok-listing.ensures.first_other indices listed c.requires.entries c.in_ok-table.ensures.entries c.in_ok-table.ensures.strings
     c.in_ok-sections.ensures c.symbol_section.ensures c.in_ok-push.ensures.items c.string_section.ensures c.in_ok-push-2.ensures.items in
-    subst (λ (ss : List SectionEntry). IfOk c.laid_file.result (λ f. f ≡ file_with ss)) (made ∙ ap (before_names symbols sections found) named) c.laid_file.ensures
+    let whole = made ∙ ap (before_names symbols sections found) named in
+    let long : length sections ≡ length found =
+    sym (length-map sections (source_section symbols sections)) ∙ sym (ap length c.requires.entries) ∙ length-map held held_entry ∙ sym (length-map held relocations_in) in
+    record {
+      file = subst (λ (ss : List SectionEntry). IfOk c.laid_file.result (λ f. f ≡ file_with ss)) whole c.laid_file.ensures.file;
+      numbers = numbers_fit symbols sections found (map section_view c.push-2.new.self.items) (map symbol_view c.deref-4.result.now) c.laid_file.result whole long
+          (listed ∙ ap (table_of symbols sections) named) c.in_ok-table.ensures.numbers c.laid_file.ensures.file c.laid_file.ensures.numbers c.laid_file.ensures.size;
+    }
