@@ -11,6 +11,8 @@ mod LocalReads
 mod TableSearch
 mod RelocationFit
 mod RelocationReads
+mod TakenNames
+mod SmallObjects
 mod ObjectSamples
 mod Types
 mod Numbers

@@ -12,10 +12,11 @@ use Rattle.elf_symbols.specs.Numbers.{NumbersOf, numbers_of}
 use Rattle.elf_symbols.specs.SymbolTable.{file_entry, section_entries, part, listed_all, table_of}
 use Rattle.elf_object.specs.declared.relocations.Relocation.{Relocation}
 use Rattle.elf_object.specs.Contents.{section_bytes, relocations_of}
+use Rattle.elf_object.specs.Limits.{SourceFits}
 use Rattle.elf_object.specs.Sections.{source_section, relocation_bytes, header_count, entries_from, next_header}
 use Rattle.elf_object.specs.TableLaws.{named_targets, table_in, info_in}
 use Rattle.object_laws.specs.Limits.{is_space, space_size, SectionFits, FileFits}
-use Rattle.object_laws.specs.ObjectLimits.{entries_of, symbol_table_index, SourceFits, ObjectFits, ObjectsAreFiles}
+use Rattle.object_laws.specs.ObjectLimits.{entries_of, symbol_table_index, ObjectFits, ObjectsAreFiles}
 use Rattle.object_laws.specs.SymbolReading.{symbol_table_section, symbol_names_section}
 use Rattle.object_laws.proofs.ObjectParts.{source_entries, entries_are, image_is, sources_long}
 

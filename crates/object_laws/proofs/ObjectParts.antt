@@ -32,7 +32,7 @@ pub image_is : (symbols : SymbolMap) (sections : LaidSections) → image_of symb
 unfolding image_of image_with
 image_is symbols sections = refl
 
-relocations_long : (symbols : SymbolMap) (all : LaidSections) (number : ℕ) (sections : LaidSections) → length (relocations_from symbols all number sections) ≡ length sections
+pub relocations_long : (symbols : SymbolMap) (all : LaidSections) (number : ℕ) (sections : LaidSections) → length (relocations_from symbols all number sections) ≡ length sections
 relocations_long symbols all number [] = refl
 relocations_long symbols all number (s ∷ ss) = ap suc (relocations_long symbols all (number + 1) ss)
 

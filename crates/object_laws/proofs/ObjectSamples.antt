@@ -1,11 +1,13 @@
 -- A small object meets what the laws take for granted, by computing.
-use Rattle.std.proofs.Common.{◌≡◌, ℕ, zero, suc, [], ◌∷◌, None, Some, length, refl, ap, ◌∙◌, arith, subst, codes}
+use Rattle.std.proofs.Common.{◌≡◌, ℕ, zero, suc, ◌^◌, ◌≤◌, [], ◌∷◌, None, Some, length, refl, ap, ◌∙◌, arith, subst, codes}
 use Rattle.std.specs.Prelude.{slice_get}
+use Rattle.std.proofs.lemmas.List.Elements.{All-nil, All-cons}
 use Rattle.asm_expr.specs.declared.naming.Name.TheVariants.{Plain}
 use Rattle.asm_frags.specs.SectionOf.{SectionOf}
 use Rattle.asm_symbols.specs.declared.entries.Binding.TheVariants.{Global}
 use Rattle.asm_symbols.specs.declared.entries.Meaning.TheVariants.{Label}
 use Rattle.asm_symbols.specs.declared.entries.Symbol.{Symbol}
+use Rattle.asm_symbols.specs.Interning.{names_size}
 use Rattle.asm_symbols.specs.SymbolMap.{SymbolMap}
 use Rattle.asm_relax.specs.Final.{address_of, shift_in, section_size}
 use Rattle.asm_relax.specs.Settling.{LaidItem, LaidSections}
@@ -13,15 +15,18 @@ use Rattle.elf_file.specs.Fields.{half, word, xword}
 use Rattle.elf_file.specs.Image.{all_names, with_names, file_with, file_of, header_table, null_header, elf_header}
 use Rattle.elf_file.specs.Sections.{section_names}
 use Rattle.elf_file.specs.StringTable.{string_table_of, name_offsets}
+use Rattle.elf_symbols.specs.Limits.{SymbolFits}
 use Rattle.elf_symbols.specs.SymbolTable.{SymbolEntry, listed, table_of, symbol_names, symbol_table_of}
 use Rattle.elf_symbols.specs.Aliases.{said_along, symbol_kind, symbol_size}
 use Rattle.elf_object.specs.Contents.{filled, interleaved, section_bytes}
 use Rattle.elf_object.specs.Image.{before_names, image_of, image_with}
+use Rattle.elf_object.specs.Limits.{SourceFits}
 use Rattle.elf_object.specs.Naming.{named_of}
 use Rattle.elf_object.specs.TableLaws.{table_in}
 use Rattle.object_laws.proofs.FileParts.{bodies, file_long}
 use Rattle.object_laws.proofs.ObjectParts.{image_is}
-use Rattle.object_laws.specs.ObjectLimits.{ObjectFits, SourceFits, SymbolFits, entries_of}
+use Rattle.object_laws.specs.ObjectLimits.{ObjectFits, entries_of}
+use Rattle.object_laws.specs.SmallSources.{IsSmallSource}
 
 -- `.globl f`, `f:`
 abbrev f : Symbol
@@ -93,3 +98,15 @@ fits = record {
     all zero s is = grind arith
     all (suc zero) s is = grind arith
     all (suc (suc i)) s is = absurd cc
+
+names_taken : names_size symbols ≡ 6
+names_taken = refl
+
+-- its source is small
+small : IsSmallSource symbols sections
+small = record {
+  section_count = omega arith;
+  section_names = All-cons (λ (section : SectionOf LaidItem). length section.name ≤ 2 ^ 16) text [] (omega arith) (All-nil (λ (section : SectionOf LaidItem). length section.name ≤ 2 ^ 16));
+  symbol_count = omega arith;
+  name_bytes = omega (arith, names_taken);
+}

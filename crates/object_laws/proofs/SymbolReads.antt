@@ -17,6 +17,7 @@ use Rattle.elf_symbols.specs.declared.entries.SymbolType.{SymbolType}
 use Rattle.elf_symbols.specs.declared.entries.SymbolType.TheVariants as type
 use Rattle.elf_symbols.specs.declared.symbol_values.SymbolSection.{SymbolSection}
 use Rattle.elf_symbols.specs.declared.symbol_values.SymbolSection.TheVariants.{Undefined, Absolute, Common, InSection}
+use Rattle.elf_symbols.specs.Limits.{SymbolFits}
 use Rattle.elf_symbols.specs.SymbolTable.{SymbolEntry, binding_number, type_number, visibility_number, section_index_of, symbol_bytes, all_symbol_bytes, symbol_names, symbol_table_of}
 use Rattle.elf_object.specs.declared.relocations.Relocation.{Relocation}
 use Rattle.elf_object.specs.Contents.{section_relocations, relocations_of}
@@ -24,7 +25,7 @@ use Rattle.elf_object.specs.Image.{image_of}
 use Rattle.elf_object.specs.Sections.{source_section, header_count, header_indices, header_indices_from, next_header}
 use Rattle.elf_object.specs.TableLaws.{table_in}
 use Rattle.object_laws.specs.FileReading.{SectionRead}
-use Rattle.object_laws.specs.ObjectLimits.{entries_of, symbol_table_index, SymbolFits, ObjectFits}
+use Rattle.object_laws.specs.ObjectLimits.{entries_of, symbol_table_index, ObjectFits}
 use Rattle.object_laws.specs.SymbolReading.{header_index, SourceSectionsRead, symbol_table_section, symbol_names_section, SymbolTablesRead, linked_text, read_symbol_name, SymbolsRead, null_symbol, NullSymbolsRead, SymbolsEnd}
 use Rattle.object_laws.proofs.FieldReads.{half_read, word_read, xword_read, piece_read, piece_past}
 use Rattle.object_laws.proofs.FileParts.{behind_front}

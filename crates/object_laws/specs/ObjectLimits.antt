@@ -1,15 +1,16 @@
 -- What lets the numbers of an object fit their fields (gABI, chapter 4, "Data Representation").
 use Rattle.std.specs.Prelude.{◌≡◌, ℕ, ◌+◌, ◌^◌, ◌<◌, List, length, Some, slice_get}
-use Rattle.asm_frags.specs.Alignments.{alignment_of_all}
 use Rattle.asm_frags.specs.SectionOf.{SectionOf}
 use Rattle.asm_symbols.specs.SymbolMap.{SymbolMap}
 use Rattle.asm_relax.specs.Settling.{LaidItem, LaidSections}
 use Rattle.elf_file.specs.Image.{all_names, file_with}
 use Rattle.elf_file.specs.Sections.{SectionEntry}
 use Rattle.elf_file.specs.StringTable.{string_table_of}
+use Rattle.elf_symbols.specs.Limits.{SymbolFits}
 use Rattle.elf_symbols.specs.SymbolTable.{SymbolEntry, symbol_names}
 use Rattle.elf_object.specs.Contents.{relocations_of}
 use Rattle.elf_object.specs.Image.{file_sections, image_of}
+use Rattle.elf_object.specs.Limits.{SourceFits}
 use Rattle.elf_object.specs.Sections.{next_header}
 use Rattle.elf_object.specs.TableLaws.{table_in}
 use Rattle.object_laws.specs.Limits.{FileFits}
@@ -21,18 +22,6 @@ entries_of symbols sections = file_sections symbols sections (relocations_of sym
 -- where the header of the symbol table stands: behind those of the sections of the source and of their relocations
 abbrev pub symbol_table_index : SymbolMap → LaidSections → ℕ
 symbol_table_index symbols sections = next_header 1 (relocations_of symbols sections)
-
--- each number of a section of the source fits its field, as those of the program do
-pub record SourceFits (section : SectionOf LaidItem) : Type 0 where
-  pub kind : section.kind < 2 ^ 32
-  pub flags : section.flags.0 < 2 ^ 64
-  pub alignment : alignment_of_all section.items < 2 ^ 64
-  pub entry_size : section.entry_size < 2 ^ 64
-
--- st_value and st_size are Elf64_Xwords, as the numbers of the program are
-pub record SymbolFits (entry : SymbolEntry) : Type 0 where
-  pub value : entry.value < 2 ^ 64
-  pub size : entry.size < 2 ^ 64
 
 -- the headers, symbols, names and bytes are few enough; behind the symbol table stand the headers of the names of
 -- symbols and of sections. The limits of a source keep them so: 2^26 bytes, 30,000 sections, 2^24 symbols

@@ -1,6 +1,7 @@
 //! Sections and symbols are read back from the object of them (gABI, chapter 4, "Sections" and "Symbol Table").
 
 ghost use Rattle.object_laws.specs.ObjectLimits.{ObjectsAreFiles};
+ghost use Rattle.object_laws.specs.SmallSources.{ObjectsFit};
 ghost use Rattle.object_laws.specs.SymbolReading.{
   LocalsRead,
   NullSymbolsRead,
@@ -12,6 +13,11 @@ ghost use Rattle.object_laws.specs.SymbolReading.{
 };
 
 use elf_object::locals_first;
+
+/// The numbers of the object of a small source fit where the program's own do, and it has no header of a reserved index.
+pub fn objects_fit()
+    ensures { ObjectsFit }
+{}
 
 /// An object whose numbers fit is such a file, so that all laws of files hold of it.
 pub fn objects_are_files()
