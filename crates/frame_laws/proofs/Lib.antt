@@ -12,6 +12,7 @@ mod SectionInFile
 mod MarkSymbols
 mod LaidMarks
 mod TableSections
+mod LocationRelocations
 mod AdvanceRoom
 mod PieceBytes
 mod EntryBytes

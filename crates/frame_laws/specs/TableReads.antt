@@ -1,5 +1,5 @@
 -- A frame table as it stands in the file (psABI for AMD64, section 4.2.4; DWARF 5, section 6.4.1). The common entry is the CIE, an entry of a procedure its FDE.
-use Rattle.std.specs.Prelude.{◌≡◌, ℕ, ◌+◌, ◌-◌, ◌^◌, ◌==◌, true, false, List, [], ◌∷◌, All, codes, drop, length, IsSomeAnd, Some, Ok, slice_get}
+use Rattle.std.specs.Prelude.{◌≡◌, ℕ, ◌+◌, ◌-◌, ◌^◌, ◌==◌, true, false, List, [], ◌∷◌, All, codes, drop, length, IsSomeAnd, Some, Ok, slice_get, if◌then◌else◌}
 use Rattle.std.specs.Option.{option_map_or}
 use Rattle.asm_expr.specs.Forms.{term_of}
 use Rattle.asm_frags.specs.declared.fields.Field.{Field}
@@ -18,16 +18,36 @@ use Rattle.eh_frame.specs.Pieces.{Tables}
 use Rattle.eh_frame.specs.Placing.{placed}
 use Rattle.elf_file.specs.Places.{PieceAt}
 use Rattle.elf_file.specs.Sections.{no_bits}
+use Rattle.elf_symbols.specs.declared.targets.Target.{Target}
+use Rattle.elf_symbols.specs.declared.targets.Target.TheVariants.{OfSection, OfSymbol}
+use Rattle.elf_symbols.specs.SymbolValues.{is_flagged}
+use Rattle.elf_object.specs.declared.relocations.Relocation.{Relocation}
+use Rattle.elf_object.specs.declared.relocations.RelocationKind.TheVariants.{Pc32}
+use Rattle.elf_object.specs.FieldRelocations.{HasOneRelocation}
 use Rattle.elf_object.specs.Image.{image_of}
 use Rattle.elf_object.specs.Places.{section_offset, moved}
+use Rattle.elf_object.specs.Relocations.{merge}
 use Rattle.frame_laws.specs.PlacedTables.{IsCovered, AreReady, IsLow}
 
 -- where a place of a section stands in the layout, from the beginning of its section, in bytes
 abbrev pub place_address : LaidSections → SectionPlace → ℕ
 place_address laid at = option_map_or (λ section. moved section.items at.place.item at.place.offset) (slice_get laid at.section) 0
 
--- a data field of four bytes at this offset of the section, which has this number, holds the distance from itself to a place
-pub record PointsTo (map : SymbolMap) (number : ℕ) (section : SectionOf LaidItem) (offset : ℕ) (at : SectionPlace) : Type 0 where
+-- what a relocation names that leads to a place: its section, or in a section with SHF_MERGE, whose parts the linker may move, the label at the place
+abbrev pub place_target : LaidSections → SectionPlace → ℕ → Target
+place_target laid at label = if is_flagged laid merge at.section then OfSymbol label else OfSection at.section
+
+-- how far the place stands behind what is named
+abbrev pub place_addend : LaidSections → SectionPlace → ℕ
+place_addend laid at = if is_flagged laid merge at.section then 0 else place_address laid at
+
+-- R_X86_64_PC32 of a place, by its section or the label there, for a field at this offset: S + A - P is the distance from the field to the place
+abbrev pub distance_relocation : LaidSections → ℕ → SectionPlace → ℕ → Relocation
+distance_relocation laid offset at label = record { offset = offset; kind = Pc32; target = place_target laid at label; addend = place_addend laid at }
+
+-- a data field of four bytes at this offset of the section, which has this number, holds the distance from itself to a place; where that is in another
+-- section, the field has one relocation, by which the linker puts the distance there
+pub record PointsTo (map : SymbolMap) (laid : LaidSections) (number : ℕ) (section : SectionOf LaidItem) (offset : ℕ) (at : SectionPlace) : Type 0 where
   pub index : ℕ
   pub field : Field
   pub there : slice_get section.fields index ≡ Some field
@@ -39,6 +59,7 @@ pub record PointsTo (map : SymbolMap) (number : ℕ) (section : SectionOf LaidIt
   pub label : ℕ
   pub form : field.form ≡ record { terms = term_of label 1 ∷ term_of own_place (2 ^ 64 - 1) ∷ []; constant = 0 }
   pub names_it : NamesPlace map label at
+  pub relocated : (at.section == number) ≡ false → HasOneRelocation map laid number index section field (distance_relocation laid offset at label)
 
 -- the FDE of a procedure stands at this offset of the section of this number in the file: it is whole, and covers as many bytes as the procedure; its CIE
 -- pointer leads back to the CIE, its initial location is the procedure's beginning, and at each distance from there the CIE and the FDE give the row that
@@ -48,7 +69,7 @@ pub record EntryReads (file : List ℕ) (map : SymbolMap) (laid : LaidSections) 
   pub stands : PieceAt file (section_offset map laid number + offset) entry
   pub whole : IsSomeAnd (entry_of entry) (λ read. read.0 ≡ from_start (place_address laid) frame (stop_of frame))
   pub back : IsSomeAnd (four_bytes_of (drop 4 entry)) (λ read. read.0 + common ≡ offset + 4)
-  pub start : IsSomeAnd (slice_get laid number) (λ section. PointsTo map number section (offset + 8) (place_in frame.section frame.start))
+  pub start : IsSomeAnd (slice_get laid number) (λ section. PointsTo map laid number section (offset + 8) (place_in frame.section frame.start))
   pub rows : (at : ℕ) → row_of common_bytes entry at ≡ row_meant (place_address laid) frame at
 
 -- from this offset to the end of the section stand the entries of these procedures, in their order, one directly behind the other

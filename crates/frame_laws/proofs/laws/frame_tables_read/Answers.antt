@@ -11,6 +11,7 @@ returns c =
           bytes = c.bytes_stand.ensures;
           values = c.values_stand.ensures;
           items = c.items_stand.ensures;
+          one = c.fields_have_one_relocation.ensures.said;
           addresses = c.sizes_add_up.ensures.item;
         };
         labels = record {
