@@ -7,6 +7,7 @@ mod NamedReads
 mod ObjectParts
 mod ObjectFit
 mod SymbolReads
+mod SectionOffsets
 mod LocalReads
 mod TableSearch
 mod RelocationFit

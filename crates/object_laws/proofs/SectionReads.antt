@@ -177,6 +177,16 @@ size_fits : (content : Content) (most : ℕ) → length (file_bytes content) ≤
 size_fits (stored bytes) most within small space = omega arith
 size_fits (nobits size) most within small space = space
 
+-- the header says where the bytes begin
+pub own_offset : (entries : List SectionEntry) (index : ℕ) (s : SectionEntry) → FileFits entries → slice_get (with_names entries) index ≡ Some s
+    → (own_header entries index s).offset ≡ body_offset header_end (with_names entries) index
+own_offset entries index s fits is =
+    let file = file_with entries in
+    let offset = body_offset header_end (with_names entries) index in
+    let within : offset + length (file_bytes s.content) ≤ length file = ends_within file offset (file_bytes s.content) (body_stands entries index s is) in
+    let small : length file < 2 ^ 64 = fits.size in
+    offset_in (slice_index_or (offsets entries) index 0) offset s (omega arith)
+
 -- what the header says, and the bytes that it leads to
 pub record HeaderRead (file : List ℕ) (h : SectionHeader) (s : SectionEntry) : Type 0 where
   pub describes : Describes h s
@@ -194,7 +204,7 @@ headers_read entries index s fits is =
     let within_file : length (file_bytes s.content) ≤ length file = omega arith in
     let small : length file < 2 ^ 64 = fits.size in
     let says = described name offset s own (size_fits s.content (length file) within_file small own.space) in
-    let place : (own_header entries index s).offset ≡ offset = offset_in name offset s (omega arith) in
+    let place : (own_header entries index s).offset ≡ offset = own_offset entries index s fits is in
     record {
       describes = says;
       bytes = content_read file (own_header entries index s) s.content (ap (λ n. n == no_bits) says.kind ∙ own.agrees) says.size

@@ -1,6 +1,7 @@
 //! Sections and symbols are read back from the object of them (gABI, chapter 4, "Sections" and "Symbol Table").
 
 ghost use Rattle.object_laws.specs.ObjectLimits.{ObjectsAreFiles};
+ghost use Rattle.object_laws.specs.SectionPlaces.{SourceSectionsFound};
 ghost use Rattle.object_laws.specs.SmallSources.{ObjectsFit};
 ghost use Rattle.object_laws.specs.SymbolReading.{
   LocalsRead,
@@ -27,6 +28,12 @@ pub fn objects_are_files()
 /// The header of each section of the source says what the section is, and leads to just its bytes and its name.
 pub fn source_sections_read()
     ensures { SourceSectionsRead }
+{}
+
+/// The header of each section of the source says where in the file its bytes begin.
+#[tactic(auto, using(crate::proofs::SectionOffsets::sections_found))]
+pub fn source_sections_found()
+    ensures { SourceSectionsFound }
 {}
 
 /// The headers of the symbol table and of the names of symbols.
