@@ -173,8 +173,8 @@ module _ (facts : TableFacts) (frame : Frame) (frames : List Frame) (tables afte
     few_bytes =
         let all = (all_there IsSmall laid put.section (kept_section after.symbols own.0 held) own.1 low.small).size in omega (arith, all)
 
-    few_symbols : length after.symbols.symbols ≤ own_place
-    few_symbols =
+    few_labels : length after.symbols.symbols ≤ 2 ^ 24 + 2 ^ 31
+    few_labels =
         let brings : BringsFew put.section put.first after =
         subst (λ (t : Tables). BringsFew put.section put.first t) (sym put.put)
         (facts.few put.section frame.pos (frame ∷ frames) put.first covered_written put.takes) in
@@ -185,6 +185,9 @@ module _ (facts : TableFacts) (frame : Frame) (frames : List Frame) (tables afte
         let few = ready.few in
         let bytes = few_bytes in
         omega (arith, count, same, few, bytes)
+
+    few_symbols : length after.symbols.symbols ≤ own_place
+    few_symbols = let few = few_labels in omega (arith, few)
 
     -- the section of the table, in the end
     abbrev section : TableSection
@@ -289,6 +292,7 @@ module _ (facts : TableFacts) (frame : Frame) (frames : List Frame) (tables afte
                 (λ symbol at there. subst (λ (t : Tables). NamesPlace t.symbols symbol at) (sym put.put) there)
                 (All-weaker (IsCovered tables.sections) (IsRising section) (frame_rising facts.pieces.file.layouts section tables.sections put.grows low.small) (frame ∷ frames) covered)
                 table.entries (facts.common_reaches put.section frame.pos put.first put.takes) (ap (λ (t : Tables). t.sections) (sym put.put)));
+            few = few_labels;
           }
 
   by_last : (before : LooseSection) → slice_get put.first.sections put.section ≡ Some before → takes_zeros_alone before ≡ false → (found : Option LooseSection)

@@ -1,5 +1,5 @@
 -- A frame table as it stands in the file (psABI for AMD64, section 4.2.4; DWARF 5, section 6.4.1). The common entry is the CIE, an entry of a procedure its FDE.
-use Rattle.std.specs.Prelude.{◌≡◌, ℕ, ◌+◌, ◌-◌, ◌^◌, ◌==◌, true, false, List, [], ◌∷◌, All, codes, drop, length, IsSomeAnd, Some, Ok, slice_get, if◌then◌else◌}
+use Rattle.std.specs.Prelude.{◌≡◌, ℕ, ◌+◌, ◌-◌, ◌^◌, ◌≤◌, ◌==◌, true, false, List, [], ◌∷◌, All, codes, drop, length, IsSomeAnd, Some, Ok, slice_get, if◌then◌else◌}
 use Rattle.std.specs.Option.{option_map_or}
 use Rattle.asm_expr.specs.Forms.{term_of}
 use Rattle.asm_frags.specs.declared.fields.Field.{Field}
@@ -84,13 +84,15 @@ pub record IsTableSection (section : SectionOf LaidItem) : Type 0 where
   pub named : is_section_named (codes ".eh_frame") section ≡ true
   pub filed : (section.kind == no_bits) ≡ false
 
--- the CIE stands in `.eh_frame` in the file, and directly behind it, up to the section's end, the FDE of each procedure in order
+-- the CIE stands in `.eh_frame` in the file, and directly behind it, up to the section's end, the FDE of each procedure in order; at most two labels a byte
+-- of the section are symbols for it
 pub record TableReads (file : List ℕ) (map : SymbolMap) (laid : LaidSections) (frames : List Frame) : Type 0 where
   pub number : ℕ
   pub section : IsSomeAnd (slice_get laid number) IsTableSection
   pub common : ℕ
   pub stands : PieceAt file (section_offset map laid number + common) common_bytes
   pub entries : EntriesFill file map laid number common (common + length common_bytes) frames
+  pub few : length map.symbols ≤ 2 ^ 24 + 2 ^ 31
 
 -- where what was placed is ready for a table, the procedures have ended and stand in order, and no section is too large: the table reads in the file as their
 -- directives mean
