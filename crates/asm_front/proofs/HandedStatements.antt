@@ -48,10 +48,16 @@ not_large : (large : Bool) (fault came : Assembly) (made : NotedObject) (files :
 not_large true fault came made files never is = absurd (never made files is)
 not_large false fault came made files never is = is
 
+-- the same, and the list that was handed out came to its end with what the statements place
+pub record MakesAtEnd (flags : Flags) (came : Step Placed FaultAt) (handed : List TokenStatement) (made : NotedObject) : Type 0 where
+  pub makes : Makes flags handed made
+  pub names : List (List ℕ)
+  pub comes : came ≡ ended names makes.whole
+
 -- the object of a source with these lines is made of the statements that are handed out
 by_lines : Places → InOrder → (flags : Flags) (contents : Contents) (name : List ℕ) (lines : Result (List StatementAt) LineCause) (made : NotedObject) (files : List (List ℕ))
     → assembly_by flags.fatal_warnings name (expansion placed_after told_by (Some contents) (name ∷ []) (nothing_placed flags.no_warn) lines) ≡ assembled made files
-    → Makes flags (handed_by flags.no_warn contents name lines) made
+    → MakesAtEnd flags (expansion placed_after told_by (Some contents) (name ∷ []) (nothing_placed flags.no_warn) lines) (handed_by flags.no_warn contents name lines) made
 unfolding expansion
 by_lines places in_order flags contents name (Err cause) made files is = absurd cc
 by_lines places in_order flags contents name (Ok statements) made files is =
@@ -59,16 +65,26 @@ by_lines places in_order flags contents name (Ok statements) made files is =
     let list = started (name ∷ []) (map in_tokens statements) in
     let end = ended_is flags.fatal_warnings name (steps placed_after told_by (Some contents) most_turns list empty) made files is in
     record {
-      whole = end.1;
-      places = sym (in_order (handed placed_after told_by (Some contents) most_turns list empty) empty)
-          ∙ places told_by (name ∷ []) (map in_tokens statements) (Some contents) empty most_turns end.0 end.1 end.2;
-      ends = end.3;
+      makes = record {
+        whole = end.1;
+        places = sym (in_order (handed placed_after told_by (Some contents) most_turns list empty) empty)
+            ∙ places told_by (name ∷ []) (map in_tokens statements) (Some contents) empty most_turns end.0 end.1 end.2;
+        ends = end.3;
+      };
+      names = end.0;
+      comes = end.2;
     }
 
--- the object of a source is made of the statements that are handed out
-pub handed_makes : Places → InOrder → (flags : Flags) (contents : Contents) (name source : List ℕ) (made : NotedObject) (files : List (List ℕ))
-    → assembly_of flags contents name source ≡ assembled made files → Makes flags (handed_of flags contents name source) made
+-- the object of a source is made of the statements that are handed out, at the end of its list
+pub handed_comes : Places → InOrder → (flags : Flags) (contents : Contents) (name source : List ℕ) (made : NotedObject) (files : List (List ℕ))
+    → assembly_of flags contents name source ≡ assembled made files
+    → MakesAtEnd flags (expansion_of flags.no_warn (Some contents) name source) (handed_of flags contents name source) made
 unfolding assembly_of expansion_of handed_of
-handed_makes places in_order flags contents name source made files is =
+handed_comes places in_order flags contents name source made files is =
     by_lines places in_order flags contents name (statements_of main_file source) made files
     (not_large (nat_lt most_bytes (length source)) (faulty (too_large main_file) (shown_files name [])) _ made files (λ made files same. absurd cc) is)
+
+-- the same, without the list
+pub handed_makes : Places → InOrder → (flags : Flags) (contents : Contents) (name source : List ℕ) (made : NotedObject) (files : List (List ℕ))
+    → assembly_of flags contents name source ≡ assembled made files → Makes flags (handed_of flags contents name source) made
+handed_makes places in_order flags contents name source made files is = (handed_comes places in_order flags contents name source made files is).makes

@@ -8,7 +8,9 @@ mod ToldFiles
 mod AnswerLemmas
 mod AnswerFacts
 mod WholeSources
+mod FittingObjects
 mod AnswersReadBack
+mod AnswersFit
 mod ObjectSamples
 mod CodeValues
 mod SmallForms

@@ -4,4 +4,5 @@ pub mod Ending
 pub mod Assembly
 pub mod Outcome
 pub mod ReadsBack
+pub mod Fitting
 pub mod Answering

@@ -1,12 +1,13 @@
 //! The answer of a call of `assemble`, by what expansion answered.
 
-ghost use Rattle.std.specs.Prelude.{◌≡◌, [], IfOk, string_bytes};
+ghost use Rattle.std.specs.Prelude.{◌≡◌, [], IfOk, OnOk, string_bytes};
 ghost use Rattle.asm_base.specs.declared.faults.Fault.TheVariants.{Statement};
 ghost use Rattle.asm_place.specs.Sources.{pos_at, fault_at};
 ghost use Rattle.asm_front.specs.Answering.{AnswersSmall, IsAnswer, IsAnswered, line_answer};
 ghost use Rattle.asm_front.specs.Assembly as spec;
 ghost use Rattle.asm_front.specs.Assembly.{ended_by, macro_fault, main_file, shown_name, shown_files};
 ghost use Rattle.asm_front.specs.Ending as ending;
+ghost use Rattle.asm_front.specs.Fitting.{AnswerFits, TablesFit};
 ghost use Rattle.asm_front.specs.Outcome.{flags_of};
 
 use crate::answers::{AsmFault, Assembled, Options};
@@ -132,8 +133,10 @@ fn ended(
     started: &Files,
     parts: Placed,
 ) -> Result<Assembled, AsmFault>
-    ensures { IsAnswered (ended_by (shown_files name.now started.now)
+    ensures answer { IsAnswered (ended_by (shown_files name.now started.now)
         (ending.finished fatal parts.sections parts.table parts.procedures parts.notes)) result }
+    ensures numbers { OnOk result (TablesFit
+        (ending.with_frames parts.procedures parts.table.symbols parts.sections)) }
 {
     match finished(alloc, fatal, parts) {
         Ok(NotedObject { object, notes }) => match shown_files(alloc, name, started) {
@@ -160,6 +163,7 @@ pub(crate) fn answer(
     ensures answer { IsAnswer (flags_of options.now) (string_bytes options.now.file)
         started.now placer expanded result }
     ensures small { AnswersSmall expanded result }
+    ensures numbers { AnswerFits expanded placer result }
 {
     let name = options.file.as_str();
     match expanded {

@@ -4,11 +4,12 @@ ghost use Rattle.std.specs.Prelude.{◌≡◌, [], ◌∷◌, string_bytes, IfOk
 ghost use Rattle.std.specs.Io.KnownBytes.{IsAtEnd};
 ghost use Rattle.asm_front.specs.Answering.{AssemblesText, CountsText, ReadsText, TakesText};
 ghost use Rattle.asm_front.specs.Outcome.{flags_of, Assembles, CountsMisses, HasAssemblyCause, KeepsCount, NamesFiles, ReadsFiles, TakesFiles, TakesSource};
+ghost use Rattle.asm_front.specs.Fitting.{SourceIsReadable, TextFits};
 ghost use Rattle.asm_front.specs.ReadsBack.{ReadsBackFrom};
 
 use crate::answering::{answer, fault_on_line, faulty};
 use crate::answers::{AsmFault, Assembled, Options};
-use crate::laws::{told_files_are_known, written_reads_back};
+use crate::laws::{told_files_are_known, written_is_readable, written_reads_back};
 use crate::placers::SourcePlacer;
 use asm_base::{Files, Inputs, NoMemory, StatementFault, Text, TextFault, read_text};
 use asm_macro::expand_source;
@@ -32,6 +33,8 @@ fn assemble_text<I: Inputs>(
     ins: &mut I,
 ) -> Result<Assembled, AsmFault>
     ensures outcome { AssemblesText (flags_of options.now) (I.contents ins.old)
+        (string_bytes options.now.file) text result }
+    ensures numbers { TextFits (flags_of options.now) (I.contents ins.old)
         (string_bytes options.now.file) text result }
     ensures names { NamesFiles (string_bytes options.now.file) result }
     ensures cause { HasAssemblyCause result (I.faults ins.old) (I.faults ins.new) }
@@ -59,7 +62,7 @@ fn assemble_text<I: Inputs>(
 }
 
 /// Reads the source and the files that it includes, and assembles it: its object, or its first fault.
-#[tactic(auto, using(crate::proofs::AnswersReadBack::no_object))]
+#[tactic(auto, using(crate::proofs::AnswersReadBack::no_object, crate::proofs::AnswersFit::nothing_readable))]
 pub fn assemble<I: Inputs>(
     alloc: Global,
     options: &Options,
@@ -68,6 +71,8 @@ pub fn assemble<I: Inputs>(
     ensures outcome { Assembles (flags_of options.now) (I.contents ins.old)
         (string_bytes options.now.file) result }
     ensures reads_back { ReadsBackFrom (flags_of options.now) (I.contents ins.old)
+        (string_bytes options.now.file) result }
+    ensures readable { SourceIsReadable (flags_of options.now) (I.contents ins.old)
         (string_bytes options.now.file) result }
     ensures names { NamesFiles (string_bytes options.now.file) result }
     ensures cause { HasAssemblyCause result (I.faults ins.old) (I.faults ins.new) }
@@ -82,6 +87,7 @@ pub fn assemble<I: Inputs>(
     ensures whole { OnOk result (IsAtEnd (I.rest ins.new)) }
 {
     written_reads_back();
+    written_is_readable();
     let name = options.file.as_str();
     match read_text(alloc, ins, name) {
         Ok(text) => assemble_text(alloc, options, text, ins),

@@ -3,6 +3,8 @@
 
 ghost use Rattle.std.specs.Prelude.{◌≡◌, ◌<◌, Ok, OnOk};
 ghost use Rattle.asm_front.specs.Ending as spec;
+ghost use Rattle.asm_front.specs.Fitting.{LayoutFits, TablesFit};
+ghost use Rattle.elf_object.specs.Limits.{NumbersFit};
 ghost use Rattle.asm_base.specs.Refusals.{Gives, Raises, Returns};
 ghost use Rattle.asm_base.specs.declared.refusals.Refusal.TheVariants as refusal;
 ghost use Rattle.cfi_directives.specs.Procedures.{frames_of};
@@ -128,8 +130,9 @@ fn made_end(
     table: &SymbolUses,
     notes: &[Noted],
 ) -> Result<Object, Refusal<Ended>>
-    ensures { Returns result (spec.made_end fatal table.now notes.now
+    ensures object { Returns result (spec.made_end fatal table.now notes.now
         (object_of table.now.symbols sections)) }
+    ensures numbers { OnOk result (NumbersFit table.now.symbols sections) }
 {
     match Object::new(alloc, sections, table.symbols()) {
         Ok(object) => match first_warning(fatal, notes) {
@@ -151,7 +154,8 @@ fn laid_end(
     table: &SymbolUses,
     notes: &[Noted],
 ) -> Result<Object, Refusal<Ended>>
-    ensures { Returns result (spec.laid_end fatal table.now notes.now (Ok sections)) }
+    ensures object { Returns result (spec.laid_end fatal table.now notes.now (Ok sections)) }
+    ensures numbers { OnOk result (NumbersFit table.now.symbols sections) }
 {
     match first_over(&sections) {
         Some(pos) => {
@@ -184,7 +188,9 @@ fn placed_object(
     table: &SymbolUses,
     notes: &[Noted],
 ) -> Result<Object, Refusal<Ended>>
-    ensures { Returns result (spec.laid_end fatal table.now notes.now
+    ensures object { Returns result (spec.laid_end fatal table.now notes.now
+        (layout_of table.now.symbols sections)) }
+    ensures numbers { OnOk result (LayoutFits table.now.symbols
         (layout_of table.now.symbols sections)) }
 {
     let mut plan = Plan::new(alloc, sections, table.symbols())?;
@@ -209,8 +215,10 @@ fn noted_object(
     table: &SymbolUses,
     notes: Notes,
 ) -> Result<NotedObject, Refusal<FaultAt>>
-    ensures { Returns result (spec.noted notes (spec.laid_end fatal table.now notes
+    ensures object { Returns result (spec.noted notes (spec.laid_end fatal table.now notes
         (layout_of table.now.symbols sections))) }
+    ensures numbers { OnOk result (LayoutFits table.now.symbols
+        (layout_of table.now.symbols sections)) }
 {
     match placed_object(alloc, fatal, sections, table, notes.as_slice()) {
         Ok(object) => Ok(NotedObject { object, notes }),
@@ -283,7 +291,9 @@ fn framed_object(
     frames: &Frames,
     notes: Notes,
 ) -> Result<NotedObject, Refusal<FaultAt>>
-    ensures { Returns result (spec.framed_end fatal table (spec.first_line frames.now) notes
+    ensures object { Returns result (spec.framed_end fatal table (spec.first_line frames.now) notes
+        (placed frames.now (tables_of table.symbols sections))) }
+    ensures numbers { OnOk result (TablesFit
         (placed frames.now (tables_of table.symbols sections))) }
 {
     match put_frames(alloc, frames, &mut table, &mut sections) {
@@ -301,8 +311,10 @@ pub(crate) fn finished(
     fatal: bool,
     parts: Placed,
 ) -> Result<NotedObject, Refusal<FaultAt>>
-    ensures { Returns result (spec.finished fatal parts.sections parts.table
+    ensures object { Returns result (spec.finished fatal parts.sections parts.table
         parts.procedures parts.notes) }
+    ensures numbers { OnOk result (TablesFit
+        (spec.with_frames parts.procedures parts.table.symbols parts.sections)) }
 {
     let Placed {
         sections,

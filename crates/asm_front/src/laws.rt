@@ -12,6 +12,7 @@ ghost use Rattle.cfi_directives.specs.Procedures.{Procedures};
 ghost use Rattle.asm_front.specs.Ending.{Flags, finished};
 ghost use Rattle.asm_front.specs.declared.ending.NotedObject.{NotedObject};
 ghost use Rattle.asm_front.specs.Assembly.{assembled, assembly_of, expansion_of, handed_of};
+ghost use Rattle.asm_front.specs.Fitting.{ObjectIsReadable, StepFits};
 ghost use Rattle.asm_front.specs.ReadsBack.{ReadsBack};
 
 use crate::placers::SourcePlacer;
@@ -19,16 +20,17 @@ use asm_expr::coefficients_add;
 use asm_macro::handed_statements_are_placed;
 use asm_place::{
     encoding_items, instruction_items, jump_items, jumps_read, places_stand, placing_in_order,
-    placing_within, procedures_stand_in_order,
+    placing_within, procedures_stand_in_order, sources_are_small,
 };
 use asm_relax::{
     distances_lead_to_labels, layouts_keep_sections, rows_rise, settled_is_placed,
     settled_items_have_room, sizes_add_up,
 };
-use eh_frame::{labels_stand, pieces_are_found};
+use eh_frame::{labels_stand, pieces_are_found, tables_add_little};
 use elf_object::{bytes_stand, items_stand, values_stand};
 use frame_laws::frame_tables_read;
 use item_bytes::jump_reads_back;
+use object_laws::{objects_fit, source_sections_found};
 use x86_encode::{encodings_are_codes, fields_stand_apart};
 use x86_lookup::bare_codes_read;
 use x86_table::read_one_way;
@@ -84,4 +86,23 @@ pub fn written_reads_back()
     jump_reads_back();
     procedures_stand_in_order();
     frame_tables_read();
+}
+
+/// Where the program's own numbers fit, all numbers of the object fit their fields in the file, it has fewer headers than the
+/// first reserved index, and a reader finds each section by its header, with its bytes where they stand in the file: at the
+/// offset from which `written_reads_back` counts the places of instructions.
+pub fn written_is_readable()
+    ensures { (flags : Flags) (contents : Contents) (name source : List ℕ) (made : NotedObject)
+        (files : List (List ℕ)) → assembly_of flags contents name source ≡ assembled made files
+        → StepFits (expansion_of flags.no_warn (Some contents) name source)
+        → ObjectIsReadable flags (handed_of flags contents name source) made.object }
+{
+    written_reads_back();
+    handed_statements_are_placed::<SourcePlacer>();
+    placing_in_order();
+    sources_are_small();
+    tables_add_little();
+    layouts_keep_sections();
+    objects_fit();
+    source_sections_found();
 }

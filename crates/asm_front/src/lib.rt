@@ -13,4 +13,6 @@ mod placers;
 pub use answers::{AsmFault, Assembled, Options};
 pub use assembling::assemble;
 pub use ending::NotedObject;
-pub use laws::{the_end_is_no_reading, told_files_are_known, written_reads_back};
+pub use laws::{
+    the_end_is_no_reading, told_files_are_known, written_is_readable, written_reads_back,
+};

@@ -5,5 +5,6 @@ mod Deliveries
 mod StartedFiles
 mod CommandSamples
 mod ReadsBackAgain
+mod ReadableObjects
 mod Reading
 mod Samples

@@ -4,3 +4,4 @@ pub mod Invoked
 pub mod Outcome
 pub mod Answers
 pub mod ReadsBack
+pub mod Readable

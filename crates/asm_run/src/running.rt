@@ -6,6 +6,7 @@ ghost use Rattle.asm_base.specs.Counts.{HasCause, HasRisen, IsQuiet};
 ghost use Rattle.asm_run.specs.Words.{command_of, file_of, output_of};
 ghost use Rattle.asm_run.specs.Invoked.{invoked};
 ghost use Rattle.asm_run.specs.Outcome.{invocation_outcome, outcome};
+ghost use Rattle.asm_run.specs.Readable.{CommandIsReadable, InvocationIsReadable};
 ghost use Rattle.asm_run.specs.ReadsBack.{CommandReadsBack};
 ghost use Rattle.asm_run.specs.Answers.{Answers, Completes, CountsMissingOutcome, MakesFile, MakesFileInPart, MakesInPart, MakesObject, ReadsAll};
 
@@ -82,7 +83,7 @@ pub fn deliver<O: Output, C: Console>(
 }
 
 /// Assembles the source that is asked for.
-#[tactic(auto, using(crate::proofs::Deliveries::delivered, crate::proofs::Deliveries::made_in_part, crate::proofs::Deliveries::told, crate::proofs::Deliveries::told_in_part, crate::proofs::StartedFiles::missed, crate::proofs::StartedFiles::none_started, crate::proofs::StartedFiles::all_read))]
+#[tactic(auto, using(crate::proofs::Deliveries::delivered, crate::proofs::Deliveries::made_in_part, crate::proofs::Deliveries::told, crate::proofs::Deliveries::told_in_part, crate::proofs::StartedFiles::missed, crate::proofs::StartedFiles::none_started, crate::proofs::StartedFiles::all_read, crate::proofs::ReadableObjects::object_found))]
 fn run_source<I: Inputs, O: Output, C: Console>(
     alloc: Global,
     invocation: Invocation,
@@ -111,6 +112,8 @@ fn run_source<I: Inputs, O: Output, C: Console>(
     ensures input_count { I.faults ins.old ≤ I.faults ins.new }
     ensures output_count { O.faults obj.old ≤ O.faults obj.new }
     ensures console_count { C.faults con.old ≤ C.faults con.new }
+    ensures readable { result ≡ Status.Done
+        → InvocationIsReadable (invoked invocation.entry) (I.contents ins.old) }
     ensures missing { CountsMissingOutcome
         (invocation_outcome (invoked invocation.entry) (I.contents ins.old))
         (I.missing ins.old) (I.missing ins.new) }
@@ -195,6 +198,10 @@ pub fn run<I: Inputs, O: Output, C: Console>(
     // and the frame table as the rows that directives mean.
     ensures reads_back { CommandReadsBack (command_of (map string_bytes words.now.items))
         (I.contents ins.old) }
+
+    // All numbers of the object that was made fit their fields, and a reader finds its sections by their headers, where those places are.
+    ensures readable { result ≡ Status.Done
+        → CommandIsReadable (command_of (map string_bytes words.now.items)) (I.contents ins.old) }
 
     // What is read.
     ensures missing { CountsMissingOutcome

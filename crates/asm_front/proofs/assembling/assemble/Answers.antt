@@ -7,6 +7,8 @@ use Rattle.asm_front.specs.Answering.{AssemblesText, CountsText, IsAnswered}
 use Rattle.asm_front.specs.Assembly.{faulty, shown_files}
 use Rattle.asm_front.specs.Outcome.{flags_of}
 use Rattle.asm_front.proofs.WholeSources.{text_read, text_too_large, text_missed_there}
+use Rattle.asm_front.specs.Fitting.{TextFits}
+use Rattle.asm_front.proofs.AnswersFit.{fault_readable, text_is_readable}
 use Rattle.asm_front.proofs.AnswersReadBack.{answer_reads_back}
 use Rattle.asm_front.proofs.assembling.assemble.Goals as goal
 
@@ -39,3 +41,16 @@ returns-in-Err-TooLarge-clause-outcome g c =
     c.fault_on_line-fault.ensures
     (subst (λ name. IsAnswered (faulty c.fault_on_line-fault.result (shown_files name [])) c.faulty-in-Err-TooLarge.result) c.as_str-name.ensures.value
     (subst (λ files. IsAnswered (faulty c.fault_on_line-fault.result (shown_files c.as_str-name.result.now files)) c.faulty-in-Err-TooLarge.result) c.new.ensures c.faulty-in-Err-TooLarge.ensures))
+
+pub returns-in-Ok-clause-readable : goal.returns-in-Ok-clause-readable
+returns-in-Ok-clause-readable g c =
+    text_is_readable c.written_is_readable.ensures (flags_of c.args.options.now) (g.I.Inputs.contents c.args.ins.now) (string_bytes c.args.options.now.file) c.in-Ok.text
+    (g.I.Inputs.rest c.read_text.new.ins) c.assemble_text.result
+    (subst (λ name. ReadsName (g.I.Inputs.contents c.args.ins.now) name (Ok c.in-Ok.text) (g.I.Inputs.rest c.read_text.new.ins)) c.as_str-name.ensures.value c.in-Ok.ensures.text)
+    (returns-in-Ok-clause-outcome g c)
+    (subst (λ contents. TextFits (flags_of c.args.options.now) contents (string_bytes c.args.options.now.file) c.in-Ok.text c.assemble_text.result) c.in-Ok.ensures.contents c.assemble_text.ensures.numbers)
+
+pub returns-in-Err-TooLarge-clause-readable : goal.returns-in-Err-TooLarge-clause-readable
+returns-in-Err-TooLarge-clause-readable g c =
+    fault_readable (flags_of c.args.options.now) (g.I.Inputs.contents c.args.ins.now) (string_bytes c.args.options.now.file) c.fault_on_line-fault.result _ c.faulty-in-Err-TooLarge.result
+    c.faulty-in-Err-TooLarge.ensures

@@ -3,6 +3,7 @@ use Rattle.std.proofs.Common.{◌≡◌, [], ◌∷◌, ap, ◌∙◌, string_by
 use Rattle.asm_front.specs.Outcome.{flags_of}
 use Rattle.asm_front.proofs.AnswerLemmas.{text_answered, text_missed}
 use Rattle.asm_front.proofs.AnswerFacts.{text_taken, text_large}
+use Rattle.asm_front.proofs.AnswersFit.{text_fits}
 use Rattle.asm_front.proofs.assembling.assemble_text.Goals as goal
 
 pub returns-clause-outcome : goal.returns-clause-outcome
@@ -27,3 +28,10 @@ pub returns-clause-at_most : goal.returns-clause-at_most
 returns-clause-at_most g c =
     text_taken (flags_of c.args.options.now) (string_bytes c.args.options.now.file) c.expand_source-expanded.new.files c.expand_source-expanded.new.placer c.expand_source-expanded.result
     c.answer.result (g.I.Inputs.taken c.args.ins.now) (g.I.Inputs.taken c.expand_source-expanded.new.ins) c.answer.ensures.answer c.expand_source-expanded.ensures.taken c.expand_source-expanded.ensures.started
+
+pub returns-clause-numbers : goal.returns-clause-numbers
+returns-clause-numbers g c =
+    let named : c.in-Ok.started ≡ string_bytes c.args.options.now.file ∷ [] = c.in-Ok.ensures ∙ ap (λ name. name ∷ []) c.as_str-name.ensures.value in
+    text_fits c.told_files_are_known.ensures (flags_of c.args.options.now) (g.I.Inputs.contents c.args.ins.now) (string_bytes c.args.options.now.file) c.args.text c.in-Ok.started
+    c.expand_source-expanded.new.files c.in-Ok-new.placer c.expand_source-expanded.new.placer c.expand_source-expanded.result c.answer.result named c.in-Ok-new.ensures
+    c.expand_source-expanded.ensures.outcome c.answer.ensures.answer c.answer.ensures.numbers

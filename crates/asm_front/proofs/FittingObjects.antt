@@ -1,0 +1,153 @@
+-- The numbers of the object of a source fit their fields, and a reader finds its sections.
+use Rattle.std.proofs.Common.{◌≡◌, ℕ, ◌+◌, ◌*◌, ◌^◌, ◌≤◌, ◌<◌, ◌&&◌, ◌⊎◌, inl, inr, nat_le, Bool, true, All, List, [], ◌∷◌, ◌++◌, codes, drop, length, map, Option, None, Some, Result, Ok, Err, refl, sym, ap, ◌∙◌, subst, arith, length-append}
+use Rattle.std.proofs.lemmas.Bool.Decides.{nat_tests}
+use Rattle.std.proofs.lemmas.List.{length-map}
+use Rattle.std.proofs.lemmas.List.Elements.{All-nil, All-cons, All-head, All-tail, All-map, All-push}
+use Rattle.asm_base.specs.Inputs.{Contents}
+use Rattle.asm_base.specs.declared.causes.FragCause.{FragCause}
+use Rattle.asm_expr.specs.Forms.{Form}
+use Rattle.asm_lines.specs.NextStatements.{TokenStatement}
+use Rattle.asm_symbols.specs.Interning.{names_size, is_within_limits}
+use Rattle.asm_symbols.specs.SymbolMap.{SymbolMap}
+use Rattle.asm_frags.specs.SectionOf.{SectionOf}
+use Rattle.asm_frags.specs.Substituting.{laid_section, laid_sections}
+use Rattle.asm_frags.specs.Writing.{LooseSection}
+use Rattle.item_rows.specs.ItemRows.{row_count}
+use Rattle.asm_relax.specs.KeptSections.{LayoutsKeepSections}
+use Rattle.asm_relax.specs.Layout.{laid_out, laid_by}
+use Rattle.asm_relax.specs.Settling.{LaidItem, LaidSections, planned, settled_sections, layout_of}
+use Rattle.cfi_directives.specs.declared.frames.Frame.{Frame}
+use Rattle.cfi_directives.specs.Procedures.{frames_of}
+use Rattle.eh_frame.specs.Additions.{section_names, AddsLittle, TablesAddLittle}
+use Rattle.eh_frame.specs.Pieces.{Tables, tables_of}
+use Rattle.eh_frame.specs.Placing.{placed}
+use Rattle.elf_object.specs.Limits.{NumbersFit}
+use Rattle.frame_laws.specs.TableReads.{TableReads}
+use Rattle.object_laws.specs.ObjectLimits.{ObjectFits}
+use Rattle.object_laws.specs.SectionPlaces.{SourceSectionsFound}
+use Rattle.object_laws.specs.SmallSources.{IsSmallSource, ObjectsFit}
+use Rattle.asm_place.specs.SourceSizes.{HasShortName, IsSmall}
+use Rattle.asm_place.specs.Sources.{place_all}
+use Rattle.asm_place.specs.declared.place_faults.FaultAt.{FaultAt}
+use Rattle.asm_values.specs.State.{Placed, nothing_placed}
+use Rattle.asm_macro.specs.Placing.{Step, ended}
+use Rattle.asm_front.specs.Assembly.{assembled, assembly_of, expansion_of, handed_of}
+use Rattle.asm_front.specs.Ending.{Flags, framed}
+use Rattle.asm_front.specs.Fitting.{LayoutFits, TablesFit, StepFits, IsReadable, ObjectIsReadable}
+use Rattle.asm_front.specs.ReadsBack.{FramesReadBack, Origin, ReadsBack}
+use Rattle.asm_front.specs.declared.ending.NotedObject.{NotedObject}
+
+-- what lower layers say of small sources and their objects
+pub record SmallFacts : Type 0 where
+  pub small : (statements : List TokenStatement) (no_warn : Bool) (placed : Placed) → place_all statements (nothing_placed no_warn) ≡ Ok placed → IsSmall placed
+  pub little : TablesAddLittle
+  pub layouts : LayoutsKeepSections
+  pub fit : ObjectsFit
+  pub found : SourceSectionsFound
+
+-- a name of at most 2^16 bytes
+abbrev IsShort : List ℕ → Type 0
+IsShort name = length name ≤ 2 ^ 16
+
+-- the names of sections
+abbrev names_of : {Item : Type 0} → List (SectionOf Item) → List (List ℕ)
+names_of sections = map (λ section. section.name) sections
+
+-- names are short where those of sections are
+short_sections : {Item : Type 0} (sections : List (SectionOf Item)) → All IsShort (names_of sections) → All (λ section. length section.name ≤ 2 ^ 16) sections
+short_sections [] short = All-nil _
+short_sections (s ∷ ss) short =
+    All-cons (λ section. length section.name ≤ 2 ^ 16) s ss (All-head IsShort s.name (names_of ss) short) (short_sections ss (All-tail IsShort s.name (names_of ss) short))
+
+-- a layout keeps the names of its sections
+names_out : (shifts : List ℕ) (substitute : Form → Form) (sections : List LooseSection) → names_of (laid_out shifts (laid_sections substitute sections)) ≡ names_of sections
+names_out shifts substitute [] = refl
+names_out shifts substitute (s ∷ ss) = ap (λ (names : List (List ℕ)). s.name ∷ names) (names_out (drop (row_count (laid_section substitute s)) shifts) substitute ss)
+
+names_settled : (symbols : SymbolMap) (sections : List LooseSection) → names_of (settled_sections symbols (planned symbols sections)) ≡ names_of sections
+unfolding settled_sections planned laid_by
+names_settled symbols sections = names_out _ _ sections
+
+names_laid : LayoutsKeepSections → (symbols : SymbolMap) (sections : List LooseSection) (laid : LaidSections) → layout_of symbols sections ≡ Ok laid → names_of laid ≡ names_of sections
+names_laid layouts symbols sections laid settles = ap (λ (all : LaidSections). names_of all) (layouts.settled symbols sections laid settles) ∙ names_settled symbols sections
+
+-- the names with a frame table: at most one more
+with_table : (before after : List (List ℕ)) → (after ≡ before) ⊎ (after ≡ before ++ codes ".eh_frame" ∷ []) → All IsShort before → length before ≤ 30003
+    → All IsShort after × (length after ≤ 30004)
+with_table before after (inl same) short few = (subst (All IsShort) (sym same) short, let long = ap length same in omega arith)
+with_table before after (inr more) short few =
+    let long : length after ≡ length before + 1 = ap length more ∙ length-append before (codes ".eh_frame" ∷ []) in
+    (subst (All IsShort) (sym more) (All-push IsShort before (codes ".eh_frame") short (omega arith)), omega arith)
+
+-- the limits of symbols, as numbers
+within_limits : (count size : ℕ) → (nat_le count (2 ^ 24) && nat_le size (2 ^ 31)) ≡ true → (count ≤ 2 ^ 24) × (size ≤ 2 ^ 31)
+within_limits count size within = (grind (arith, nat_tests), grind (arith, nat_tests))
+
+-- what statements place, with its frame table and laid out, is a small source
+small_source : SmallFacts → (whole : Placed) (tables : Tables) (laid : LaidSections) → IsSmall whole → framed whole ≡ Ok tables → layout_of tables.symbols tables.sections ≡ Ok laid
+    → length tables.symbols.symbols ≤ 2 ^ 24 + 2 ^ 31 → IsSmallSource tables.symbols laid
+small_source facts whole tables laid small frames settles few =
+    let adds : AddsLittle (tables_of whole.table.symbols whole.sections) tables = facts.little (frames_of whole.procedures) (tables_of whole.table.symbols whole.sections) tables frames in
+    let short : All IsShort (names_of whole.sections) = All-map IsShort (λ (section : LooseSection). section.name) whole.sections small.sections.named in
+    let count : length (names_of whole.sections) ≡ length whole.sections = length-map whole.sections (λ (section : LooseSection). section.name) in
+    let most = small.sections.few in
+    let named = with_table (names_of whole.sections) (names_of tables.sections) adds.sections short (omega arith) in
+    let same : names_of laid ≡ names_of tables.sections = names_laid facts.layouts tables.symbols tables.sections laid settles in
+    let laid_short : All IsShort (names_of laid) = subst (All IsShort) (sym same) named.0 in
+    let laid_count : length (names_of laid) ≡ length laid = length-map laid (λ (section : SectionOf LaidItem). section.name) in
+    let names_count : length (names_of laid) ≡ length (names_of tables.sections) = ap length same in
+    let most_names = named.1 in
+    let limits = within_limits (length whole.table.symbols.symbols + length whole.table.symbols.files) (names_size whole.table.symbols) small.symbols in
+    let symbols = limits.0 in
+    let bytes = limits.1 in
+    let files : length tables.symbols.files ≡ length whole.table.symbols.files = ap length adds.files in
+    let size : names_size tables.symbols ≡ names_size whole.table.symbols = adds.size in
+    record {
+      section_count = omega arith;
+      section_names = short_sections laid laid_short;
+      symbol_count = omega arith;
+      name_bytes = omega arith;
+    }
+
+-- a frame table brings few symbols
+few_symbols : (object : List ℕ) (whole : Placed) (tables : Tables) (laid : LaidSections) → IsSmall whole → FramesReadBack object whole tables.symbols laid
+    → (frames : List Frame) → frames_of whole.procedures ≡ frames → placed frames (tables_of whole.table.symbols whole.sections) ≡ Ok tables
+    → length tables.symbols.symbols ≤ 2 ^ 24 + 2 ^ 31
+unfolding placed
+few_symbols object whole tables laid small read [] is made =
+    let limits = within_limits (length whole.table.symbols.symbols + length whole.table.symbols.files) (names_size whole.table.symbols) small.symbols in
+    let most = limits.0 in
+    let same : tables_of whole.table.symbols whole.sections ≡ tables = cc in
+    let count : length whole.table.symbols.symbols ≡ length tables.symbols.symbols = ap (λ (t : Tables). length t.symbols.symbols) same in
+    omega arith
+few_symbols object whole tables laid small read (frame ∷ frames) is made = (read frame frames is).few
+
+-- one answer has one value
+same_answer : {A E : Type 0} (answer : Result A E) (one other : A) → answer ≡ Ok one → answer ≡ Ok other → one ≡ other
+same_answer answer one other is also = cc
+
+-- where the program's own numbers fit, all of the object do, and its sections are found
+readable : SmallFacts → (object : List ℕ) (whole : Placed) (tables : Tables) (laid : LaidSections) → IsSmall whole → framed whole ≡ Ok tables
+    → layout_of tables.symbols tables.sections ≡ Ok laid → FramesReadBack object whole tables.symbols laid → TablesFit (framed whole) → IsReadable tables.symbols laid
+readable facts object whole tables laid small frames settles read fit =
+    let of_tables : LayoutFits tables.symbols (layout_of tables.symbols tables.sections) = subst TablesFit frames fit in
+    let numbers : NumbersFit tables.symbols laid = subst (LayoutFits tables.symbols) settles of_tables in
+    let few = few_symbols object whole tables laid small read (frames_of whole.procedures) refl frames in
+    let all = facts.fit tables.symbols laid numbers (small_source facts whole tables laid small frames settles few) in
+    record { fits = all.0; few = all.1; sections = facts.found tables.symbols laid all.0 }
+
+-- what is said of the object of one layout is said of the one that it is made of
+pub object_is_readable : SmallFacts → (flags : Flags) (handed : List TokenStatement) (object : List ℕ) (names : List (List ℕ)) (came : Step Placed FaultAt) (whole : Placed)
+    → ReadsBack flags handed object → came ≡ ended names whole → place_all handed (nothing_placed flags.no_warn) ≡ Ok whole → StepFits came → ObjectIsReadable flags handed object
+object_is_readable facts flags handed object names came whole read is places fit made =
+    let end : TablesFit (framed whole) = subst StepFits is fit in
+    let one : whole ≡ made.whole = same_answer _ whole made.whole places made.places in
+    let other : read.made.whole ≡ made.whole = same_answer _ read.made.whole made.whole read.made.places made.places in
+    let tables : read.made.tables ≡ made.tables = same_answer _ read.made.tables made.tables read.made.frames (ap framed other ∙ made.frames) in
+    let laid : read.made.laid ≡ made.laid =
+    same_answer _ read.made.laid made.laid read.made.settles (ap (λ (t : Tables). layout_of t.symbols t.sections) tables ∙ made.settles) in
+    let first = subst (λ (w : Placed). FramesReadBack object w read.made.tables.symbols read.made.laid) other read.frames in
+    let second = subst (λ (t : Tables). FramesReadBack object made.whole t.symbols read.made.laid) tables first in
+    let frames : FramesReadBack object made.whole made.tables.symbols made.laid = subst (λ (l : LaidSections). FramesReadBack object made.whole made.tables.symbols l) laid second in
+    readable facts object made.whole made.tables made.laid (facts.small handed flags.no_warn made.whole made.places) made.frames made.settles frames
+    (subst (λ (w : Placed). TablesFit (framed w)) one end)

@@ -1,0 +1,74 @@
+-- The numbers of the object that a source comes to fit their fields, and a reader finds its sections.
+use Rattle.std.specs.Prelude.{ℕ, List, Option, None, Some, Result, Ok, Err}
+use Rattle.asm_base.specs.Inputs.{Contents}
+use Rattle.asm_base.specs.declared.causes.FragCause.{FragCause}
+use Rattle.asm_lines.specs.NextStatements.{TokenStatement}
+use Rattle.asm_symbols.specs.SymbolMap.{SymbolMap}
+use Rattle.asm_relax.specs.declared.faults.LayoutFault.{LayoutFault}
+use Rattle.asm_relax.specs.Settling.{LaidSections, layout_of}
+use Rattle.eh_frame.specs.Pieces.{Tables}
+use Rattle.elf_object.specs.Limits.{NumbersFit}
+use Rattle.object_laws.specs.ObjectLimits.{ObjectFits}
+use Rattle.object_laws.specs.SmallSources.{HasFewHeaders}
+use Rattle.object_laws.specs.SectionPlaces.{SectionsFound}
+use Rattle.asm_macro.specs.Placing.{Step, ended}
+use Rattle.asm_macro.specs.declared.faults.ExpandFault.{ExpandFault}
+use Rattle.asm_place.specs.declared.place_faults.FaultAt.{FaultAt}
+use Rattle.asm_values.specs.State.{Placed}
+use Rattle.asm_front.specs.Ending.{Flags, framed}
+use Rattle.asm_front.specs.Assembly.{expansion_of, handed_of}
+use Rattle.asm_front.specs.ReadsBack.{Origin}
+use Rattle.asm_front.specs.declared.answers.Assembled.{Assembled}
+use Rattle.asm_front.specs.declared.answers.AsmFault.{AsmFault}
+
+-- THE PROGRAM'S OWN NUMBERS
+
+-- where there is a layout, the numbers of its object fit as far as the program's own do
+abbrev pub LayoutFits : SymbolMap → Result LaidSections LayoutFault → Type 0
+LayoutFits symbols (Ok laid) = NumbersFit symbols laid
+LayoutFits symbols (Err fault) = Unit {0}
+
+-- where there is a frame table, so do those of the layout with it
+abbrev pub TablesFit : Result Tables FragCause → Type 0
+TablesFit (Ok tables) = LayoutFits tables.symbols (layout_of tables.symbols tables.sections)
+TablesFit (Err cause) = Unit {0}
+
+-- where the list came to its end and there is an object, so do those of what was placed
+abbrev pub AnswerFits : Result (Unit {0}) (ExpandFault FaultAt) → Placed → Result Assembled AsmFault → Type 0
+AnswerFits (Ok u) placed (Ok made) = TablesFit (framed placed)
+AnswerFits (Ok u) placed (Err fault) = Unit {0}
+AnswerFits (Err stop) placed result = Unit {0}
+
+-- where a list comes to its end, so do those of what it places
+abbrev pub StepFits : Step Placed FaultAt → Type 0
+StepFits (ended files whole) = TablesFit (framed whole)
+StepFits _ = Unit {0}
+
+-- where there is an object, so do those of what the text of a source comes to
+abbrev pub TextFits : Flags → Option Contents → List ℕ → List ℕ → Result Assembled AsmFault → Type 0
+TextFits flags None name text result = Unit {0}
+TextFits flags (Some contents) name text (Ok made) = StepFits (expansion_of flags.no_warn (Some contents) name text)
+TextFits flags (Some contents) name text (Err fault) = Unit {0}
+
+-- WHAT A READER FINDS
+
+-- all numbers of the object fit their fields, it has few headers, and each section is found by its header, with its bytes where they stand in the file
+pub record IsReadable (symbols : SymbolMap) (laid : LaidSections) : Type 0 where
+  pub fits : ObjectFits symbols laid
+  pub few : HasFewHeaders symbols laid
+  pub sections : SectionsFound symbols laid
+
+-- so it is with the layout that the object of these statements is made of
+abbrev pub ObjectIsReadable : Flags → List TokenStatement → List ℕ → Type 0
+ObjectIsReadable flags handed object = (made : Origin flags handed object) → IsReadable made.tables.symbols made.laid
+
+-- where the file of the name is there, its object is readable
+abbrev pub FileIsReadable : Flags → Contents → List ℕ → Option (List ℕ) → Result Assembled AsmFault → Type 0
+FileIsReadable flags contents name None result = Unit {0}
+FileIsReadable flags contents name (Some source) (Ok made) = ObjectIsReadable flags (handed_of flags contents name source) made.object
+FileIsReadable flags contents name (Some source) (Err fault) = Unit {0}
+
+-- where the contents of the name are known, the object is readable
+abbrev pub SourceIsReadable : Flags → Option Contents → List ℕ → Result Assembled AsmFault → Type 0
+SourceIsReadable flags None name result = Unit {0}
+SourceIsReadable flags (Some contents) name result = FileIsReadable flags contents name (contents name) result
