@@ -10,7 +10,7 @@ SOURCES := $(shell find $(wildcard $(foreach part,src specs proofs data,$(CRATES
 
 all: build/as build/gcc/as
 
-# Proofs are those of the gate: what one proved, the other keeps.
+# Proofs are those of the gate: an rt that keeps proofs makes them once for both.
 build/as: crates.txt HANDLES $(SOURCES)
 	@mkdir -p build
 	@tools/prove.sh $@ build/log $(CRATES)

@@ -1,9 +1,9 @@
 #!/usr/bin/env bash
 # Proves crates, of which the last is a program, and puts the program, as LLVM builds it, at OUT:
 #   tools/prove.sh OUT LOG CRATE..
-# It is done by `rt ci`, in a copy of the crates without must-fail/. Of its proofs rt keeps those of unchanged crates, by
-# the sums of their files: a later run here, or of the whole gate, does not make them again. The copy stands outside the
-# repository, where `rt ci` would refuse a second crates.txt.
+# It is done by `rt ci`, in a copy of the crates without must-fail/. An rt that keeps
+# the proofs of unchanged crates, by the sums of their files, does not make them again in a later run here, or of the
+# whole gate. The copy stands outside the repository, where `rt ci` would refuse a second crates.txt.
 set -euo pipefail
 out=$1 log=$2 program=${!#}
 shift 2
