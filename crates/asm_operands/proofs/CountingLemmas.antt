@@ -1,4 +1,4 @@
--- What the reading of an expression of numbers finds, step by step.
+-- What the reading of an expression finds, step by step.
 use Rattle.std.proofs.Common.{◌≡◌, ℕ, zero, suc, ◌+◌, ◌-◌, ◌<◌, ◌≤◌, Bool, true, false, cond, nat_lt, nat_le, List, [], ◌∷◌, Option, Some, None, Ok, Err, length, get_or, drop, map, refl, sym, ap, ◌∙◌, arith, length-drop}
 use Rattle.std.proofs.lemmas.Bool.Decides.{nat_tests}
 use Rattle.std.proofs.lemmas.List.{length-map}
@@ -8,20 +8,19 @@ use Rattle.asm_base.specs.Refusals.{◌>>=◌}
 use Rattle.asm_expr.specs.declared.faults.ExprCause.TheVariants.{BadExpression, ExpressionTooDeep}
 use Rattle.asm_expr.specs.declared.trees.UnaryOp.{UnaryOp}
 use Rattle.asm_expr.specs.declared.trees.BinaryOp.{BinaryOp}
-use Rattle.asm_expr.specs.Trees.{Tree, number, unary, binary, height}
-use Rattle.asm_expr.specs.Arithmetic.{turned, combined}
+use Rattle.asm_expr.specs.Trees.{Tree, unary, binary, height}
 use Rattle.asm_expr.specs.declared.trees.BinaryOp.TheVariants.{Mul, Div, Rem, Shl, Shr, Or, And, Xor, OrNot, Add, Sub, Eq, Ne, Lt, Gt, Le, Ge, BothTrue, OneTrue}
 use Rattle.expr_texts.specs.Operators.{opens, closes, prefix_of, operator_of, level_of}
 use Rattle.expr_texts.specs.Leaves.{leaf_of}
 use Rattle.expr_texts.specs.Reading.{Reading, Read, read, whole, closed, closed_by, deeper, unopened, operand_of, operator_at, operator_from, follow, reading, read_at, read_more}
 use Rattle.expr_texts.specs.Found.{spelled_from, operator_in}
 use Rattle.asm_operands.specs.declared.constants.Counted.{Counted}
-use Rattle.asm_operands.specs.Constants.{IsConstant}
+use Rattle.asm_operands.specs.Worths.{IsWorth}
 use Rattle.asm_operands.specs.Levels.{level_by}
 use Rattle.asm_operands.specs.Counting.{Counts, operand_in, first_level, ReadsOperand, ReadsExpression, ReadsMore, IsRead}
 use Rattle.asm_operands.proofs.LeafLemmas.{leaf_reads}
 use Rattle.asm_operands.proofs.TokenLists.{none_left, one_left}
-use Rattle.asm_operands.proofs.TreeCounts.{number_counts, lifted, unary_counts, binary_counts, whole_low}
+use Rattle.asm_operands.proofs.TreeCounts.{leaf_counts, lifted, unary_counts, binary_counts, whole_low}
 
 -- one construct more may be open
 under : (b : Bool) (depth : ℕ) (inner : Read) → nat_lt depth 64 ≡ b → depth < 64 → cond b inner (Err ExpressionTooDeep) ≡ inner
@@ -38,10 +37,10 @@ operand_at : (tokens : List Token) (at steps depth : ℕ) (d : Token) → at < l
 unfolding operand_in
 operand_at tokens at steps depth d inside = ap (operand_in steps depth) (one_left tokens at d inside)
 
-pub leaf_operand : (tokens : List Token) (at depth n : ℕ) (d : Token) → at < length tokens → leaf_of (spelled (get_or tokens at d)) ≡ Ok (number n)
-    → ReadsOperand depth (spelled_from tokens at) (read (number n) (spelled_from tokens (at + 1)))
-leaf_operand tokens at depth n d inside is steps few =
-    operand_at tokens at steps depth d inside ∙ leaf_reads (spelled (get_or tokens at d)) (read_at steps) depth n (spelled_from tokens (at + 1)) is
+pub leaf_operand : (tokens : List Token) (at depth : ℕ) (leaf : Tree) (d : Token) → at < length tokens → leaf_of (spelled (get_or tokens at d)) ≡ Ok leaf
+    → ReadsOperand depth (spelled_from tokens at) (read leaf (spelled_from tokens (at + 1)))
+leaf_operand tokens at depth leaf d inside is steps few =
+    operand_at tokens at steps depth d inside ∙ leaf_reads (spelled (get_or tokens at d)) (read_at steps) depth leaf (spelled_from tokens (at + 1)) is
 
 -- with parentheses
 closed_at : (tokens : List Token) (next : ℕ) (tree : Tree) (d : Token) → next < length tokens → true ≡ closes (spelled (get_or tokens next d))
@@ -190,104 +189,109 @@ from_some level token (Some op) is some high = record {
     by false test = absurd (grind (arith, nat_tests))
 
 -- what an expression counts as far as it is read
-pub record IsBegun (tokens : List Token) (at level depth : ℕ) (left : Counted) : Type 0 where
+pub record IsBegun {V : Type 0} (Worth : Tree → V → Type 0) (tokens : List Token) (at level depth : ℕ) (left : Counted V) : Type 0 where
   pub tree : Tree
   pub reads : (found : Reading) → ReadsMore level depth tree (spelled_from tokens left.next) found → ReadsExpression level depth (spelled_from tokens at) found
-  pub counts : Counts tree left.value (left.next - at)
+  pub counts : Counts Worth tree left.value (left.next - at)
   pub later : at < left.next
   pub within : left.next ≤ length tokens
 
-pub begun_by : (tokens : List Token) (at level depth : ℕ) (left : Counted) → IsRead (ReadsOperand depth) tokens at left → IsBegun tokens at level depth left
-begun_by tokens at level depth left is = record {
-  tree = is.tree;
-  reads = λ found more. begins level depth (spelled_from tokens at) (spelled_from tokens left.next) is.tree found
-      (let all = left_from tokens at in let rest = left_from tokens left.next in let later = is.later in let within = is.within in omega arith) is.reads more;
-  counts = is.counts;
-  later = is.later;
-  within = is.within;
-}
+module _ {V : Type 0} (Worth : Tree → V → Type 0) where
+  pub begun_by : (tokens : List Token) (at level depth : ℕ) (left : Counted V) → IsRead Worth (ReadsOperand depth) tokens at left → IsBegun Worth tokens at level depth left
+  begun_by tokens at level depth left is = record {
+    tree = is.tree;
+    reads = λ found more. begins level depth (spelled_from tokens at) (spelled_from tokens left.next) is.tree found
+        (let all = left_from tokens at in let rest = left_from tokens left.next in let later = is.later in let within = is.within in omega arith) is.reads more;
+    counts = is.counts;
+    later = is.later;
+    within = is.within;
+  }
 
-pub ended_by : (tokens : List Token) (at level depth : ℕ) (left : Counted) → left.level ≡ first_level (spelled_from tokens left.next) → left.level < level → IsBegun tokens at level depth left
-    → IsRead (ReadsExpression level depth) tokens at left
-ended_by tokens at level depth left now low is = record {
-  tree = is.tree;
-  reads = is.reads (read is.tree (spelled_from tokens left.next)) (stops level depth is.tree (spelled_from tokens left.next) (none_in level (spelled_from tokens left.next) (rw now at low)));
-  counts = is.counts;
-  later = is.later;
-  within = is.within;
-  level = now;
-}
+  pub ended_by : (tokens : List Token) (at level depth : ℕ) (left : Counted V) → left.level ≡ first_level (spelled_from tokens left.next) → left.level < level
+      → IsBegun Worth tokens at level depth left → IsRead Worth (ReadsExpression level depth) tokens at left
+  ended_by tokens at level depth left now low is = record {
+    tree = is.tree;
+    reads = is.reads (read is.tree (spelled_from tokens left.next)) (stops level depth is.tree (spelled_from tokens left.next) (none_in level (spelled_from tokens left.next) (rw now at low)));
+    counts = is.counts;
+    later = is.later;
+    within = is.within;
+    level = now;
+  }
 
-pub gone_on : (tokens : List Token) (at level depth : ℕ) (op : BinaryOp) (left right joined : Counted) → length tokens ≤ 200 → Some op ≡ operator_in level (spelled_from tokens left.next)
-    → IsRead (ReadsExpression (level_of op + 1) depth) tokens (left.next + 1) right → combined op left.value right.value ≡ Ok joined.value → joined.next ≡ right.next
-    → IsBegun tokens at level depth left → IsBegun tokens at level depth joined
-gone_on tokens at level depth op left right joined few some is value next before =
-    let node = binary op before.tree is.tree in
-    let begun = before.later in
-    let inside = before.within in
-    let later = is.later in
-    let within = is.within in
-    let counts = binary_counts op before.tree is.tree left.value right.value joined.value (left.next - at) (right.next - (left.next + 1)) (right.next - at) before.counts is.counts value (omega arith) (omega arith) in
-    let low = counts.low in
-    rw next (record {
-      tree = node;
-      reads = λ found more. before.reads found (goes_on tokens left.next right.next level depth op before.tree is.tree found (omega arith) some is.reads (omega arith) (omega arith) more);
-      counts = counts;
-      later = omega arith;
-      within = is.within;
-    })
+  pub gone_on : (tokens : List Token) (at level depth : ℕ) (op : BinaryOp) (left right joined : Counted V) → length tokens ≤ 200 → Some op ≡ operator_in level (spelled_from tokens left.next)
+      → IsRead Worth (ReadsExpression (level_of op + 1) depth) tokens (left.next + 1) right
+      → ((one other : Tree) → Worth one left.value → Worth other right.value → Worth (binary op one other) joined.value) → joined.next ≡ right.next
+      → IsBegun Worth tokens at level depth left → IsBegun Worth tokens at level depth joined
+  gone_on tokens at level depth op left right joined few some is gives next before =
+      let node = binary op before.tree is.tree in
+      let begun = before.later in
+      let inside = before.within in
+      let later = is.later in
+      let within = is.within in
+      let value : Worth (binary op before.tree is.tree) joined.value = gives before.tree is.tree before.counts.worth is.counts.worth in
+      let counts = binary_counts Worth op before.tree is.tree left.value right.value joined.value (left.next - at) (right.next - (left.next + 1)) (right.next - at) before.counts is.counts value (omega arith) (omega arith) in
+      let low = counts.low in
+      rw next (record {
+        tree = node;
+        reads = λ found more. before.reads found (goes_on tokens left.next right.next level depth op before.tree is.tree found (omega arith) some is.reads (omega arith) (omega arith) more);
+        counts = counts;
+        later = omega arith;
+        within = is.within;
+      })
 
--- the operand of each kind, as it is read
-pub leaf_read : (tokens : List Token) (at depth n level : ℕ) (d : Token) → at < length tokens → leaf_of (spelled (get_or tokens at d)) ≡ Ok (number n)
-    → level ≡ first_level (spelled_from tokens (at + 1)) → IsRead (ReadsOperand depth) tokens at (record { value = n; next = at + 1; level = level })
-leaf_read tokens at depth n level d inside is now = record {
-  tree = number n;
-  reads = leaf_operand tokens at depth n d inside is;
-  counts = number_counts n (at + 1 - at) (omega arith);
-  later = omega arith;
-  within = omega arith;
-  level = now;
-}
+  -- the operand of each kind, as it is read
+  pub leaf_read : (tokens : List Token) (at depth level : ℕ) (leaf : Tree) (value : V) (d : Token) → at < length tokens → leaf_of (spelled (get_or tokens at d)) ≡ Ok leaf
+      → height leaf ≡ 1 → Worth leaf value → level ≡ first_level (spelled_from tokens (at + 1))
+      → IsRead Worth (ReadsOperand depth) tokens at (record { value = value; next = at + 1; level = level })
+  leaf_read tokens at depth level leaf value d inside is lone worth now = record {
+    tree = leaf;
+    reads = leaf_operand tokens at depth leaf d inside is;
+    counts = leaf_counts Worth leaf value (at + 1 - at) (omega arith) lone worth;
+    later = omega arith;
+    within = omega arith;
+    level = now;
+  }
 
-pub opened_read : (tokens : List Token) (at depth level : ℕ) (inner : Counted) (d e : Token) → at < length tokens → true ≡ opens (spelled (get_or tokens at d)) → depth < 64
-    → IsRead (ReadsExpression 1 (depth + 1)) tokens (at + 1) inner → inner.next < length tokens → true ≡ closes (spelled (get_or tokens inner.next e))
-    → level ≡ first_level (spelled_from tokens (inner.next + 1)) → IsRead (ReadsOperand depth) tokens at (record { value = inner.value; next = inner.next + 1; level = level })
-opened_read tokens at depth level inner d e inside is low counted within ends now =
-    let later = counted.later in
-    record {
-      tree = counted.tree;
-      reads = opened_operand tokens at inner.next depth counted.tree d e inside is low counted.reads within ends;
-      counts = lifted counted.tree inner.value (inner.next - (at + 1)) (inner.next + 1 - at) (omega arith) counted.counts;
-      later = omega arith;
-      within = omega arith;
-      level = now;
-    }
+  pub opened_read : (tokens : List Token) (at depth level : ℕ) (inner : Counted V) (d e : Token) → at < length tokens → true ≡ opens (spelled (get_or tokens at d)) → depth < 64
+      → IsRead Worth (ReadsExpression 1 (depth + 1)) tokens (at + 1) inner → inner.next < length tokens → true ≡ closes (spelled (get_or tokens inner.next e))
+      → level ≡ first_level (spelled_from tokens (inner.next + 1)) → IsRead Worth (ReadsOperand depth) tokens at (record { value = inner.value; next = inner.next + 1; level = level })
+  opened_read tokens at depth level inner d e inside is low counted within ends now =
+      let later = counted.later in
+      record {
+        tree = counted.tree;
+        reads = opened_operand tokens at inner.next depth counted.tree d e inside is low counted.reads within ends;
+        counts = lifted Worth counted.tree inner.value (inner.next - (at + 1)) (inner.next + 1 - at) (omega arith) counted.counts;
+        later = omega arith;
+        within = omega arith;
+        level = now;
+      }
 
-pub prefix_read : (tokens : List Token) (at depth : ℕ) (op : UnaryOp) (inner : Counted) (d : Token) → length tokens ≤ 200 → at < length tokens → false ≡ opens (spelled (get_or tokens at d))
-    → Some op ≡ prefix_of (spelled (get_or tokens at d)) → depth < 64 → IsRead (ReadsExpression 7 (depth + 1)) tokens (at + 1) inner
-    → IsRead (ReadsOperand depth) tokens at (record { value = turned op inner.value; next = inner.next; level = inner.level })
-prefix_read tokens at depth op inner d few inside is some low counted =
-    let later = counted.later in
-    let within = counted.within in
-    let counts = lifted (unary op counted.tree) (turned op inner.value) (inner.next - (at + 1) + 1) (inner.next - at) (omega arith) (unary_counts op counted.tree inner.value (inner.next - (at + 1)) counted.counts) in
-    let fits = counts.low in
-    record {
-      tree = unary op counted.tree;
-      reads = prefix_operand tokens at inner.next depth op counted.tree d inside is some low counted.reads (omega arith);
-      counts = counts;
-      later = omega arith;
-      within = counted.within;
-      level = counted.level;
-    }
+  pub prefix_read : (tokens : List Token) (at depth : ℕ) (op : UnaryOp) (inner : Counted V) (value : V) (d : Token) → length tokens ≤ 200 → at < length tokens → false ≡ opens (spelled (get_or tokens at d))
+      → Some op ≡ prefix_of (spelled (get_or tokens at d)) → depth < 64 → IsRead Worth (ReadsExpression 7 (depth + 1)) tokens (at + 1) inner
+      → ((tree : Tree) → Worth tree inner.value → Worth (unary op tree) value)
+      → IsRead Worth (ReadsOperand depth) tokens at (record { value = value; next = inner.next; level = inner.level })
+  prefix_read tokens at depth op inner value d few inside is some low counted gives =
+      let later = counted.later in
+      let within = counted.within in
+      let worth : Worth (unary op counted.tree) value = gives counted.tree counted.counts.worth in
+      let counts = lifted Worth (unary op counted.tree) value (inner.next - (at + 1) + 1) (inner.next - at) (omega arith) (unary_counts Worth op counted.tree inner.value value (inner.next - (at + 1)) counted.counts worth) in
+      let fits = counts.low in
+      record {
+        tree = unary op counted.tree;
+        reads = prefix_operand tokens at inner.next depth op counted.tree d inside is some low counted.reads (omega arith);
+        counts = counts;
+        later = omega arith;
+        within = counted.within;
+        level = counted.level;
+      }
 
--- an expression that is all tokens is the operand
-pub whole_read : (tokens : List Token) (found : Counted) → IsRead (ReadsExpression 1 0) tokens 0 found → length tokens ≤ found.next → IsConstant (map spelled tokens) found.value
-unfolding reading
-whole_read tokens found counted all = record {
-  tree = counted.tree;
-  reads =
-      counted.reads (length (map spelled tokens)) (omega arith)
-      ∙ ap (λ rest. Ok (read counted.tree rest)) (none_left tokens found.next all);
-  counts = counted.counts.form;
-  names = counted.counts.names;
-}
+  -- an expression that is all tokens is the operand
+  pub whole_read : (tokens : List Token) (found : Counted V) → IsRead Worth (ReadsExpression 1 0) tokens 0 found → length tokens ≤ found.next → IsWorth Worth (map spelled tokens) found.value
+  unfolding reading
+  whole_read tokens found counted all = record {
+    tree = counted.tree;
+    reads =
+        counted.reads (length (map spelled tokens)) (omega arith)
+        ∙ ap (λ rest. Ok (read counted.tree rest)) (none_left tokens found.next all);
+    worth = counted.counts.worth;
+  }

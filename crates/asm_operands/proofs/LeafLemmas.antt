@@ -183,28 +183,28 @@ any_found digits (Ok n) (Some m) is taken = let same : m ≡ n = cc in rw same (
 any_found digits (Err fault) (Some m) is taken = cc
 any_found digits spelling None is taken = tt
 
--- a token that is a number is an operand by itself
-reads_by : (kind : TokenKind) (bytes : List ℕ) (start : ℕ) (below : ℕ → ℕ → List SpelledToken → Read) (depth n : ℕ) (rest : List SpelledToken) → leaf_by kind bytes ≡ Ok (number n)
-    → operand_of below depth (record { kind = kind; bytes = bytes; start = start }) rest ≡ Ok (read (number n) rest)
+-- a token that is a leaf is an operand by itself
+reads_by : (kind : TokenKind) (bytes : List ℕ) (start : ℕ) (below : ℕ → ℕ → List SpelledToken → Read) (depth : ℕ) (leaf : Tree) (rest : List SpelledToken) → leaf_by kind bytes ≡ Ok leaf
+    → operand_of below depth (record { kind = kind; bytes = bytes; start = start }) rest ≡ Ok (read leaf rest)
 unfolding operand_of prefix_by leaf_of
-reads_by Name bytes start below depth n rest is = ap (λ (r : Result Tree ExprCause). r >>= (λ tree. Ok (read tree rest))) is
-reads_by Digits bytes start below depth n rest is = ap (λ (r : Result Tree ExprCause). r >>= (λ tree. Ok (read tree rest))) is
-reads_by Character bytes start below depth n rest is = ap (λ (r : Result Tree ExprCause). r >>= (λ tree. Ok (read tree rest))) is
-reads_by String bytes start below depth n rest is = ap (λ (r : Result Tree ExprCause). r >>= (λ tree. Ok (read tree rest))) is
-reads_by Other bytes start below depth n rest is = cc
-reads_by Operator bytes start below depth n rest is = cc
+reads_by Name bytes start below depth leaf rest is = ap (λ (r : Result Tree ExprCause). r >>= (λ tree. Ok (read tree rest))) is
+reads_by Digits bytes start below depth leaf rest is = ap (λ (r : Result Tree ExprCause). r >>= (λ tree. Ok (read tree rest))) is
+reads_by Character bytes start below depth leaf rest is = ap (λ (r : Result Tree ExprCause). r >>= (λ tree. Ok (read tree rest))) is
+reads_by String bytes start below depth leaf rest is = ap (λ (r : Result Tree ExprCause). r >>= (λ tree. Ok (read tree rest))) is
+reads_by Other bytes start below depth leaf rest is = cc
+reads_by Operator bytes start below depth leaf rest is = cc
 
-pub leaf_reads : (token : SpelledToken) (below : ℕ → ℕ → List SpelledToken → Read) (depth n : ℕ) (rest : List SpelledToken) → leaf_of token ≡ Ok (number n)
-    → operand_of below depth token rest ≡ Ok (read (number n) rest)
+pub leaf_reads : (token : SpelledToken) (below : ℕ → ℕ → List SpelledToken → Read) (depth : ℕ) (leaf : Tree) (rest : List SpelledToken) → leaf_of token ≡ Ok leaf
+    → operand_of below depth token rest ≡ Ok (read leaf rest)
 unfolding leaf_of
-leaf_reads token below depth n rest is = reads_by token.kind token.bytes token.start below depth n rest is
+leaf_reads token below depth leaf rest is = reads_by token.kind token.bytes token.start below depth leaf rest is
 
 -- a token that is a number is an operand by itself
 pub leaf_constant : (token : SpelledToken) (answer : Option ℕ) → FindsLeaf token answer → FindsConstant (token ∷ []) answer
 unfolding reading read_at read_more linear
 leaf_constant token (Some n) is = record {
   tree = number n;
-  reads = ap (λ (r : Read). r >>= (λ left. read_more 0 1 0 left.tree left.rest)) (leaf_reads token (read_at 0) 0 n [] is);
+  reads = ap (λ (r : Read). r >>= (λ left. read_more 0 1 0 left.tree left.rest)) (leaf_reads token (read_at 0) 0 (number n) [] is);
   counts = λ known. refl;
   names = refl;
 }

@@ -7,6 +7,7 @@ pub mod TreeCounts
 pub mod CommaLemmas
 pub mod CountingLemmas
 pub mod CutLemmas
+pub mod LoneLemmas
 pub mod SumLemmas
 pub mod OperandSplits
 pub mod PlainStrings

@@ -23,6 +23,16 @@ abbrev pub FindsConstant : List SpelledToken → Option ℕ → Type 0
 FindsConstant tokens (Some value) = IsConstant tokens value
 FindsConstant tokens None = Unit {0}
 
+-- the tokens are this number, and no comma is among them
+pub record IsLoneConstant (tokens : List SpelledToken) (value : ℕ) : Type 0 where
+  pub one : IsConstant tokens value
+  pub apart : list_any is_comma tokens ≡ false
+
+-- a number that is found is that of the tokens; where none is found nothing is said
+abbrev pub FindsLoneConstant : List SpelledToken → Option ℕ → Type 0
+FindsLoneConstant tokens (Some value) = IsLoneConstant tokens value
+FindsLoneConstant tokens None = Unit {0}
+
 -- the token alone is this number, and is no comma
 pub record IsSingle (token : SpelledToken) (value : ℕ) : Type 0 where
   pub one : IsConstant (token ∷ []) value

@@ -1,26 +1,18 @@
--- Expressions of numbers alone, which count a number as they are read.
+-- Expressions whose leaves are worth something, which count a value as they are read.
 use Rattle.std.specs.Prelude.{◌≡◌, ℕ, suc, ◌-◌, ◌<◌, ◌≤◌, List, [], ◌∷◌, length, take, get_or, false, Option, None, Some, Ok, Err}
 use Rattle.asm_base.specs.declared.tokens.Token.{Token}
 use Rattle.asm_base.specs.Tokens.{SpelledToken, spelled}
 use Rattle.asm_expr.specs.declared.faults.ExprCause.TheVariants.{BadExpression}
-use Rattle.asm_expr.specs.declared.trees.BinaryOp.{BinaryOp}
-use Rattle.asm_expr.specs.Arithmetic.{combined}
-use Rattle.expr_texts.specs.Operators.{operator_of}
 use Rattle.asm_expr.specs.Trees.{Tree, height}
-use Rattle.asm_expr.specs.Forms.{constant_form}
-use Rattle.asm_expr.specs.Knowledge.{Knowledge}
-use Rattle.asm_expr.specs.Linear.{linear}
-use Rattle.asm_expr.specs.NamesOf.{names_of}
 use Rattle.expr_texts.specs.Reading.{Reading, Read, read, operand_of, read_at, read_more}
 use Rattle.expr_texts.specs.Found.{spelled_from}
 use Rattle.asm_operands.specs.declared.constants.Counted.{Counted}
 use Rattle.asm_operands.specs.Levels.{token_level}
 use Rattle.asm_operands.specs.Commas.{is_comma}
 
--- the tree counts this number whatever is known, names nothing, and has at most so many nodes one above the other
-pub record Counts (tree : Tree) (value most : ℕ) : Type 0 where
-  pub form : (known : Knowledge) → linear known tree ≡ Ok (constant_form value)
-  pub names : names_of tree ≡ []
+-- the tree is worth this, and has at most so many nodes one above the other
+pub record Counts {V : Type 0} (Worth : Tree → V → Type 0) (tree : Tree) (value : V) (most : ℕ) : Type 0 where
+  pub worth : Worth tree value
   pub low : height tree ≤ most
 
 -- the operand at the front of the tokens, what stands in it read in so many steps
@@ -46,10 +38,10 @@ abbrev pub ReadsMore : ℕ → ℕ → Tree → List SpelledToken → Reading �
 ReadsMore level depth left tokens found = (steps : ℕ) → length tokens ≤ steps → read_more steps level depth left tokens ≡ Ok found
 
 -- from this index on a tree is read in this way that counts what was found, no higher than the number of its tokens
-pub record IsRead (Reads : List SpelledToken → Reading → Type 0) (tokens : List Token) (at : ℕ) (found : Counted) : Type 0 where
+pub record IsRead {V : Type 0} (Worth : Tree → V → Type 0) (Reads : List SpelledToken → Reading → Type 0) (tokens : List Token) (at : ℕ) (found : Counted V) : Type 0 where
   pub tree : Tree
   pub reads : Reads (spelled_from tokens at) (read tree (spelled_from tokens found.next))
-  pub counts : Counts tree found.value (found.next - at)
+  pub counts : Counts Worth tree found.value (found.next - at)
   pub later : at < found.next
   pub within : found.next ≤ length tokens
   pub level : found.level ≡ first_level (spelled_from tokens found.next)
@@ -65,29 +57,24 @@ abbrev pub AreApart : List Token → ℕ → ℕ → Type 0
 AreApart tokens at next = (i : ℕ) (unless : Token) → at ≤ i → i < next → is_comma (spelled (get_or tokens i unless)) ≡ false
 
 -- from this index on a tree is read that counts what was found, also where the tokens are cut behind it, and no comma is in it
-pub record IsCounted (Reads : List SpelledToken → Reading → Type 0) (tokens : List Token) (at : ℕ) (found : Counted) : Type 0 where
+pub record IsCounted {V : Type 0} (Worth : Tree → V → Type 0) (Reads : List SpelledToken → Reading → Type 0) (tokens : List Token) (at : ℕ) (found : Counted V) : Type 0 where
   pub later : at < found.next
   pub within : found.next ≤ length tokens
   pub level : found.level ≡ first_level (spelled_from tokens found.next)
   pub apart : AreApart tokens at found.next
-  pub each : (cut : ℕ) → IsCut tokens found.next cut → IsRead Reads (take cut tokens) at found
+  pub each : (cut : ℕ) → IsCut tokens found.next cut → IsRead Worth Reads (take cut tokens) at found
 
 -- what is found counts so; where nothing is found nothing is said
-abbrev pub FindsCounted : (List SpelledToken → Reading → Type 0) → List Token → ℕ → Option Counted → Type 0
-FindsCounted Reads tokens at (Some found) = IsCounted Reads tokens at found
-FindsCounted Reads tokens at None = Unit {0}
+abbrev pub FindsCounted : {V : Type 0} → (Tree → V → Type 0) → (List SpelledToken → Reading → Type 0) → List Token → ℕ → Option (Counted V) → Type 0
+FindsCounted Worth Reads tokens at (Some found) = IsCounted Worth Reads tokens at found
+FindsCounted Worth Reads tokens at None = Unit {0}
 
 -- an expression of operators that bind at least so tightly is counted from this index up to the other one, where it ends
-pub record IsExpression (level depth : ℕ) (tokens : List Token) (at next value : ℕ) : Type 0 where
-  pub counted : IsCounted (ReadsExpression level depth) tokens at (record { value = value; next = next; level = first_level (spelled_from tokens next) })
+pub record IsExpression {V : Type 0} (Worth : Tree → V → Type 0) (level depth : ℕ) (tokens : List Token) (at next : ℕ) (value : V) : Type 0 where
+  pub counted : IsCounted Worth (ReadsExpression level depth) tokens at (record { value = value; next = next; level = first_level (spelled_from tokens next) })
   pub ends : first_level (spelled_from tokens next) < level
 
 -- a value that is found is that of such an expression
-abbrev pub FindsExpression : ℕ → ℕ → List Token → ℕ → ℕ → Option ℕ → Type 0
-FindsExpression level depth tokens at next (Some value) = IsExpression level depth tokens at next value
-FindsExpression level depth tokens at next None = Unit {0}
-
--- a value that is found is what the operator gives that the token is
-abbrev pub FindsValue : SpelledToken → ℕ → ℕ → Option ℕ → Type 0
-FindsValue token a b (Some value) = (op : BinaryOp) → operator_of token ≡ Some op → combined op a b ≡ Ok value
-FindsValue token a b None = Unit {0}
+abbrev pub FindsExpression : {V : Type 0} → (Tree → V → Type 0) → ℕ → ℕ → List Token → ℕ → ℕ → Option V → Type 0
+FindsExpression Worth level depth tokens at next (Some value) = IsExpression Worth level depth tokens at next value
+FindsExpression Worth level depth tokens at next None = Unit {0}

@@ -3,6 +3,7 @@ pub mod Constants
 pub mod Sums
 pub mod Numbers
 pub mod Commas
+pub mod Worths
 pub mod Levels
 pub mod Counting
 pub mod Results

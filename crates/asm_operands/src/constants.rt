@@ -1,17 +1,19 @@
-//! Operands of numbers alone, evaluated as they are read.
+//! Operands evaluated as they are read: of numbers alone, or of leaves that are worth something besides.
 
-ghost use Rattle.std.specs.Prelude.{◌≡◌, ◌<◌, ◌≤◌, ℕ, length, map};
+ghost use Rattle.std.specs.Prelude.{◌≡◌, ◌<◌, ◌≤◌, ℕ, [], ◌∷◌, length, map};
 ghost use Rattle.asm_base.specs.Tokens.{spelled};
 ghost use Rattle.expr_texts.specs.Found.{spelled_from};
-ghost use Rattle.asm_operands.specs.Constants.{FindsConstant, FindsSingle, FindsFront};
+ghost use Rattle.asm_operands.specs.Constants.{FindsConstant, FindsLoneConstant, FindsSingle, FindsFront};
 ghost use Rattle.asm_operands.specs.Counting.{first_level, ReadsOperand, ReadsExpression};
-ghost use Rattle.asm_operands.specs.Counting.{FindsCounted, FindsExpression, FindsValue};
+ghost use Rattle.asm_operands.specs.Counting.{FindsCounted, FindsExpression};
+ghost use Rattle.asm_operands.specs.Worths.{FindsFrontWorth};
 
+use crate::leaves::{Leaves, Numbers};
 use crate::levels::token_level;
 use crate::numbers::leaf;
 use asm_base::{Token, TokenKind};
-use asm_expr::{combined, turned};
-use expr_texts::{closes, opens, operator_of, prefix_of};
+use asm_expr::turned;
+use expr_texts::{closes, opens, prefix_of};
 
 /// The most tokens that are looked at: a tree of so many nodes is not too high.
 const MOST_TOKENS: usize = 200;
@@ -26,11 +28,18 @@ pub struct FrontConstant {
     pub length: usize,
 }
 
-/// The number that is counted so far, the index of the first token behind it, and how tightly the
-/// operator that this token is binds: 0 where it is none.
+/// A value at the front of tokens, and how many of them it is.
 #[derive(Clone, Copy)]
-struct Counted {
-    value: u64,
+pub struct FrontValue<V> {
+    pub value: V,
+    pub length: usize,
+}
+
+/// What is counted so far, the index of the first token behind it, and how tightly the operator that
+/// this token is binds: 0 where it is none.
+#[derive(Clone, Copy)]
+struct Counted<V> {
+    value: V,
     next: usize,
     level: u8,
 }
@@ -49,13 +58,13 @@ fn level_at(tokens: &[Token], at: usize) -> u8
 
 /// The operand that begins at this token, if it is a number.
 #[inline(always)]
-fn number_operand(tokens: &[Token], at: usize) -> Option<Counted>
-    ensures { (depth : ℕ) → FindsCounted (ReadsOperand depth) tokens.now at result }
+fn number_operand<L: Leaves>(leaves: &L, tokens: &[Token], at: usize) -> Option<Counted<L::Value>>
+    ensures { (depth : ℕ) → FindsCounted (L.worth leaves.now) (ReadsOperand depth) tokens.now at result }
 {
     if at >= tokens.len() {
         return None;
     }
-    let value = leaf(&tokens[at])?;
+    let value = leaves.leaf(&tokens[at])?;
     let next = at + 1;
     let level = level_at(tokens, next);
     Some(Counted { value, next, level })
@@ -63,11 +72,16 @@ fn number_operand(tokens: &[Token], at: usize) -> Option<Counted>
 
 /// The expression that begins at this token, if it is one token, however many constructs are open.
 #[inline(always)]
-fn lone_number(tokens: &[Token], at: usize, level: u8) -> Option<Counted>
+fn lone_number<L: Leaves>(
+    leaves: &L,
+    tokens: &[Token],
+    at: usize,
+    level: u8,
+) -> Option<Counted<L::Value>>
     requires { 1 ≤ level }
-    ensures { (depth : ℕ) → FindsCounted (ReadsExpression level depth) tokens.now at result }
+    ensures { (depth : ℕ) → FindsCounted (L.worth leaves.now) (ReadsExpression level depth) tokens.now at result }
 {
-    let found = number_operand(tokens, at)?;
+    let found = number_operand(leaves, tokens, at)?;
     if level <= found.level {
         None
     } else {
@@ -78,10 +92,15 @@ fn lone_number(tokens: &[Token], at: usize, level: u8) -> Option<Counted>
 /// The operand in parentheses that begins at this token.
 #[cycle(constants)]
 #[inline(always)]
-fn closed_operand(tokens: &[Token], at: usize, depth: u8) -> Option<Counted>
+fn closed_operand<L: Leaves>(
+    leaves: &L,
+    tokens: &[Token],
+    at: usize,
+    depth: u8,
+) -> Option<Counted<L::Value>>
     requires tokens { length tokens.now ≤ 200 }
     requires depth { depth ≤ 60 }
-    ensures { FindsCounted (ReadsOperand depth) tokens.now at result }
+    ensures { FindsCounted (L.worth leaves.now) (ReadsOperand depth) tokens.now at result }
 {
     if at >= tokens.len() || depth >= MOST_OPEN {
         return None;
@@ -90,7 +109,7 @@ fn closed_operand(tokens: &[Token], at: usize, depth: u8) -> Option<Counted>
         return None;
     }
     let mut end = at + 1;
-    let value = expression(tokens, &mut end, 1, depth + 1)?;
+    let value = expression(leaves, tokens, &mut end, 1, depth + 1)?;
     if end >= tokens.len() {
         return None;
     }
@@ -105,22 +124,27 @@ fn closed_operand(tokens: &[Token], at: usize, depth: u8) -> Option<Counted>
 /// The operand of a prefix operator that begins at this token: most are numbers or in parentheses.
 #[cycle(constants)]
 #[inline(always)]
-fn tight_operand(tokens: &[Token], at: usize, depth: u8) -> Option<Counted>
+fn tight_operand<L: Leaves>(
+    leaves: &L,
+    tokens: &[Token],
+    at: usize,
+    depth: u8,
+) -> Option<Counted<L::Value>>
     requires tokens { length tokens.now ≤ 200 }
     requires depth { depth ≤ 60 }
-    ensures { FindsCounted (ReadsExpression 7 depth) tokens.now at result }
+    ensures { FindsCounted (L.worth leaves.now) (ReadsExpression 7 depth) tokens.now at result }
 {
     if at >= tokens.len() {
         return None;
     }
     if tokens[at].kind != TokenKind::Operator {
-        return lone_number(tokens, at, 7);
+        return lone_number(leaves, tokens, at, 7);
     }
     if opens(&tokens[at]) {
-        return closed_operand(tokens, at, depth);
+        return closed_operand(leaves, tokens, at, depth);
     }
     let mut next = at;
-    let value = expression(tokens, &mut next, 7, depth)?;
+    let value = expression(leaves, tokens, &mut next, 7, depth)?;
     let level = level_at(tokens, next);
     Some(Counted { value, next, level })
 }
@@ -128,18 +152,24 @@ fn tight_operand(tokens: &[Token], at: usize, depth: u8) -> Option<Counted>
 /// The operand that begins at this token, if it is a prefix operator.
 #[cycle(constants)]
 #[inline(always)]
-fn turned_operand(tokens: &[Token], at: usize, depth: u8) -> Option<Counted>
+fn turned_operand<L: Leaves>(
+    leaves: &L,
+    tokens: &[Token],
+    at: usize,
+    depth: u8,
+) -> Option<Counted<L::Value>>
     requires tokens { length tokens.now ≤ 200 }
     requires depth { depth ≤ 60 }
-    ensures { FindsCounted (ReadsOperand depth) tokens.now at result }
+    ensures { FindsCounted (L.worth leaves.now) (ReadsOperand depth) tokens.now at result }
 {
     if at >= tokens.len() || depth >= MOST_OPEN {
         return None;
     }
     let op = prefix_of(&tokens[at])?;
-    let inner = tight_operand(tokens, at + 1, depth + 1)?;
+    let inner = tight_operand(leaves, tokens, at + 1, depth + 1)?;
+    let value = leaves.turned(op, inner.value)?;
     Some(Counted {
-        value: turned(op, inner.value),
+        value,
         next: inner.next,
         level: inner.level,
     })
@@ -148,38 +178,49 @@ fn turned_operand(tokens: &[Token], at: usize, depth: u8) -> Option<Counted>
 /// The operand that begins at this token, where so many constructs are open.
 #[cycle(constants)]
 #[inline(always)]
-fn operand(tokens: &[Token], at: usize, depth: u8) -> Option<Counted>
+fn operand<L: Leaves>(
+    leaves: &L,
+    tokens: &[Token],
+    at: usize,
+    depth: u8,
+) -> Option<Counted<L::Value>>
     requires tokens { length tokens.now ≤ 200 }
     requires depth { depth ≤ 60 }
-    ensures { FindsCounted (ReadsOperand depth) tokens.now at result }
+    ensures { FindsCounted (L.worth leaves.now) (ReadsOperand depth) tokens.now at result }
 {
     if at >= tokens.len() {
         return None;
     }
     let token = &tokens[at];
     if token.kind != TokenKind::Operator {
-        number_operand(tokens, at)
+        number_operand(leaves, tokens, at)
     } else if opens(token) {
-        closed_operand(tokens, at, depth)
+        closed_operand(leaves, tokens, at, depth)
     } else {
-        turned_operand(tokens, at, depth)
+        turned_operand(leaves, tokens, at, depth)
     }
 }
 
 /// The expression behind an operator: most are one token.
 #[cycle(constants)]
 #[inline(always)]
-fn right_operand(tokens: &[Token], at: usize, level: u8, depth: u8) -> Option<Counted>
+fn right_operand<L: Leaves>(
+    leaves: &L,
+    tokens: &[Token],
+    at: usize,
+    level: u8,
+    depth: u8,
+) -> Option<Counted<L::Value>>
     requires tokens { length tokens.now ≤ 200 }
     requires level { 1 ≤ level }
     requires depth { depth ≤ 60 }
-    ensures { FindsCounted (ReadsExpression level depth) tokens.now at result }
+    ensures { FindsCounted (L.worth leaves.now) (ReadsExpression level depth) tokens.now at result }
 {
-    if let Some(found) = lone_number(tokens, at, level) {
+    if let Some(found) = lone_number(leaves, tokens, at, level) {
         return Some(found);
     }
     let mut next = at;
-    let value = expression(tokens, &mut next, level, depth)?;
+    let value = expression(leaves, tokens, &mut next, level, depth)?;
     let behind = level_at(tokens, next);
     Some(Counted {
         value,
@@ -188,44 +229,26 @@ fn right_operand(tokens: &[Token], at: usize, level: u8, depth: u8) -> Option<Co
     })
 }
 
-/// What the operator that the token is gives, if it is one of the rarer ones.
-#[inline(never)]
-fn rarer_value(token: &Token, a: u64, b: u64) -> Option<u64>
-    ensures { FindsValue (spelled token.now) a b result }
-{
-    combined(operator_of(token)?, a, b).ok()
-}
-
-/// What the operator that the token is gives.
-#[inline(always)]
-#[tactic(auto, unfolding(expr_texts::specs::Operators::operator_by, expr_texts::specs::Operators::operator_byte, asm_expr::specs::Arithmetic::combined))]
-fn operator_value(token: &Token, a: u64, b: u64) -> Option<u64>
-    ensures { FindsValue (spelled token.now) a b result }
-{
-    match token.bytes {
-        [b'+'] => Some(a.wrapping_add(b)),
-        [b'-'] => Some(a.wrapping_sub(b)),
-        [b'*'] => Some(a.wrapping_mul(b)),
-        [b'&'] => Some(a & b),
-        [b'|'] => Some(a | b),
-        _ => rarer_value(token, a, b),
-    }
-}
-
 /// The expression that begins at this token, of operators that bind at least so tightly. The index
 /// becomes that of the first token behind it.
 #[cycle(constants)]
 #[inline(never)]
-fn expression(tokens: &[Token], at: &mut usize, level: u8, depth: u8) -> Option<u64>
+fn expression<L: Leaves>(
+    leaves: &L,
+    tokens: &[Token],
+    at: &mut usize,
+    level: u8,
+    depth: u8,
+) -> Option<L::Value>
     requires tokens { length tokens.now ≤ 200 }
     requires level { 1 ≤ level }
     requires depth { depth ≤ 60 }
-    ensures { FindsExpression level depth tokens.now at.old at.new result }
+    ensures { FindsExpression (L.worth leaves.now) level depth tokens.now at.old at.new result }
 {
-    let mut left = operand(tokens, *at, depth)?;
+    let mut left = operand(leaves, tokens, *at, depth)?;
     while level <= left.level {
-        let right = right_operand(tokens, left.next + 1, left.level + 1, depth)?;
-        let value = operator_value(&tokens[left.next], left.value, right.value)?;
+        let right = right_operand(leaves, tokens, left.next + 1, left.level + 1, depth)?;
+        let value = leaves.joined(&tokens[left.next], left.value, right.value)?;
         left = Counted {
             value,
             next: right.next,
@@ -236,15 +259,27 @@ fn expression(tokens: &[Token], at: &mut usize, level: u8, depth: u8) -> Option<
     Some(left.value)
 }
 
+/// What an operand at the front of the tokens is worth. None says nothing of them.
+#[inline(always)]
+pub fn front_value<L: Leaves>(leaves: &L, tokens: &[Token]) -> Option<FrontValue<L::Value>>
+    ensures { FindsFrontWorth (L.worth leaves.now) (map spelled tokens.now) result }
+{
+    let mut length = 0;
+    let front = &tokens[..tokens.len().min(MOST_TOKENS)];
+    let value = expression(leaves, front, &mut length, 1, 0)?;
+    Some(FrontValue { value, length })
+}
+
 /// The number that is an operand at the front of the tokens. None says nothing of them.
 #[inline(always)]
 pub fn front_constant(tokens: &[Token]) -> Option<FrontConstant>
     ensures { FindsFront (map spelled tokens.now) result }
 {
-    let mut length = 0;
-    let front = &tokens[..tokens.len().min(MOST_TOKENS)];
-    let value = expression(front, &mut length, 1, 0)?;
-    Some(FrontConstant { value, length })
+    let front = front_value(&Numbers, tokens)?;
+    Some(FrontConstant {
+        value: front.value,
+        length: front.length,
+    })
 }
 
 /// The value of an operand of several tokens.
@@ -267,6 +302,28 @@ pub fn single_constant(token: &Token) -> Option<u64>
     leaf(token)
 }
 
+/// The number that a prefix operator makes of the token behind it. None says nothing of the two.
+#[inline(never)]
+fn turned_number(sign: &Token, token: &Token) -> Option<u64>
+    ensures { FindsLoneConstant (spelled sign.now ∷ spelled token.now ∷ []) result }
+{
+    let op = prefix_of(sign)?;
+    let number = leaf(token)?;
+    Some(turned(op, number))
+}
+
+/// The number that one token is, or two with a prefix operator. None says nothing of the tokens.
+#[inline(always)]
+pub fn lone_constant(tokens: &[Token]) -> Option<u64>
+    ensures { FindsLoneConstant (map spelled tokens.now) result }
+{
+    match tokens {
+        [token] => leaf(token),
+        [sign, token] => turned_number(sign, token),
+        _ => None,
+    }
+}
+
 /// The value of an operand of numbers alone. None says nothing of the operand.
 #[inline(always)]
 pub fn constant_operand(operand: &[Token]) -> Option<u64>
@@ -274,6 +331,7 @@ pub fn constant_operand(operand: &[Token]) -> Option<u64>
 {
     match operand {
         [token] => leaf(token),
+        [sign, token] => turned_number(sign, token),
         _ => counted_operand(operand),
     }
 }

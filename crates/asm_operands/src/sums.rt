@@ -98,7 +98,7 @@ fn summand_of<'t, 'a>(token: &'t Token<'a>) -> Option<Summand<'t, 'a>>
 /// Whether the operator is `-`; only `+` and `-` make sums.
 #[inline(always)]
 #[tactic(auto, unfolding(expr_texts::specs::Operators::operator_by, expr_texts::specs::Operators::operator_byte))]
-fn minus(token: &Token) -> Option<bool>
+pub fn minus(token: &Token) -> Option<bool>
     ensures { FindsMinus (spelled token.now) result }
 {
     if token.kind != TokenKind::Operator {

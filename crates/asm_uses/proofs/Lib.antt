@@ -5,3 +5,4 @@ pub mod SumNames
 pub mod SumLemmas
 pub mod PlainLemmas
 pub mod LongSumLemmas
+pub mod ValueLemmas

@@ -9,3 +9,4 @@ pub mod SumForms
 pub mod SymbolSums
 pub mod PlainSums
 pub mod LongSums
+pub mod Values

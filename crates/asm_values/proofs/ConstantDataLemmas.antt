@@ -1,12 +1,16 @@
--- Data of numbers alone is what its statement places.
-use Rattle.std.proofs.Common.{◌≡◌, ℕ, ◌+◌, ◌≤◌, Bool, false, cond, List, [], ◌∷◌, ◌++◌, length, map, Result, Ok, Err, refl, sym, ap, subst, ◌∙◌, arith, length-append}
-use Rattle.std.specs.List.{list_any, count_by}
+-- Data of numbers is what its statement places.
+use Rattle.std.proofs.Common.{◌≡◌, ℕ, ◌+◌, ◌≤◌, ◌&&◌, Bool, false, cond, List, [], ◌∷◌, ◌++◌, length, map, Result, Ok, Err, refl, sym, ap, subst, ◌∙◌, arith, length-append}
+use Rattle.std.specs.List.{All, list_all, list_any, count_by}
 use Rattle.std.proofs.lemmas.List.Sums.{sum_by-cons}
 use Rattle.asm_base.specs.declared.tokens.Token.{Token}
 use Rattle.asm_base.specs.Tokens.{SpelledToken, spelled}
 use Rattle.asm_base.specs.Refusals.{◌>>=◌}
 use Rattle.asm_base.specs.declared.positions.Pos.{Pos}
 use Rattle.asm_expr.specs.Forms.{constant_form, Form}
+use Rattle.asm_expr.specs.Knowledge.{Knowledge}
+use Rattle.asm_expr.specs.Linear.{linear}
+use Rattle.asm_expr.specs.NamesOf.{names_of}
+use Rattle.asm_symbols.specs.SymbolMap.{SymbolMap}
 use Rattle.asm_frags.specs.declared.fields.FieldSize.{FieldSize}
 use Rattle.asm_frags.specs.declared.fields.FieldSize.TheVariants.{One, Two, Four, Eight}
 use Rattle.asm_frags.specs.Fields.{low_bytes}
@@ -17,7 +21,7 @@ use Rattle.asm_symbols.specs.declared.entries.Spot.{Spot}
 use Rattle.asm_operands.specs.declared.place_faults.PlaceCause.{PlaceCause}
 use Rattle.asm_uses.specs.declared.tables.Naming.{Naming}
 use Rattle.asm_values.specs.ConstantOperands.{no_naming}
-use Rattle.asm_values.specs.ConstantData.{MakesData, IsLone, cut_of, put_any, put_lone, put_constants}
+use Rattle.asm_values.specs.ConstantData.{IsNumberHere, MakesData, IsViewOf, IsLone, cut_of, put_any, put_lone, put_constants}
 use Rattle.asm_values.specs.DataItems.{put_forms, is_cut, cut_notes}
 use Rattle.asm_operands.specs.ExprFaults.{in_statement}
 use Rattle.asm_operands.specs.Expressions.{alone, expression_of, form_in}
@@ -27,9 +31,11 @@ use Rattle.asm_uses.specs.Places.{uses_place, name_here, end_naming}
 use Rattle.asm_values.specs.Data.{put_data, data_of, place_data}
 use Rattle.asm_operands.specs.Results.{all_steps}
 use Rattle.asm_values.specs.State.{Placed, with_table, with_notes, with_names, here, known_here, put_bytes, put_bytes_into}
-use Rattle.asm_uses.specs.Tables.{naming_of, allowed}
+use Rattle.asm_uses.specs.declared.places.View.{View}
+use Rattle.asm_uses.specs.Tables.{with_tree, with_trees, is_meant, are_meant, naming_of, allowed}
+use Rattle.asm_uses.specs.Values.{HasSymbol, IsNumberIn}
 use Rattle.asm_values.proofs.PutTwice.{any_twice, some_put}
-use Rattle.asm_values.proofs.NameLemmas.{one_nothing, none_nothing, more_nothing, none_allowed, nothing_named}
+use Rattle.asm_values.proofs.NameLemmas.{tree_names, tree_meant, tree_kept, tree_named, none_allowed}
 
 some_bytes : (size : FieldSize) (value : ℕ) → 1 ≤ length (low_bytes size value)
 unfolding low_bytes
@@ -50,39 +56,64 @@ unfolding put_forms all_steps
 one_in_front pos size value forms (Ok placed) = refl
 one_in_front pos size value forms (Err fault) = refl
 
+-- a number alone is one wherever a statement stands,
+pub number_here : (placed : Placed) (operand : List SpelledToken) (value : ℕ) → IsConstant operand value → IsNumberHere placed operand value
+number_here placed operand value one = record {
+  tree = one.tree;
+  reads = one.reads;
+  counts = one.counts (known_here placed);
+  names = λ pos. tree_names pos one.tree placed.table one.names;
+  meant = tree_meant placed.table.symbols.counts one.tree one.names;
+}
+
+-- and what is known as a number is one where a statement stands that the view is of
+pub known_number : (view : View) (placed : Placed) (operand : List SpelledToken) (value : ℕ) → IsViewOf view placed → IsNumberIn view operand value → IsNumberHere placed operand value
+known_number view placed operand value here one =
+    let worth = one.worth in
+    let named : All (HasSymbol placed.table.symbols) (names_of one.tree) = subst (λ (map : SymbolMap). All (HasSymbol map) (names_of one.tree)) here.symbols worth.names in
+    record {
+      tree = one.tree;
+      reads = one.reads;
+      counts = subst (λ (known : Knowledge). linear known one.tree ≡ Ok (constant_form value)) here.known (worth.counts ∙ ap Ok worth.is);
+      names = λ pos. tree_kept pos one.tree placed.table named;
+      meant = tree_named placed.table.symbols one.tree named;
+    }
+
 -- no operand makes nothing more
-makes_none : (size : FieldSize) (held : List ℕ) (cut : ℕ) → MakesData size [] held cut held cut
-unfolding each
-makes_none size held cut = record {
+makes_none : (placed : Placed) (size : FieldSize) (held : List ℕ) (cut : ℕ) → MakesData placed size [] held cut held cut
+unfolding each with_trees are_meant
+makes_none placed size held cut = record {
   trees = [];
   forms = [];
   reads = refl;
-  counts = λ known. refl;
-  names = none_nothing;
+  counts = refl;
+  names = λ pos. refl;
+  meant = refl;
   away = λ place. refl;
-  held = λ pos placed. none_behind pos size (put_any pos held placed);
+  held = λ pos. none_behind pos size (put_any pos held placed);
   cut = omega arith;
 }
 
 -- a number in front makes its bytes
-makes_more : (size : FieldSize) (operand : List SpelledToken) (value : ℕ) (rest : List (List SpelledToken)) (before after : List ℕ) (cut cut_after : ℕ)
-    → IsConstant operand value → MakesData size rest (before ++ low_bytes size value) (cut + cut_of size value) after cut_after
-    → MakesData size (operand ∷ rest) before cut after cut_after
-unfolding each expression_of form_in
-makes_more size operand value rest before after cut cut_after one later = record {
+makes_more : (placed : Placed) (size : FieldSize) (operand : List SpelledToken) (value : ℕ) (rest : List (List SpelledToken)) (before after : List ℕ) (cut cut_after : ℕ)
+    → IsNumberHere placed operand value → MakesData placed size rest (before ++ low_bytes size value) (cut + cut_of size value) after cut_after
+    → MakesData placed size (operand ∷ rest) before cut after cut_after
+unfolding each expression_of form_in with_trees are_meant
+makes_more placed size operand value rest before after cut cut_after one later = record {
   trees = one.tree ∷ later.trees;
   forms = constant_form value ∷ later.forms;
   reads =
       ap (λ read. (in_statement read >>= (λ found. alone found.rest found.tree)) >>= λ first. each expression_of rest >>= λ others. Ok (first ∷ others)) one.reads
       ∙ ap (λ read. read >>= λ others. Ok (one.tree ∷ others)) later.reads;
-  counts = λ known.
-      ap (λ made. in_statement made >>= λ first. each (form_in known) later.trees >>= λ others. Ok (first ∷ others)) (one.counts known)
-      ∙ ap (λ made. made >>= λ others. Ok (constant_form value ∷ others)) (later.counts known);
-  names = more_nothing (one.tree ∷ []) later.trees (one_nothing one.tree one.names) later.names;
+  counts =
+      ap (λ made. in_statement made >>= λ first. each (form_in (known_here placed)) later.trees >>= λ others. Ok (first ∷ others)) one.counts
+      ∙ ap (λ made. made >>= λ others. Ok (constant_form value ∷ others)) later.counts;
+  names = λ pos. ap (with_trees pos later.trees) (one.names pos) ∙ later.names pos;
+  meant = ap (λ meant. meant && list_all (is_meant placed.table.symbols.counts) later.trees) one.meant ∙ later.meant;
   away = λ place. later.away place;
-  held = λ pos placed.
+  held = λ pos.
       one_in_front pos size value later.forms (put_any pos before placed)
-      ∙ (ap (λ put. put >>= put_forms pos size later.forms) (any_twice pos before (low_bytes size value) placed (some_bytes size value)) ∙ later.held pos placed);
+      ∙ (ap (λ put. put >>= put_forms pos size later.forms) (any_twice pos before (low_bytes size value) placed (some_bytes size value)) ∙ later.held pos);
   cut =
       let one_more : count_by (is_cut size) (constant_form value ∷ later.forms) ≡ cut_of size value + count_by (is_cut size) later.forms =
       sum_by-cons (λ form. cond (is_cut size form) 1 0) (constant_form value) later.forms in
@@ -90,27 +121,28 @@ makes_more size operand value rest before after cut cut_after one later = record
 }
 
 -- a number more behind what made data from the beginning
-pub loop_more : (size : FieldSize) (operand : List SpelledToken) (value : ℕ) (all left rest : List (List SpelledToken)) (before held : List ℕ) (cut more : ℕ)
-    → left ≡ operand ∷ rest → IsConstant operand value → held ≡ before ++ low_bytes size value → more ≡ cut_of size value
-    → ((after : List ℕ) (cut_after : ℕ) → MakesData size left before cut after cut_after → MakesData size all [] 0 after cut_after)
-    → (after : List ℕ) (cut_after : ℕ) → MakesData size rest held (cut + more) after cut_after → MakesData size all [] 0 after cut_after
-loop_more size operand value all left rest before held cut more is one held_is more_is so_far after cut_after later =
-    so_far after cut_after (subst (λ operands. MakesData size operands before cut after cut_after) (sym is)
-    (makes_more size operand value rest before after cut cut_after one
-    (subst (λ put. MakesData size rest put (cut + cut_of size value) after cut_after) held_is
-    (subst (λ n. MakesData size rest held (cut + n) after cut_after) more_is later))))
+pub loop_more : (placed : Placed) (size : FieldSize) (operand : List SpelledToken) (value : ℕ) (all left rest : List (List SpelledToken)) (before held : List ℕ) (cut more : ℕ)
+    → left ≡ operand ∷ rest → IsNumberHere placed operand value → held ≡ before ++ low_bytes size value → more ≡ cut_of size value
+    → ((after : List ℕ) (cut_after : ℕ) → MakesData placed size left before cut after cut_after → MakesData placed size all [] 0 after cut_after)
+    → (after : List ℕ) (cut_after : ℕ) → MakesData placed size rest held (cut + more) after cut_after → MakesData placed size all [] 0 after cut_after
+loop_more placed size operand value all left rest before held cut more is one held_is more_is so_far after cut_after later =
+    so_far after cut_after (subst (λ operands. MakesData placed size operands before cut after cut_after) (sym is)
+    (makes_more placed size operand value rest before after cut cut_after one
+    (subst (λ put. MakesData placed size rest put (cut + cut_of size value) after cut_after) held_is
+    (subst (λ n. MakesData placed size rest held (cut + n) after cut_after) more_is later))))
 
 -- behind the last operand
-pub loop_end : (size : FieldSize) (all left : List (List SpelledToken)) (held : List ℕ) (cut : ℕ) → left ≡ []
-    → ((after : List ℕ) (cut_after : ℕ) → MakesData size left held cut after cut_after → MakesData size all [] 0 after cut_after)
-    → MakesData size all [] 0 held cut
-loop_end size all left held cut is so_far =
-    so_far held cut (subst (λ operands. MakesData size operands held cut held cut) (sym is) (makes_none size held cut))
+pub loop_end : (placed : Placed) (size : FieldSize) (all left : List (List SpelledToken)) (held : List ℕ) (cut : ℕ) → left ≡ []
+    → ((after : List ℕ) (cut_after : ℕ) → MakesData placed size left held cut after cut_after → MakesData placed size all [] 0 after cut_after)
+    → MakesData placed size all [] 0 held cut
+loop_end placed size all left held cut is so_far =
+    so_far held cut (subst (λ operands. MakesData placed size operands held cut held cut) (sym is) (makes_none placed size held cut))
 
 -- no tokens make nothing
-pub nothing_made : (size : FieldSize) (tokens : List Token) (held : List ℕ) → length tokens ≡ 0 → held ≡ [] → MakesData size (operands_of (map spelled tokens)) [] 0 held 0
-nothing_made size [] held none empty = subst (λ bytes. MakesData size [] [] 0 bytes 0) (sym empty) (makes_none size [] 0)
-nothing_made size (token ∷ rest) held none empty = absurd (omega arith)
+pub nothing_made : (size : FieldSize) (tokens : List Token) (held : List ℕ) → length tokens ≡ 0 → held ≡ []
+    → (placed : Placed) → MakesData placed size (operands_of (map spelled tokens)) [] 0 held 0
+nothing_made size [] held none empty placed = subst (λ bytes. MakesData placed size [] [] 0 bytes 0) (sym empty) (makes_none placed size [] 0)
+nothing_made size (token ∷ rest) held none empty placed = absurd (omega arith)
 
 -- no more values are cut than there are bytes
 pub still_few : (size : FieldSize) (value : ℕ) (before held : List ℕ) (cut more : ℕ) → held ≡ before ++ low_bytes size value
@@ -156,15 +188,15 @@ module _ (pos : Pos) (size : FieldSize) (held : List ℕ) (cut : ℕ) where
       (λ made still. end_so (no_naming placed.table) (here placed) (list_any (uses_place (known_here placed).place) forms) forms made
       (subst (λ table. allowed (no_naming table) made.table ≡ Ok made.table) still (none_allowed made.table)) away count) pos held
 
-  pub constants_place : (tokens : List SpelledToken) (placed : Placed) → MakesData size (operands_of tokens) [] 0 held cut
+  pub constants_place : (tokens : List SpelledToken) (placed : Placed) → MakesData placed size (operands_of tokens) [] 0 held cut
       → place_data pos size tokens placed ≡ put_constants pos held cut placed
   unfolding place_data
   constants_place tokens placed made =
       ap (λ read. read >>= λ trees. data_of pos size trees (naming_of trees placed.table) (with_names pos trees placed)) made.reads
-      ∙ (ap (λ table. data_of pos size made.trees (naming_of made.trees placed.table) (with_table placed table)) (made.names.names pos placed.table)
-      ∙ (ap (λ naming. data_of pos size made.trees naming placed) (nothing_named made.trees placed.table made.names)
-      ∙ (ap (λ counted. counted >>= λ forms. put_data pos size (no_naming placed.table) forms placed) (made.counts (known_here placed))
-      ∙ put_so made.forms placed (made.held pos placed) (made.away (known_here placed).place) (omega (arith, made.cut)))))
+      ∙ (ap (λ table. data_of pos size made.trees (naming_of made.trees placed.table) (with_table placed table)) (made.names pos)
+      ∙ (ap (λ (meant : Bool). data_of pos size made.trees (record { before = length placed.table.symbols.symbols; meant = meant }) placed) made.meant
+      ∙ (ap (λ counted. counted >>= λ forms. put_data pos size (no_naming placed.table) forms placed) made.counts
+      ∙ put_so made.forms placed (made.held pos) (made.away (known_here placed).place) (omega (arith, made.cut)))))
 
 -- one number is placed as its bytes
 pub lone_places : (pos : Pos) (size : FieldSize) (value : ℕ) (tokens : List SpelledToken) (placed : Placed) → IsLone tokens value
@@ -173,8 +205,9 @@ lone_places pos size value tokens placed lone =
     let low = low_bytes size value in
     let cut = cut_of size value in
     let none : 0 + cut ≡ cut = omega arith in
-    let more : MakesData size (tokens ∷ []) [] 0 low (0 + cut) = makes_more size tokens value [] [] low 0 (0 + cut) lone.one (makes_none size low (0 + cut)) in
-    let made : MakesData size (tokens ∷ []) [] 0 low cut = subst (λ n. MakesData size (tokens ∷ []) [] 0 low n) none more in
+    let more : MakesData placed size (tokens ∷ []) [] 0 low (0 + cut) =
+    makes_more placed size tokens value [] [] low 0 (0 + cut) (number_here placed tokens value lone.one) (makes_none placed size low (0 + cut)) in
+    let made : MakesData placed size (tokens ∷ []) [] 0 low cut = subst (λ n. MakesData placed size (tokens ∷ []) [] 0 low n) none more in
     sym (constants_place pos size (low_bytes size value) (cut_of size value) tokens placed
-    (subst (λ operands. MakesData size operands [] 0 (low_bytes size value) (cut_of size value)) (sym lone.operands) made)
+    (subst (λ operands. MakesData placed size operands [] 0 (low_bytes size value) (cut_of size value)) (sym lone.operands) made)
     ∙ ap (λ put. put >>= λ made. Ok (with_notes (cut_notes pos (cut_of size value)) made)) (some_put pos (low_bytes size value) placed (some_bytes size value)))

@@ -14,7 +14,8 @@ use Rattle.asm_expr.specs.Trees.{Tree}
 use Rattle.item_contents.specs.declared.contents.Content.{Content}
 use Rattle.asm_frags.specs.Sections.{put_into}
 use Rattle.asm_frags.specs.Writing.{LooseSection, new_item, item_put, bytes_put}
-use Rattle.asm_operands.specs.Constants.{IsConstant, FindsConstant}
+use Rattle.asm_operands.specs.Constants.{IsConstant, IsLoneConstant, FindsConstant}
+use Rattle.asm_values.specs.ConstantData.{IsLone}
 use Rattle.asm_operands.specs.declared.place_faults.PlaceCause.{PlaceCause}
 use Rattle.asm_operands.specs.declared.up_to_three.UpToThree.{UpToThree}
 use Rattle.asm_values.specs.ConstantOperands.{NamesNothing, IsFirstConstant, IsNextConstant, no_naming, AreConstants, FindsFirst, IsOnlyNumber, put_units_of}
@@ -28,6 +29,7 @@ use Rattle.asm_operands.specs.Results.{if_some}
 use Rattle.asm_words.specs.Spaces.{space_of, units_of, unit_size}
 use Rattle.asm_values.specs.State.{Placed, with_table, with_names, known_here, put_bytes, put_bytes_into, push_item, push_into}
 use Rattle.asm_uses.specs.Tables.{naming_of, allowed}
+use Rattle.asm_values.proofs.OperandEnds.{lone_found}
 use Rattle.asm_values.proofs.NameLemmas.{one_nothing, none_nothing, more_nothing, none_allowed, nothing_named}
 
 -- a number is one expression, and its form is the number
@@ -270,4 +272,17 @@ only_finds tokens (operand ∷ rest) behind value is none first =
           ∙ ap (λ read. read >>= λ one. each expression_of [] >>= λ others. Ok (one ∷ others)) parts.0;
       counts = first.counts;
       names = first.names;
+    }
+
+-- nor where the tokens have no comma
+pub lone_only : (tokens : List SpelledToken) (value : ℕ) → IsLoneConstant tokens value → IsOnlyNumber tokens value
+unfolding each
+lone_only tokens value is =
+    let lone : IsLone tokens value = lone_found tokens (Some value) is in
+    record {
+      tree = lone.one.tree;
+      reads = ap (each expression_of) lone.operands
+          ∙ ap (λ read. read >>= λ one. each expression_of [] >>= λ others. Ok (one ∷ others)) (reads_alone tokens value lone.one);
+      counts = counts_so tokens value lone.one;
+      names = one_nothing lone.one.tree lone.one.names;
     }

@@ -1,15 +1,23 @@
 -- Where an operand ends, and what it is when it is a number.
-use Rattle.std.proofs.Common.{◌≡◌, ℕ, zero, suc, not, ◌+◌, ◌-◌, ◌<◌, ◌≤◌, Bool, true, false, cond, ◌||◌, List, [], ◌∷◌, length, get_or, take, drop, map, refl, sym, ap, subst, ◌∙◌, arith, length-drop}
+use Rattle.std.proofs.Common.{◌≡◌, ℕ, zero, suc, not, ◌+◌, ◌-◌, ◌<◌, ◌≤◌, Bool, true, false, cond, ◌||◌, List, [], ◌∷◌, length, get_or, take, drop, map, Option, Some, None, Ok, refl, sym, ap, subst, ◌∙◌, arith, length-drop}
 use Rattle.std.specs.List.{list_any, slice_split, onto_first, position_or_len}
 use Rattle.std.proofs.lemmas.List.{length-map, drop-map, drop-drop, take_rest, take_all}
 use Rattle.std.proofs.lemmas.List.Splits.{slice_split_first}
 use Rattle.asm_base.specs.declared.tokens.Token.{Token}
 use Rattle.asm_base.specs.declared.tokens.TokenKind.TheVariants.{Name}
 use Rattle.asm_base.specs.Tokens.{SpelledToken, spelled}
+use Rattle.asm_expr.specs.Trees.{Tree}
+use Rattle.expr_texts.specs.Reading.{read, reading, read_at}
 use Rattle.asm_operands.specs.declared.constants.FrontConstant.{FrontConstant}
-use Rattle.asm_operands.specs.Constants.{IsConstant, IsSingle, IsFront}
+use Rattle.asm_operands.specs.declared.constants.FrontValue.{FrontValue}
+use Rattle.asm_operands.specs.Constants.{IsConstant, IsSingle, IsFront, FindsLoneConstant}
+use Rattle.asm_operands.specs.Worths.{IsWorth, IsFrontWorth}
+use Rattle.asm_uses.specs.declared.places.View.{View}
+use Rattle.asm_uses.specs.declared.values.Value.{Value}
+use Rattle.asm_uses.specs.declared.values.Value.TheVariants.{Number}
+use Rattle.asm_uses.specs.Values.{IsWorthIn, IsNumberIn}
 use Rattle.asm_values.specs.declared.constant_data.Constant.{Constant}
-use Rattle.asm_values.specs.ConstantData.{ends_at, IsNumberAt}
+use Rattle.asm_values.specs.ConstantData.{ends_at, IsNumberAt, FindsLone}
 use Rattle.asm_operands.specs.Operands.{is_comma, operands_of}
 use Rattle.asm_values.proofs.TokenLists.{one_more_left}
 
@@ -58,41 +66,69 @@ ends_so (token ∷ rest) (suc n) few none ends =
     let here = apart.0 in
     rw here (omega (arith, later))
 
-front_at : (tokens : List SpelledToken) (at : ℕ) (front : FrontConstant) → at ≤ length tokens → IsFront (drop at tokens) front → ends_at tokens (at + front.length) ≡ true
-    → IsNumberAt tokens at (record { value = front.value; end = at + front.length })
-front_at tokens at front inside is ends =
-    let left = length-drop at tokens in
-    let within = is.within in
-    let same : front.length ≡ (at + front.length) - at = omega arith in
-    record {
-      within = omega arith;
-      begins = omega arith;
-      ends = ap (λ n. at + n) (ends_so (drop at tokens) front.length is.within is.apart (ends_behind tokens at front.length ∙ ends));
-      one = subst (λ n. IsConstant (take n (drop at tokens)) front.value) same is.one;
-    }
+module _ (IsNumber : List SpelledToken → ℕ → Type 0) where
+  front_at : (tokens : List SpelledToken) (at value n : ℕ) → at ≤ length tokens → n ≤ length (drop at tokens) → IsNumber (take n (drop at tokens)) value
+      → list_any is_comma (take n (drop at tokens)) ≡ false → ends_at tokens (at + n) ≡ true → IsNumberAt IsNumber tokens at (record { value = value; end = at + n })
+  front_at tokens at value n inside within one apart ends =
+      let left = length-drop at tokens in
+      let same : n ≡ (at + n) - at = omega arith in
+      record {
+        within = omega arith;
+        begins = omega arith;
+        ends = ap (λ n. at + n) (ends_so (drop at tokens) n within apart (ends_behind tokens at n ∙ ends));
+        one = subst (λ n. IsNumber (take n (drop at tokens)) value) same one;
+      }
+
+  pub slice_at : (tokens : List Token) (at value n : ℕ) → at ≤ length tokens → n ≤ length (map spelled (take (length tokens - at) (drop at tokens)))
+      → IsNumber (take n (map spelled (take (length tokens - at) (drop at tokens)))) value → list_any is_comma (take n (map spelled (take (length tokens - at) (drop at tokens)))) ≡ false
+      → true ≡ ends_at (map spelled tokens) (at + n) → IsNumberAt IsNumber (map spelled tokens) at (record { value = value; end = at + n })
+  slice_at tokens at value n inside within one apart ends =
+      let same : map spelled (take (length tokens - at) (drop at tokens)) ≡ drop at (map spelled tokens) = ap (map spelled) (take_rest tokens at) ∙ sym (drop-map spelled at tokens) in
+      front_at (map spelled tokens) at value n (omega (arith, length-map tokens spelled)) (subst (λ ts. n ≤ length ts) same within) (subst (λ ts. IsNumber (take n ts) value) same one)
+      (subst (λ ts. list_any is_comma (take n ts) ≡ false) same apart) (sym ends)
 
 pub number_at : (tokens : List Token) (at : ℕ) (front : FrontConstant) → at ≤ length tokens → IsFront (map spelled (take (length tokens - at) (drop at tokens))) front
-    → true ≡ ends_at (map spelled tokens) (at + front.length) → IsNumberAt (map spelled tokens) at (record { value = front.value; end = at + front.length })
-number_at tokens at front inside is ends =
-    let same : map spelled (take (length tokens - at) (drop at tokens)) ≡ drop at (map spelled tokens) = ap (map spelled) (take_rest tokens at) ∙ sym (drop-map spelled at tokens) in
-    front_at (map spelled tokens) at front (omega (arith, length-map tokens spelled)) (subst (λ ts. IsFront ts front) same is) (sym ends)
+    → true ≡ ends_at (map spelled tokens) (at + front.length) → IsNumberAt IsConstant (map spelled tokens) at (record { value = front.value; end = at + front.length })
+number_at tokens at front inside is ends = slice_at IsConstant tokens at front.value front.length inside is.within is.one is.apart ends
+
+pub known_at : (view : View) (tokens : List Token) (at value : ℕ) (front : FrontValue Value) → at ≤ length tokens
+    → IsFrontWorth (IsWorthIn view) (map spelled (take (length tokens - at) (drop at tokens))) front → front.value ≡ Number value
+    → true ≡ ends_at (map spelled tokens) (at + front.length) → IsNumberAt (IsNumberIn view) (map spelled tokens) at (record { value = value; end = at + front.length })
+known_at view tokens at value front inside is known ends =
+    slice_at (IsNumberIn view) tokens at value front.length inside is.within
+    (subst (λ found. IsWorth (IsWorthIn view) (take front.length (map spelled (take (length tokens - at) (drop at tokens)))) found) known is.one) is.apart ends
 
 pub single_at : (tokens : List Token) (at value : ℕ) (d : Token) → at < length tokens → IsSingle (spelled (get_or tokens at d)) value
-    → true ≡ ends_at (map spelled tokens) (at + 1) → IsNumberAt (map spelled tokens) at (record { value = value; end = at + 1 })
+    → true ≡ ends_at (map spelled tokens) (at + 1) → IsNumberAt IsConstant (map spelled tokens) at (record { value = value; end = at + 1 })
 single_at tokens at value d inside is ends =
     let left : spelled (get_or tokens at d) ∷ map spelled (drop (at + 1) tokens) ≡ drop at (map spelled tokens) = sym (one_more_left tokens at d inside) ∙ sym (drop-map spelled at tokens) in
-    let apart = is.apart in
-    let front : IsFront (spelled (get_or tokens at d) ∷ map spelled (drop (at + 1) tokens)) (record { value = value; length = 1 }) = record {
-      within = omega arith;
-      one = is.one;
-      apart = rw apart refl;
-    } in
-    front_at (map spelled tokens) at (record { value = value; length = 1 }) (omega (arith, length-map tokens spelled)) (subst (λ ts. IsFront ts (record { value = value; length = 1 })) left front) (sym ends)
+    let apart : list_any is_comma (spelled (get_or tokens at d) ∷ []) ≡ false = let apart = is.apart in rw apart refl in
+    front_at IsConstant (map spelled tokens) at value 1 (omega (arith, length-map tokens spelled))
+    (subst (λ ts. 1 ≤ length ts) left (omega arith)) (subst (λ ts. IsConstant (take 1 ts) value) left is.one) (subst (λ ts. list_any is_comma (take 1 ts) ≡ false) left apart) (sym ends)
+
+-- no tokens are no expression
+nothing_read : (tree : Tree) → reading 1 0 [] ≡ Ok (read tree []) → ⊥
+unfolding reading read_at
+nothing_read tree is = cc
+
+-- tokens without a comma are one operand
+no_comma : (tokens : List SpelledToken) → list_any is_comma tokens ≡ false → length tokens ≤ position_or_len is_comma tokens
+no_comma [] none = omega arith
+no_comma (token ∷ rest) none =
+    let apart = neither (is_comma token) (list_any is_comma rest) none in
+    let here = apart.0 in
+    let later = no_comma rest apart.1 in
+    rw here (omega arith)
+
+pub lone_found : (tokens : List SpelledToken) (answer : Option ℕ) → FindsLoneConstant tokens answer → FindsLone tokens answer
+lone_found [] (Some n) is = let one = is.one in let reads = one.reads in absurd (nothing_read one.tree reads)
+lone_found (token ∷ rest) (Some n) is = record { operands = alone is_comma (token ∷ rest) (no_comma (token ∷ rest) is.apart); one = is.one }
+lone_found tokens None is = tt
 
 -- the operands from the found one on, with more behind it or with none
-pub with_more : (tokens : List Token) (at : ℕ) (found : Constant) → IsNumberAt (map spelled tokens) at found → found.end < length tokens
+pub with_more : (IsNumber : List SpelledToken → ℕ → Type 0) (tokens : List Token) (at : ℕ) (found : Constant) → IsNumberAt IsNumber (map spelled tokens) at found → found.end < length tokens
     → slice_split is_comma (drop at (map spelled tokens)) ≡ take (found.end - at) (drop at (map spelled tokens)) ∷ slice_split is_comma (drop (found.end + 1) (map spelled tokens))
-with_more tokens at found is inside =
+with_more IsNumber tokens at found is inside =
     let all : List SpelledToken = map spelled tokens in
     let long = length-map tokens spelled in
     let left = length-drop at all in
@@ -105,9 +141,9 @@ with_more tokens at found is inside =
     ∙ ap (λ k. take k (drop at all) ∷ slice_split is_comma (drop (n + 1) (drop at all))) same
     ∙ ap (λ ts. take (found.end - at) (drop at all) ∷ slice_split is_comma ts) (drop-drop (n + 1) at all ∙ ap (λ k. drop k all) behind)
 
-pub with_none : (tokens : List Token) (at : ℕ) (found : Constant) → IsNumberAt (map spelled tokens) at found → length tokens ≤ found.end
+pub with_none : (IsNumber : List SpelledToken → ℕ → Type 0) (tokens : List Token) (at : ℕ) (found : Constant) → IsNumberAt IsNumber (map spelled tokens) at found → length tokens ≤ found.end
     → slice_split is_comma (drop at (map spelled tokens)) ≡ take (found.end - at) (drop at (map spelled tokens)) ∷ []
-with_none tokens at found is all_tokens =
+with_none IsNumber tokens at found is all_tokens =
     let all : List SpelledToken = map spelled tokens in
     let long = length-map tokens spelled in
     let left = length-drop at all in

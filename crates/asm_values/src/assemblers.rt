@@ -2,6 +2,8 @@
 //! warning more.
 
 ghost use Rattle.std.specs.Prelude.{◌≡◌, ◌++◌, OnOk};
+ghost use Rattle.asm_uses.specs.KnownIn.{known_in};
+ghost use Rattle.asm_uses.specs.Places.{spot_at, known_at};
 ghost use Rattle.asm_values.specs.DataItems.{cut_notes};
 
 use crate::stacks::Entered;
@@ -61,6 +63,22 @@ fn add_notes(notes: &mut Notes, pos: Pos, times: usize) -> Result<(), AllocError
         })?;
     }
     Ok(())
+}
+
+/// What is known of symbols and names behind what the section of this number has.
+#[inline(always)]
+pub(crate) fn view_of<'a>(table: &'a SymbolUses, sections: &Sections, current: u32) -> View<'a>
+    ensures symbols { result.symbols.now ≡ table.now.symbols }
+    ensures known { known_in result ≡ known_at table.now.symbols (spot_at sections.now current) }
+    ensures spot { result.spot ≡ spot_at sections.now current }
+{
+    let symbols = table.symbols();
+    let spot = spot_at(sections, current);
+    View {
+        symbols,
+        spot,
+        place: symbols.number_of(&here_name(spot)).index(),
+    }
 }
 
 impl Assembler {
@@ -127,13 +145,7 @@ impl Assembler {
         ensures known { known_in result ≡ known_here (placed_by self.now) }
         ensures spot { result.spot ≡ here (placed_by self.now) }
     {
-        let symbols = self.table.symbols();
-        let spot = self.here();
-        View {
-            symbols,
-            spot,
-            place: symbols.number_of(&here_name(spot)).index(),
-        }
+        view_of(&self.table, &self.sections, self.current)
     }
 
     /// Refuses a statement that names a symbol by `.`.

@@ -1,14 +1,19 @@
-//! Data of numbers alone: their bytes, without trees, forms or a list of operands.
+//! Data of numbers: their bytes, without trees, forms or a list of operands.
 
 ghost use Rattle.std.specs.Prelude.{◌≡◌, [], ◌∷◌, ◌++◌, ◌<◌, ◌≤◌, map, length, IfOk, OnOk};
 ghost use Rattle.asm_base.specs.Tokens.{spelled};
 ghost use Rattle.asm_frags.specs.Fields.{low_bytes};
-ghost use Rattle.asm_values.specs.ConstantData.{FindsData, FindsLone, FindsNumberAt, cut_of, ends_at};
+ghost use Rattle.asm_operands.specs.Constants.{IsConstant};
+ghost use Rattle.asm_uses.specs.Values.{IsNumberIn};
+ghost use Rattle.asm_values.specs.ConstantData.{FindsData, FindsKnownData, FindsLone, FindsNumberAt, cut_of, ends_at};
 
 use crate::assemblers::Assembler;
 use asm_base::{Pos, Token};
 use asm_frags::FieldSize;
-use asm_operands::{PlaceFault, front_constant, is_mark, single_constant};
+use asm_operands::{
+    PlaceFault, front_constant, front_value, is_mark, lone_constant, single_constant,
+};
+use asm_uses::{Value, View};
 use std::alloc::AllocError;
 
 /// Appends a byte for which there may be no room.
@@ -68,7 +73,7 @@ fn ends_at(tokens: &[Token], at: usize) -> bool
 #[inline(always)]
 fn long_constant(tokens: &[Token], at: usize) -> Option<Constant>
     requires { at ≤ length tokens.now }
-    ensures { FindsNumberAt (map spelled tokens.now) at result }
+    ensures { FindsNumberAt IsConstant (map spelled tokens.now) at result }
 {
     let front = front_constant(&tokens[at..])?;
     let end = at + front.length;
@@ -85,7 +90,7 @@ fn long_constant(tokens: &[Token], at: usize) -> Option<Constant>
 /// The number that the operand is that begins at this token: most are one token.
 #[inline(always)]
 fn constant_at(tokens: &[Token], at: usize) -> Option<Constant>
-    ensures { FindsNumberAt (map spelled tokens.now) at result }
+    ensures { FindsNumberAt IsConstant (map spelled tokens.now) at result }
 {
     if at >= tokens.len() {
         return None;
@@ -148,15 +153,62 @@ pub(crate) fn constant_data(
     }
 }
 
-/// The number that one token is, where it is all that is given. None says nothing of the operands.
+/// The number that the operand is that begins at this token, by what is known where the statement stands.
 #[inline(always)]
-pub(crate) fn lone_constant(tokens: &[Token]) -> Option<u64>
+fn known_constant(view: &View, tokens: &[Token], at: usize) -> Option<Constant>
+    requires { at ≤ length tokens.now }
+    ensures { FindsNumberAt (IsNumberIn view.now) (map spelled tokens.now) at result }
+{
+    let front = front_value(view, &tokens[at..])?;
+    let Value::Number(value) = front.value else {
+        return None;
+    };
+    let end = at + front.length;
+    if ends_at(tokens, end) {
+        Some(Constant { value, end })
+    } else {
+        None
+    }
+}
+
+/// Makes the bytes of operands that are all numbers by what is known where the statement stands, and
+/// counts the values that do not fit, or answers none where one of them is anything else.
+#[inline(never)]
+pub(crate) fn known_data(
+    view: &View,
+    out: &mut Vec<u8>,
+    size: FieldSize,
+    tokens: &[Token],
+) -> Result<Option<usize>, AllocError>
+    ensures { IfOk result (λ found.
+        FindsKnownData view.now size (map spelled tokens.now) out.new.items found) }
+{
+    out.clear();
+    if tokens.is_empty() {
+        return Ok(None);
+    }
+    let mut cut = 0;
+    let mut at = 0;
+    'operands: loop {
+        let Constant { value, end } = match known_constant(view, tokens, at) {
+            Some(found) => found,
+            None => return Ok(None),
+        };
+        append_constant(out, size, value)?;
+        cut += cut_of(size, value);
+        if end >= tokens.len() {
+            return Ok(Some(cut));
+        }
+        at = end + 1;
+    }
+}
+
+/// The number that all tokens are: one, or two with a prefix operator. None says nothing of the operands.
+#[inline(always)]
+pub(crate) fn lone_number(tokens: &[Token]) -> Option<u64>
     ensures { FindsLone (map spelled tokens.now) result }
 {
-    match tokens {
-        [token] => single_constant(token),
-        _ => None,
-    }
+    lone_constant(tokens)
 }
 
 impl Assembler {

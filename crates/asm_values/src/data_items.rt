@@ -5,7 +5,7 @@ ghost use Rattle.std.specs.List.{count_by};
 ghost use Rattle.asm_values.specs.DataItems.{is_cut};
 
 use crate::assemblers::Assembler;
-use crate::constant_data::{constant_data, lone_constant};
+use crate::constant_data::{constant_data, lone_number};
 use asm_base::{Pos, Token};
 use asm_expr::Linear;
 use asm_frags::{FieldRole, FieldSize};
@@ -148,7 +148,7 @@ impl Assembler {
             self.old self.new result }
         ensures kept { KeepsNotes result self.old.notes self.new.notes }
     {
-        match lone_constant(tokens) {
+        match lone_number(tokens) {
             Some(value) => self.put_lone(pos, size, value),
             None => self.place_numbers(pos, size, tokens),
         }

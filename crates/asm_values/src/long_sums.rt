@@ -1,6 +1,7 @@
-//! Data of one or two sums of up to three numbers, names and places: it needs no tree.
+//! Data of one or two sums of up to three numbers, names and places, and of what is known as numbers: it needs no tree.
 
-use crate::assemblers::Assembler;
+use crate::assemblers::{Assembler, view_of};
+use crate::constant_data::known_data;
 use asm_base::{Pos, Token};
 use asm_frags::FieldSize;
 use asm_operands::{LongSum, LongSums, PlaceFault, long_sums};
@@ -163,6 +164,20 @@ impl Assembler {
         match long_sums(tokens) {
             Some(LongSums::One(sum)) => self.place_long(pos, size, &sum),
             Some(LongSums::Two(sum, other)) => self.place_two_long(pos, size, &sum, &other),
+            None => self.place_known(pos, size, tokens),
+        }
+    }
+
+    /// Data of any operands: at once where all are numbers by what is known here.
+    #[inline(never)]
+    fn place_known(&mut self, pos: Pos, size: FieldSize, tokens: &[Token]) -> Result<(), PlaceFault>
+        ensures placed { PlacesBy (place_data pos size (map spelled tokens.now))
+            self.old self.new result }
+        ensures kept { KeepsNotes result self.old.notes self.new.notes }
+    {
+        let view = view_of(&self.table, &self.sections, self.current);
+        match known_data(&view, &mut self.scratch, size, tokens)? {
+            Some(cut) => self.put_constants(pos, cut),
             None => self.place_any_data(pos, size, tokens),
         }
     }

@@ -6,7 +6,7 @@ ghost use Rattle.asm_operands.specs.OperandParts.{operands_left};
 ghost use Rattle.asm_values.specs.ConstantOperands.{FindsFirst, FindsNext, FindsConstants, FindsOnlyNumber};
 
 use asm_base::Token;
-use asm_operands::{Operands, UpToThree, constant_operand};
+use asm_operands::{Operands, UpToThree, constant_operand, lone_constant};
 
 /// The value of the next operand, which has to be there.
 #[inline(always)]
@@ -16,9 +16,9 @@ fn first_constant(operands: &mut Operands) -> Option<u64>
     constant_operand(operands.next()?)
 }
 
-/// The number that the only operand is. None says nothing of the operands.
-#[inline(always)]
-pub fn only_number(tokens: &[Token]) -> Option<u64>
+/// The number that the only operand is, of any tokens. None says nothing of the operands.
+#[inline(never)]
+fn long_number(tokens: &[Token]) -> Option<u64>
     ensures { FindsOnlyNumber (map spelled tokens.now) result }
 {
     let mut operands = Operands::new(tokens);
@@ -26,6 +26,17 @@ pub fn only_number(tokens: &[Token]) -> Option<u64>
     match operands.next() {
         None => Some(value),
         Some(_) => None,
+    }
+}
+
+/// The number that the only operand is: most are one token. None says nothing of the operands.
+#[inline(always)]
+pub fn only_number(tokens: &[Token]) -> Option<u64>
+    ensures { FindsOnlyNumber (map spelled tokens.now) result }
+{
+    match lone_constant(tokens) {
+        Some(value) => Some(value),
+        None => long_number(tokens),
     }
 }
 

@@ -1,6 +1,6 @@
--- What is at the front of the first tokens is at the front of all.
-use Rattle.asm_operands.proofs.CutLemmas.{front_found}
+-- What is worth a number is that number.
+use Rattle.asm_operands.proofs.CutLemmas.{constant_front}
 use Rattle.asm_operands.proofs.constants.front_constant.Goals as goal
 
 pub returns : goal.returns
-returns c = front_found c.args.tokens.now _ _ _ c.in_ok-value.ensures
+returns c = constant_front _ c.in_ok-front.front.value c.in_ok-front.front.length c.in_ok-front.ensures

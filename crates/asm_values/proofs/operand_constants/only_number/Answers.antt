@@ -1,8 +1,8 @@
--- A number is the only operand where no other is left.
+-- Tokens without a comma are one operand.
 use Rattle.std.proofs.Common.{map}
 use Rattle.asm_base.specs.Tokens.{spelled}
-use Rattle.asm_values.proofs.ConstantOperandsLemmas.{only_finds}
+use Rattle.asm_values.proofs.ConstantOperandsLemmas.{lone_only}
 use Rattle.asm_values.proofs.operand_constants.only_number.Goals as goal
 
-pub returns-in-None : goal.returns-in-None
-returns-in-None c = only_finds (map spelled c.args.tokens.now) _ _ c.in_ok-value.value c.new-operands.ensures c.in-None.ensures.steps.0 c.in_ok-value.ensures
+pub returns-in-Some : goal.returns-in-Some
+returns-in-Some c = lone_only (map spelled c.args.tokens.now) c.in-Some.value c.in-Some.ensures

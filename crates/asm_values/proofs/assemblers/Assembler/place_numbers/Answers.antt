@@ -11,5 +11,5 @@ pub returns-in-Some-clause-placed : goal.returns-in-Some-clause-placed
 returns-in-Some-clause-placed c =
     subst (Gives (placed_by c.put_constants.new.self) c.put_constants.result)
     (sym (constants_place c.args.pos c.args.size c.constant_data.new.out.items c.in-Some.cut (map spelled c.args.tokens.now) (placed_by c.args.self.now)
-    (subst (FindsData c.args.size (map spelled c.args.tokens.now) c.constant_data.new.out.items) c.in-Some.is c.in_ok-cut.ensures)))
+    (subst (FindsData c.args.size (map spelled c.args.tokens.now) c.constant_data.new.out.items) c.in-Some.is c.in_ok-cut.ensures (placed_by c.args.self.now))))
     c.put_constants.ensures.placed
