@@ -78,13 +78,13 @@ meant_by_names counts (tree.binary op left right) =
 same_names : (held : Amount) (read : Tree) → IsAmountOf held read → names_of (amount_tree held) ≡ names_of read
 same_names (amount.Number value) read is = is.names
 same_names (amount.Name bytes more) read is = is.names
-same_names (amount.Tree boxed) read is = ap names_of is
+same_names (amount.Tree boxed) read is = is.names
 
 same_linear : (held : Amount) (read : Tree) (known : Knowledge) → IsAmountOf held read → AmountFits known held → linear known (amount_tree held) ≡ linear known read
 same_linear (amount.Number value) read known is fits = is.counts known (All-nil _)
 same_linear (amount.Name bytes more) read known is fits =
     is.counts known (All-cons (λ written. IsFitting (known.told (known.meant written))) (Plain bytes.now) [] fits (All-nil _))
-same_linear (amount.Tree boxed) read known is fits = ap (linear known) is
+same_linear (amount.Tree boxed) read known is fits = is.counts known fits
 
 module _ (held : Amount) (read : Tree) (is : IsAmountOf held read) where
   same_table : (pos : Pos) (table : Table) → with_tree pos (amount_tree held) table ≡ with_tree pos read table

@@ -4,9 +4,10 @@ use Rattle.asm_base.specs.declared.refusals.Refusal.{Refusal}
 use Rattle.asm_base.specs.declared.refusals.Refusal.TheVariants.{Fault, NoMemory}
 use Rattle.asm_base.specs.declared.positions.Pos.{Pos}
 use Rattle.asm_expr.specs.declared.naming.Name.TheVariants as naming
+use Rattle.asm_expr.specs.declared.trees.Written.{Written}
 use Rattle.asm_expr.specs.declared.trees.Written.TheVariants.{Plain}
 use Rattle.asm_expr.specs.Knowledge.{Knowledge}
-use Rattle.asm_expr.specs.Trees.{Tree}
+use Rattle.asm_expr.specs.Trees.{Tree, tree_of}
 use Rattle.asm_operands.specs.declared.place_faults.PlaceCause.{PlaceCause}
 use Rattle.asm_symbols.specs.SymbolMap.{SymbolMap, names, index_of}
 use Rattle.asm_values.specs.State.{Placed, with_names, known_here}
@@ -14,7 +15,7 @@ use Rattle.x86_insn.specs.declared.amounts.Amount.{Amount}
 use Rattle.x86_insn.specs.declared.amounts.Amount.TheVariants as amount
 use Rattle.x86_insn.specs.declared.insns.Insn.{Insn}
 use Rattle.x86_insn.specs.Amounts.{amount_tree}
-use Rattle.att_operands.specs.Values.{IsFitting}
+use Rattle.att_operands.specs.Values.{IsFitting, KnowsFitting}
 use Rattle.asm_words.specs.declared.directives.Syntax.{Syntax}
 use Rattle.asm_place.specs.Coding.{shape_of, in_text_order, place_insn}
 
@@ -26,15 +27,19 @@ trees_of syntax insn = in_text_order syntax (amount_tree insn.immediate.amount) 
 abbrev pub place_amounts : Pos → Insn → Placed → Result Placed PlaceCause
 place_amounts pos insn placed = place_insn pos (shape_of insn) (amount_tree insn.immediate.amount) (amount_tree insn.displacement.amount) placed
 
--- what is known of this name is below 2^64
-abbrev pub NameFits : Knowledge → List ℕ → Type 0
-NameFits known bytes = IsFitting (known.told (known.meant (Plain bytes)))
+-- what is known of this name, as it is written, is below 2^64
+abbrev pub WrittenFits : Knowledge → Written → Type 0
+WrittenFits known written = IsFitting (known.told (known.meant written))
 
--- what is known of the name of an amount is below 2^64
+-- the same of a name of these bytes
+abbrev pub NameFits : Knowledge → List ℕ → Type 0
+NameFits known bytes = WrittenFits known (Plain bytes)
+
+-- what is known of the names of an amount is below 2^64
 abbrev pub AmountFits : Knowledge → Amount → Type 0
 AmountFits known (amount.Number value) = Unit {0}
 AmountFits known (amount.Name bytes more) = NameFits known bytes.now
-AmountFits known (amount.Tree boxed) = Unit {0}
+AmountFits known (amount.Tree boxed) = KnowsFitting known (tree_of boxed.value)
 
 -- so is what is known of the names of both amounts
 pub record InsnFits (known : Knowledge) (insn : Insn) : Type 0 where

@@ -12,12 +12,12 @@ ghost use Rattle.asm_uses.specs.Tables.{with_tree, with_trees, is_meant, naming_
 ghost use Rattle.asm_uses.specs.Places.{uses_place};
 ghost use Rattle.asm_values.specs.PlacedBy.{placed_by};
 ghost use Rattle.asm_values.specs.State.{known_here};
-ghost use Rattle.att_operands.specs.Values.{IsFitting};
+ghost use Rattle.att_operands.specs.Values.{IsFitting, KnowsFitting};
 ghost use Rattle.x86_insn.specs.Amounts.{amount_tree, named_tree};
-ghost use Rattle.asm_place.specs.Amounts.{trees_of, NameFits, AmountFits, InsnFits, IsSymbolOf};
+ghost use Rattle.asm_place.specs.Amounts.{trees_of, WrittenFits, NameFits, AmountFits, InsnFits, IsSymbolOf};
 
 use asm_base::{NoMemory, Pos};
-use asm_expr::{Expr, Known, Linear, Look, SymId, constant_form};
+use asm_expr::{Expr, Known, Linear, Look, SymId, Written, constant_form};
 use asm_operands::PlaceFault;
 use asm_symbols::Symbols;
 use asm_uses::{
@@ -189,17 +189,46 @@ fn name_fits(assembler: &Assembler, bytes: &[u8])
     }
 }
 
-/// What is known of the name of an amount is a number of the program.
+/// What is known of a name as it is written is a number of the program.
+fn written_fits(assembler: &Assembler, written: &Written)
+    ensures { WrittenFits (known_here (placed_by assembler.now)) written.now }
+{
+    let view = assembler.view();
+    if let Look::Form(form) = view.look(view.symbol(written)) {
+        form.constant();
+    }
+}
+
+/// So is what is known of each name of a tree.
+#[inline(never)]
+fn tree_fits(assembler: &Assembler, expr: &Expr)
+    ensures { KnowsFitting (known_here (placed_by assembler.now)) (tree_of expr.now) }
+{
+    match expr {
+        Expr::Num(_) => {}
+        Expr::Name(written) => written_fits(assembler, written),
+        Expr::Here => {}
+        Expr::Unary(_, operand) => tree_fits(assembler, operand),
+        Expr::Binary(_, left, right) => {
+            tree_fits(assembler, left);
+            tree_fits(assembler, right);
+        }
+    }
+}
+
+/// What is known of the names of an amount is a number of the program.
 #[inline(always)]
 fn amount_fits(assembler: &Assembler, amount: &Amount, symbol: Option<SymId>)
     requires { IsSymbolOf (placed_by assembler.now).table.symbols amount.now symbol }
     ensures { AmountFits (known_here (placed_by assembler.now)) amount.now }
 {
-    if let Amount::Name(bytes, _) = amount {
-        match symbol {
+    match amount {
+        Amount::Number(_) => {}
+        Amount::Name(bytes, _) => match symbol {
             Some(id) => symbol_fits(assembler, bytes, id),
             None => name_fits(assembler, bytes),
-        }
+        },
+        Amount::Tree(expr) => tree_fits(assembler, expr),
     }
 }
 

@@ -1,5 +1,5 @@
 -- An instruction as its text: as the program's, with the texts of its values.
-use Rattle.std.specs.Prelude.{◌≡◌, ℕ, List, [], ◌∷◌, None}
+use Rattle.std.specs.Prelude.{◌≡◌, ◌||◌, ℕ, Bool, List, [], ◌∷◌, None}
 use Rattle.x86_insn.specs.declared.insns.Mnemonic.{Mnemonic}
 use Rattle.x86_insn.specs.declared.insns.Prefix.{Prefix}
 use Rattle.x86_insn.specs.declared.insns.Address.{Address}
@@ -8,10 +8,11 @@ use Rattle.x86_insn.specs.declared.insns.Index.TheVariants as index
 use Rattle.x86_insn.specs.declared.insns.Slot.{Slot}
 use Rattle.x86_insn.specs.declared.insns.Slot.TheVariants as slot
 use Rattle.x86_insn.specs.declared.insns.Insn.{Insn}
-use Rattle.att_operands.specs.Values.{ValueText, IsValueOf}
+use Rattle.att_operands.specs.Values.{ValueText, IsValueOf, beside}
 use Rattle.att_operands.specs.OperandTexts.{OperandText, no_displacement}
 use Rattle.att_operands.specs.OperandTexts as operand
 use Rattle.att_operands.specs.Spells.{in_segment}
+use Rattle.att_insns.specs.Slots.{is_immediate, is_memory, is_target}
 
 -- an instruction, whose values are texts
 pub record InsnText : Type 0 where
@@ -47,13 +48,24 @@ blank name size word = record {
 abbrev pub led_by : Slot → InsnText → InsnText
 led_by first insn = record insn { first = first; second = insn.first; third = insn.second }
 
--- an operand more, which stands before those that are written before it. Of several in memory, or several immediates, the last counts:
--- no row of the table takes two
+-- an immediate stands in one of the two slots
+abbrev pub has_immediate : (first second : Slot) → Bool
+has_immediate first second = is_immediate first || is_immediate second
+
+-- memory or a target stands in one of the two slots
+abbrev pub has_displacement : (first second : Slot) → Bool
+has_displacement first second = (is_memory first || is_target first) || (is_memory second || is_target second)
+
+-- an operand more, which stands before those that are written before it. Of several in memory the last address counts, and of several
+-- immediates or displacements the sum: no row of the table takes two
 abbrev pub with_operand : OperandText → InsnText → InsnText
 with_operand (operand.register reg) insn = led_by (slot.Register reg) insn
-with_operand (operand.immediate held) insn = record (led_by slot.Immediate insn) { immediate = held }
-with_operand (operand.memory place held) insn = record (led_by slot.Memory insn) { address = place; displacement = held }
-with_operand (operand.target held) insn = record (led_by slot.Target insn) { displacement = held }
+with_operand (operand.immediate held) insn =
+    record (led_by slot.Immediate insn) { immediate = beside (has_immediate insn.first insn.second) insn.immediate held }
+with_operand (operand.memory place held) insn =
+    record (led_by slot.Memory insn) { address = place; displacement = beside (has_displacement insn.first insn.second) insn.displacement held }
+with_operand (operand.target held) insn =
+    record (led_by slot.Target insn) { displacement = beside (has_displacement insn.first insn.second) insn.displacement held }
 
 -- all operands, in the order in which they are written: sources first
 abbrev pub with_operands : List OperandText → InsnText → InsnText

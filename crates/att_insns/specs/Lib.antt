@@ -1,4 +1,5 @@
 -- The definitions that contracts cite, in reading order.
+pub mod Slots
 pub mod InsnTexts
 pub mod Rules
 pub mod Sizes

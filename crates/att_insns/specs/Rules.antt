@@ -12,39 +12,8 @@ use Rattle.x86_table.specs.declared.mnemonics.vectors.TheConstants.{MOVQ}
 use Rattle.x86_lookup.specs.declared.names.Rule.{Rule}
 use Rattle.x86_lookup.specs.declared.names.Rule.TheVariants as rule
 use Rattle.att_operands.specs.Values.{ValueText}
+use Rattle.att_insns.specs.Slots.{is_absent, is_register, is_immediate, is_memory}
 use Rattle.att_insns.specs.InsnTexts.{InsnText}
-
--- no operand stands there
-abbrev pub is_absent : Slot → Bool
-is_absent slot.Absent = true
-is_absent (slot.Register reg) = false
-is_absent slot.Immediate = false
-is_absent slot.Memory = false
-is_absent slot.Target = false
-
--- a register stands there
-abbrev pub is_register : Slot → Bool
-is_register slot.Absent = false
-is_register (slot.Register reg) = true
-is_register slot.Immediate = false
-is_register slot.Memory = false
-is_register slot.Target = false
-
--- an immediate stands there
-abbrev pub is_immediate : Slot → Bool
-is_immediate slot.Absent = false
-is_immediate (slot.Register reg) = false
-is_immediate slot.Immediate = true
-is_immediate slot.Memory = false
-is_immediate slot.Target = false
-
--- memory stands there
-abbrev pub is_memory : Slot → Bool
-is_memory slot.Absent = false
-is_memory (slot.Register reg) = false
-is_memory slot.Immediate = false
-is_memory slot.Memory = true
-is_memory slot.Target = false
 
 -- 64 bits
 abbrev pub is_quad_class : Class → Bool

@@ -7,10 +7,11 @@ ghost use Rattle.att_operands.specs.Values.{ValueText};
 ghost use Rattle.att_insns.specs.InsnTexts.{InsnText, IsInsnOf, with_operand, text_of, HasTexts};
 ghost use Rattle.att_insns.specs.Reading.{Makes, Puts, operands_at, with_all};
 
-use asm_base::Token;
+use crate::slots::{has_displacement, has_immediate};
+use asm_base::{NoMemory, Token};
 use att_operands::{
     FoundOperand, OperandCause, OperandFault, ReadOperand, bare_memory, displaced_memory,
-    read_operand, whole_immediate, whole_register,
+    hold_value, read_operand, whole_immediate, whole_register,
 };
 use std::alloc::Global;
 use x86_insn::{Insn, Reg, Slot};
@@ -28,37 +29,50 @@ fn lead(insn: &mut Insn, first: Slot)
 
 /// The operand stands before those that were written before it.
 #[inline(always)]
-#[tactic(auto, using(crate::proofs::Fillings::register_put, crate::proofs::Fillings::immediate_put, crate::proofs::Fillings::memory_put, crate::proofs::Fillings::target_put))]
-fn put_text<'a>(insn: &mut Insn<'a>, operand: ReadOperand<'a>)
-    ensures { (i d : ValueText) (text : OperandText) → HasTexts insn.old i d
+fn put_text<'a>(
+    alloc: Global,
+    insn: &mut Insn<'a>,
+    operand: ReadOperand<'a>,
+) -> Result<(), NoMemory>
+    ensures { IfOk result (λ _. (i d : ValueText) (text : OperandText) → HasTexts insn.old i d
         → IsOperandOf operand.entry text
-        → IsInsnOf insn.new (with_operand text (text_of insn.old i d)) }
+        → IsInsnOf insn.new (with_operand text (text_of insn.old i d))) }
 {
     match operand {
-        ReadOperand::Register(reg) => lead(insn, Slot::Register(reg)),
+        ReadOperand::Register(reg) => {
+            lead(insn, Slot::Register(reg));
+            Ok(())
+        }
         ReadOperand::Immediate(value) => {
+            let there = has_immediate(insn.first, insn.second);
             lead(insn, Slot::Immediate);
-            insn.immediate = value;
+            hold_value(alloc, there, &mut insn.immediate, value)?;
+            Ok(())
         }
         ReadOperand::Memory(address, displacement) => {
+            let there = has_displacement(insn.first, insn.second);
             lead(insn, Slot::Memory);
             insn.address = address;
-            insn.displacement = displacement;
+            hold_value(alloc, there, &mut insn.displacement, displacement)?;
+            Ok(())
         }
         ReadOperand::Target(value) => {
+            let there = has_displacement(insn.first, insn.second);
             lead(insn, Slot::Target);
-            insn.displacement = value;
+            hold_value(alloc, there, &mut insn.displacement, value)?;
+            Ok(())
         }
     }
 }
 
 /// The same of an instruction that has a text.
 #[inline(always)]
-fn put<'a>(insn: &mut Insn<'a>, operand: ReadOperand<'a>)
-    ensures { (due : InsnText) (text : OperandText) → IsInsnOf insn.old due
-        → IsOperandOf operand.entry text → IsInsnOf insn.new (with_operand text due) }
+fn put<'a>(alloc: Global, insn: &mut Insn<'a>, operand: ReadOperand<'a>) -> Result<(), NoMemory>
+    ensures { IfOk result (λ _. (due : InsnText) (text : OperandText) → IsInsnOf insn.old due
+        → IsOperandOf operand.entry text → IsInsnOf insn.new (with_operand text due)) }
 {
-    put_text(insn, operand);
+    put_text(alloc, insn, operand)?;
+    Ok(())
 }
 
 /// A register stands before the operands that were written before it.
@@ -67,7 +81,7 @@ fn put_register(insn: &mut Insn, reg: Reg)
     ensures { (due : InsnText) → IsInsnOf insn.old due
         → IsInsnOf insn.new (with_operand (register reg) due) }
 {
-    put(insn, ReadOperand::Register(reg));
+    lead(insn, Slot::Register(reg));
 }
 
 /// Any operand at this place stands before those that were written before it; the index of the
@@ -86,7 +100,7 @@ fn put_any<'a>(
 {
     match read_operand(alloc, tokens, at, is_branch) {
         Ok(FoundOperand { operand, next }) => {
-            put(insn, operand);
+            put(alloc, insn, operand)?;
             Ok(next)
         }
         Err(refusal) => Err(refusal),
@@ -107,12 +121,12 @@ fn put_memory<'a>(
 {
     match displaced_memory(tokens, at) {
         Some(FoundOperand { operand, next }) => {
-            put(insn, operand);
+            put(alloc, insn, operand)?;
             Ok(next)
         }
         None => match bare_memory(tokens, at) {
             Some(FoundOperand { operand, next }) => {
-                put(insn, operand);
+                put(alloc, insn, operand)?;
                 Ok(next)
             }
             None => put_any(alloc, tokens, at, false, insn),
@@ -134,7 +148,7 @@ fn put_usual<'a>(
 {
     match whole_immediate(tokens, at) {
         Some(FoundOperand { operand, next }) => {
-            put(insn, operand);
+            put(alloc, insn, operand)?;
             Ok(next)
         }
         None => put_memory(alloc, tokens, at, insn),

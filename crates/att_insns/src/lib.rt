@@ -15,5 +15,5 @@ pub use laws::{faults_of_an_insn, one_insn, read_is_spelled, spelled_is_read, wo
 pub use reading::{blank, read_insn, read_into};
 pub use rules::{apply, is_branch, long_memory};
 pub use sizes::width;
-pub use slots::is_absent;
+pub use slots::{has_displacement, has_immediate, is_absent};
 pub use sources::{by_bits, source_bits};

@@ -1,7 +1,9 @@
 //! What stands in the slots of an instruction.
 
 ghost use Rattle.std.specs.Prelude.{◌≡◌};
-ghost use Rattle.att_insns.specs.Rules.{is_absent, is_register, is_immediate, is_memory, is_quad, is_xmm, is_accumulator, is_xmm0};
+ghost use Rattle.att_insns.specs.Slots.{is_absent, is_register, is_immediate, is_memory, is_target};
+ghost use Rattle.att_insns.specs.InsnTexts.{has_immediate, has_displacement};
+ghost use Rattle.att_insns.specs.Rules.{is_quad, is_xmm, is_accumulator, is_xmm0};
 
 use x86_insn::{Class, Slot};
 
@@ -35,6 +37,30 @@ pub(crate) fn is_memory(slot: Slot) -> bool
     ensures { result ≡ is_memory slot }
 {
     matches!(slot, Slot::Memory)
+}
+
+/// Whether a branch target stands there.
+#[inline(always)]
+fn is_target(slot: Slot) -> bool
+    ensures { result ≡ is_target slot }
+{
+    matches!(slot, Slot::Target)
+}
+
+/// Whether an immediate stands in one of the two slots.
+#[inline(always)]
+pub fn has_immediate(first: Slot, second: Slot) -> bool
+    ensures { result ≡ has_immediate first second }
+{
+    is_immediate(first) || is_immediate(second)
+}
+
+/// Whether memory or a branch target stands in one of the two slots.
+#[inline(always)]
+pub fn has_displacement(first: Slot, second: Slot) -> bool
+    ensures { result ≡ has_displacement first second }
+{
+    (is_memory(first) || is_target(first)) || (is_memory(second) || is_target(second))
 }
 
 /// Whether a 64-bit register stands there.

@@ -2,6 +2,7 @@ pub mod RegisterLookups
 pub mod BareNames
 pub mod FrontReadings
 pub mod AmountLemmas
+pub mod JoinedValues
 pub mod SuffixLemmas
 pub mod SpelledIsRead
 pub mod SuffixPlaces

@@ -9,7 +9,8 @@ use Rattle.asm_base.specs.Tokens.{SpelledToken}
 use Rattle.asm_expr.specs.declared.faults.ExprCause.{ExprCause}
 use Rattle.asm_expr.specs.declared.faults.ExprCause.TheVariants as cause
 use Rattle.expr_texts.specs.Leaves.{is_numeric_label}
-use Rattle.asm_expr.specs.Trees.{Tree, number, tree_of}
+use Rattle.asm_expr.specs.declared.trees.BinaryOp.TheVariants.{Add}
+use Rattle.asm_expr.specs.Trees.{Tree, number, binary, tree_of}
 use Rattle.asm_expr.specs.Forms.{Form}
 use Rattle.asm_expr.specs.Knowledge.{Told, constant, form, Knowledge}
 use Rattle.asm_expr.specs.Linear.{linear}
@@ -55,11 +56,11 @@ pub record IsLike (one other : Tree) : Type 0 where
   pub counts : CountAlike one other
   pub names : names_of one ≡ names_of other
 
--- the amount is that of the tree: the number or the sum that it counts whatever is known, if it has no other names, or the tree itself
+-- the amount is that of the tree: a number, a sum or a tree that counts the same whatever is known, and has the same names
 abbrev pub IsAmountOf : Amount → Tree → Type 0
 IsAmountOf (amount.Number value) tree = IsLike (number value) tree
 IsAmountOf (amount.Name bytes more) tree = IsLike (named_tree bytes.now more) tree
-IsAmountOf (amount.Tree boxed) tree = tree_of boxed.value ≡ tree
+IsAmountOf (amount.Tree boxed) tree = IsLike (tree_of boxed.value) tree
 
 -- the suffix that a word is, in either case
 abbrev pub suffix_of : List ℕ → Option Suffix
@@ -125,6 +126,11 @@ without_suffix tokens at = take (at + 1) tokens ++ drop (at + 3) tokens
 pub record ValueText : Type 0 where
   pub tree : Tree
   pub suffix : Option Suffix
+
+-- a value, with one of its kind that is there already: their sum, which has the fault of the first that has one
+abbrev pub beside : (there : Bool) → ValueText → ValueText → ValueText
+beside false one other = other
+beside true one other = record { tree = binary Add one.tree other.tree; suffix = other.suffix }
 
 -- a value that was read, and the place behind it
 pub record ReadText : Type 0 where

@@ -4,6 +4,7 @@
 
 mod addresses;
 mod faults;
+mod joined_values;
 mod laws;
 mod marks;
 mod operands;
@@ -16,6 +17,7 @@ mod values;
 
 pub use addresses::{base_by, index_by, register_by, scale_by, takes_index};
 pub use faults::{OperandCause, OperandFault};
+pub use joined_values::hold_value;
 pub use laws::{
     faults_of_a_value, faults_of_an_operand, one_operand, read_is_spelled, registers_have_slots,
     spelled_is_read, values_are_read, worked_operands,

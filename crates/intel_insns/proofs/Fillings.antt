@@ -1,5 +1,5 @@
 -- An instruction by its fields, and what an operand makes of it.
-use Rattle.std.proofs.Common.{◌≡◌, ℕ, ◌+◌, nat_lt, true, List, Result, Ok, Err, map, length, refl, sym, subst, ap, ◌∙◌}
+use Rattle.std.proofs.Common.{◌≡◌, ℕ, ◌+◌, nat_lt, Bool, true, List, Result, Ok, Err, map, length, refl, sym, subst, ap, ◌∙◌}
 use Rattle.std.proofs.lemmas.List.{length-map}
 use Rattle.asm_base.specs.declared.refusals.Refusal.{Refusal}
 use Rattle.asm_base.specs.declared.tokens.Token.{Token}
@@ -10,10 +10,10 @@ use Rattle.x86_insn.specs.declared.insns.Address.{Address}
 use Rattle.x86_insn.specs.declared.insns.Slot.TheVariants as slot
 use Rattle.x86_insn.specs.declared.insns.Insn.{Insn}
 use Rattle.att_operands.specs.declared.operands.ReadOperand.TheVariants.{Register, Immediate, Memory, Target}
-use Rattle.att_operands.specs.Values.{ValueText}
+use Rattle.att_operands.specs.Values.{ValueText, IsValueOf, beside}
 use Rattle.att_operands.specs.OperandTexts.{OperandText, IsOperandOf}
 use Rattle.att_operands.specs.OperandTexts as operand
-use Rattle.att_insns.specs.InsnTexts.{InsnText, IsInsnOf, text_of, HasTexts}
+use Rattle.att_insns.specs.InsnTexts.{InsnText, has_immediate, has_displacement, IsInsnOf, text_of, HasTexts}
 use Rattle.x86_lookup.specs.declared.names.Rule.{Rule}
 use Rattle.att_operands.specs.declared.faults.OperandCause.{OperandCause}
 use Rattle.att_insns.specs.Reading.{Makes}
@@ -61,35 +61,72 @@ register_put made old reg i d (operand.immediate held) has behind is = absurd is
 register_put made old reg i d (operand.memory place held) has behind is = absurd is
 register_put made old reg i d (operand.target held) has behind is = absurd is
 
+-- a value takes in another one, if one of its kind is there
+abbrev pub Holds : (there : Bool) → (before more after : Value) → Type 0
+Holds there before more after = (one other : ValueText) → IsValueOf before one → IsValueOf more other → IsValueOf after (beside there one other)
+
 -- an immediate is put behind the others
-pub immediate_put : (made old : Insn) (value : Value) (i d : ValueText) (text : OperandText) → HasTexts made i d → text_of made i d ≡ followed_by slot.Immediate (text_of old i d)
-    → IsOperandOf (Immediate value) text → IsInsnOf (record made { immediate = value }) (with_text text (text_of old i d))
-immediate_put made old value i d (operand.register due) has behind is = absurd is
-immediate_put made old value i d (operand.immediate held) has behind is =
-    subst (λ (t : InsnText). IsInsnOf (record made { immediate = value }) (record t { immediate = held })) behind
-    (record { name = refl; size = refl; «prefix» = refl; first = refl; second = refl; third = refl; address = refl; immediate = is; displacement = has.displacement })
-immediate_put made old value i d (operand.memory place held) has behind is = absurd is
-immediate_put made old value i d (operand.target held) has behind is = absurd is
+pub immediate_put : (made old : Insn) (value held : Value) (there : Bool) (i d : ValueText) (text : OperandText) → there ≡ has_immediate old.first old.second → Holds there made.immediate value held
+    → HasTexts made i d → text_of made i d ≡ followed_by slot.Immediate (text_of old i d) → IsOperandOf (Immediate value) text
+    → IsInsnOf (record made { immediate = held }) (with_text text (text_of old i d))
+immediate_put made old value held there i d (operand.register due) same holds has behind is = absurd is
+immediate_put made old value held there i d (operand.immediate text) same holds has behind is =
+    subst (λ (t : InsnText). IsInsnOf (record made { immediate = held }) (record t { immediate = beside (has_immediate old.first old.second) i text })) behind
+    (record {
+      name = refl;
+      size = refl;
+      «prefix» = refl;
+      first = refl;
+      second = refl;
+      third = refl;
+      address = refl;
+      immediate = subst (λ (b : Bool). IsValueOf held (beside b i text)) same (holds i text has.immediate is);
+      displacement = has.displacement;
+    })
+immediate_put made old value held there i d (operand.memory place text) same holds has behind is = absurd is
+immediate_put made old value held there i d (operand.target text) same holds has behind is = absurd is
 
 -- memory is put behind the others
-pub memory_put : (made old : Insn) (address : Address) (value : Value) (i d : ValueText) (text : OperandText) → HasTexts made i d → text_of made i d ≡ followed_by slot.Memory (text_of old i d)
-    → IsOperandOf (Memory address value) text → IsInsnOf (record made { address = address; displacement = value }) (with_text text (text_of old i d))
-memory_put made old address value i d (operand.register due) has behind is = absurd is
-memory_put made old address value i d (operand.immediate held) has behind is = absurd is
-memory_put made old address value i d (operand.memory place held) has behind is =
-    subst (λ (t : InsnText). IsInsnOf (record made { address = address; displacement = value }) (record t { address = place; displacement = held })) behind
-    (record { name = refl; size = refl; «prefix» = refl; first = refl; second = refl; third = refl; address = is.address; immediate = has.immediate; displacement = is.value })
-memory_put made old address value i d (operand.target held) has behind is = absurd is
+pub memory_put : (made old : Insn) (address : Address) (value held : Value) (there : Bool) (i d : ValueText) (text : OperandText) → there ≡ has_displacement old.first old.second
+    → Holds there made.displacement value held → HasTexts made i d → text_of made i d ≡ followed_by slot.Memory (text_of old i d) → IsOperandOf (Memory address value) text
+    → IsInsnOf (record made { address = address; displacement = held }) (with_text text (text_of old i d))
+memory_put made old address value held there i d (operand.register due) same holds has behind is = absurd is
+memory_put made old address value held there i d (operand.immediate text) same holds has behind is = absurd is
+memory_put made old address value held there i d (operand.memory place text) same holds has behind is =
+    subst (λ (t : InsnText). IsInsnOf (record made { address = address; displacement = held }) (record t { address = place; displacement = beside (has_displacement old.first old.second) d text })) behind
+    (record {
+      name = refl;
+      size = refl;
+      «prefix» = refl;
+      first = refl;
+      second = refl;
+      third = refl;
+      address = is.address;
+      immediate = has.immediate;
+      displacement = subst (λ (b : Bool). IsValueOf held (beside b d text)) same (holds d text has.displacement is.value);
+    })
+memory_put made old address value held there i d (operand.target text) same holds has behind is = absurd is
 
 -- a branch target is put behind the others
-pub target_put : (made old : Insn) (value : Value) (i d : ValueText) (text : OperandText) → HasTexts made i d → text_of made i d ≡ followed_by slot.Target (text_of old i d)
-    → IsOperandOf (Target value) text → IsInsnOf (record made { displacement = value }) (with_text text (text_of old i d))
-target_put made old value i d (operand.register due) has behind is = absurd is
-target_put made old value i d (operand.immediate held) has behind is = absurd is
-target_put made old value i d (operand.memory place held) has behind is = absurd is
-target_put made old value i d (operand.target held) has behind is =
-    subst (λ (t : InsnText). IsInsnOf (record made { displacement = value }) (record t { displacement = held })) behind
-    (record { name = refl; size = refl; «prefix» = refl; first = refl; second = refl; third = refl; address = refl; immediate = has.immediate; displacement = is })
+pub target_put : (made old : Insn) (value held : Value) (there : Bool) (i d : ValueText) (text : OperandText) → there ≡ has_displacement old.first old.second
+    → Holds there made.displacement value held → HasTexts made i d → text_of made i d ≡ followed_by slot.Target (text_of old i d) → IsOperandOf (Target value) text
+    → IsInsnOf (record made { displacement = held }) (with_text text (text_of old i d))
+target_put made old value held there i d (operand.register due) same holds has behind is = absurd is
+target_put made old value held there i d (operand.immediate text) same holds has behind is = absurd is
+target_put made old value held there i d (operand.memory place text) same holds has behind is = absurd is
+target_put made old value held there i d (operand.target text) same holds has behind is =
+    subst (λ (t : InsnText). IsInsnOf (record made { displacement = held }) (record t { displacement = beside (has_displacement old.first old.second) d text })) behind
+    (record {
+      name = refl;
+      size = refl;
+      «prefix» = refl;
+      first = refl;
+      second = refl;
+      third = refl;
+      address = refl;
+      immediate = has.immediate;
+      displacement = subst (λ (b : Bool). IsValueOf held (beside b d text)) same (holds d text has.displacement is);
+    })
 
 -- an instruction that gets a size has the text with it
 pub sized_text : (held : Insn) (size : ℕ) (i d : ValueText) → HasTexts held i d → IsInsnOf (record held { size = size }) (record (text_of held i d) { size = size })

@@ -3,10 +3,11 @@ use Rattle.std.specs.Prelude.{◌≡◌, ℕ, ◌==◌, List, [], ◌∷◌, if�
 use Rattle.x86_insn.specs.declared.insns.Slot.{Slot}
 use Rattle.x86_insn.specs.declared.insns.Slot.TheVariants as slot
 use Rattle.x86_insn.specs.declared.insns.Insn.{Insn}
+use Rattle.att_operands.specs.Values.{beside}
 use Rattle.att_operands.specs.OperandTexts.{OperandText}
 use Rattle.att_operands.specs.OperandTexts as operand
-use Rattle.att_insns.specs.InsnTexts.{InsnText, IsInsnOf}
-use Rattle.att_insns.specs.Rules.{is_absent}
+use Rattle.att_insns.specs.InsnTexts.{InsnText, IsInsnOf, has_immediate, has_displacement}
+use Rattle.att_insns.specs.Slots.{is_absent}
 use Rattle.intel_operands.specs.OperandTexts.{SizedText}
 
 -- an instruction with the operands that were put, and how many bits of memory they say, or 0
@@ -20,13 +21,16 @@ followed_by last insn =
     if is_absent insn.first then record insn { first = last }
     else (if is_absent insn.second then record insn { second = last } else record insn { third = last })
 
--- an operand more, which stands behind those that are written before it. Of several in memory, or several immediates, the last counts:
--- no row of the table takes two
+-- an operand more, which stands behind those that are written before it. Of several in memory the last address counts, and of several
+-- immediates or displacements the sum: no row of the table takes two
 abbrev pub with_text : OperandText → InsnText → InsnText
 with_text (operand.register reg) insn = followed_by (slot.Register reg) insn
-with_text (operand.immediate held) insn = record (followed_by slot.Immediate insn) { immediate = held }
-with_text (operand.memory place held) insn = record (followed_by slot.Memory insn) { address = place; displacement = held }
-with_text (operand.target held) insn = record (followed_by slot.Target insn) { displacement = held }
+with_text (operand.immediate held) insn =
+    record (followed_by slot.Immediate insn) { immediate = beside (has_immediate insn.first insn.second) insn.immediate held }
+with_text (operand.memory place held) insn =
+    record (followed_by slot.Memory insn) { address = place; displacement = beside (has_displacement insn.first insn.second) insn.displacement held }
+with_text (operand.target held) insn =
+    record (followed_by slot.Target insn) { displacement = beside (has_displacement insn.first insn.second) insn.displacement held }
 
 -- how many bits of memory are said where another operand says so many
 abbrev pub bits_with : ℕ → ℕ → ℕ

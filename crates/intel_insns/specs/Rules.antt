@@ -4,7 +4,8 @@ use Rattle.x86_lookup.specs.declared.names.Rule.{Rule}
 use Rattle.x86_lookup.specs.declared.names.Rule.TheVariants as rule
 use Rattle.att_operands.specs.declared.faults.OperandCause.{OperandCause}
 use Rattle.att_insns.specs.InsnTexts.{InsnText}
-use Rattle.att_insns.specs.Rules.{is_absent, long_memory, ruled}
+use Rattle.att_insns.specs.Slots.{is_absent}
+use Rattle.att_insns.specs.Rules.{long_memory, ruled}
 use Rattle.att_insns.specs.Sources.{renamed, source_bits, by_bits}
 use Rattle.intel_insns.specs.InsnTexts.{FilledText}
 

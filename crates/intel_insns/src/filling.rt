@@ -9,9 +9,9 @@ ghost use Rattle.intel_operands.specs.OperandTexts.{operand_at};
 ghost use Rattle.intel_insns.specs.InsnTexts.{FilledText, followed_by, with_text, bits_with, IsFilled};
 ghost use Rattle.intel_insns.specs.Reading.{Fills, Puts, operands_at, with_all};
 
-use asm_base::Token;
-use att_insns::is_absent;
-use att_operands::{OperandCause, OperandFault, ReadOperand};
+use asm_base::{NoMemory, Token};
+use att_insns::{has_displacement, has_immediate, is_absent};
+use att_operands::{OperandCause, OperandFault, ReadOperand, hold_value};
 use intel_operands::{
     FoundOperand, ends_at, read_operand, whole_memory, whole_register, whole_value,
 };
@@ -43,36 +43,50 @@ fn follow(insn: &mut Insn, last: Slot)
 
 /// The operand stands behind those that were written before it.
 #[inline(always)]
-fn put_text<'a>(insn: &mut Insn<'a>, operand: ReadOperand<'a>)
-    ensures { (i d : ValueText) (text : OperandText) → HasTexts insn.old i d
+fn put_text<'a>(
+    alloc: Global,
+    insn: &mut Insn<'a>,
+    operand: ReadOperand<'a>,
+) -> Result<(), NoMemory>
+    ensures { IfOk result (λ _. (i d : ValueText) (text : OperandText) → HasTexts insn.old i d
         → IsOperandOf operand.entry text
-        → IsInsnOf insn.new (with_text text (text_of insn.old i d)) }
+        → IsInsnOf insn.new (with_text text (text_of insn.old i d))) }
 {
     match operand {
-        ReadOperand::Register(reg) => follow(insn, Slot::Register(reg)),
+        ReadOperand::Register(reg) => {
+            follow(insn, Slot::Register(reg));
+            Ok(())
+        }
         ReadOperand::Immediate(value) => {
+            let there = has_immediate(insn.first, insn.second);
             follow(insn, Slot::Immediate);
-            insn.immediate = value;
+            hold_value(alloc, there, &mut insn.immediate, value)?;
+            Ok(())
         }
         ReadOperand::Memory(address, displacement) => {
+            let there = has_displacement(insn.first, insn.second);
             follow(insn, Slot::Memory);
             insn.address = address;
-            insn.displacement = displacement;
+            hold_value(alloc, there, &mut insn.displacement, displacement)?;
+            Ok(())
         }
         ReadOperand::Target(value) => {
+            let there = has_displacement(insn.first, insn.second);
             follow(insn, Slot::Target);
-            insn.displacement = value;
+            hold_value(alloc, there, &mut insn.displacement, value)?;
+            Ok(())
         }
     }
 }
 
 /// The same of an instruction that has a text.
 #[inline(always)]
-fn put<'a>(insn: &mut Insn<'a>, operand: ReadOperand<'a>)
-    ensures { (due : InsnText) (text : OperandText) → IsInsnOf insn.old due
-        → IsOperandOf operand.entry text → IsInsnOf insn.new (with_text text due) }
+fn put<'a>(alloc: Global, insn: &mut Insn<'a>, operand: ReadOperand<'a>) -> Result<(), NoMemory>
+    ensures { IfOk result (λ _. (due : InsnText) (text : OperandText) → IsInsnOf insn.old due
+        → IsOperandOf operand.entry text → IsInsnOf insn.new (with_text text due)) }
 {
-    put_text(insn, operand);
+    put_text(alloc, insn, operand)?;
+    Ok(())
 }
 
 /// A register stands behind the operands that were written before it.
@@ -81,7 +95,7 @@ fn put_register(insn: &mut Insn, reg: Reg)
     ensures { (due : InsnText) → IsInsnOf insn.old due
         → IsInsnOf insn.new (with_text (register reg) due) }
 {
-    put(insn, ReadOperand::Register(reg));
+    follow(insn, Slot::Register(reg));
 }
 
 /// How many bits of memory are said where another operand says so many.
@@ -115,7 +129,7 @@ fn put_any<'a>(
                 next,
             },
         ) => {
-            put(insn, operand);
+            put(alloc, insn, operand)?;
             Ok(OperandEnd {
                 bits: bits_with(more, bits),
                 next,
@@ -148,7 +162,7 @@ fn put_value<'a>(
                 next,
             },
         ) => {
-            put(insn, operand);
+            put(alloc, insn, operand)?;
             Ok(OperandEnd {
                 bits: bits_with(more, bits),
                 next,
@@ -181,7 +195,7 @@ fn put_memory<'a>(
                 next,
             },
         ) => {
-            put(insn, operand);
+            put(alloc, insn, operand)?;
             Ok(OperandEnd {
                 bits: bits_with(more, bits),
                 next,
