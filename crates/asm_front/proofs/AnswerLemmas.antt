@@ -45,7 +45,7 @@ for_wanted : (fatal : Bool) (name : List ℕ) (wanted got : Step Placed FaultAt)
 for_wanted fatal name wanted got result is so = answered (assembly_by fatal name wanted) result (subst (λ step. IsAnswered (assembly_by fatal name step) result) (sym is) so)
 
 -- nothing but a want of memory is answered where nothing came
-for_none : (assembly : Assembly) (result : Result Assembled AsmFault) → IsAnswered missing result → AssemblesAs assembly result
+for_none : (assembly : Assembly) (result : Result Assembled AsmFault) → IsAnswered (missing []) result → AssemblesAs assembly result
 for_none assembly (Ok made) so = absurd cc
 for_none assembly (Err (Source fault pos notes files)) so = absurd cc
 for_none assembly (Err Read) so = tt
@@ -95,7 +95,7 @@ module _ (flags : Flags) (name : List ℕ) where
   missed : (contents : Contents) (lines : Result (List StatementAt) LineCause) (before now : ℕ) → (of_lines contents lines ≡ untold → ⊥) → CountsMisses (of_lines contents lines) before now
       → CountsMissed (assembly_by flags.fatal_warnings name (of_lines contents lines)) before now
   missed contents lines before now never (inl same) = inl same
-  missed contents lines before now never (inr (inl risen)) = inr (ap (assembly_by flags.fatal_warnings name) risen.0, risen.1, risen.2)
+  missed contents lines before now never (inr (inl risen)) = inr ((_, ap (assembly_by flags.fatal_warnings name) risen.0.1), risen.1, risen.2)
   missed contents lines before now never (inr (inr none)) = absurd (never none.0)
 
   never_falls : (wanted : Step Placed FaultAt) (before now : ℕ) → CountsMisses wanted before now → before ≤ now

@@ -38,7 +38,7 @@ ended_is fatal name (ended names whole) made files is = (names, whole, refl, obj
     object_is (Err fault) same = absurd cc
 ended_is fatal name (fails names cause pos placed) made files is = absurd cc
 ended_is fatal name (refused names fault) made files is = absurd cc
-ended_is fatal name misses made files is = absurd cc
+ended_is fatal name (misses names) made files is = absurd cc
 ended_is fatal name untold made files is = absurd cc
 ended_is fatal name (goes state placed) made files is = absurd cc
 

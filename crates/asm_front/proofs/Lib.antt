@@ -29,3 +29,4 @@ mod JumpsInObject
 mod FramesInObject
 mod CodesInObject
 mod HandedStatements
+mod StartedFiles

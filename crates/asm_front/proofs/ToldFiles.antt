@@ -231,7 +231,7 @@ module _ (contents : Contents) where
   of_step files placer list.ended p = refl
   of_step files placer (list.fails cause pos) p = refl
   of_step files placer (list.breaks name fault) p = refl
-  of_step files placer list.misses p = refl
+  of_step files placer (list.misses name) p = refl
   of_step files placer list.untold p = absurd (false≢true p.is)
 
   behind : (more : State → Placed → Step Placed FaultAt) → ((state : State) (placer : Placed) → is_told_step (more state placer) ≡ true)
@@ -240,7 +240,7 @@ module _ (contents : Contents) where
   behind more all (ended files placer) p = refl
   behind more all (fails files cause pos placer) p = refl
   behind more all (refused files fault) p = refl
-  behind more all misses p = refl
+  behind more all (misses files) p = refl
   behind more all untold p = absurd (false≢true p)
 
   of_steps : (known : Placed → Knowledge) (n : ℕ) (state : State) (placer : Placed) → is_told_step (steps placed_after known (Some contents) n state placer) ≡ true

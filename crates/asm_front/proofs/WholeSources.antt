@@ -34,7 +34,7 @@ large_source flags contents name source much =
     ap (λ b. cond b (faulty (too_large main_file) (shown_files name [])) (assembly_by flags.fatal_warnings name (expansion_of flags.no_warn (Some contents) name source))) test
 
 -- the text that was read whole is that of the file
-text_of_file : (flags : Flags) (contents : Contents) (name text bytes : List ℕ) → text ≡ bytes → length bytes ≤ most_bytes
+pub text_of_file : (flags : Flags) (contents : Contents) (name text bytes : List ℕ) → text ≡ bytes → length bytes ≤ most_bytes
     → assembly_by flags.fatal_warnings name (expansion_of flags.no_warn (Some contents) name text) ≡ assembly_of flags contents name bytes
 text_of_file flags contents name text bytes same few =
     ap (λ t. assembly_by flags.fatal_warnings name (expansion_of flags.no_warn (Some contents) name t)) same ∙ small_source flags contents name bytes few

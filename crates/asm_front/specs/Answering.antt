@@ -13,9 +13,10 @@ use Rattle.macro_words.specs.Files.{line_of_cause}
 use Rattle.asm_macro.specs.declared.faults.ExpandFault.{ExpandFault}
 use Rattle.asm_macro.specs.declared.faults.ExpandFault.TheVariants as expand
 use Rattle.asm_macro.specs.Placing.{Step, ended, fails, refused, untold}
+use Rattle.asm_macro.specs.Starts.{IsFront, ReadsFront}
 use Rattle.asm_values.specs.State.{Placed, nothing_placed}
 use Rattle.asm_front.specs.Ending.{Flags}
-use Rattle.asm_front.specs.Assembly.{Assembly, assembled, faulty, macro_fault, assembly_by, expansion_of, main_file}
+use Rattle.asm_front.specs.Assembly.{Assembly, assembled, faulty, macro_fault, included_by, assembly_by, expansion_of, main_file}
 use Rattle.asm_front.specs.Outcome.{AssemblesAs, CountsMissed}
 use Rattle.asm_front.specs.declared.answers.Assembled.{Assembled}
 use Rattle.asm_front.specs.declared.answers.AsmFault.{AsmFault}
@@ -70,6 +71,18 @@ CountsText flags (Some contents) name text before now =
 abbrev pub ReadsText : Result Assembled AsmFault → Option (List FileEvent) → Option (List FileEvent) → Type 0
 ReadsText (Ok made) before now = now ≡ happened before (whole_files (drop 1 made.files))
 ReadsText (Err fault) before now = Unit {0}
+
+-- where contents are told, these are the first of the files that the text starts
+abbrev pub StartsTexts : Flags → Option Contents → List ℕ → List ℕ → List (List ℕ) → Type 0
+StartsTexts flags None name text these = Unit {0}
+StartsTexts flags (Some contents) name text these =
+    IsFront these (included_by (assembly_by flags.fatal_warnings name (expansion_of flags.no_warn (Some contents) name text)))
+
+-- on every answer, the first of the files that the text starts were read one after the other, the last of them perhaps in part
+pub record StartsIncluded (flags : Flags) (contents : Option Contents) (name text : List ℕ) (before now : Option (List FileEvent)) (taken taken_after : ℕ) : Type 0 where
+  pub included : List (List ℕ)
+  pub these : StartsTexts flags contents name text included
+  pub reads : ReadsFront included before now taken taken_after
 
 -- so many bytes were read of them
 abbrev pub TakesText : Result Assembled AsmFault → ℕ → ℕ → Type 0

@@ -20,12 +20,12 @@ use Rattle.asm_front.specs.Ending.{Flags, finished}
 use Rattle.asm_front.specs.Knowing.{told_by}
 use Rattle.asm_front.specs.declared.ending.NotedObject.{NotedObject}
 
--- what a source stands for: its object with the notes, or its first fault, either with the names of the files as messages show them; or
--- nothing, where it starts a file that is not there
+-- what a source stands for: its object with the notes, or its first fault, or neither, where it starts a file that is not there; with the names
+-- of the files that it starts as messages show them, of which one that is not there is the last
 pub data Assembly : Type 0 where
   assembled : NotedObject → List (List ℕ) → Assembly
   faulty : FaultAt → List (List ℕ) → Assembly
-  missing : Assembly
+  missing : List (List ℕ) → Assembly
 
 -- the name of the source in messages; standard input has none of its own
 abbrev pub shown_name : List ℕ → List ℕ
@@ -82,9 +82,15 @@ assembly_by fatal name (ended files whole) = ended_by (shown_files name files) (
 assembly_by fatal name (fails files cause pos placed) =
     faulty (fault_at (Statement (macro_fault cause)) pos placed.notes) (shown_files name files)
 assembly_by fatal name (refused files fault) = faulty fault (shown_files name files)
-assembly_by fatal name misses = missing
-assembly_by fatal name untold = missing
-assembly_by fatal name (goes state placed) = missing
+assembly_by fatal name (misses files) = missing (shown_files name files)
+assembly_by fatal name untold = missing []
+assembly_by fatal name (goes state placed) = missing (shown_files name state.files)
+
+-- the names of the files that a source of this assembly starts, without its own
+abbrev pub included_by : Assembly → List (List ℕ)
+included_by (assembled made files) = drop 1 files
+included_by (faulty fault files) = drop 1 files
+included_by (missing files) = drop 1 files
 
 -- what comes of the statements of a source of this name, where contents are told or not
 unfoldable pub expansion_of : Bool → Option Contents → List ℕ → List ℕ → Step Placed FaultAt

@@ -4,10 +4,11 @@ use Rattle.asm_base.specs.Counts.{HasRisen, last_count}
 use Rattle.asm_base.specs.History.{FileEvent, happened, whole_files}
 use Rattle.asm_base.specs.WholeFile.{most_bytes}
 use Rattle.asm_base.specs.Inputs.{Contents}
+use Rattle.asm_macro.specs.Starts.{IsFront, ReadsFront}
 use Rattle.asm_place.specs.Faults.{is_file_too_large}
 use Rattle.asm_place.specs.Sources.{fault_at}
 use Rattle.asm_front.specs.Ending.{Flags}
-use Rattle.asm_front.specs.Assembly.{Assembly, assembled, faulty, missing, shown_name, assembly_of}
+use Rattle.asm_front.specs.Assembly.{Assembly, assembled, faulty, missing, shown_name, included_by, assembly_of}
 use Rattle.asm_front.specs.declared.answers.Options.{Options}
 use Rattle.asm_front.specs.declared.answers.Assembled.{Assembled}
 use Rattle.asm_front.specs.declared.answers.AsmFault.{AsmFault}
@@ -27,7 +28,7 @@ AssemblesAs assembly (Err NoMemory) = Unit {0}
 -- the answer for the file of a name; a file that does not exist has neither object nor fault
 abbrev pub AssemblesFile : Flags → Contents → List ℕ → Option (List ℕ) → Result Assembled AsmFault → Type 0
 AssemblesFile flags contents name (Some source) result = AssemblesAs (assembly_of flags contents name source) result
-AssemblesFile flags contents name None result = AssemblesAs missing result
+AssemblesFile flags contents name None result = AssemblesAs (missing (shown_name name ∷ [])) result
 
 -- the answer for the contents of the name, where the input tells them
 abbrev pub Assembles : Flags → Option Contents → List ℕ → Result Assembled AsmFault → Type 0
@@ -41,9 +42,13 @@ HasAssemblyCause (Err (Source fault pos notes files)) before now = now ≡ befor
 HasAssemblyCause (Err Read) before now = (before ≤ now) × HasRisen before now
 HasAssemblyCause (Err NoMemory) before now = now ≡ before
 
+-- the source starts a file that is not there
+abbrev pub LacksOne : Assembly → Type 0
+LacksOne assembly = (files : List (List ℕ)) × (assembly ≡ missing files)
+
 -- the count of starts of what has no contents is as before, but where the source starts a file that is not there
 abbrev pub CountsMissed : Assembly → ℕ → ℕ → Type 0
-CountsMissed assembly before now = (now ≡ before) ⊎ ((assembly ≡ missing) × (before ≤ now) × HasRisen before now)
+CountsMissed assembly before now = (now ≡ before) ⊎ (LacksOne assembly × (before ≤ now) × HasRisen before now)
 
 -- the same of the file of the name; it has risen where that is not there
 abbrev pub CountsMissingFiles : Flags → Contents → List ℕ → Option (List ℕ) → ℕ → ℕ → Type 0
@@ -73,6 +78,22 @@ KeepsCount (Err NoMemory) before now = now ≡ before
 abbrev pub ReadsFiles : List ℕ → Result Assembled AsmFault → Option (List FileEvent) → Option (List FileEvent) → Type 0
 ReadsFiles name (Ok made) before now = now ≡ happened before (whole_files (name ∷ drop 1 made.files))
 ReadsFiles name (Err fault) before now = Unit {0}
+
+-- where the contents of the name are known, these are the first of the files that its source starts
+abbrev pub StartsFirst : Flags → Contents → List ℕ → Option (List ℕ) → List (List ℕ) → Type 0
+StartsFirst flags contents name None these = these ≡ []
+StartsFirst flags contents name (Some source) these = IsFront these (included_by (assembly_of flags contents name source))
+
+-- the same, where all contents are known
+abbrev pub StartsThese : Flags → Option Contents → List ℕ → List (List ℕ) → Type 0
+StartsThese flags None name these = Unit {0}
+StartsThese flags (Some contents) name these = StartsFirst flags contents name (contents name) these
+
+-- on every answer: the source and the first of the files that it starts were read one after the other, the last of these perhaps in part
+pub record StartsFiles (flags : Flags) (contents : Option Contents) (name : List ℕ) (before now : Option (List FileEvent)) (taken taken_after : ℕ) : Type 0 where
+  pub included : List (List ℕ)
+  pub these : StartsThese flags contents name included
+  pub reads : ReadsFront (name ∷ included) before now taken taken_after
 
 -- a file is called too large only where more than the most bytes were taken
 abbrev pub TakesSource : Result Assembled AsmFault → ℕ → ℕ → Type 0

@@ -2,8 +2,8 @@
 
 ghost use Rattle.std.specs.Prelude.{◌≡◌, [], ◌∷◌, string_bytes, IfOk, OnOk};
 ghost use Rattle.std.specs.Io.KnownBytes.{IsAtEnd};
-ghost use Rattle.asm_front.specs.Answering.{AssemblesText, CountsText, ReadsText, TakesText};
-ghost use Rattle.asm_front.specs.Outcome.{flags_of, Assembles, CountsMisses, HasAssemblyCause, KeepsCount, NamesFiles, ReadsFiles, TakesFiles, TakesSource};
+ghost use Rattle.asm_front.specs.Answering.{AssemblesText, CountsText, ReadsText, StartsIncluded, TakesText};
+ghost use Rattle.asm_front.specs.Outcome.{flags_of, Assembles, CountsMisses, HasAssemblyCause, KeepsCount, NamesFiles, ReadsFiles, StartsFiles, TakesFiles, TakesSource};
 ghost use Rattle.asm_front.specs.Fitting.{SourceIsReadable, TextFits};
 ghost use Rattle.asm_front.specs.ReadsBack.{ReadsBackFrom};
 
@@ -26,6 +26,7 @@ fn started_source(alloc: Global, name: &str) -> Result<Files, NoMemory>
 
 /// Assembles a text that is not too large, with the files that it starts. The text's room is given
 /// back before the object takes some.
+#[tactic(auto, using(crate::proofs::StartedFiles::none_starts))]
 fn assemble_text<I: Inputs>(
     alloc: Global,
     options: &Options,
@@ -43,6 +44,9 @@ fn assemble_text<I: Inputs>(
     ensures found { KeepsCount result (I.missing ins.old) (I.missing ins.new) }
     ensures taken { TakesSource result (I.taken ins.old) (I.taken ins.new) }
     ensures at_most { TakesText result (I.taken ins.old) (I.taken ins.new) }
+    ensures starts { StartsIncluded (flags_of options.now) (I.contents ins.old)
+        (string_bytes options.now.file) text
+        (I.history ins.old) (I.history ins.new) (I.taken ins.old) (I.taken ins.new) }
     ensures contents { I.contents ins.new ≡ I.contents ins.old }
     ensures history { ReadsText result (I.history ins.old) (I.history ins.new) }
     ensures whole { IsAtEnd (I.rest ins.old) → OnOk result (IsAtEnd (I.rest ins.new)) }
@@ -62,7 +66,7 @@ fn assemble_text<I: Inputs>(
 }
 
 /// Reads the source and the files that it includes, and assembles it: its object, or its first fault.
-#[tactic(auto, using(crate::proofs::AnswersReadBack::no_object, crate::proofs::AnswersFit::nothing_readable))]
+#[tactic(auto, using(crate::proofs::AnswersReadBack::no_object, crate::proofs::AnswersFit::nothing_readable, crate::proofs::StartedFiles::source_starts))]
 pub fn assemble<I: Inputs>(
     alloc: Global,
     options: &Options,
@@ -81,6 +85,9 @@ pub fn assemble<I: Inputs>(
     ensures found { KeepsCount result (I.missing ins.old) (I.missing ins.new) }
     ensures taken { TakesSource result (I.taken ins.old) (I.taken ins.new) }
     ensures at_most { TakesFiles result (I.taken ins.old) (I.taken ins.new) }
+    ensures starts { StartsFiles (flags_of options.now) (I.contents ins.old)
+        (string_bytes options.now.file)
+        (I.history ins.old) (I.history ins.new) (I.taken ins.old) (I.taken ins.new) }
     ensures contents { I.contents ins.new ≡ I.contents ins.old }
     ensures history { ReadsFiles (string_bytes options.now.file) result
         (I.history ins.old) (I.history ins.new) }

@@ -28,7 +28,7 @@ module _ {S F : Type 0} (placed : S → TokenStatement → Result S F) (known : 
   by_turn n files placer ended names whole more is = cc
   by_turn n files placer (fails cause pos) names whole more is = absurd cc
   by_turn n files placer (breaks name fault) names whole more is = absurd cc
-  by_turn n files placer misses names whole more is = absurd cc
+  by_turn n files placer (misses name) names whole more is = absurd cc
   by_turn n files placer untold names whole more is = absurd cc
 
   all_handed : (n : ℕ) (state : State) (placer : S) → IsHanded n state placer

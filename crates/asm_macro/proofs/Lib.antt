@@ -1,6 +1,8 @@
 -- The proofs of this crate.
 mod Samples
 pub mod ShallowLists
+pub mod FileFronts
+pub mod FilesGrow
 pub mod FrontLemmas
 pub mod Handed
 pub mod HeadTurns

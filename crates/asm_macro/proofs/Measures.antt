@@ -38,7 +38,7 @@ Within given deep (goes state) = IsWithin given deep state
 Within given deep ended = Unit {0}
 Within given deep (fails cause pos) = Unit {0}
 Within given deep (breaks name fault) = Unit {0}
-Within given deep misses = Unit {0}
+Within given deep (misses name) = Unit {0}
 Within given deep untold = Unit {0}
 
 fails_within : (given deep : ℕ) (cause : MacroCause) (pos : Pos) → Within given deep (fails cause pos)
@@ -223,7 +223,7 @@ Lower most (goes state) = measure state < most
 Lower most ended = Unit {0}
 Lower most (fails cause pos) = Unit {0}
 Lower most (breaks name fault) = Unit {0}
-Lower most misses = Unit {0}
+Lower most (misses name) = Unit {0}
 Lower most untold = Unit {0}
 
 lower_within : (most given deep : ℕ) (t : Turn) → 2 * (most_given - given) + deep < most → Within given deep t → Lower most t
@@ -233,7 +233,7 @@ lower_within most given deep (goes state) less is = let same = is.given in let f
 lower_within most given deep ended less is = tt
 lower_within most given deep (fails cause pos) less is = tt
 lower_within most given deep (breaks name fault) less is = tt
-lower_within most given deep misses less is = tt
+lower_within most given deep (misses name) less is = tt
 lower_within most given deep untold less is = tt
 
 closes_lower : (most : ℕ) (open_at : List Pos) (state : State) → measure state < most → Lower most (list.close_by open_at state)
@@ -279,7 +279,7 @@ module _ {S F : Type 0} (placed : S → TokenStatement → Result S F) (known : 
   turn_final n files placer ended less more = refl
   turn_final n files placer (fails cause pos) less more = refl
   turn_final n files placer (breaks name fault) less more = refl
-  turn_final n files placer misses less more = refl
+  turn_final n files placer (misses name) less more = refl
   turn_final n files placer untold less more = refl
 
   lower_more : (most more : ℕ) (t : Turn) → most ≤ more → Lower most t → Lower more t
@@ -288,7 +288,7 @@ module _ {S F : Type 0} (placed : S → TokenStatement → Result S F) (known : 
   lower_more most more ended few less = tt
   lower_more most more (fails cause pos) few less = tt
   lower_more most more (breaks name fault) few less = tt
-  lower_more most more misses few less = tt
+  lower_more most more (misses name) few less = tt
   lower_more most more untold few less = tt
 
   -- a list comes to its outcome in more turns than its measure

@@ -23,7 +23,7 @@ module _ {S F : Type 0} (placed : S → TokenStatement → Result S F) (known : 
   after_none (ended names placer) = refl
   after_none (fails names cause pos placer) = refl
   after_none (refused names fault) = refl
-  after_none misses = refl
+  after_none (misses names) = refl
   after_none untold = refl
 
   -- one turn
@@ -37,7 +37,7 @@ module _ {S F : Type 0} (placed : S → TokenStatement → Result S F) (known : 
   behind_goes n m now other (ended names placer) more is = absurd cc
   behind_goes n m now other (fails names cause pos placer) more is = absurd cc
   behind_goes n m now other (refused names fault) more is = absurd cc
-  behind_goes n m now other misses more is = absurd cc
+  behind_goes n m now other (misses names) more is = absurd cc
   behind_goes n m now other untold more is = absurd cc
 
   -- some turns and then more

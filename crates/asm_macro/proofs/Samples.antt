@@ -49,14 +49,14 @@ contents name = if bytes_eq name (codes "b.inc") then Some (codes "nop\n.endif")
 data Seen : Type 0 where
   ended : List (List ℕ) → Seen
   fails : MacroCause → Pos → Seen
-  misses : Seen
+  misses : List (List ℕ) → Seen
   other : Seen
 
 -- what is shown of a step
 abbrev seen : Step (List (List ℕ)) ℕ → Seen
 seen (pair.ended files texts) = ended texts
 seen (pair.fails files cause pos texts) = fails cause pos
-seen pair.misses = misses
+seen (pair.misses files) = misses files
 seen _ = other
 
 -- what comes of a source after so many turns
@@ -178,7 +178,7 @@ other_file : expanded 9 (codes ".if 1\n.include \"b.inc\"\n.endif") ≡ fails En
 unfolding is_blank is_name_start is_name_byte is_operator_byte is_long_operator comment_length quoted_length piece_kind piece_length token_kind token_length tokens_from pieces_from line_of trimmed nul_found source_found statements_in statements_of value_text parameter_of parameters_of filled_once call_arguments argument_named put_by put_from the_words word_of word_in made_statements depth_behind stops cut holds repeat_count verdict conditional branch_end conditional_end repeat each define call purge after_call exit include head turn steps file_statements string_value_from is_utf8 chars lib.Utf8.encode
 other_file = refl
 
-no_file : expanded 5 (codes ".include \"none.inc\"") ≡ misses
+no_file : expanded 5 (codes ".include \"none.inc\"") ≡ misses ([] ∷ codes "none.inc" ∷ [])
 unfolding is_blank is_name_start is_name_byte is_operator_byte is_long_operator comment_length quoted_length piece_kind piece_length token_kind token_length tokens_from pieces_from line_of trimmed nul_found source_found statements_in statements_of value_text parameter_of parameters_of filled_once call_arguments argument_named put_by put_from the_words word_of word_in made_statements depth_behind stops cut holds repeat_count verdict conditional branch_end conditional_end repeat each define call purge after_call exit include head turn steps file_statements string_value_from is_utf8 chars lib.Utf8.encode
 no_file = refl
 

@@ -58,7 +58,7 @@ Kept (goes state) = Few state.levels
 Kept ended = Unit {0}
 Kept (fails cause pos) = Unit {0}
 Kept (breaks name fault) = Unit {0}
-Kept misses = Unit {0}
+Kept (misses name) = Unit {0}
 Kept untold = Unit {0}
 
 goes_kept : (state : State) → Few state.levels → Kept (goes state)
@@ -313,7 +313,7 @@ module _ {S F : Type 0} (placed : S → TokenStatement → Result S F) (known : 
   turned_shallow n files placer after last ended more kept is = absurd cc
   turned_shallow n files placer after last (fails cause pos) more kept is = absurd cc
   turned_shallow n files placer after last (breaks name fault) more kept is = absurd cc
-  turned_shallow n files placer after last misses more kept is = absurd cc
+  turned_shallow n files placer after last (misses name) more kept is = absurd cc
   turned_shallow n files placer after last untold more kept is = absurd cc
 
   stays : (n : ℕ) → Later n

@@ -13,10 +13,12 @@ use Rattle.asm_macro.specs.declared.turned.Turned.{Turned}
 use Rattle.asm_macro.specs.declared.turned.Turned.TheVariants as turned
 use Rattle.asm_macro.specs.Expansion as list
 use Rattle.asm_macro.specs.Expansion.{State, under, turn}
-use Rattle.asm_macro.specs.Placing.{Step, goes, misses, untold, placed_by_turn, steps}
+use Rattle.asm_macro.specs.Placing.{Step, goes, untold, placed_by_turn, steps}
+use Rattle.asm_macro.specs.Starts.{files_of}
 use Rattle.asm_macro.specs.Heads.{IsHead}
 use Rattle.asm_macro.specs.Readings.{InputAs, HasRead, HasStopped}
 use Rattle.asm_macro.specs.Running.{Runs, RunsFrom, HandsOut, headed}
+use Rattle.asm_macro.proofs.FilesGrow.{files_grow}
 use Rattle.asm_macro.proofs.Runs.{steps_one, steps_more, after_turns}
 use Rattle.asm_macro.proofs.Turnings.{handed_runs, untold_runs}
 use Rattle.asm_macro.proofs.Wholes.{read_none, stopped_by, stopped_without}
@@ -35,7 +37,7 @@ module _ {S F : Type 0} (placed : S → TokenStatement → Result S F) (known : 
   -- memory was refused
   pub runs_without : (start now : State) (placer other : S) (left : Level) (input : InputAs) → now.files ≡ start.files → RunsFrom {F = F} placed known contents start placer (Err NoMemory) left now other input input
   runs_without start now placer other left input same =
-      (0, record { comes = tt; uses = subst (λ names. HasStopped {F = F} NoMemory (steps placed known contents 0 start placer ≡ misses) (steps placed known contents 0 start placer ≡ untold) start.files names input input) (sym same) (stopped_without _ _ start.files input) })
+      (0, record { comes = tt; uses = subst (λ names. HasStopped {F = F} NoMemory (files_of (steps placed known contents 0 start placer)) start.files names input input) (sym same) (stopped_without _ start.files input (files_grow placed known contents 0 start placer)) })
 
   module _ (start : State) (first : S) where
     -- the list that some turns left, with a statement at its head
@@ -83,7 +85,7 @@ module _ {S F : Type 0} (placed : S → TokenStatement → Result S F) (known : 
           n + 1,
           record {
             comes = inl (steps_more placed known contents n 1 start first (under before state) placer done ∙ steps_one placed known contents (under before state) placer ∙ ap (placed_by_turn placed state.files placer) here);
-            uses = subst (λ these. HasStopped {F = F} (Expansion UnclosedBlock pos) (steps placed known contents (n + 1) start first ≡ misses) (steps placed known contents (n + 1) start first ≡ untold) start.files these input input) (sym names) (stopped_by UnclosedBlock pos _ _ start.files input (λ e. absurd cc));
+            uses = subst (λ these. HasStopped {F = F} (Expansion UnclosedBlock pos) (files_of (steps placed known contents (n + 1) start first)) start.files these input input) (sym names) (stopped_by UnclosedBlock pos _ start.files input (files_grow placed known contents (n + 1) start first) (λ e. absurd cc));
           },
         )
 

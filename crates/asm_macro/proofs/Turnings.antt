@@ -16,42 +16,41 @@ use Rattle.asm_macro.specs.declared.turned.Turned.{Turned}
 use Rattle.asm_macro.specs.declared.turned.Turned.TheVariants as turned
 use Rattle.asm_macro.specs.Expansion as list
 use Rattle.asm_macro.specs.Expansion.{State, Turn, MacroAs, under, turn, most_given}
-use Rattle.asm_macro.specs.Placing.{Step, goes, fails, refused, misses, untold, with_placed, placed_by_turn, steps, in_next_file}
+use Rattle.asm_macro.specs.Placing.{Step, goes, fails, refused, untold, with_placed, placed_by_turn, steps, in_next_file}
+use Rattle.asm_macro.specs.Starts.{StartedFiles, unknown, files_of, files_after}
 use Rattle.asm_macro.specs.Expanding.{Comes}
 use Rattle.asm_macro.specs.Heads.{IsHead, turned_head}
 use Rattle.asm_macro.specs.Readings.{InputAs, CountsMissed, HasStopped, Uses}
 use Rattle.asm_macro.specs.Running.{Runs, RunsFrom, Steps, HandsOut, headed, counted}
 use Rattle.asm_macro.specs.Turning.{Becomes, FailsSo, IsRewriting}
+use Rattle.asm_macro.proofs.FilesGrow.{files_grow, same_files}
 use Rattle.asm_macro.proofs.HeadTurns.{plain_turn, long_turn, labels_turn, bare_turn, no_more_labels, same_behind}
 use Rattle.asm_macro.proofs.Runs.{steps_one, after_turns}
 use Rattle.asm_macro.proofs.Wholes.{stopped_by, stopped_placing, stopped_without}
 
-counts_by : {M N U V : Type 0} (one : M → N) (other : U → V) (before now : ℕ) → CountsMissed M U before now → CountsMissed N V before now
-counts_by one other before now (inl same) = inl same
-counts_by one other before now (inr (inl met)) = inr (inl (one met.0, met.1, met.2))
-counts_by one other before now (inr (inr met)) = inr (inr (other met.0, met.1))
-
-stops_by : {F M N U V : Type 0} (fault : ExpandFault F) (old new : List (List ℕ)) (before now : InputAs) → (M → N) → (U → V)
-    → HasStopped fault M U old new before now → HasStopped fault N V old new before now
-stops_by fault old new before now one other is =
-    record { more = is.more; names = is.names; contents = is.contents; cause = is.cause; missing = counts_by one other before.missing now.missing is.missing; found = is.found; later = is.later; taken = is.taken; too_large = is.too_large }
-
-pub uses_by : {T F M N U V : Type 0} (result : Result T (ExpandFault F)) (old new : List (List ℕ)) (before now : InputAs) → (M → N) → (U → V)
-    → Uses result M U old new before now → Uses result N V old new before now
-uses_by (Ok answer) old new before now one other is = is
-uses_by (Err fault) old new before now one other is = stops_by fault old new before now one other is
-
 -- where nothing is told, all that may come may come
-later_count : {M U : Type 0} (before now : ℕ) → CountsMissed M U before now → before ≤ now
-later_count before now (inl same) = omega (arith, same)
-later_count before now (inr (inl met)) = met.1
-later_count before now (inr (inr met)) = met.1
+later_count : (wanted : StartedFiles) (before now : ℕ) → CountsMissed wanted before now → before ≤ now
+later_count wanted before now (inl same) = omega (arith, same)
+later_count wanted before now (inr (inl met)) = met.1
+later_count wanted before now (inr (inr met)) = met.1
 
-pub untold_uses : {S T F : Type 0} (M U : Type 0) (it : Step S F) (result : Result T (ExpandFault F)) (old new : List (List ℕ)) (before now : InputAs) → it ≡ untold → Uses result M U old new before now
-    → Uses result (it ≡ misses) (it ≡ untold) old new before now
-untold_uses M U it (Ok answer) old new before now same is = is
-untold_uses M U it (Err fault) old new before now same is =
-    record { more = is.more; names = is.names; contents = is.contents; cause = is.cause; missing = inr (inr (same, later_count before.missing now.missing is.missing)); found = is.found; later = is.later; taken = is.taken; too_large = is.too_large }
+pub untold_uses : {T F : Type 0} (wanted : StartedFiles) (result : Result T (ExpandFault F)) (old new : List (List ℕ)) (before now : InputAs) → Uses result wanted old new before now → Uses result unknown old new before now
+untold_uses wanted (Ok answer) old new before now is = is
+untold_uses wanted (Err fault) old new before now is =
+    record {
+      more = is.more;
+      names = is.names;
+      contents = is.contents;
+      cause = is.cause;
+      missing = inr (inr (refl, later_count wanted before.missing now.missing is.missing));
+      found = is.found;
+      later = is.later;
+      begun = is.begun;
+      started = is.started;
+      first = tt;
+      reads = is.reads;
+      too_large = is.too_large;
+    }
 
 untold_steps : {S F : Type 0} (result : Result Turned (ExpandFault F)) (wanted : Step S F) (level : Level) (now : State) (placer : S) → Steps result wanted level now placer → Steps result untold level now placer
 untold_steps (Ok turned.Stays) wanted level now placer is = inr refl
@@ -66,7 +65,7 @@ untold_steps (Err NoMemory) wanted level now placer is = tt
 pub untold_runs : {S F : Type 0} (result : Result Turned (ExpandFault F)) (wanted : Step S F) (level : Level) (now : State) (placer : S) (old : List (List ℕ)) (before after : InputAs)
     → Runs result wanted level now placer old before after → Runs result untold level now placer old before after
 untold_runs result wanted level now placer old before after is =
-    record { comes = untold_steps result wanted level now placer is.comes; uses = untold_uses _ _ untold result old now.files before after refl is.uses }
+    record { comes = untold_steps result wanted level now placer is.comes; uses = untold_uses _ result old now.files before after is.uses }
 
 module _ {S F : Type 0} (placed : S → TokenStatement → Result S F) where
   comes_by : (old : List (List ℕ)) (placer : S) (t got : Turn) → Becomes t got → Comes (placed_by_turn placed old placer t) (placed_by_turn placed old placer got)
@@ -81,7 +80,7 @@ module _ {S F : Type 0} (placed : S → TokenStatement → Result S F) where
   fails_by old new placer (list.hands s state) cause pos is = absurd is
   fails_by old new placer (list.goes state) cause pos is = absurd is
   fails_by old new placer list.ended cause pos is = absurd is
-  fails_by old new placer list.misses cause pos is = absurd is
+  fails_by old new placer (list.misses name) cause pos is = absurd is
 
   rewriting_steps : (result : Result Turned (ExpandFault F)) (t : Turn) (level : Level) (old : List (List ℕ)) (now : State) (placer : S) → IsRewriting result t level old now
       → Steps result (placed_by_turn placed old placer t) level now placer
@@ -95,16 +94,16 @@ module _ {S F : Type 0} (placed : S → TokenStatement → Result S F) where
   rewriting_steps (Err NoMemory) t level old now placer is = tt
 
   rewriting_runs : (result : Result Turned (ExpandFault F)) (t : Turn) (level : Level) (old : List (List ℕ)) (now : State) (placer : S) (before after : InputAs) → IsRewriting result t level old now
-      → Uses result (t ≡ list.misses) (t ≡ list.untold) old now.files before after → Runs result (placed_by_turn placed old placer t) level now placer old before after
+      → Uses result (files_after old t) old now.files before after → Runs result (placed_by_turn placed old placer t) level now placer old before after
   rewriting_runs result t level old now placer before after is used =
-      record { comes = rewriting_steps result t level old now placer is; uses = uses_by result old now.files before after (λ e. ap (placed_by_turn placed old placer) e) (λ e. ap (placed_by_turn placed old placer) e) used }
+      record { comes = rewriting_steps result t level old now placer is; uses = subst (λ files. Uses result files old now.files before after) (sym (same_files placed old placer t)) used }
 
   module _ (known : S → Knowledge) (contents : Option Contents) where
     -- a word or a call without labels
     pub bare_runs : (one : Head) (s : TokenStatement) (level left : Level) (state now : State) (placer : S) (result : Result Turned (ExpandFault F)) (before after : InputAs)
         → IsHead (Some one) (behind_labels s.tokens) state.macros → labels_of s.tokens ≡ []
         → IsRewriting result (turned_head (known placer) contents one (pos_of s) level state) left state.files now
-        → Uses result (turned_head (known placer) contents one (pos_of s) level state ≡ list.misses) (turned_head (known placer) contents one (pos_of s) level state ≡ list.untold) state.files now.files before after
+        → Uses result (files_after state.files (turned_head (known placer) contents one (pos_of s) level state)) state.files now.files before after
         → RunsFrom placed known contents (headed s level state) placer result left now placer before after
     bare_runs one s level left state now placer result before after is none rewrites used =
         let here = bare_turn (known placer) contents one s level state is none in
@@ -144,7 +143,7 @@ module _ {S F : Type 0} (placed : S → TokenStatement → Result S F) where
         → IsHead (Some one) (behind_labels s.tokens) state.macros → labels_of s.tokens ≢ []
         → HandsOut {F = F} placed (with_tokens (labels_of s.tokens) s) (Ok tt) state placer middle between
         → IsRewriting result (turned_head (known between) contents one (pos_of s) level middle) left middle.files now
-        → Uses result (turned_head (known between) contents one (pos_of s) level middle ≡ list.misses) (turned_head (known between) contents one (pos_of s) level middle ≡ list.untold) middle.files now.files before after
+        → Uses result (files_after middle.files (turned_head (known between) contents one (pos_of s) level middle)) middle.files now.files before after
         → RunsFrom placed known contents (headed s level state) placer result left now between before after
     labelled_head one s level left state middle now placer between result before after is some handed rewrites used =
         let Heads : List SpelledToken → Type 0 = λ tokens. IsHead (Some one) tokens state.macros in
@@ -168,16 +167,16 @@ module _ {S F : Type 0} (placed : S → TokenStatement → Result S F) where
         first ∙ ap (λ x. fails start.files x (pos_of s) placer) (sym is.1) ∙ ap (λ x. fails start.files cause x placer) (sym is.2)
         ∙ ap (λ x. fails x cause pos placer) (same ∙ sym (ap (λ m. m.files) is.3)) ∙ ap (λ x. fails now.files cause pos x) (sym is.4) in
         let own : cause ≢ FileTooLarge = λ e. let both = is.1 in absurd cc in
-        (1, record { comes = inl told; uses = subst (λ names. HasStopped {F = F} (Expansion cause pos) (steps placed known contents 1 start placer ≡ misses) (steps placed known contents 1 start placer ≡ untold) start.files names input input) (same ∙ sym (ap (λ m. m.files) is.3)) (stopped_by cause pos _ _ start.files input own) })
+        (1, record { comes = inl told; uses = subst (λ names. HasStopped {F = F} (Expansion cause pos) (files_of (steps placed known contents 1 start placer)) start.files names input input) (same ∙ sym (ap (λ m. m.files) is.3)) (stopped_by cause pos _ start.files input (files_grow placed known contents 1 start placer) own) })
     handed_fails s level start next state now placer after (Placing fault) input same files hands long is =
         let here = hands is.0 in
         let told : steps placed known contents 1 start placer ≡ refused now.files fault =
         steps_one placed known contents start placer ∙ ap (placed_by_turn placed start.files placer) here ∙ ap (with_placed next) is.1
         ∙ ap (λ x. refused x fault) (files ∙ sym (ap (λ m. m.files) is.2)) in
-        (1, record { comes = inl told; uses = subst (λ names. HasStopped {F = F} (Placing fault) (steps placed known contents 1 start placer ≡ misses) (steps placed known contents 1 start placer ≡ untold) start.files names input input) (same ∙ sym (ap (λ m. m.files) is.2)) (stopped_placing fault _ _ start.files input) })
+        (1, record { comes = inl told; uses = subst (λ names. HasStopped {F = F} (Placing fault) (files_of (steps placed known contents 1 start placer)) start.files names input input) (same ∙ sym (ap (λ m. m.files) is.2)) (stopped_placing fault _ start.files input (files_grow placed known contents 1 start placer)) })
     handed_fails s level start next state now placer after Read input same files hands long is = absurd is
     handed_fails s level start next state now placer after NoMemory input same files hands long is =
-        (0, record { comes = tt; uses = subst (λ names. HasStopped {F = F} NoMemory (steps placed known contents 0 start placer ≡ misses) (steps placed known contents 0 start placer ≡ untold) start.files names input input) (same ∙ sym (ap (λ m. m.files) is)) (stopped_without _ _ start.files input) })
+        (0, record { comes = tt; uses = subst (λ names. HasStopped {F = F} NoMemory (files_of (steps placed known contents 0 start placer)) start.files names input input) (same ∙ sym (ap (λ m. m.files) is)) (stopped_without _ start.files input (files_grow placed known contents 0 start placer)) })
 
     -- labels that are refused
     pub labels_fail : (one : Head) (s : TokenStatement) (level left : Level) (state now : State) (placer after : S) (fault : ExpandFault F) (input : InputAs)

@@ -24,7 +24,7 @@ module _ {S F : Type 0} (placed : S → TokenStatement → Result S F) (known : 
   one_by n m (ended files placer) more p q = refl
   one_by n m (fails files cause pos placer) more p q = refl
   one_by n m (refused files fault) more p q = refl
-  one_by n m misses more p q = refl
+  one_by n m (misses files) more p q = refl
   one_by n m untold more p q = refl
 
   pub one_result : (n m : ℕ) (state : State) (placer : S) → is_final (steps placed known contents n state placer) ≡ true → is_final (steps placed known contents m state placer) ≡ true

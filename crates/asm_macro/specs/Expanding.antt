@@ -7,6 +7,7 @@ use Rattle.asm_lines.specs.declared.faults.LineCause.{LineCause}
 use Rattle.asm_lines.specs.Statements.{StatementAt}
 use Rattle.macro_words.specs.declared.causes.MacroCause.TheVariants.{FileTooLarge}
 use Rattle.asm_macro.specs.Placing.{Step, ended, fails, refused, misses, untold}
+use Rattle.asm_macro.specs.Starts.{AreBegun, AreFirst, ReadsFront, files_of}
 use Rattle.asm_macro.specs.declared.faults.ExpandFault.{ExpandFault}
 use Rattle.asm_macro.specs.declared.faults.ExpandFault.TheVariants.{Lines, Expansion, Placing, Read, NoMemory}
 
@@ -29,10 +30,14 @@ abbrev pub HasExpansionCause : {F : Type 0} → Result (Unit {0}) (ExpandFault F
 HasExpansionCause (Err Read) before now = (before ≤ now) × HasRisen before now
 HasExpansionCause _ before now = now ≡ before
 
+-- the source starts a file that is not there
+abbrev pub StartsNone : {S F : Type 0} → Step S F → Type 0
+StartsNone wanted = (files : List (List ℕ)) × (wanted ≡ misses files)
+
 -- the count of starts of what has no contents has risen only where the source starts such a file, and may have where nothing is told
 abbrev pub CountsMisses : {S F : Type 0} → Step S F → ℕ → ℕ → Type 0
 CountsMisses wanted before now =
-    (now ≡ before) ⊎ ((wanted ≡ misses) × (before ≤ now) × HasRisen before now) ⊎ ((wanted ≡ untold) × (before ≤ now))
+    (now ≡ before) ⊎ (StartsNone wanted × (before ≤ now) × HasRisen before now) ⊎ ((wanted ≡ untold) × (before ≤ now))
 
 -- only where a file could not be read the count of starts of what has no contents may have risen
 abbrev pub KeepsMissing : {F : Type 0} → Result (Unit {0}) (ExpandFault F) → ℕ → ℕ → Type 0
@@ -53,6 +58,14 @@ TakesIncludes (Err (Expansion cause pos)) files before now = (before ≤ now) ×
 TakesIncludes (Err (Placing fault)) files before now = (before ≤ now) × (now ≤ before + (most_bytes + 1) * length files)
 TakesIncludes (Err Read) files before now = (before ≤ now) × (now ≤ before + (most_bytes + 1) * length files)
 TakesIncludes (Err NoMemory) files before now = (before ≤ now) × (now ≤ before + (most_bytes + 1) * length files)
+
+-- on every answer: the files that were started, and the one that was being started, if any, are the first of those that the source starts; behind
+-- so many they were read one after the other, the last of them perhaps in part
+pub record StartsIncludes {S F : Type 0} (wanted : Step S F) (started : ℕ) (files : List (List ℕ)) (before now : Option (List FileEvent)) (taken taken_after : ℕ) : Type 0 where
+  pub begun : List (List ℕ)
+  pub names : AreBegun files begun
+  pub first : AreFirst begun (files_of wanted)
+  pub reads : ReadsFront (drop started begun) before now taken taken_after
 
 -- a file is called too large only where more than the most bytes were taken
 abbrev pub TakesTooLarge : {F : Type 0} → Result (Unit {0}) (ExpandFault F) → ℕ → ℕ → Type 0

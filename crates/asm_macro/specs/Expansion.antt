@@ -43,14 +43,14 @@ pub record State : Type 0 where
   pub files : List (List ℕ)
 
 -- what becomes of the head: it is handed out, or rewritten; or there is none, or it has a fault, or starts a file of this name that has
--- one; or it names a file that is not there, or one of which nothing is told
+-- one; or it names a file that is not there, by this name, or one of which nothing is told
 pub data Turn : Type 0 where
   hands : TokenStatement → State → Turn
   goes : State → Turn
   ended : Turn
   fails : MacroCause → Pos → Turn
   breaks : List ℕ → FileFault → Turn
-  misses : Turn
+  misses : List ℕ → Turn
   untold : Turn
 
 -- the list with this part in front
@@ -248,7 +248,7 @@ start_file number name (Err fault) state = breaks name fault
 
 -- a file that is there is started
 abbrev pub include_file : Option ℕ → List ℕ → Option (List ℕ) → State → Turn
-include_file number name None state = misses
+include_file number name None state = misses name
 include_file number name (Some bytes) state = start_file number name (file_statements (length state.files) bytes) state
 
 -- a file is started by what is told of all files

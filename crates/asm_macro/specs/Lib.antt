@@ -1,6 +1,7 @@
 -- The definitions that the contracts cite, in reading order.
 pub mod Expansion
 pub mod Placing
+pub mod Starts
 pub mod Macros
 pub mod OpenParts
 pub mod Turning

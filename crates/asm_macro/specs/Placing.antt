@@ -13,13 +13,14 @@ use Rattle.asm_macro.specs.Expansion as list
 use Rattle.asm_macro.specs.Expansion.{State, Turn, turn, started, most_given}
 
 -- what comes of the head: the list and the placer go on, or the list is at its end; or the list, a file that it starts, or placing has a
--- fault; or a file is not there, or nothing is told of it. With an end or a fault come the names of the files that were started
+-- fault; or a file is not there, or nothing is told of it. With all but the last come the names of the files that were started, of which one
+-- that is not there is the last
 pub data Step (S F : Type 0) : Type 0 where
   goes : State → S → Step S F
   ended : List (List ℕ) → S → Step S F
   fails : List (List ℕ) → MacroCause → Pos → S → Step S F
   refused : List (List ℕ) → F → Step S F
-  misses : Step S F
+  misses : List (List ℕ) → Step S F
   untold : Step S F
 
 -- the list goes on with what placing made
@@ -38,7 +39,7 @@ placed_by_turn placed files placer (list.goes state) = goes state placer
 placed_by_turn placed files placer list.ended = ended files placer
 placed_by_turn placed files placer (list.fails cause pos) = fails files cause pos placer
 placed_by_turn placed files placer (list.breaks name fault) = fails (files ++ name ∷ []) fault.cause (in_next_file files fault.line) placer
-placed_by_turn placed files placer list.misses = misses
+placed_by_turn placed files placer (list.misses name) = misses (files ++ name ∷ [])
 placed_by_turn placed files placer list.untold = untold
 
 -- one turn of the list, by what the placer knows
@@ -51,7 +52,7 @@ and_then more (goes state placer) = more state placer
 and_then more (ended files placer) = ended files placer
 and_then more (fails files cause pos placer) = fails files cause pos placer
 and_then more (refused files fault) = refused files fault
-and_then more misses = misses
+and_then more (misses files) = misses files
 and_then more untold = untold
 
 -- what comes of the list after so many turns

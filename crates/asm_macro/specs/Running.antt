@@ -12,7 +12,8 @@ use Rattle.asm_macro.specs.declared.faults.ExpandFault.TheVariants.{Lines, Expan
 use Rattle.asm_macro.specs.declared.turned.Turned.{Turned}
 use Rattle.asm_macro.specs.declared.turned.Turned.TheVariants as turned
 use Rattle.asm_macro.specs.Expansion.{State, under, most_given}
-use Rattle.asm_macro.specs.Placing.{Step, goes, ended, fails, refused, misses, untold, steps}
+use Rattle.asm_macro.specs.Placing.{Step, goes, ended, fails, refused, steps}
+use Rattle.asm_macro.specs.Starts.{files_of}
 use Rattle.asm_macro.specs.Expanding.{Comes}
 use Rattle.asm_macro.specs.Readings.{InputAs, Uses}
 
@@ -38,7 +39,7 @@ Steps (Err NoMemory) wanted level now placer = Unit {0}
 -- the same, and what was read meanwhile
 pub record Runs {S F : Type 0} (result : Result Turned (ExpandFault F)) (wanted : Step S F) (level : Level) (now : State) (placer : S) (old : List (List ℕ)) (before after : InputAs) : Type 0 where
   pub comes : Steps result wanted level now placer
-  pub uses : Uses result (wanted ≡ misses) (wanted ≡ untold) old now.files before after
+  pub uses : Uses result (files_of wanted) old now.files before after
 
 -- the same behind some turns of a list
 abbrev pub RunsFrom : {S F : Type 0} → (S → TokenStatement → Result S F) → (S → Knowledge) → Option Contents → State → S → Result Turned (ExpandFault F) → Level → State → S → InputAs → InputAs → Type 0
@@ -78,7 +79,7 @@ Ends (Err NoMemory) wanted files placer = Unit {0}
 -- the same, and what was read meanwhile
 pub record Finishes {S F : Type 0} (result : Result (Unit {0}) (ExpandFault F)) (wanted : Step S F) (files : List (List ℕ)) (placer : S) (old : List (List ℕ)) (before after : InputAs) : Type 0 where
   pub comes : Ends result wanted files placer
-  pub uses : Uses result (wanted ≡ misses) (wanted ≡ untold) old files before after
+  pub uses : Uses result (files_of wanted) old files before after
 
 -- the same behind some turns of a list
 abbrev pub Expands : {S F : Type 0} → (S → TokenStatement → Result S F) → (S → Knowledge) → Option Contents → State → S → Result (Unit {0}) (ExpandFault F) → List (List ℕ) → S → InputAs → InputAs → Type 0

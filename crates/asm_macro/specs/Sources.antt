@@ -7,6 +7,8 @@ use Rattle.macro_words.specs.Conditions.{Knowledge}
 use Rattle.asm_macro.specs.declared.faults.ExpandFault.{ExpandFault}
 use Rattle.asm_macro.specs.declared.faults.ExpandFault.TheVariants.{Lines, NoMemory}
 use Rattle.asm_macro.specs.Expansion.{started}
+use Rattle.asm_macro.specs.Placing.{expansion}
+use Rattle.asm_macro.specs.Starts.{files_of}
 use Rattle.asm_macro.specs.Fronts.{rest_at}
 use Rattle.asm_macro.specs.Readings.{InputAs, HasStopped}
 use Rattle.asm_macro.specs.Running.{Expands}
@@ -19,5 +21,5 @@ pub record IsListExpanded {S F : Type 0} (placed : S → TokenStatement → Resu
 -- the fault of the lines, or what comes of the list; memory may be refused before the lines are known
 abbrev pub IsSourceExpanded : {S F : Type 0} → (S → TokenStatement → Result S F) → (S → Knowledge) → Option Contents → List ℕ → List (List ℕ) → S → Result (Unit {0}) (ExpandFault F) → List (List ℕ) → S → InputAs → InputAs → Type 0
 IsSourceExpanded placed told contents text files placer (Err (Lines cause)) names after before now = (statements_of 0 text ≡ Err cause) × (names ≡ files) × (now ≡ before)
-IsSourceExpanded {S} {F} placed told contents text files placer (Err NoMemory) names after before now = HasStopped {F = F} NoMemory ⊥ ⊥ files names before now
+IsSourceExpanded {S} {F} placed told contents text files placer (Err NoMemory) names after before now = HasStopped {F = F} NoMemory (files_of (expansion placed told contents files placer (statements_of 0 text))) files names before now
 IsSourceExpanded placed told contents text files placer result names after before now = IsListExpanded placed told contents text files placer result names after before now

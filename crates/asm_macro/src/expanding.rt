@@ -4,7 +4,7 @@ ghost use Rattle.std.specs.Prelude.{◌≡◌, ◌≤◌, ◌<◌, length, OnOk}
 ghost use Rattle.std.specs.Io.KnownBytes.{IsAtEnd};
 ghost use Rattle.asm_lines.specs.Statements.{statements_of};
 ghost use Rattle.asm_macro.specs.Placing.{expansion};
-ghost use Rattle.asm_macro.specs.Expanding.{IsExpansion, HasExpansionCause, CountsMisses, KeepsMissing, ReadsIncludes, TakesIncludes, TakesTooLarge};
+ghost use Rattle.asm_macro.specs.Expanding.{IsExpansion, HasExpansionCause, CountsMisses, KeepsMissing, ReadsIncludes, StartsIncludes, TakesIncludes, TakesTooLarge};
 
 use crate::faults::ExpandFault;
 use crate::sources::expand_text;
@@ -33,6 +33,9 @@ pub fn expand_source<P: KnowingPlacer, I: Inputs>(
     ensures contents { I.contents ins.new ≡ I.contents ins.old }
     ensures history { ReadsIncludes result 1 files.new (I.history ins.old) (I.history ins.new) }
     ensures taken { TakesIncludes result files.new (I.taken ins.old) (I.taken ins.new) }
+    ensures starts { StartsIncludes
+        (expansion P.placed P.told (I.contents ins.old) files.old placer.old (statements_of 0 text))
+        1 files.new (I.history ins.old) (I.history ins.new) (I.taken ins.old) (I.taken ins.new) }
     ensures too_large { TakesTooLarge result (I.taken ins.old) (I.taken ins.new) }
     ensures whole { IsAtEnd (I.rest ins.old) → OnOk result (IsAtEnd (I.rest ins.new)) }
     ensures started { 0 < length files.new }

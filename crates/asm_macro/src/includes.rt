@@ -7,6 +7,7 @@ ghost use Rattle.macro_words.specs.Files.{in_file};
 ghost use Rattle.macro_blocks.specs.Frames.{level_of};
 ghost use Rattle.asm_macro.specs.Expansion as spec;
 ghost use Rattle.asm_macro.specs.Readings.{Uses, input_by};
+ghost use Rattle.asm_macro.specs.Starts.{files_after};
 ghost use Rattle.asm_macro.specs.Turning.{EntersFile, IsOpened, IsRewriting, KeepsFew, state_of};
 
 use crate::expander::Expander;
@@ -61,12 +62,10 @@ impl Expander {
             (spec.under (level_of frame.now) (state_of self.old)))
             (level_of frame.now) self.old.files (state_of self.new) }
         ensures input { Uses result
+            (files_after self.old.files
             (spec.include_told (level_of frame.now).call_number (string_bytes name)
             (I.contents ins.old)
-            (spec.under (level_of frame.now) (state_of self.old)) ≡ spec.misses)
-            (spec.include_told (level_of frame.now).call_number (string_bytes name)
-            (I.contents ins.old)
-            (spec.under (level_of frame.now) (state_of self.old)) ≡ spec.untold)
+            (spec.under (level_of frame.now) (state_of self.old))))
             self.old.files self.new.files
             (input_by I.contents I.rest I.faults I.missing I.taken I.history ins.old)
             (input_by I.contents I.rest I.faults I.missing I.taken I.history ins.new) }
@@ -108,10 +107,9 @@ impl Expander {
             (level_of frame.now) (state_of self.old))
             (level_of frame.now) self.old.files (state_of self.new) }
         ensures input { Uses result
+            (files_after self.old.files
             (spec.include (I.contents ins.old) pos (map spelled operands.now)
-            (level_of frame.now) (state_of self.old) ≡ spec.misses)
-            (spec.include (I.contents ins.old) pos (map spelled operands.now)
-            (level_of frame.now) (state_of self.old) ≡ spec.untold)
+            (level_of frame.now) (state_of self.old)))
             self.old.files self.new.files
             (input_by I.contents I.rest I.faults I.missing I.taken I.history ins.old)
             (input_by I.contents I.rest I.faults I.missing I.taken I.history ins.new) }

@@ -7,6 +7,7 @@ ghost use Rattle.macro_blocks.specs.Frames.{level_of};
 ghost use Rattle.asm_macro.specs.Expansion as spec;
 ghost use Rattle.asm_macro.specs.Heads.{turned_head};
 ghost use Rattle.asm_macro.specs.Readings.{Uses, input_by};
+ghost use Rattle.asm_macro.specs.Starts.{files_after};
 ghost use Rattle.asm_macro.specs.Turning.{IsRewriting, IsTurn, KeepsFew, state_of};
 
 use crate::expander::Expander;
@@ -74,10 +75,9 @@ impl Expander {
             (map spelled operands.now) (level_of frame.old) (state_of self.old))
             (level_of frame.new) self.old.files (state_of self.new) }
         ensures input { Uses result
+            (files_after self.old.files
             (spec.rewritten (P.told known.now) (I.contents ins.old) word pos
-            (map spelled operands.now) (level_of frame.old) (state_of self.old) ≡ spec.misses)
-            (spec.rewritten (P.told known.now) (I.contents ins.old) word pos
-            (map spelled operands.now) (level_of frame.old) (state_of self.old) ≡ spec.untold)
+            (map spelled operands.now) (level_of frame.old) (state_of self.old)))
             self.old.files self.new.files
             (input_by I.contents I.rest I.faults I.missing I.taken I.history ins.old)
             (input_by I.contents I.rest I.faults I.missing I.taken I.history ins.new) }
@@ -118,10 +118,9 @@ impl Expander {
             (level_of frame.old) (state_of self.old))
             (level_of frame.new) self.old.files (state_of self.new) }
         ensures input { Uses result
+            (files_after self.old.files
             (turned_head (P.told known.now) (I.contents ins.old) head.now pos
-            (level_of frame.old) (state_of self.old) ≡ spec.misses)
-            (turned_head (P.told known.now) (I.contents ins.old) head.now pos
-            (level_of frame.old) (state_of self.old) ≡ spec.untold)
+            (level_of frame.old) (state_of self.old)))
             self.old.files self.new.files
             (input_by I.contents I.rest I.faults I.missing I.taken I.history ins.old)
             (input_by I.contents I.rest I.faults I.missing I.taken I.history ins.new) }

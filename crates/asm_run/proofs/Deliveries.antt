@@ -39,9 +39,9 @@ object_of_source invocation contents (Some source) made messages assembles same 
 -- and whose assembly gave this fault
 fault_of_source : (invocation : Invocation) (contents : Contents) (file : Option (List ℕ)) (fault : Fault) (pos : Pos) (notes : List Noted) (files : List (List ℕ)) (text : List ℕ)
     → AssemblesFile (flags_by invocation) contents invocation.file file (Err (Source fault pos notes files)) → text ≡ refusal files notes fault pos
-    → file_outcome invocation contents file ≡ refused text
+    → file_outcome invocation contents file ≡ refused text (drop 1 files)
 fault_of_source invocation contents None fault pos notes files text assembles same = absurd cc
-fault_of_source invocation contents (Some source) fault pos notes files text assembles same = ap (source_outcome invocation) assembles ∙ ap refused (sym same)
+fault_of_source invocation contents (Some source) fault pos notes files text assembles same = ap (source_outcome invocation) assembles ∙ ap (λ said. refused said (drop 1 files)) (sym same)
 
 -- the messages were said and the object was made
 pub delivered : (contents : Option Contents) (invocation : Invocation) (flags : Flags) (name : List ℕ) (made : Assembled) (messages : List ℕ) (e : Effects)

@@ -20,7 +20,7 @@ answer_reads_back : (invocation : Invocation) (flags : Flags) (handed : List Tok
     → ((made : NotedObject) (files : List (List ℕ)) → answer ≡ assembled made files → ReadsBack flags handed made.object) → OutcomeReadsBack flags handed (source_outcome invocation answer)
 answer_reads_back invocation flags handed (assembled made files) law = law made files refl
 answer_reads_back invocation flags handed (faulty first files) law = tt
-answer_reads_back invocation flags handed assembly.missing law = tt
+answer_reads_back invocation flags handed (assembly.missing files) law = tt
 
 file_reads_back : Law → (invocation : Invocation) (contents : Contents) (file : Option (List ℕ)) → FileReadsBack invocation contents file
 file_reads_back law invocation contents None = tt

@@ -132,7 +132,7 @@ outcome_by (Some invocation) source = Some (source_outcome invocation (assembly_
 abbrev outcome_of : List ℕ → Option Outcome
 outcome_of source = outcome_by (command_of (codes "as" ∷ codes "x.s" ∷ [])) source
 
-not_there : outcome (codes "as" ∷ codes "none.s" ∷ []) (one_source []) ≡ Some missing
+not_there : outcome (codes "as" ∷ codes "none.s" ∷ []) (one_source []) ≡ Some (missing [])
 unfolding command_of asked_by faults_of rows_of_words invocation_of as_app clap_on_literals
 not_there = refl
 
@@ -148,8 +148,8 @@ usage_untold = refl
 abbrev object_bytes : Option Outcome → List ℕ
 object_bytes None = []
 object_bytes (Some usage) = []
-object_bytes (Some missing) = []
-object_bytes (Some (refused messages)) = []
+object_bytes (Some (missing included)) = []
+object_bytes (Some (refused messages included)) = []
 object_bytes (Some (object name bytes messages included)) = bytes
 
 -- its length, and the bytes of its `.text`, which stand behind the header
@@ -160,8 +160,8 @@ length_and_text count o = (length (object_bytes o), take count (drop 64 (object_
 abbrev said_by : Option Outcome → List ℕ
 said_by None = []
 said_by (Some usage) = []
-said_by (Some missing) = []
-said_by (Some (refused messages)) = messages
+said_by (Some (missing included)) = []
+said_by (Some (refused messages included)) = messages
 said_by (Some (object name bytes messages included)) = messages
 
 -- the flags
@@ -169,10 +169,10 @@ abbrev flagged : List ℕ → List ℕ → Option Outcome
 flagged flag source = outcome_by (command_of (codes "as" ∷ flag ∷ codes "x.s" ∷ [])) source
 
 -- sources with a fault: a mnemonic that is unknown, one behind two warnings, an open comment, and a warning that refuses
-refused_rows : (outcome_of (codes "foo\nbar\n") ≡ Some (refused (codes "x.s: Assembler messages:\nx.s:1: Error: unknown mnemonic\n")))
-    × (outcome_of (codes ".byte 256\n.byte 1,511\nfoo") ≡ Some (refused (codes "x.s: Assembler messages:\nx.s:1: Warning: value is truncated\nx.s:2: Warning: value is truncated\nx.s:3: Error: unknown mnemonic\n")))
-    × (outcome_of (codes "nop\n/* x") ≡ Some (refused (codes "x.s: Assembler messages:\nx.s:2: Error: comment is not closed\n")))
-    × (flagged (codes "--fatal-warnings") (codes ".byte 256") ≡ Some (refused (codes "x.s: Assembler messages:\nx.s:1: Warning: value is truncated\nx.s:1: Error: warnings are treated as errors\n")))
+refused_rows : (outcome_of (codes "foo\nbar\n") ≡ Some (refused (codes "x.s: Assembler messages:\nx.s:1: Error: unknown mnemonic\n") []))
+    × (outcome_of (codes ".byte 256\n.byte 1,511\nfoo") ≡ Some (refused (codes "x.s: Assembler messages:\nx.s:1: Warning: value is truncated\nx.s:2: Warning: value is truncated\nx.s:3: Error: unknown mnemonic\n") []))
+    × (outcome_of (codes "nop\n/* x") ≡ Some (refused (codes "x.s: Assembler messages:\nx.s:2: Error: comment is not closed\n") []))
+    × (flagged (codes "--fatal-warnings") (codes ".byte 256") ≡ Some (refused (codes "x.s: Assembler messages:\nx.s:1: Warning: value is truncated\nx.s:1: Error: warnings are treated as errors\n") []))
 unfolding command_of asked_by faults_of rows_of_words invocation_of as_app clap_on_literals statements_of statements_in comment_length quoted_length piece_kind piece_length pieces_from line_of trimmed nul_found source_found is_blank is_name_start is_name_byte is_operator_byte is_long_operator token_kind token_length tokens_from digits place place_labelled has_wide_label place_tokens place_label label_symbol symbol_name checked_name string_value_from place_body place_directive directive_of the_directives place_by place_instruction bare_instruction insn_of head_of att_mnemonic whole_mnemonic the_att_names the_rows bytes_of rex_bits rex_byte put_data place_data place_said say_all plain_of name_of each all_steps symbol_of next_symbol named defined bound spot_at extent_of put_bytes_into put_field_into push_into first_sections with_trees with_tree are_meant is_meant allowed name_here numeral spelled_number character_code digits_leaf leaf_of prefix_by operator_byte operator_bytes operator_by level_of height whole operand_of read_at reading linear unary_form binary_form combined with_term with_terms raised put_all settled expression_of form_in number_after digit_of fits low_bytes put_forms changed finished placed planned linked linked_map expanded_within expanded plus_terms settled_sections laid_by rows_of levels_of top shifts_of shifts_from shift_behind size_at shift_in section_size address_of final_told laid_value held_value told_in_field told_beside first_fault object_fault fields_fault section_bytes interleaved filled reference_found field_relocation named_of listed symbol_kind symbol_size said_along table_of image_of image_with file_with with_names all_names before_names file_of elf_header null_header header_table half word xword section_names string_table_of name_offsets symbol_names symbol_table_of first_of final_form told head turn steps word_in word_of the_words conditional branch_end conditional_end repeat each_copy_of define call purge after_call exit include verdict holds depth_behind stops cut made_statements value_text parameter_of parameters_of filled_once call_arguments argument_named put_by put_from file_statements value_told definition_told meant_among is_defined_in
 refused_rows = (refl, refl, refl, refl)
 

@@ -1,25 +1,27 @@
 -- The files that a run starts: how often one is not there, and how they are read.
-use Rattle.std.proofs.Common.{◌≡◌, ℕ, ◌+◌, ◌*◌, ◌≤◌, ◌⊎◌, inl, inr, List, ◌∷◌, drop, length, Option, None, Some, Result, Ok, Err, refl, sym, ap, ◌∙◌, subst, arith}
+use Rattle.std.proofs.Common.{◌≡◌, ℕ, ◌+◌, ◌*◌, ◌≤◌, ◌⊎◌, inl, inr, List, [], ◌∷◌, drop, length, Option, None, Some, Result, Ok, Err, refl, sym, ap, ◌∙◌, subst, append-nil, arith}
 use Rattle.asm_base.specs.Counts.{HasRisen}
 use Rattle.asm_base.specs.History.{FileEvent, happened, whole_files}
 use Rattle.asm_base.specs.Inputs.{Contents}
 use Rattle.asm_base.specs.WholeFile.{most_bytes}
 use Rattle.asm_front.specs.Ending.{Flags}
-use Rattle.asm_front.specs.Assembly.{Assembly, assembled, faulty, assembly_of}
+use Rattle.asm_front.specs.Assembly.{Assembly, assembled, faulty, included_by, assembly_of}
 use Rattle.asm_front.specs.Assembly as assembly
-use Rattle.asm_front.specs.Outcome.{Assembles, AssemblesFile, CountsMissed, CountsMissingFiles, CountsMisses, NamesFiles, ReadsFiles, TakesFiles}
+use Rattle.asm_front.specs.Outcome.{Assembles, AssemblesFile, CountsMissed, CountsMissingFiles, CountsMisses, NamesFiles, ReadsFiles, StartsFiles, StartsFirst, TakesFiles}
+use Rattle.asm_front.specs.Outcome as front
 use Rattle.asm_front.specs.declared.answers.Assembled.{Assembled}
-use Rattle.asm_run.specs.Answers.{CountsMissingOutcome, IncludesThese, ReadsAll}
-use Rattle.asm_run.specs.Outcome.{flags_by, source_outcome, file_outcome, invocation_outcome}
+use Rattle.asm_macro.specs.Starts.{IsFront, ReadsFront}
+use Rattle.asm_run.specs.Answers.{CountsMissingOutcome, IncludesThese, ReadsAll, StartsFront, StartsThese}
+use Rattle.asm_run.specs.Outcome.{Outcome, usage, missing, refused, object, flags_by, source_outcome, file_outcome, invocation_outcome}
 use Rattle.asm_run.specs.Words.{Invocation}
 
 of_assembly : (invocation : Invocation) (answer : Assembly) (before now : ℕ) → CountsMissed answer before now → CountsMissingOutcome (Some (source_outcome invocation answer)) before now
 of_assembly invocation (assembled made files) before now (inl same) = same
-of_assembly invocation (assembled made files) before now (inr risen) = absurd cc
+of_assembly invocation (assembled made files) before now (inr risen) = let is = risen.0.1 in absurd cc
 of_assembly invocation (faulty first files) before now (inl same) = same
-of_assembly invocation (faulty first files) before now (inr risen) = absurd cc
-of_assembly invocation assembly.missing before now (inl same) = inr same
-of_assembly invocation assembly.missing before now (inr risen) = inl (risen.1, risen.2)
+of_assembly invocation (faulty first files) before now (inr risen) = let is = risen.0.1 in absurd cc
+of_assembly invocation (assembly.missing files) before now (inl same) = inr same
+of_assembly invocation (assembly.missing files) before now (inr risen) = inl (risen.1, risen.2)
 
 of_file : (invocation : Invocation) (contents : Contents) (file : Option (List ℕ)) (before now : ℕ) → CountsMissingFiles (flags_by invocation) contents invocation.file file before now
     → CountsMissingOutcome (Some (file_outcome invocation contents file)) before now
@@ -69,3 +71,50 @@ all_read contents invocation flags name made before now taken taken_after asked 
     told_made (Some told) is =
         of_made invocation told (told invocation.file) made
         (subst (λ f. AssemblesFile f told invocation.file (told invocation.file) (Ok made)) asked (subst (λ n. AssemblesFile flags told n (told n) (Ok made)) named is))
+
+-- THE FIRST OF THEM, ON EVERY ANSWER
+
+-- the files of the assembly are those of the outcome
+these_of : (invocation : Invocation) (answer : Assembly) (name : List ℕ) (these : List (List ℕ)) → IsFront these (included_by answer)
+    → StartsThese (Some (source_outcome invocation answer)) name (name ∷ these)
+these_of invocation (assembled made files) name these is = (is.0, ap (λ more. name ∷ more) is.1)
+these_of invocation (faulty first files) name these is = (is.0, ap (λ more. name ∷ more) is.1)
+these_of invocation (assembly.missing files) name these is = (is.0, ap (λ more. name ∷ more) is.1)
+
+these_of_file : (invocation : Invocation) (contents : Contents) (file : Option (List ℕ)) (name : List ℕ) (these : List (List ℕ)) → StartsFirst (flags_by invocation) contents invocation.file file these
+    → StartsThese (Some (file_outcome invocation contents file)) name (name ∷ these)
+these_of_file invocation contents None name these is = ([], ap (λ more. name ∷ more) (sym is ∙ sym (append-nil these)))
+these_of_file invocation contents (Some source) name these is = these_of invocation (assembly_of (flags_by invocation) contents invocation.file source) name these is
+
+-- the source of the invocation was started, and the first of the files that it starts
+pub starts_front : (contents : Option Contents) (invocation : Invocation) (flags : Flags) (name : List ℕ) (before now : Option (List FileEvent)) (taken taken_after : ℕ)
+    → flags ≡ flags_by invocation → name ≡ invocation.file → StartsFiles flags contents name before now taken taken_after
+    → StartsFront (invocation_outcome invocation contents) invocation.file before now taken taken_after
+starts_front contents invocation flags name before now taken taken_after asked named is =
+    record {
+      started = invocation.file ∷ is.included;
+      these = these_told contents is.these;
+      reads = subst (λ n. ReadsFront (n ∷ is.included) before now taken taken_after) named is.reads;
+    }
+  where
+    these_told : (told : Option Contents) → front.StartsThese flags told name is.included → StartsThese (invocation_outcome invocation told) invocation.file (invocation.file ∷ is.included)
+    these_told None these = (is.included, ([], sym (append-nil (invocation.file ∷ is.included))))
+    these_told (Some told) these =
+        these_of_file invocation told (told invocation.file) invocation.file is.included
+        (subst (λ f. StartsFirst f told invocation.file (told invocation.file) is.included) asked (subst (λ n. StartsFirst flags told n (told n) is.included) named these))
+
+nothing_happened : (known : Option (List FileEvent)) → known ≡ happened known []
+nothing_happened None = refl
+nothing_happened (Some events) = ap Some (sym (append-nil events))
+
+none_these : (outcome : Option Outcome) (name : List ℕ) → StartsThese outcome name []
+none_these None name = ([], (name ∷ [], refl))
+none_these (Some usage) name = refl
+none_these (Some (missing included)) name = (name ∷ included, refl)
+none_these (Some (refused messages included)) name = (name ∷ included, refl)
+none_these (Some (object output bytes messages included)) name = (name ∷ included, refl)
+
+-- nothing was started
+pub starts_none : (outcome : Option Outcome) (name : List ℕ) (known : Option (List FileEvent)) (taken : ℕ) → StartsFront outcome name known known taken taken
+starts_none outcome name known taken =
+    record { started = []; these = none_these outcome name; reads = record { front = (0, nothing_happened known); whole = omega arith; at_most = omega arith } }

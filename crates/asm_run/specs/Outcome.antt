@@ -1,5 +1,5 @@
 -- What a command line stands for.
-use Rattle.std.specs.Prelude.{ℕ, List, drop, Option, None, Some}
+use Rattle.std.specs.Prelude.{ℕ, List, [], drop, Option, None, Some}
 use Rattle.asm_base.specs.Inputs.{Contents}
 use Rattle.asm_base.specs.Messages.{remarks, refusal}
 use Rattle.asm_front.specs.Ending.{Flags}
@@ -11,10 +11,10 @@ use Rattle.asm_run.specs.Words.{Invocation, command_of}
 pub data Outcome : Type 0 where
   -- the words are no command
   usage : Outcome
-  -- a file that is started has no contents
-  missing : Outcome
-  -- the source has a fault
-  refused : (messages : List ℕ) → Outcome
+  -- of the source and these files, which are started, the last has no contents
+  missing : (included : List (List ℕ)) → Outcome
+  -- the source has a fault, and starts these files
+  refused : (messages : List ℕ) (included : List (List ℕ)) → Outcome
   -- the source has an object, and starts these files
   object : (name bytes messages : List ℕ) (included : List (List ℕ)) → Outcome
 
@@ -26,12 +26,12 @@ flags_by invocation = record { no_warn = invocation.no_warn; fatal_warnings = in
 abbrev pub source_outcome : Invocation → Assembly → Outcome
 source_outcome invocation (assembled made files) =
     object invocation.object made.object (remarks files made.notes) (drop 1 files)
-source_outcome invocation (faulty first files) = refused (refusal files first.notes first.fault first.pos)
-source_outcome invocation assembly.missing = missing
+source_outcome invocation (faulty first files) = refused (refusal files first.notes first.fault first.pos) (drop 1 files)
+source_outcome invocation (assembly.missing files) = missing (drop 1 files)
 
 -- what the contents of the source's name stand for, if there are any, with those of the files that it starts
 abbrev pub file_outcome : Invocation → Contents → Option (List ℕ) → Outcome
-file_outcome invocation contents None = missing
+file_outcome invocation contents None = missing []
 file_outcome invocation contents (Some source) = source_outcome invocation (assembly_of (flags_by invocation) contents invocation.file source)
 
 -- what the invocation stands for, where the contents are told

@@ -12,8 +12,8 @@ use Rattle.asm_run.specs.Outcome.{Outcome, usage, missing, refused, object, flag
 -- frame table as the rows that directives mean
 abbrev pub OutcomeReadsBack : Flags → List TokenStatement → Outcome → Type 0
 OutcomeReadsBack flags handed usage = Unit {0}
-OutcomeReadsBack flags handed missing = Unit {0}
-OutcomeReadsBack flags handed (refused messages) = Unit {0}
+OutcomeReadsBack flags handed (missing included) = Unit {0}
+OutcomeReadsBack flags handed (refused messages included) = Unit {0}
 OutcomeReadsBack flags handed (object name bytes messages included) = ReadsBack flags handed bytes
 
 -- the same of the file that stands under the name, and of the statements that its expansion hands out

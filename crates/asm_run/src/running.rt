@@ -8,7 +8,7 @@ ghost use Rattle.asm_run.specs.Invoked.{invoked};
 ghost use Rattle.asm_run.specs.Outcome.{invocation_outcome, outcome};
 ghost use Rattle.asm_run.specs.Readable.{CommandIsReadable, InvocationIsReadable};
 ghost use Rattle.asm_run.specs.ReadsBack.{CommandReadsBack};
-ghost use Rattle.asm_run.specs.Answers.{Answers, Completes, CountsMissingOutcome, MakesFile, MakesFileInPart, MakesInPart, MakesObject, ReadsAll};
+ghost use Rattle.asm_run.specs.Answers.{Answers, Completes, CountsMissingOutcome, MakesFile, MakesFileInPart, MakesInPart, MakesObject, ReadsAll, StartsFront};
 
 use crate::saying::say_all;
 use crate::words::{Invocation, read_command};
@@ -83,7 +83,7 @@ pub fn deliver<O: Output, C: Console>(
 }
 
 /// Assembles the source that is asked for.
-#[tactic(auto, using(crate::proofs::Deliveries::delivered, crate::proofs::Deliveries::made_in_part, crate::proofs::Deliveries::told, crate::proofs::Deliveries::told_in_part, crate::proofs::StartedFiles::missed, crate::proofs::StartedFiles::none_started, crate::proofs::StartedFiles::all_read, crate::proofs::ReadableObjects::object_found))]
+#[tactic(auto, using(crate::proofs::Deliveries::delivered, crate::proofs::Deliveries::made_in_part, crate::proofs::Deliveries::told, crate::proofs::Deliveries::told_in_part, crate::proofs::StartedFiles::missed, crate::proofs::StartedFiles::none_started, crate::proofs::StartedFiles::all_read, crate::proofs::ReadableObjects::object_found, crate::proofs::StartedFiles::starts_front, crate::proofs::StartedFiles::starts_none))]
 fn run_source<I: Inputs, O: Output, C: Console>(
     alloc: Global,
     invocation: Invocation,
@@ -120,6 +120,9 @@ fn run_source<I: Inputs, O: Output, C: Console>(
     ensures taken { I.taken ins.old ≤ I.taken ins.new }
     ensures contents { I.contents ins.new ≡ I.contents ins.old }
     ensures whole { result ≡ Status.Done → IsAtEnd (I.rest ins.new) }
+    ensures starts { StartsFront
+        (invocation_outcome (invoked invocation.entry) (I.contents ins.old)) invocation.entry.file.now
+        (I.history ins.old) (I.history ins.new) (I.taken ins.old) (I.taken ins.new) }
     ensures reads { result ≡ Status.Done → ReadsAll
         (invocation_outcome (invoked invocation.entry) (I.contents ins.old)) invocation.entry.file.now
         (I.history ins.old) (I.history ins.new) (I.taken ins.old) (I.taken ins.new) }
@@ -151,7 +154,7 @@ fn run_source<I: Inputs, O: Output, C: Console>(
 }
 
 /// Reads the words, assembles the source that they name, says the messages, and makes the object.
-#[tactic(auto, unfolding(crate::specs::Words::usage_text), using(crate::proofs::ReadsBackAgain::command_reads_back))]
+#[tactic(auto, unfolding(crate::specs::Words::usage_text), using(crate::proofs::ReadsBackAgain::command_reads_back, crate::proofs::StartedFiles::starts_none))]
 pub fn run<I: Inputs, O: Output, C: Console>(
     alloc: Global,
     words: &Vec<String>,
@@ -210,6 +213,9 @@ pub fn run<I: Inputs, O: Output, C: Console>(
     ensures taken { I.taken ins.old ≤ I.taken ins.new }
     ensures contents { I.contents ins.new ≡ I.contents ins.old }
     ensures whole { result ≡ Status.Done → IsAtEnd (I.rest ins.new) }
+    ensures starts { StartsFront (outcome (map string_bytes words.now.items) (I.contents ins.old))
+        (file_of (command_of (map string_bytes words.now.items)))
+        (I.history ins.old) (I.history ins.new) (I.taken ins.old) (I.taken ins.new) }
     ensures reads { result ≡ Status.Done
         → ReadsAll (outcome (map string_bytes words.now.items) (I.contents ins.old))
         (file_of (command_of (map string_bytes words.now.items)))

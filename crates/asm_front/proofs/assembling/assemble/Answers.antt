@@ -1,11 +1,13 @@
 -- What was read is assembled, or is too large.
-use Rattle.std.proofs.Common.{subst, [], Ok, Err, string_bytes}
+use Rattle.std.proofs.Common.{◌≡◌, subst, [], Ok, Err, string_bytes}
+use Rattle.asm_base.specs.History.{happened, whole_file}
 use Rattle.asm_base.specs.Inputs.{CountsMissing}
 use Rattle.asm_base.specs.WholeFile.{ReadsName}
 use Rattle.asm_base.specs.declared.reading.TextFault.TheVariants.{TooLarge}
-use Rattle.asm_front.specs.Answering.{AssemblesText, CountsText, IsAnswered}
+use Rattle.asm_front.specs.Answering.{AssemblesText, CountsText, IsAnswered, StartsIncluded}
 use Rattle.asm_front.specs.Assembly.{faulty, shown_files}
 use Rattle.asm_front.specs.Outcome.{flags_of}
+use Rattle.asm_front.proofs.StartedFiles.{all_start}
 use Rattle.asm_front.proofs.WholeSources.{text_read, text_too_large, text_missed_there}
 use Rattle.asm_front.specs.Fitting.{TextFits}
 use Rattle.asm_front.proofs.AnswersFit.{fault_readable, text_is_readable}
@@ -54,3 +56,14 @@ pub returns-in-Err-TooLarge-clause-readable : goal.returns-in-Err-TooLarge-claus
 returns-in-Err-TooLarge-clause-readable g c =
     fault_readable (flags_of c.args.options.now) (g.I.Inputs.contents c.args.ins.now) (string_bytes c.args.options.now.file) c.fault_on_line-fault.result _ c.faulty-in-Err-TooLarge.result
     c.faulty-in-Err-TooLarge.ensures
+
+pub returns-in-Ok-clause-starts : goal.returns-in-Ok-clause-starts
+returns-in-Ok-clause-starts g c =
+    all_start (flags_of c.args.options.now) (string_bytes c.args.options.now.file) c.in-Ok.text (g.I.Inputs.contents c.args.ins.now) (g.I.Inputs.rest c.read_text.new.ins)
+    (g.I.Inputs.history c.args.ins.now) (g.I.Inputs.history c.read_text.new.ins) (g.I.Inputs.history c.assemble_text.new.ins)
+    (g.I.Inputs.taken c.args.ins.now) (g.I.Inputs.taken c.read_text.new.ins) (g.I.Inputs.taken c.assemble_text.new.ins)
+    (subst (λ name. ReadsName (g.I.Inputs.contents c.args.ins.now) name (Ok c.in-Ok.text) (g.I.Inputs.rest c.read_text.new.ins)) c.as_str-name.ensures.value c.in-Ok.ensures.text)
+    (subst (λ name. g.I.Inputs.history c.read_text.new.ins ≡ happened (g.I.Inputs.history c.args.ins.now) (whole_file name)) c.as_str-name.ensures.value c.in-Ok.ensures.history)
+    c.in-Ok.ensures.taken
+    (subst (λ contents. StartsIncluded (flags_of c.args.options.now) contents (string_bytes c.args.options.now.file) c.in-Ok.text (g.I.Inputs.history c.read_text.new.ins)
+    (g.I.Inputs.history c.assemble_text.new.ins) (g.I.Inputs.taken c.read_text.new.ins) (g.I.Inputs.taken c.assemble_text.new.ins)) c.in-Ok.ensures.contents c.assemble_text.ensures.starts)

@@ -4,6 +4,7 @@ use Rattle.asm_front.specs.Outcome.{flags_of}
 use Rattle.asm_front.proofs.AnswerLemmas.{text_answered, text_missed}
 use Rattle.asm_front.proofs.AnswerFacts.{text_taken, text_large}
 use Rattle.asm_front.proofs.AnswersFit.{text_fits}
+use Rattle.asm_front.proofs.StartedFiles.{text_starts}
 use Rattle.asm_front.proofs.assembling.assemble_text.Goals as goal
 
 pub returns-clause-outcome : goal.returns-clause-outcome
@@ -35,3 +36,10 @@ returns-clause-numbers g c =
     text_fits c.told_files_are_known.ensures (flags_of c.args.options.now) (g.I.Inputs.contents c.args.ins.now) (string_bytes c.args.options.now.file) c.args.text c.in-Ok.started
     c.expand_source-expanded.new.files c.in-Ok-new.placer c.expand_source-expanded.new.placer c.expand_source-expanded.result c.answer.result named c.in-Ok-new.ensures
     c.expand_source-expanded.ensures.outcome c.answer.ensures.answer c.answer.ensures.numbers
+
+pub returns-clause-starts : goal.returns-clause-starts
+returns-clause-starts g c =
+    let named : c.in-Ok.started ≡ string_bytes c.args.options.now.file ∷ [] = c.in-Ok.ensures ∙ ap (λ name. name ∷ []) c.as_str-name.ensures.value in
+    text_starts (flags_of c.args.options.now) (string_bytes c.args.options.now.file) c.args.text c.told_files_are_known.ensures (g.I.Inputs.contents c.args.ins.now) c.in-Ok.started
+    c.expand_source-expanded.new.files c.in-Ok-new.placer (g.I.Inputs.history c.args.ins.now) (g.I.Inputs.history c.expand_source-expanded.new.ins) (g.I.Inputs.taken c.args.ins.now)
+    (g.I.Inputs.taken c.expand_source-expanded.new.ins) named c.in-Ok-new.ensures c.expand_source-expanded.ensures.starts

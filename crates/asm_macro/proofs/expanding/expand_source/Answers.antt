@@ -1,6 +1,6 @@
 -- Clause by clause.
 use Rattle.asm_macro.specs.Readings.{input_by}
-use Rattle.asm_macro.proofs.SourceLemmas.{outcome_clause, cause_clause, missing_clause, found_clause, contents_clause, history_clause, taken_clause, too_large_clause, whole_clause, started_clause}
+use Rattle.asm_macro.proofs.SourceLemmas.{outcome_clause, cause_clause, missing_clause, found_clause, contents_clause, history_clause, taken_clause, starts_clause, too_large_clause, whole_clause, started_clause}
 use Rattle.asm_macro.proofs.expanding.expand_source.Goals as goal
 
 pub returns-clause-outcome : goal.returns-clause-outcome
@@ -23,6 +23,9 @@ returns-clause-history g c = history_clause g.P.Placer.placed g.P.KnowingPlacer.
 
 pub returns-clause-taken : goal.returns-clause-taken
 returns-clause-taken g c = taken_clause g.P.Placer.placed g.P.KnowingPlacer.told (g.I.Inputs.contents c.args.ins.now) c.args.text c.args.files.now c.args.placer.now c.expand_text.result c.expand_text.new.files c.expand_text.new.placer (input_by g.I.Inputs.contents g.I.Inputs.rest g.I.Inputs.faults g.I.Inputs.missing g.I.Inputs.taken g.I.Inputs.history c.args.ins.now) (input_by g.I.Inputs.contents g.I.Inputs.rest g.I.Inputs.faults g.I.Inputs.missing g.I.Inputs.taken g.I.Inputs.history c.expand_text.new.ins) c.requires c.expand_text.ensures
+
+pub returns-clause-starts : goal.returns-clause-starts
+returns-clause-starts g c = starts_clause g.P.Placer.placed g.P.KnowingPlacer.told (g.I.Inputs.contents c.args.ins.now) c.args.text c.args.files.now c.args.placer.now c.expand_text.result c.expand_text.new.files c.expand_text.new.placer (input_by g.I.Inputs.contents g.I.Inputs.rest g.I.Inputs.faults g.I.Inputs.missing g.I.Inputs.taken g.I.Inputs.history c.args.ins.now) (input_by g.I.Inputs.contents g.I.Inputs.rest g.I.Inputs.faults g.I.Inputs.missing g.I.Inputs.taken g.I.Inputs.history c.expand_text.new.ins) c.requires c.expand_text.ensures
 
 pub returns-clause-too_large : goal.returns-clause-too_large
 returns-clause-too_large g c = too_large_clause g.P.Placer.placed g.P.KnowingPlacer.told (g.I.Inputs.contents c.args.ins.now) c.args.text c.args.files.now c.args.placer.now c.expand_text.result c.expand_text.new.files c.expand_text.new.placer (input_by g.I.Inputs.contents g.I.Inputs.rest g.I.Inputs.faults g.I.Inputs.missing g.I.Inputs.taken g.I.Inputs.history c.args.ins.now) (input_by g.I.Inputs.contents g.I.Inputs.rest g.I.Inputs.faults g.I.Inputs.missing g.I.Inputs.taken g.I.Inputs.history c.expand_text.new.ins) c.expand_text.ensures

@@ -6,7 +6,7 @@ use Rattle.asm_lines.specs.Faults.{nul_offset}
 use Rattle.asm_macro.specs.declared.fronts.Stop.TheVariants as stop
 use Rattle.asm_macro.specs.Fronts.{StopsAt}
 use Rattle.asm_macro.specs.Readings.{input_by}
-use Rattle.asm_macro.proofs.SourceSteps.{checked_source, source_ends, source_long, source_refused, source_rest}
+use Rattle.asm_macro.proofs.SourceSteps.{checked_fault, checked_source, source_ends, source_long, source_refused, source_rest, without_memory}
 use Rattle.asm_macro.proofs.sources.expand_text.Goals as goal
 
 pub returns-then-has_nul : goal.returns-then-has_nul
@@ -39,3 +39,25 @@ returns-in-Ok-check_lines-2 g c =
     let Stops : List ℕ → Type 0 = λ source. StopsAt g.P.Placer.placed g.P.KnowingPlacer.told source c.args.placer.now c.place_front.new.placer (stop.Word c.in-Word.at c.in-Word.line c.in-Word.given) in
     let stopped = subst Stops c.as_bytes-2.ensures c.in-Word.ensures in
     source_rest g.P.Placer.placed g.P.KnowingPlacer.told (g.I.Inputs.contents c.args.ins.now) c.args.text c.args.files.now c.args.placer.now c.in-Word.at c.in-Word.line c.in-Word.given c.place_front.new.placer c.expand_rest.new.placer c.expand_rest.result c.expand_rest.new.files (input_by g.I.Inputs.contents g.I.Inputs.rest g.I.Inputs.faults g.I.Inputs.missing g.I.Inputs.taken g.I.Inputs.history c.args.ins.now) (input_by g.I.Inputs.contents g.I.Inputs.rest g.I.Inputs.faults g.I.Inputs.missing g.I.Inputs.taken g.I.Inputs.history c.expand_rest.new.ins) c.in-Ok-check_lines-2.ensures stopped c.expand_rest.ensures
+
+pub returns-in-Refused-Fault : goal.returns-in-Refused-Fault
+returns-in-Refused-Fault g c =
+    checked_fault g.P.Placer.placed g.P.KnowingPlacer.told (g.I.Inputs.contents c.args.ins.now) c.args.text c.args.files.now c.args.placer.now c.in-Err.fault c.place_front.new.placer (input_by g.I.Inputs.contents g.I.Inputs.rest g.I.Inputs.faults g.I.Inputs.missing g.I.Inputs.taken g.I.Inputs.history c.args.ins.now) c.in-Err.ensures
+
+pub returns-in-Faulty : goal.returns-in-Faulty
+returns-in-Faulty g c =
+    let Stops : List ℕ → Type 0 = λ source. StopsAt g.P.Placer.placed g.P.KnowingPlacer.told source c.args.placer.now c.place_front.new.placer stop.Faulty in
+    let faulty = subst Stops c.as_bytes-2.ensures c.in-Faulty.ensures in
+    checked_source g.P.Placer.placed g.P.KnowingPlacer.told (g.I.Inputs.contents c.args.ins.now) c.args.text c.args.files.now c.args.placer.now c.check_lines-in-Faulty.result c.place_front.new.placer (input_by g.I.Inputs.contents g.I.Inputs.rest g.I.Inputs.faults g.I.Inputs.missing g.I.Inputs.taken g.I.Inputs.history c.args.ins.now) (λ clean. faulty clean.faults) c.check_lines-in-Faulty.ensures
+
+pub returns-in-TooLong : goal.returns-in-TooLong
+returns-in-TooLong g c =
+    checked_fault g.P.Placer.placed g.P.KnowingPlacer.told (g.I.Inputs.contents c.args.ins.now) c.args.text c.args.files.now c.args.placer.now c.in-Err-check_lines.fault c.place_front.new.placer (input_by g.I.Inputs.contents g.I.Inputs.rest g.I.Inputs.faults g.I.Inputs.missing g.I.Inputs.taken g.I.Inputs.history c.args.ins.now) c.in-Err-check_lines.ensures
+
+pub returns-in-NoMemory : goal.returns-in-NoMemory
+returns-in-NoMemory g c =
+    without_memory g.P.Placer.placed g.P.KnowingPlacer.told (g.I.Inputs.contents c.args.ins.now) c.args.text c.args.files.now c.args.placer.now c.place_front.new.placer (input_by g.I.Inputs.contents g.I.Inputs.rest g.I.Inputs.faults g.I.Inputs.missing g.I.Inputs.taken g.I.Inputs.history c.args.ins.now)
+
+pub returns : goal.returns
+returns g c =
+    checked_fault g.P.Placer.placed g.P.KnowingPlacer.told (g.I.Inputs.contents c.args.ins.now) c.args.text c.args.files.now c.args.placer.now c.in-Err-check_lines-2.fault c.place_front.new.placer (input_by g.I.Inputs.contents g.I.Inputs.rest g.I.Inputs.faults g.I.Inputs.missing g.I.Inputs.taken g.I.Inputs.history c.args.ins.now) c.in-Err-check_lines-2.ensures

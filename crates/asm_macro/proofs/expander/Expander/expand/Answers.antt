@@ -12,7 +12,7 @@ use Rattle.asm_macro.specs.Running.{Expands, RunsFrom}
 use Rattle.asm_macro.specs.declared.faults.ExpandFault.{ExpandFault}
 use Rattle.asm_macro.specs.OpenParts.{AreFew}
 use Rattle.asm_macro.specs.Turning.{KeepsFew, state_of}
-use Rattle.asm_macro.proofs.Parts.{part_more, expand_fails, expand_ends}
+use Rattle.asm_macro.proofs.Parts.{part_more, expand_fails, expand_ends, expand_without}
 use Rattle.asm_macro.proofs.Runs.{steps_none}
 use Rattle.asm_macro.proofs.Wholes.{read_none}
 use Rattle.asm_macro.proofs.expander.Expander.expand.Goals as goal
@@ -90,3 +90,27 @@ enter-requires g c =
     let before = subst (λ part. AreFew (level_of part ∷ (state_of c.take_part.new.self).levels)) (sym frame) c.in-Some.ensures.few in
     let after = subst Leaves c.in-Ok-Enters.field-0-is c.in-Ok-Enters.ensures.few before in
     subst (λ part. AreFew (level_of c.in-Ok-Enters.inner ∷ level_of part ∷ (state_of c.run_part.new.self).levels)) (sym c.with_frame-in-Ok-Enters.ensures) after
+
+pub returns-in-Err-put_part : goal.returns-in-Err-put_part
+returns-in-Err-put_part g c =
+    let start = c.in-Some.ensures.part ∙ ap (λ frame. under (level_of frame) (state_of c.take_part.new.self)) (sym (c.deref_mut.ensures.value ∙ c.into_frame-frame.ensures)) in
+    let Start : State → Type 0 = λ s. RunsFrom {F = g.row.P-Fault.Denot} g.P.Placer.placed g.P.KnowingPlacer.told (g.I.Inputs.contents c.parts.ins) s c.parts.placer (Ok turned.Stays) (level_of c.run_part.new.frame) (state_of c.run_part.new.self) c.run_part.new.placer (input_by g.I.Inputs.contents g.I.Inputs.rest g.I.Inputs.faults g.I.Inputs.missing g.I.Inputs.taken g.I.Inputs.history c.parts.ins) (input_by g.I.Inputs.contents g.I.Inputs.rest g.I.Inputs.faults g.I.Inputs.missing g.I.Inputs.taken g.I.Inputs.history c.run_part.new.ins) in
+    let Later : Option Contents → Type 0 = λ told. RunsFrom {F = g.row.P-Fault.Denot} g.P.Placer.placed g.P.KnowingPlacer.told told (state_of c.parts.self) c.parts.placer (Ok turned.Stays) (level_of c.run_part.new.frame) (state_of c.run_part.new.self) c.run_part.new.placer (input_by g.I.Inputs.contents g.I.Inputs.rest g.I.Inputs.faults g.I.Inputs.missing g.I.Inputs.taken g.I.Inputs.history c.parts.ins) (input_by g.I.Inputs.contents g.I.Inputs.rest g.I.Inputs.faults g.I.Inputs.missing g.I.Inputs.taken g.I.Inputs.history c.run_part.new.ins) in
+    let Given : Turned → Type 0 = λ turned. RunsFrom {F = g.row.P-Fault.Denot} g.P.Placer.placed g.P.KnowingPlacer.told (g.I.Inputs.contents c.parts.ins) (under (level_of c.deref_mut.result.now) (state_of c.take_part.new.self)) c.parts.placer (Ok turned) (level_of c.run_part.new.frame) (state_of c.run_part.new.self) c.run_part.new.placer (input_by g.I.Inputs.contents g.I.Inputs.rest g.I.Inputs.faults g.I.Inputs.missing g.I.Inputs.taken g.I.Inputs.history c.parts.ins) (input_by g.I.Inputs.contents g.I.Inputs.rest g.I.Inputs.faults g.I.Inputs.missing g.I.Inputs.taken g.I.Inputs.history c.run_part.new.ins) in
+    let run = subst Given c.in-Ok-Stays.field-0-is c.in-Ok-Stays.ensures.run in
+    let made = part_more g.P.Placer.placed g.P.KnowingPlacer.told (g.I.Inputs.contents c.args.ins.now) (state_of c.args.self.now) c.args.placer.now c.parts.invariant.done.0 (state_of c.parts.self) (state_of c.run_part.new.self) c.parts.placer c.run_part.new.placer (level_of c.run_part.new.frame) (Ok turned.Stays) (input_by g.I.Inputs.contents g.I.Inputs.rest g.I.Inputs.faults g.I.Inputs.missing g.I.Inputs.taken g.I.Inputs.history c.args.ins.now) (input_by g.I.Inputs.contents g.I.Inputs.rest g.I.Inputs.faults g.I.Inputs.missing g.I.Inputs.taken g.I.Inputs.history c.parts.ins) (input_by g.I.Inputs.contents g.I.Inputs.rest g.I.Inputs.faults g.I.Inputs.missing g.I.Inputs.taken g.I.Inputs.history c.run_part.new.ins)
+    c.parts.invariant.done.1 c.parts.invariant.read (subst Later c.parts.invariant.read.contents (subst Start (sym start) run)) in
+    expand_without g.P.Placer.placed g.P.KnowingPlacer.told (g.I.Inputs.contents c.args.ins.now) (state_of c.args.self.now) c.args.placer.now made.0 (under (level_of c.run_part.new.frame) (state_of c.run_part.new.self)) c.put_part.new.self.files c.run_part.new.placer c.run_part.new.placer (input_by g.I.Inputs.contents g.I.Inputs.rest g.I.Inputs.faults g.I.Inputs.missing g.I.Inputs.taken g.I.Inputs.history c.args.ins.now) (input_by g.I.Inputs.contents g.I.Inputs.rest g.I.Inputs.faults g.I.Inputs.missing g.I.Inputs.taken g.I.Inputs.history c.run_part.new.ins)
+    made.1.comes made.1.uses c.put_part.ensures.files
+
+pub returns-in-Err-enter : goal.returns-in-Err-enter
+returns-in-Err-enter g c =
+    let start = c.in-Some.ensures.part ∙ ap (λ frame. under (level_of frame) (state_of c.take_part.new.self)) (sym (c.deref_mut.ensures.value ∙ c.into_frame-frame.ensures)) in
+    let Start : State → Type 0 = λ s. RunsFrom {F = g.row.P-Fault.Denot} g.P.Placer.placed g.P.KnowingPlacer.told (g.I.Inputs.contents c.parts.ins) s c.parts.placer (Ok (turned.Enters c.in-Ok-Enters.inner)) (level_of c.run_part.new.frame) (state_of c.run_part.new.self) c.run_part.new.placer (input_by g.I.Inputs.contents g.I.Inputs.rest g.I.Inputs.faults g.I.Inputs.missing g.I.Inputs.taken g.I.Inputs.history c.parts.ins) (input_by g.I.Inputs.contents g.I.Inputs.rest g.I.Inputs.faults g.I.Inputs.missing g.I.Inputs.taken g.I.Inputs.history c.run_part.new.ins) in
+    let Later : Option Contents → Type 0 = λ told. RunsFrom {F = g.row.P-Fault.Denot} g.P.Placer.placed g.P.KnowingPlacer.told told (state_of c.parts.self) c.parts.placer (Ok (turned.Enters c.in-Ok-Enters.inner)) (level_of c.run_part.new.frame) (state_of c.run_part.new.self) c.run_part.new.placer (input_by g.I.Inputs.contents g.I.Inputs.rest g.I.Inputs.faults g.I.Inputs.missing g.I.Inputs.taken g.I.Inputs.history c.parts.ins) (input_by g.I.Inputs.contents g.I.Inputs.rest g.I.Inputs.faults g.I.Inputs.missing g.I.Inputs.taken g.I.Inputs.history c.run_part.new.ins) in
+    let Given : Turned → Type 0 = λ turned. RunsFrom {F = g.row.P-Fault.Denot} g.P.Placer.placed g.P.KnowingPlacer.told (g.I.Inputs.contents c.parts.ins) (under (level_of c.deref_mut.result.now) (state_of c.take_part.new.self)) c.parts.placer (Ok turned) (level_of c.run_part.new.frame) (state_of c.run_part.new.self) c.run_part.new.placer (input_by g.I.Inputs.contents g.I.Inputs.rest g.I.Inputs.faults g.I.Inputs.missing g.I.Inputs.taken g.I.Inputs.history c.parts.ins) (input_by g.I.Inputs.contents g.I.Inputs.rest g.I.Inputs.faults g.I.Inputs.missing g.I.Inputs.taken g.I.Inputs.history c.run_part.new.ins) in
+    let run = subst Given c.in-Ok-Enters.field-0-is c.in-Ok-Enters.ensures.run in
+    let made = part_more g.P.Placer.placed g.P.KnowingPlacer.told (g.I.Inputs.contents c.args.ins.now) (state_of c.args.self.now) c.args.placer.now c.parts.invariant.done.0 (state_of c.parts.self) (state_of c.run_part.new.self) c.parts.placer c.run_part.new.placer (level_of c.run_part.new.frame) (Ok (turned.Enters c.in-Ok-Enters.inner)) (input_by g.I.Inputs.contents g.I.Inputs.rest g.I.Inputs.faults g.I.Inputs.missing g.I.Inputs.taken g.I.Inputs.history c.args.ins.now) (input_by g.I.Inputs.contents g.I.Inputs.rest g.I.Inputs.faults g.I.Inputs.missing g.I.Inputs.taken g.I.Inputs.history c.parts.ins) (input_by g.I.Inputs.contents g.I.Inputs.rest g.I.Inputs.faults g.I.Inputs.missing g.I.Inputs.taken g.I.Inputs.history c.run_part.new.ins)
+    c.parts.invariant.done.1 c.parts.invariant.read (subst Later c.parts.invariant.read.contents (subst Start (sym start) run)) in
+    expand_without g.P.Placer.placed g.P.KnowingPlacer.told (g.I.Inputs.contents c.args.ins.now) (state_of c.args.self.now) c.args.placer.now made.0 (under (level_of c.in-Ok-Enters.inner) (under (level_of c.run_part.new.frame) (state_of c.run_part.new.self))) c.enter.new.self.files c.run_part.new.placer c.run_part.new.placer (input_by g.I.Inputs.contents g.I.Inputs.rest g.I.Inputs.faults g.I.Inputs.missing g.I.Inputs.taken g.I.Inputs.history c.args.ins.now) (input_by g.I.Inputs.contents g.I.Inputs.rest g.I.Inputs.faults g.I.Inputs.missing g.I.Inputs.taken g.I.Inputs.history c.run_part.new.ins)
+    made.1.comes made.1.uses c.enter.ensures.files

@@ -9,7 +9,7 @@ use Rattle.asm_macro.specs.Readings.{input_by}
 use Rattle.asm_macro.specs.Running.{RunsFrom}
 use Rattle.asm_macro.specs.declared.faults.ExpandFault.{ExpandFault}
 use Rattle.asm_macro.specs.Turning.{KeepsFew, state_of}
-use Rattle.asm_macro.proofs.Parts.{part_more}
+use Rattle.asm_macro.proofs.Parts.{part_more, part_without}
 use Rattle.asm_macro.proofs.Runs.{steps_none}
 use Rattle.asm_macro.proofs.Wholes.{read_none}
 use Rattle.asm_macro.proofs.expander.Expander.run_part.Goals as goal
@@ -74,3 +74,8 @@ pub returns-in-Ok-Leaves-clause-few : goal.returns-in-Ok-Leaves-clause-few
 returns-in-Ok-Leaves-clause-few g c = λ few.
     let Leaves : Turned → Type 0 = λ turned. KeepsFew {E = ExpandFault g.row.P-Fault.Denot} (level_of c.copies.frame) (state_of c.copies.self) (Ok turned) (level_of c.run_text.new.frame) (state_of c.run_text.new.self) in
     subst Leaves c.in-Ok-Leaves.field-0-is c.in-Ok-Leaves.ensures.few (c.copies.invariant.shallow few)
+
+pub returns-in-Err-clause-run : goal.returns-in-Err-clause-run
+returns-in-Err-clause-run g c =
+    part_without g.P.Placer.placed g.P.KnowingPlacer.told (g.I.Inputs.contents c.args.ins.now) (under (level_of c.args.frame.now) (state_of c.args.self.now)) c.args.placer.now c.copies.invariant.done.0 (under (level_of c.copies.frame) (state_of c.copies.self)) (state_of c.copies.self) c.copies.placer c.copies.placer (level_of c.copies.frame) (input_by g.I.Inputs.contents g.I.Inputs.rest g.I.Inputs.faults g.I.Inputs.missing g.I.Inputs.taken g.I.Inputs.history c.args.ins.now) (input_by g.I.Inputs.contents g.I.Inputs.rest g.I.Inputs.faults g.I.Inputs.missing g.I.Inputs.taken g.I.Inputs.history c.copies.ins)
+    c.copies.invariant.done.1 c.copies.invariant.read refl
