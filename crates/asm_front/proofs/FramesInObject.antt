@@ -11,6 +11,7 @@ use Rattle.asm_symbols.specs.declared.entries.Meaning.TheVariants as meaning
 use Rattle.asm_symbols.specs.declared.entries.Meaning.TheVariants.{Label, Space}
 use Rattle.asm_symbols.specs.declared.entries.Symbol.{Symbol}
 use Rattle.asm_frags.specs.Writing.{LooseSection}
+use Rattle.asm_relax.specs.KeptSections.{IsSmall}
 use Rattle.asm_relax.specs.Placing.{placed_section}
 use Rattle.asm_relax.specs.Settling.{LaidSections, planned}
 use Rattle.asm_values.specs.State.{Placed, nothing_placed}
@@ -28,14 +29,14 @@ use Rattle.eh_frame.specs.Placing.{placed}
 use Rattle.frame_laws.specs.PlacedTables.{IsCovered, SymbolHolds, AreReady}
 use Rattle.frame_laws.specs.TableReads.{TableReads, FrameTablesRead}
 use Rattle.asm_front.proofs.SettledObjects.{AreSettled}
-use Rattle.asm_front.specs.Ending.{Flags, unclosed, first_line, framed, framed_end, unless_open, finished, first_over}
+use Rattle.asm_front.specs.Ending.{Flags, unclosed, first_line, framed, framed_end, unless_open, finished}
 use Rattle.asm_front.specs.declared.ending.NotedObject.{NotedObject}
 use Rattle.asm_front.specs.ReadsBack.{FramesReadBack}
 use Rattle.asm_front.proofs.FramedSections.{TableFacts, is_framed, tables_within}
 use Rattle.asm_front.proofs.FramedSymbols.{frame_stands, holds_items}
 use Rattle.asm_front.proofs.JumpsInObject.{JumpFacts}
-use Rattle.asm_front.proofs.LowLayouts.{all_small, layout_low}
-use Rattle.asm_front.proofs.ObjectReads.{Makes, origin, none_over}
+use Rattle.asm_front.proofs.LowLayouts.{layout_low}
+use Rattle.asm_front.proofs.ObjectReads.{Makes, origin}
 use Rattle.asm_front.proofs.PlacedFacts.{PlaceFacts}
 use Rattle.asm_front.proofs.SmallSections.{sections_small}
 
@@ -131,11 +132,11 @@ frames_read_back settled table placing facts frames_facts flags handed made e fr
     let ready = placed_ready table placing facts handed no_warn whole all in
     let with_table : placed (frame ∷ frames) (tables_of whole.table.symbols whole.sections) ≡ Ok tables =
     sym (ap (λ (all : List Frame). placed all (tables_of whole.table.symbols whole.sections)) are) ∙ from.frames in
-    let none = none_over flags handed made e in
+    let none = settled.layouts.small tables.symbols tables.sections laid from.settles in
     let laid_is = settled.layouts.settled tables.symbols tables.sections laid from.settles in
     let small = sections_small facts.addresses laid
-    (subst (λ (all : LaidSections). map placed_section all ≡ all) (sym laid_is) (settled.placed tables.symbols (planned tables.symbols tables.sections))) (all_small laid none) in
+    (subst (λ (all : LaidSections). map placed_section all ≡ all) (sym laid_is) (settled.placed tables.symbols (planned tables.symbols tables.sections))) none in
     let within = (is_framed table whole tables (placing.within handed (nothing_placed no_warn) whole all (placing.begins no_warn)) from.frames).within in
-    let low = layout_low facts.rise facts.count tables.symbols tables.sections within (sym (ap first_over laid_is) ∙ none) in
+    let low = layout_low facts.rise facts.count tables.symbols tables.sections within (subst (All IsSmall) laid_is none) in
     subst (λ (file : List ℕ). TableReads file tables.symbols laid (frame ∷ frames)) (sym from.image)
     (frames_facts.read frame frames (tables_of whole.table.symbols whole.sections) tables laid ready covered with_table from.settles (record { small = small; rows = low }))

@@ -1,5 +1,5 @@
 -- Direct jumps stand in the object, and read as the jumps that were written.
-use Rattle.std.proofs.Common.{◌≡◌, ℕ, zero, suc, ◌+◌, ◌-◌, ◌^◌, ◌<◌, ◌≤◌, inl, inr, not, nat_lt, nat_le, Bool, true, false, cond, List, ◌∷◌, ◌++◌, Option, Some, None, Ok, drop, length, refl, sym, ap, ◌∙◌, subst, arith}
+use Rattle.std.proofs.Common.{◌≡◌, ℕ, zero, suc, ◌+◌, ◌-◌, ◌^◌, ◌<◌, ◌≤◌, inl, inr, not, nat_lt, nat_le, Bool, true, false, cond, List, ◌∷◌, ◌++◌, All, Option, Some, None, Ok, drop, length, refl, sym, ap, ◌∙◌, subst, arith}
 use Rattle.std.specs.Prelude.{◌==◌, slice_get, option_map, unwrap_or, IfSome}
 use Rattle.std.specs.Option.{option_map_or}
 use Rattle.std.proofs.lemmas.Bool.{or_cases, ltb-true, leb-true}
@@ -30,7 +30,7 @@ use Rattle.assigned_forms.specs.Linked.{linked}
 use Rattle.item_rows.specs.ItemRows.{all_rows, rows_of, levels_of}
 use Rattle.asm_relax.specs.FieldValues.{held_value, DistancesLead}
 use Rattle.asm_relax.specs.ItemValues.{AreLow, IsInItem, HasRoom}
-use Rattle.asm_relax.specs.KeptSections.{kept_section}
+use Rattle.asm_relax.specs.KeptSections.{IsSmall, kept_section}
 use Rattle.asm_relax.specs.Placing.{placed_from, shift_of}
 use Rattle.asm_relax.specs.RisingRows.{AllRise}
 use Rattle.asm_relax.specs.SettledRoom.{HasRoomFor, SettledHaveRoom}
@@ -50,7 +50,7 @@ use Rattle.asm_place.specs.JumpPlaces.{IsJump, jump_form, items_so_far, jump_fie
 use Rattle.asm_place.specs.Sources.{pos_at, place_all}
 use Rattle.x86_insn.specs.declared.amounts.FieldKind.TheVariants as kind
 use Rattle.eh_frame.specs.Pieces.{Tables}
-use Rattle.asm_front.specs.Ending.{Flags, first_over, framed}
+use Rattle.asm_front.specs.Ending.{Flags, framed}
 use Rattle.asm_front.specs.declared.ending.NotedObject.{NotedObject}
 use Rattle.asm_front.specs.ReadsBack.{file_place, final_value, has_no_bits, jump_value, LeadsToLabel, JumpReadsAt, JumpReadsBack, JumpsReadBack}
 use Rattle.asm_front.proofs.FramedSections.{TableFacts, is_framed, jump_stays}
@@ -62,7 +62,7 @@ use Rattle.asm_front.proofs.JumpFields.{stands_in_item, jump_constant}
 use Rattle.asm_front.proofs.LowLayouts.{layout_low}
 use Rattle.asm_front.proofs.OwnPlaces.{names_own_place}
 use Rattle.asm_front.proofs.SettledObjects.{AreSettled, drop_stands}
-use Rattle.asm_front.proofs.ObjectReads.{Makes, origin, all_placed, reads_code, none_over}
+use Rattle.asm_front.proofs.ObjectReads.{Makes, origin, all_placed, reads_code}
 use Rattle.asm_front.proofs.SmallForms.{held_small, final_small}
 use Rattle.asm_front.proofs.SmallSections.{shift_next}
 
@@ -256,13 +256,13 @@ leads_to_label facts symbols laid pos text forms placed symbol number address ta
     let leads = got.2 in
     omega (arith, value, leads)
 
--- a direct jump among statements that are placed reads back as it in the object of their layout, where no section of that is too large
+-- a direct jump among statements that are placed reads back as it in the object of their layout
 pub jump_reads_back : AreSettled → ReadsOneWay → TableFacts → PlaceFacts → JumpFacts → (no_warn : Bool) (front : List TokenStatement) (s : TokenStatement) (later : List TokenStatement)
     (text : InsnText) (condition : Option Condition) (placed whole : Placed) (tables : Tables) (laid : LaidSections) (object : List ℕ)
     → place_all front (nothing_placed no_warn) ≡ Ok placed → place_all (front ++ s ∷ later) (nothing_placed no_warn) ≡ Ok whole
-    → framed whole ≡ Ok tables → layout_of tables.symbols tables.sections ≡ Ok laid → object ≡ image_of tables.symbols laid → first_over laid ≡ None
+    → framed whole ≡ Ok tables → layout_of tables.symbols tables.sections ≡ Ok laid → object ≡ image_of tables.symbols laid
     → insn_in placed.syntax s ≡ Some text → jump_in text ≡ Some condition → has_no_bits laid placed.current ≡ false → JumpReadsBack object tables.symbols laid s text placed
-jump_reads_back settled one_way table placing facts no_warn front s later text condition placed whole tables laid object front_is all framed_is is same none written jump filed =
+jump_reads_back settled one_way table placing facts no_warn front s later text condition placed whole tables laid object front_is all framed_is is same written jump filed =
     let empty = nothing_placed no_warn in
     let begins = placing.begins no_warn in
     let there = facts.placed front s later empty placed whole text condition begins front_is all written jump in
@@ -285,7 +285,8 @@ jump_reads_back settled one_way table placing facts no_warn front s later text c
     let small = final_small symbols laid field (held_small kind.Branch there.jump.forms.displacement (λ far. absurd cc)) in
     let fits = value_fits settled facts symbols sections laid n item offset pos condition field is stands takes in
     let bytes = item_size settled facts symbols sections laid n item offset pos condition field is stands takes in
-    let low = layout_low facts.rise facts.count symbols sections with_table.within (sym (ap first_over (settled.layouts.settled symbols sections laid is)) ∙ none) in
+    let low = layout_low facts.rise facts.count symbols sections with_table.within
+    (subst (All IsSmall) (settled.layouts.settled symbols sections laid is) (settled.layouts.small symbols sections laid is)) in
     let places = facts.places (front ++ s ∷ later) empty whole all (facts.starts no_warn) in
     let rest = sym (ap (λ r. r >>= place_all (s ∷ later)) front_is) ∙ (sym (all_split front (s ∷ later) empty) ∙ all) in
     let named = facts.named s later placed whole text (facts.places front empty placed front_is (facts.starts no_warn)) there.jump rest written in
@@ -313,4 +314,4 @@ pub jumps_read_back : AreSettled → ReadsOneWay → TableFacts → PlaceFacts �
 jumps_read_back settled one_way table placing facts flags handed made e s text condition placed reached written jump filed =
     let from = origin flags handed made e in
     jump_reads_back settled one_way table placing facts flags.no_warn reached.before s reached.after text condition placed from.whole from.tables from.laid made.object
-    reached.places (all_placed flags handed made e s placed reached) from.frames from.settles from.image (none_over flags handed made e) written jump filed
+    reached.places (all_placed flags handed made e s placed reached) from.frames from.settles from.image written jump filed

@@ -1,9 +1,8 @@
 -- Where no section of a layout is too large, rows are moved by less than 2^64, and items stand behind fewer plain bytes.
-use Rattle.std.proofs.Common.{◌≡◌, ℕ, zero, suc, ◌+◌, ◌-◌, ◌^◌, ◌<◌, ◌≤◌, inl, inr, Bool, true, false, cond, List, [], ◌∷◌, All, Option, Some, None, map, length, drop, refl, sym, ap, ◌∙◌, arith}
-use Rattle.std.specs.Prelude.{slice_get, slice_index, option_map}
-use Rattle.std.specs.List.{find}
+use Rattle.std.proofs.Common.{◌≡◌, ℕ, zero, suc, ◌+◌, ◌-◌, ◌^◌, ◌<◌, ◌≤◌, inl, inr, List, [], ◌∷◌, All, Option, map, length, drop, refl, sym, ap, ◌∙◌, arith}
+use Rattle.std.specs.Prelude.{slice_get, slice_index}
 use Rattle.std.specs.Option.{option_map_or}
-use Rattle.std.proofs.lemmas.Bool.{cases_lt, ltb-false}
+use Rattle.std.proofs.lemmas.Bool.{cases_lt}
 use Rattle.std.proofs.lemmas.List.Elements.{All-nil, All-cons, All-head, All-tail}
 use Rattle.std.proofs.lemmas.Grind.{get_or_default_zero}
 use Rattle.std.proofs.lemmas.List.{get_or-drop}
@@ -17,39 +16,15 @@ use Rattle.asm_frags.specs.SectionOf.{SectionOf}
 use Rattle.asm_levels.specs.Shifts.{shifts_of}
 use Rattle.item_rows.specs.ItemRows.{row_count, all_rows, rows_of, levels_of}
 use Rattle.asm_relax.specs.ItemValues.{AreLow}
+use Rattle.asm_relax.specs.KeptSections.{IsSmall}
+use Rattle.asm_relax.specs.RangeChecks.{end_shift}
 use Rattle.asm_relax.specs.Layout.{laid_from, laid_out_section, laid_out, laid_by}
 use Rattle.asm_relax.specs.RisingRows.{Rise, AllRise}
 use Rattle.asm_relax.specs.Settling.{LaidItem, LaidSections, planned, settled_sections}
 use Rattle.asm_place.specs.Instructions.{IsWithin, AreWithin}
-use Rattle.asm_front.specs.Ending.{whole_size, is_over, last_place, first_over}
-
--- the section is not too large
-pub record IsSmall (section : SectionOf LaidItem) : Type 0 where
-  pub size : whole_size section ≤ 2 ^ 30
-
--- none is where no such section is found
-none_found : (sections : LaidSections) → find is_over sections ≡ None → All IsSmall sections
-none_found [] none = All-nil IsSmall
-none_found (section ∷ sections) none = by (is_over section) refl (none_found sections) none
-  where
-    by : (over : Bool) → is_over section ≡ over → (find is_over sections ≡ None → All IsSmall sections)
-        → cond over (Some section) (find is_over sections) ≡ None → All IsSmall (section ∷ sections)
-    by true is later told = absurd cc
-    by false is later told = All-cons IsSmall section sections (record { size = ltb-false (2 ^ 30) (whole_size section) is }) (later told)
-
-pub all_small : (sections : LaidSections) → first_over sections ≡ None → All IsSmall sections
-all_small sections none = by (find is_over sections) refl none
-  where
-    by : (found : Option (SectionOf LaidItem)) → find is_over sections ≡ found → option_map last_place found ≡ None → All IsSmall sections
-    by None is told = none_found sections is
-    by (Some section) is told = absurd cc
-
--- what the last item moves the end by
-abbrev end_of : List LaidItem → ℕ
-end_of items = option_map_or (λ item. item.address + item.size - item.offset) (slice_get items (length items - 1)) 0
 
 -- behind another item the last one is the same
-last_behind : (first next : LaidItem) (items : List LaidItem) → end_of (first ∷ next ∷ items) ≡ end_of (next ∷ items)
+last_behind : (first next : LaidItem) (items : List LaidItem) → end_shift (first ∷ next ∷ items) ≡ end_shift (next ∷ items)
 last_behind first next items =
     let one : length (first ∷ next ∷ items) - 1 ≡ suc (length items) = omega arith in
     let other : length (next ∷ items) - 1 ≡ length items = omega arith in
@@ -67,7 +42,7 @@ first_laid shifts item = item_laid_at (item.offset + slice_index shifts 0) (slic
 
 -- the row behind the last item is moved as far
 last_moves : (first : LaidItem) (items : List LaidItem) (shifts : List ℕ) → Rise shifts (first ∷ items)
-    → end_of (laid_from shifts (first ∷ items)) ≡ slice_index shifts (suc (length items))
+    → end_shift (laid_from shifts (first ∷ items)) ≡ slice_index shifts (suc (length items))
 last_moves first [] shifts rise =
     let up = rise.0 in
     let end : first.offset + slice_index shifts 0 + (slice_index shifts 1 - slice_index shifts 0) - first.offset ≡ slice_index shifts 1 = omega (arith, up) in
@@ -76,7 +51,7 @@ last_moves first (next ∷ items) shifts rise =
     last_behind (first_laid shifts first) (first_laid (drop 1 shifts) next) (laid_from (drop 1 (drop 1 shifts)) items) ∙ (last_moves next items (drop 1 shifts) rise.1 ∙ next_shift shifts (suc (length items)))
 
 -- and so is the one behind all items
-end_moves : (items : List LaidItem) (shifts : List ℕ) → slice_index shifts 0 ≡ 0 → Rise shifts items → end_of (laid_from shifts items) ≡ slice_index shifts (length items)
+end_moves : (items : List LaidItem) (shifts : List ℕ) → slice_index shifts 0 ≡ 0 → Rise shifts items → end_shift (laid_from shifts items) ≡ slice_index shifts (length items)
 end_moves [] shifts start rise = sym start
 end_moves (item ∷ items) shifts start rise = last_moves item items shifts rise
 
@@ -102,7 +77,7 @@ rows_low : (sections : LaidSections) (shifts : List ℕ) → AllRise shifts sect
 rows_low [] shifts rise low index few = absurd (omega (arith, few))
 rows_low (section ∷ sections) shifts rise low index few = elim (cases_lt index (row_count section)) [
   | inl own ↦
-      (let small : length section.bytes + end_of (laid_from shifts section.items) ≤ 2 ^ 30 =
+      (let small : length section.bytes + end_shift (laid_from shifts section.items) ≤ 2 ^ 30 =
       (All-head IsSmall (laid_out_section shifts section) (laid_out (drop (row_count section) shifts) sections) low).size in
       let end = end_moves section.items shifts rise.0 rise.1 in
       let up = rises section.items shifts rise.1 index (omega (arith, own)) in
@@ -141,7 +116,7 @@ offsets_low substitute (section ∷ sections) shifts within low =
     let own = laid_out_section shifts laid in
     let behind = drop (row_count laid) shifts in
     let others = laid_out behind (laid_sections substitute sections) in
-    let small : length section.bytes + end_of (laid_from shifts laid.items) ≤ 2 ^ 30 = (All-head IsSmall own others low).size in
+    let small : length section.bytes + end_shift (laid_from shifts laid.items) ≤ 2 ^ 30 = (All-head IsSmall own others low).size in
     All-cons ItemsStandLow laid (laid_sections substitute sections)
     (items_stand_low (length section.bytes) section.items (omega (arith, small)) (All-head IsWithin section sections within).items)
     (offsets_low substitute sections behind (All-tail IsWithin section sections within) (All-tail IsSmall own others low))
@@ -149,16 +124,15 @@ offsets_low substitute (section ∷ sections) shifts within low =
 -- where no section of a layout is too large, all rows are low
 pub layout_low : ((symbols : SymbolMap) (sections : LaidSections) → AllRise (shifts_of (rows_of symbols sections) (levels_of (rows_of symbols sections))) sections)
     → ((symbols : SymbolMap) (levels : List ℕ) (sections : LaidSections) → length (shifts_of (rows_of symbols sections) levels) ≡ all_rows sections) → (symbols : SymbolMap) (sections : List LooseSection)
-    → AreWithin sections → first_over (settled_sections symbols (planned symbols sections)) ≡ None
+    → AreWithin sections → All IsSmall (settled_sections symbols (planned symbols sections))
     → AreLow symbols (levels_of (rows_of symbols (planned symbols sections))) (planned symbols sections)
 unfolding planned settled_sections laid_by
-layout_low rows_rise counts symbols sections within none =
+layout_low rows_rise counts symbols sections within small =
     let all = laid_sections (linked symbols) sections in
     let rows = rows_of symbols all in
     let levels = levels_of rows in
     let shifts = shifts_of rows levels in
     let rise = rows_rise symbols all in
-    let small = all_small (laid_out shifts all) none in
     record {
       offsets = offsets_low (linked symbols) sections shifts within small;
       shifts = λ index default few.

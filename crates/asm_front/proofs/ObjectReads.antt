@@ -27,11 +27,10 @@ use Rattle.asm_place.specs.Sources.{place_all}
 use Rattle.asm_place.specs.Instructions.{behind_labels, instruction_written, next_item, next_offset, StandsAt}
 use Rattle.elf_object.specs.declared.faults.ObjectCause.{ObjectCause}
 use Rattle.elf_object.specs.Faults.{object_fault}
-use Rattle.elf_object.specs.Objects.{object_of}
 use Rattle.elf_object.specs.Image.{image_of}
 use Rattle.elf_file.specs.Places.{PieceAt}
 use Rattle.elf_object.specs.Places.{IsFiled, IsBetween}
-use Rattle.asm_front.specs.Ending.{Flags, first_warning, warned_end, made_end, first_over, unless_over, laid_end, noted, unclosed, first_line, framed, framed_end, unless_open, finished}
+use Rattle.asm_front.specs.Ending.{Flags, first_warning, warned_end, made_end, laid_end, noted, unclosed, first_line, framed, framed_end, unless_open, finished}
 use Rattle.asm_front.specs.declared.ending.Ended.{Ended}
 use Rattle.asm_front.specs.declared.ending.NotedObject.{NotedObject}
 use Rattle.asm_front.specs.ReadsBack.{Origin, IsReached, AreReached, ReadsAt, file_place, BareReadBack}
@@ -99,21 +98,11 @@ made_is : (fatal : Bool) (table : Table) (notes : List Noted) (fault : Option Ob
 made_is fatal table notes None image made e = warned_is (first_warning fatal notes) image made e
 made_is fatal table notes (Some fault) image made e = absurd cc
 
--- no section of an object is too large
-unless_over_is : (over : Option Pos) (answer : Result (List ℕ) Ended) (made : List ℕ) → unless_over over answer ≡ Ok made → (over ≡ None) × (answer ≡ Ok made)
-unless_over_is None answer made e = (refl, e)
-unless_over_is (Some pos) answer made e = absurd cc
-
--- the layout of an object, of which no section is too large
+-- the layout of an object
 laid_is : (fatal : Bool) (table : Table) (notes : List Noted) (answer : Result LaidSections LayoutFault) (made : List ℕ) → laid_end fatal table notes answer ≡ Ok made
-    → (laid : LaidSections) × (answer ≡ Ok laid) × (made ≡ image_of table.symbols laid) × (first_over laid ≡ None)
+    → (laid : LaidSections) × (answer ≡ Ok laid) × (made ≡ image_of table.symbols laid)
 laid_is fatal table notes (Ok sections) made e =
-    let parts = unless_over_is (first_over sections) (made_end fatal table notes (object_of table.symbols sections)) made e in (
-      sections,
-      refl,
-      made_is fatal table notes (object_fault table.symbols sections) (image_of table.symbols sections) made parts.1,
-      parts.0,
-    )
+    (sections, refl, made_is fatal table notes (object_fault table.symbols sections) (image_of table.symbols sections) made e)
 laid_is fatal table notes (Err fault) made e = absurd cc
 
 noted_is : (notes : List Noted) (answer : Result (List ℕ) Ended) (made : NotedObject) → noted notes answer ≡ Ok made → answer ≡ Ok made.object
@@ -132,14 +121,13 @@ tables_are : (fatal : Bool) (table : Table) (pos : Pos) (notes : List Noted) (an
 tables_are fatal table pos notes (Ok tables) made e = (tables, refl, e)
 tables_are fatal table pos notes (Err cause) made e = absurd cc
 
--- what was placed comes to this object: with a frame table, and a layout of which no section is too large
+-- what was placed comes to this object: with a frame table, and a layout
 pub record IsFinished (whole : Placed) (object : List ℕ) : Type 0 where
   pub tables : Tables
   pub frames : framed whole ≡ Ok tables
   pub laid : LaidSections
   pub settles : layout_of tables.symbols tables.sections ≡ Ok laid
   pub image : object ≡ image_of tables.symbols laid
-  pub none_over : first_over laid ≡ None
 
 finished_is : (fatal : Bool) (whole : Placed) (made : NotedObject) → finished fatal whole.sections whole.table whole.procedures whole.notes ≡ Ok made → IsFinished whole made.object
 unfolding finished
@@ -151,7 +139,7 @@ finished_is fatal whole made e =
     let answer = layout_of table.0.symbols table.0.sections in
     let full = with_map whole.table table.0.symbols in
     let laid = laid_is fatal full whole.notes answer made.object (noted_is whole.notes (laid_end fatal full whole.notes answer) made table.2) in
-    record { tables = table.0; frames = table.1; laid = laid.0; settles = laid.1; image = laid.2; none_over = laid.3 }
+    record { tables = table.0; frames = table.1; laid = laid.0; settles = laid.1; image = laid.2 }
 
 -- the statements that are handed out are all placed, and what they place has this object, with these notes
 pub record Makes (flags : Flags) (handed : List TokenStatement) (made : NotedObject) : Type 0 where
@@ -165,9 +153,6 @@ module _ (flags : Flags) (handed : List TokenStatement) (made : NotedObject) (ma
 
   abbrev pub origin : Origin flags handed made.object
   origin = record { whole = makes.whole; tables = end.tables; laid = end.laid; places = makes.places; frames = end.frames; settles = end.settles; image = end.image }
-
-  pub none_over : first_over origin.laid ≡ None
-  none_over = end.none_over
 
   -- all statements are placed: those before one that is reached, it, and those behind it
   pub all_placed : (s : TokenStatement) (placed : Placed) (reached : IsReached flags handed s placed)

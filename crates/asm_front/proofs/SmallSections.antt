@@ -6,12 +6,12 @@ use Rattle.std.proofs.lemmas.List.Elements.{All-nil, All-cons, All-head, All-tai
 use Rattle.std.proofs.lemmas.Option.{none-some, same_Some}
 use Rattle.asm_frags.specs.Addresses.{item_laid_at}
 use Rattle.asm_frags.specs.SectionOf.{SectionOf}
+use Rattle.asm_relax.specs.KeptSections.{IsSmall}
+use Rattle.asm_relax.specs.RangeChecks.{last_item, whole_size}
 use Rattle.asm_relax.specs.Placing.{placed_from, placed_section, shift_of}
 use Rattle.asm_relax.specs.Settling.{LaidItem, LaidSections}
 use Rattle.elf_object.specs.Places.{moved}
 use Rattle.frame_laws.specs.PlacedTables as table
-use Rattle.asm_front.specs.Ending.{last_item, whole_size}
-use Rattle.asm_front.proofs.LowLayouts.{IsSmall}
 
 -- an item moves what stands behind it by its size
 pub shift_next : (items : List LaidItem) (index shift : ℕ) (item : LaidItem) → slice_get items index ≡ Some item
@@ -42,7 +42,7 @@ module _ (addresses : (items : List LaidItem) (index : ℕ) → slice_get (place
       sym last.1 ∙ sym (ap (λ (all : List LaidItem). slice_get all (length items)) same) ∙ addresses (item ∷ items) (length items)
       ∙ ap (option_map (λ (i : LaidItem). item_laid_at (i.offset + shift_of (length items) 0 (item ∷ items)) i.size i)) last.1 in
       let address : last.0.address ≡ last.0.offset + shift_of (length items) 0 (item ∷ items) = ap (λ (i : LaidItem). i.address) (same_Some _ _ placed) in
-      let found : last_item section ≡ Some last.0 =
+      let found : last_item section.items ≡ Some last.0 =
       ap (λ (all : List LaidItem). slice_get all (length all - 1)) are ∙ ap (slice_get (item ∷ items)) count ∙ last.1 in
       let size : whole_size section ≡ length section.bytes + (last.0.address + last.0.size - last.0.offset) =
       ap (λ f. length section.bytes + option_map_or (λ (i : LaidItem). i.address + i.size - i.offset) f 0) found in

@@ -1,5 +1,5 @@
 -- The end of a source: the frame table of its procedures, the layout of what was placed with it, and its object, or the first fault of these.
-use Rattle.std.specs.Prelude.{ℕ, ◌+◌, ◌-◌, ◌^◌, Bool, true, false, List, [], ◌∷◌, length, nat_lt, if◌then◌else◌, Option, None, Some, option_map, unwrap_or, slice_get, Result, Ok, Err}
+use Rattle.std.specs.Prelude.{ℕ, ◌-◌, ◌^◌, Bool, true, false, List, [], ◌∷◌, length, nat_lt, if◌then◌else◌, Option, None, Some, option_map, unwrap_or, slice_get, Result, Ok, Err}
 use Rattle.asm_base.specs.declared.faults.EndFault.{EndFault}
 use Rattle.asm_base.specs.declared.faults.EndFault.TheVariants as end
 use Rattle.asm_base.specs.declared.faults.Fault.{Fault}
@@ -7,11 +7,8 @@ use Rattle.asm_base.specs.declared.faults.Fault.TheVariants.{End, Statement}
 use Rattle.asm_base.specs.declared.faults.StatementFault.TheVariants as statement
 use Rattle.asm_base.specs.declared.notes.Noted.{Noted}
 use Rattle.asm_base.specs.declared.positions.Pos.{Pos}
-use Rattle.std.specs.List.{find}
-use Rattle.std.specs.Option.{option_map_or}
-use Rattle.asm_frags.specs.SectionOf.{SectionOf}
 use Rattle.asm_symbols.specs.SymbolMap.{SymbolMap}
-use Rattle.asm_relax.specs.Settling.{LaidItem, LaidSections, layout_of}
+use Rattle.asm_relax.specs.Settling.{LaidSections, layout_of}
 use Rattle.asm_relax.specs.declared.faults.LayoutFault.{LayoutFault}
 use Rattle.asm_relax.specs.declared.faults.LayoutFault.TheVariants as layout
 use Rattle.elf_object.specs.declared.faults.ObjectCause.{ObjectCause}
@@ -74,40 +71,14 @@ abbrev pub warned_end : Option Pos → List ℕ → Result (List ℕ) Ended
 warned_end None object = Ok object
 warned_end (Some pos) object = Err (ended_at end.WarningsAreErrors pos)
 
--- the last item of a section
-abbrev pub last_item : SectionOf LaidItem → Option LaidItem
-last_item section = slice_get section.items (length section.items - 1)
-
--- how many bytes a section has: its plain bytes, and as many as its items move the end. This is `sh_size`, which is told in 64 bits
-abbrev pub whole_size : SectionOf LaidItem → ℕ
-whole_size section = length section.bytes + option_map_or (λ item. item.address + item.size - item.offset) (last_item section) 0
-
--- the section has more than 2^30 bytes, whatever 64 bits show of that
-abbrev pub is_over : SectionOf LaidItem → Bool
-is_over section = nat_lt (2 ^ 30) (whole_size section)
-
--- the place of the last item of a section, or else the first line
-abbrev pub last_place : SectionOf LaidItem → Pos
-last_place section = option_map_or (λ item. item.pos) (last_item section) source_start
-
--- where the last item of the first section stands that has more than 2^30 bytes
-abbrev pub first_over : LaidSections → Option Pos
-first_over sections = option_map last_place (find is_over sections)
-
 -- the object or its fault; a warning refuses it last
 abbrev pub made_end : Bool → Table → List Noted → Result (List ℕ) ObjectCause → Result (List ℕ) Ended
 made_end fatal table notes (Ok object) = warned_end (first_warning fatal notes) object
 made_end fatal table notes (Err cause) = Err (object_end table cause)
 
--- the object or the fault at the end, unless a section is too large
-abbrev pub unless_over : Option Pos → Result (List ℕ) Ended → Result (List ℕ) Ended
-unless_over None made = made
-unless_over (Some pos) made = Err (ended_at end.SectionTooLarge pos)
-
--- the object of a layout, or the fault of the layout or of the object. The layout tells sizes in 64 bits: so a section is too large too where its bytes
--- are more than that
+-- the object of a layout, or the fault of the layout or of the object
 abbrev pub laid_end : Bool → Table → List Noted → Result LaidSections LayoutFault → Result (List ℕ) Ended
-laid_end fatal table notes (Ok sections) = unless_over (first_over sections) (made_end fatal table notes (object_of table.symbols sections))
+laid_end fatal table notes (Ok sections) = made_end fatal table notes (object_of table.symbols sections)
 laid_end fatal table notes (Err fault) = Err (layout_end fault)
 
 -- the object or the fault at the end, with the notes

@@ -16,7 +16,6 @@ ghost use Rattle.asm_relax.specs.declared.plan_states.PlanState.TheVariants.{Fre
 ghost use Rattle.asm_relax.specs.Settling.{layout_of, settled_plan, Settles};
 ghost use Rattle.elf_object.specs.Objects.{object_of};
 
-use crate::large_sections::first_over;
 use asm_base::{EndFault, Fault, Noted, Notes, Pos, Refusal, StatementFault, Steps};
 use asm_frags::{FragCause, FragFault, Laid, Sections};
 use asm_place::FaultAt;
@@ -37,7 +36,7 @@ pub(crate) struct Ended {
 }
 
 /// The first line of the source file.
-pub(crate) const SOURCE_START: Pos = Pos { file: 0, line: 1 };
+const SOURCE_START: Pos = Pos { file: 0, line: 1 };
 
 /// The fault of the layout.
 fn layout_end(fault: LayoutFault) -> Ended
@@ -122,7 +121,7 @@ pub struct NotedObject {
     pub notes: Notes,
 }
 
-/// The object of a layout of which no section is too large, or its first fault; warnings come last.
+/// The object of a layout, or its first fault; warnings come last.
 fn made_end(
     alloc: Global,
     fatal: bool,
@@ -143,26 +142,6 @@ fn made_end(
             None => Ok(object),
         },
         Err(refusal) => Err(object_refusal(table, refusal)),
-    }
-}
-
-/// The object of a layout, or its first fault: that of a section that is too large comes first.
-fn laid_end(
-    alloc: Global,
-    fatal: bool,
-    sections: Sections<Laid>,
-    table: &SymbolUses,
-    notes: &[Noted],
-) -> Result<Object, Refusal<Ended>>
-    ensures object { Returns result (spec.laid_end fatal table.now notes.now (Ok sections)) }
-    ensures numbers { OnOk result (NumbersFit table.now.symbols sections) }
-{
-    match first_over(&sections) {
-        Some(pos) => {
-            let fault = EndFault::SectionTooLarge;
-            Err(Refusal::Fault(Ended { fault, pos }))
-        }
-        None => made_end(alloc, fatal, sections, table, notes),
     }
 }
 
@@ -195,7 +174,7 @@ fn placed_object(
 {
     let mut plan = Plan::new(alloc, sections, table.symbols())?;
     match settled::<Brand>(&mut plan, Blank::new(1)) {
-        Ok(_) => laid_end(alloc, fatal, plan.laid(), table, notes),
+        Ok(_) => made_end(alloc, fatal, plan.laid(), table, notes),
         Err(fault) => Err(Refusal::Fault(layout_end(fault))),
     }
 }

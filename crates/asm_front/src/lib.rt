@@ -6,7 +6,6 @@ mod answers;
 mod assembling;
 mod ending;
 mod knowing;
-mod large_sections;
 mod laws;
 mod placers;
 

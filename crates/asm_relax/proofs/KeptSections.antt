@@ -13,12 +13,14 @@ use Rattle.asm_frags.specs.Addresses.{item_laid_at}
 use Rattle.asm_frags.specs.Substituting.{substituted_field, laid_item, laid_section}
 use Rattle.asm_levels.specs.Shifts.{shifts_of}
 use Rattle.assigned_forms.specs.Linked.{linked}
-use Rattle.asm_relax.specs.RangeChecks.{first_fault}
+use Rattle.asm_relax.specs.Faults.{or_later, first_of}
+use Rattle.asm_relax.specs.RangeChecks.{large_section, section_back, section_misfit, first_fault}
 use Rattle.item_rows.specs.ItemRows.{row_count, rows_of, levels_of}
-use Rattle.asm_relax.specs.KeptSections.{kept_section, kept_items, LayoutsKeepSections}
+use Rattle.asm_relax.specs.KeptSections.{IsSmall, kept_section, kept_items, LayoutsKeepSections}
 use Rattle.asm_relax.specs.Layout.{laid_out_section, laid_out, laid_by, AreSized}
 use Rattle.asm_relax.specs.Placing.{placed_section}
 use Rattle.asm_relax.specs.Settling.{LaidItem, LooseSections, LaidSections, planned, unless, settled_sections, layout_of}
+use Rattle.asm_relax.proofs.LowPlaceLemmas.{not_large}
 
 -- what an answer without a fault holds
 unless_is : {A E : Type 0} (fault : Option E) (made answer : A) → unless fault made ≡ Ok answer → answer ≡ made
@@ -29,6 +31,32 @@ layout_is : (symbols : SymbolMap) (sections : LooseSections) (laid : LaidSection
     → laid ≡ settled_sections symbols (planned symbols sections)
 layout_is symbols sections laid e =
     unless_is (first_fault symbols (settled_sections symbols (planned symbols sections))) (settled_sections symbols (planned symbols sections)) laid e
+
+-- where there is an answer there is no fault
+no_fault : {A E : Type 0} (fault : Option E) (made answer : A) → unless fault made ≡ Ok answer → fault ≡ None
+no_fault None made answer e = refl
+no_fault (Some fault) made answer e = absurd cc
+
+-- neither the one fault nor the later one
+neither : {E : Type 0} (one later : Option E) → or_later one later ≡ None → (one ≡ None) × (later ≡ None)
+neither None later none = (refl, none)
+neither (Some fault) later none = absurd cc
+
+-- sections without this fault are not too large
+all_small : (sections : LaidSections) → first_of large_section sections ≡ None → All IsSmall sections
+unfolding first_of
+all_small [] none = All-nil IsSmall
+all_small (section ∷ sections) none =
+    let parts = neither (large_section section) (first_of large_section sections) none in
+    All-cons IsSmall section sections (record { size = not_large section parts.0 }) (all_small sections parts.1)
+
+laid_small : (symbols : SymbolMap) (sections : LooseSections) (laid : LaidSections) → layout_of symbols sections ≡ Ok laid → All IsSmall laid
+unfolding first_fault
+laid_small symbols sections laid e =
+    let settled = settled_sections symbols (planned symbols sections) in
+    let none : first_fault symbols settled ≡ None = no_fault (first_fault symbols settled) settled laid e in
+    let large = neither (first_of large_section settled) (or_later (first_of section_back settled) (first_of (section_misfit symbols settled) settled)) none in
+    subst (All IsSmall) (sym (layout_is symbols sections laid e)) (all_small settled large.0)
 
 -- the section that is laid out, by the shifts of its own rows
 laid_get : (shifts : List ℕ) (sections : LaidSections) (n : ℕ) (section : SectionOf LaidItem) → slice_get sections n ≡ Some section
@@ -120,6 +148,7 @@ module _ (placed : (symbols : SymbolMap) (sections : LaidSections) → map place
   pub sections_are_kept : LayoutsKeepSections
   sections_are_kept = record {
     settled = layout_is;
+    small = laid_small;
     section = section_kept;
     placed = laid_placed;
     sized = laid_sized;

@@ -1,10 +1,9 @@
 -- No place of a section that is laid out and not too large stands above its end.
-use Rattle.std.proofs.Common.{◌≡◌, ℕ, zero, suc, ◌+◌, ◌-◌, ◌^◌, ◌<◌, ◌≤◌, inl, inr, Bool, true, false, not, cond, List, [], ◌∷◌, Option, Some, None, length, drop, option_map, refl, sym, ap, ◌∙◌, subst, arith}
+use Rattle.std.proofs.Common.{◌≡◌, ℕ, zero, suc, ◌+◌, ◌-◌, ◌^◌, ◌<◌, ◌≤◌, inl, inr, Bool, true, false, cond, List, [], ◌∷◌, Option, Some, None, length, drop, refl, sym, ap, ◌∙◌, subst, arith}
 use Rattle.std.specs.Prelude.{◌==◌, All, slice_get, slice_index}
-use Rattle.std.specs.List.{position_or_len}
+use Rattle.std.specs.Option.{option_map_or}
 use Rattle.std.proofs.Math.Dec.{eqb-suc-zero}
 use Rattle.std.proofs.lemmas.Bool.{cases_lt, ltb-false}
-use Rattle.std.proofs.lemmas.List.{get_or_past}
 use Rattle.std.proofs.lemmas.List.Elements.{All-head, All-tail, All-cons}
 use Rattle.std.proofs.lemmas.Option.{slice_get_past}
 use Rattle.asm_expr.specs.Forms.{wrapped}
@@ -23,9 +22,8 @@ use Rattle.asm_relax.specs.Faults.{or_later, first_of}
 use Rattle.asm_relax.specs.Final.{shift_in, section_size}
 use Rattle.asm_relax.specs.Layout.{laid_from, laid_out_section, laid_out, AreWithin}
 use Rattle.asm_relax.specs.LowPlaces.{MovesOn, KeepsLow}
-use Rattle.asm_relax.specs.RangeChecks.{is_large, begins_late, first_large, large_section}
+use Rattle.asm_relax.specs.RangeChecks.{is_large, large_place, end_shift, whole_size, large_section}
 use Rattle.asm_relax.specs.Settling.{LaidSections}
-use Rattle.asm_relax.proofs.LayingLemmas.{there_is, shift_behind}
 use Rattle.asm_relax.proofs.PlaceLemmas.{rise_at, moved_as_row}
 use Rattle.asm_relax.specs.RisingRows.{Rise, AllRise}
 use Rattle.asm_relax.proofs.ShiftTail.{ranked_within, rows_rise}
@@ -35,6 +33,11 @@ pub all_get : {X : Type 0} (P : X → Type 0) (xs : List X) (n : ℕ) (x : X) �
 all_get P [] n x is all = absurd cc
 all_get P (y ∷ ys) zero x is all = let same : y ≡ x = cc in subst P same (All-head P y ys all)
 all_get P (y ∷ ys) (suc n) x is all = all_get P ys n x is (All-tail P y ys all)
+
+-- behind the first shift stand the others
+next_shift : (shifts : List ℕ) (index : ℕ) → slice_index (drop 1 shifts) index ≡ slice_index shifts (suc index)
+next_shift [] index = refl
+next_shift (shift ∷ shifts) index = refl
 
 module _ {P : Type 0} where
   -- the items stand behind as many plain bytes as before they were laid out
@@ -69,68 +72,71 @@ module _ {P : Type 0} where
       let none : slice_get items n ≡ None = slice_get_past items n (omega arith) in
       rw (some, one, none) refl
 
-  moves_one : (shifts : List ℕ) (section : SectionOf (Frag P ℕ)) → slice_index shifts 0 ≡ 0 → Rise shifts section.items → ((n : ℕ) → slice_index shifts n < 2 ^ 62)
-      → MovesOn (laid_out_section shifts section)
-  moves_one shifts section start rise small low before =
+  -- what an item moves the end by
+  abbrev moved_by : Option (Frag P ℕ) → ℕ
+  moved_by found = option_map_or (λ item. item.address + item.size - item.offset) found 0
+
+  -- behind another item the last one is the same
+  last_behind : (first next : Frag P ℕ) (items : List (Frag P ℕ)) → end_shift (first ∷ next ∷ items) ≡ end_shift (next ∷ items)
+  last_behind first next items =
+      let one : length (first ∷ next ∷ items) - 1 ≡ suc (length items) = omega arith in
+      let other : length (next ∷ items) - 1 ≡ length items = omega arith in
+      ap (λ n. moved_by (slice_get (first ∷ next ∷ items) n)) one ∙ sym (ap (λ n. moved_by (slice_get (next ∷ items) n)) other)
+
+  -- the row behind the last item is moved as far
+  last_moves : (first : Frag P ℕ) (items : List (Frag P ℕ)) (shifts : List ℕ) → Rise shifts (first ∷ items) → end_shift (laid_from shifts (first ∷ items)) ≡ slice_index shifts (suc (length items))
+  last_moves first [] shifts rise =
+      let up = rise.0 in
+      let end : first.offset + slice_index shifts 0 + (slice_index shifts 1 - slice_index shifts 0) - first.offset ≡ slice_index shifts 1 = omega (arith, up) in
+      end
+  last_moves first (next ∷ items) shifts rise =
+      let one = item_laid_at (first.offset + slice_index shifts 0) (slice_index shifts 1 - slice_index shifts 0) first in
+      let later = drop 1 shifts in
+      let two = item_laid_at (next.offset + slice_index later 0) (slice_index later 1 - slice_index later 0) next in
+      last_behind one two (laid_from (drop 1 later) items) ∙ (last_moves next items later rise.1 ∙ next_shift shifts (suc (length items)))
+
+  -- and so is the one behind all items
+  end_moves : (shifts : List ℕ) (items : List (Frag P ℕ)) → slice_index shifts 0 ≡ 0 → Rise shifts items → end_shift (laid_from shifts items) ≡ slice_index shifts (length items)
+  end_moves shifts [] start rise = sym start
+  end_moves shifts (item ∷ items) start rise = last_moves item items shifts rise
+
+  moves_one : (shifts : List ℕ) (section : SectionOf (Frag P ℕ)) → slice_index shifts 0 ≡ 0 → Rise shifts section.items → MovesOn (laid_out_section shifts section)
+  moves_one shifts section start rise low before =
       let items = section.items in
       let offsets = low_before shifts items low in
       let many = as_many shifts items in
-      let all : shift_in (laid_from shifts items) (length items) ≡ wrapped (slice_index shifts (length items)) = moved_as_row shifts items (length items) (omega arith) start rise offsets in
-      let last = small (length items) in
-      rw many (elim (cases_lt (length items) before) [
-        | inl past ↦ (let none = past_all (laid_from shifts items) before (omega arith) in (omega arith, omega arith))
+      let end : end_shift (laid_from shifts items) ≡ slice_index shifts (length items) = end_moves shifts items start rise in
+      elim (cases_lt (length items) before) [
+        | inl past ↦ (let none = past_all (laid_from shifts items) before (omega arith) in omega (arith, none))
         | inr within ↦ (
             let here : shift_in (laid_from shifts items) before ≡ wrapped (slice_index shifts before) = moved_as_row shifts items before within start rise offsets in
             let sum : before + (length items - before) ≡ length items = omega arith in
             let more : slice_index shifts before ≤ slice_index shifts (length items) = rw sum at (rise_to shifts items before (length items - before) rise (omega arith)) in
-            (omega arith, omega arith))
-      ])
+            omega (arith, here, more, end))
+      ]
 
-  moves_all : (shifts : List ℕ) (sections : List (SectionOf (Frag P ℕ))) → AllRise shifts sections → ((n : ℕ) → slice_index shifts n < 2 ^ 62) → All MovesOn (laid_out shifts sections)
-  moves_all shifts [] rise small = λ index default inside. absurd (omega arith)
-  moves_all shifts (section ∷ sections) (start, rise, rest) small =
-      All-cons MovesOn (laid_out_section shifts section) (laid_out (drop (row_count section) shifts) sections) (moves_one shifts section start rise small)
-      (moves_all (drop (row_count section) shifts) sections rest (λ n. rw (← shift_behind shifts (row_count section) n) (small (row_count section + n))))
+  moves_all : (shifts : List ℕ) (sections : List (SectionOf (Frag P ℕ))) → AllRise shifts sections → All MovesOn (laid_out shifts sections)
+  moves_all shifts [] rise = λ index default inside. absurd (omega arith)
+  moves_all shifts (section ∷ sections) (start, rise, rest) =
+      All-cons MovesOn (laid_out_section shifts section) (laid_out (drop (row_count section) shifts) sections) (moves_one shifts section start rise)
+      (moves_all (drop (row_count section) shifts) sections rest)
 
-  -- there are items unless no item is the first large one
-  none_large : (items : List (Frag P ℕ)) (fault : Frag P ℕ → LayoutFault) → option_map fault (first_large items) ≡ None → items ≡ []
-  none_large [] fault none = refl
-  none_large (x ∷ xs) fault none =
-      let at = position_or_len begins_late (x ∷ xs) - 1 in
-      let found = there_is (x ∷ xs) at (let most = position_within (x ∷ xs) in omega arith) in
-      absurd (some_is_not_none (sym (ap (option_map fault) found.1) ∙ none))
+  -- a section without this fault is not too large
+  pub not_large : (section : SectionOf (Frag P ℕ)) → large_section section ≡ None → whole_size section ≤ 2 ^ 30
+  not_large section none = by (is_large (whole_size section)) refl
     where
-      some_is_not_none : {X : Type 0} {x : X} → Some x ≡ None → ⊥
-      some_is_not_none is = cc
-
-      position_within : (all : List (Frag P ℕ)) → position_or_len begins_late all ≤ length all
-      position_within [] = omega arith
-      position_within (one ∷ all) = by (begins_late one) (position_within all)
-        where
-          by : (b : Bool) → position_or_len begins_late all ≤ length all → cond (not b) (1 + position_or_len begins_late all) 0 ≤ suc (length all)
-          by true later = omega arith
-          by false later = omega arith
-
-  nothing_moved : (items : List (Frag P ℕ)) (n : ℕ) → items ≡ [] → shift_in items n ≡ 0
-  unfolding shift_in
-  nothing_moved items zero empty = refl
-  nothing_moved items (suc n) empty = past_all items (suc n) (let none = ap (λ (all : List (Frag P ℕ)). length all) empty in omega arith)
+      by : (b : Bool) → is_large (whole_size section) ≡ b → whole_size section ≤ 2 ^ 30
+      by false is = ltb-false (2 ^ 30) (whole_size section) is
+      by true is =
+          let fault = SectionTooLarge (large_place section.items) (section_size section) in
+          let gone : Some fault ≡ None = sym (ap (λ b. cond b (Some fault) None) is) ∙ none in
+          absurd cc
 
   keeps_one : (section : SectionOf (Frag P ℕ)) → MovesOn section → large_section section ≡ None → KeepsLow section
-  unfolding section_size
-  keeps_one section moves none low few before = by (is_large (section_size section)) refl
-    where
-      by : (b : Bool) → is_large (section_size section) ≡ b → length section.bytes + shift_in section.items before ≤ 2 ^ 30
-      by false is =
-          let most : section_size section ≤ 2 ^ 30 = ltb-false (2 ^ 30) (section_size section) is in
-          let (first, all) = moves low before in
-          omega arith
-      by true is =
-          let gone : option_map (λ (item : Frag P ℕ). SectionTooLarge item.pos (section_size section)) (first_large section.items) ≡ None =
-          sym (ap (λ b. cond b (option_map (λ (item : Frag P ℕ). SectionTooLarge item.pos (section_size section)) (first_large section.items)) None) is) ∙ none in
-          let empty : section.items ≡ [] = none_large section.items (λ item. SectionTooLarge item.pos (section_size section)) gone in
-          let still : shift_in section.items before ≡ 0 = nothing_moved section.items before empty in
-          omega arith
+  keeps_one section moves none low before =
+      let small : whole_size section ≤ 2 ^ 30 = not_large section none in
+      let most = moves low before in
+      omega (arith, small, most)
 
   -- where no section is too large, each keeps low
   pub keeps_all : (sections : List (SectionOf (Frag P ℕ))) → All MovesOn sections → first_of large_section sections ≡ None → All KeepsLow sections
@@ -146,12 +152,9 @@ module _ {P : Type 0} where
 
 -- the sections of a layout move on
 pub settled_moves : (symbols : SymbolMap) (sections laid : LaidSections) (rows : List Row) (levels shifts : List ℕ) (rounds : ℕ) → rows ≡ rows_of symbols sections
-    → IsLayout (need rows) (tops rows) levels rounds → shifts ≡ shifts_of rows levels → All (λ shift. shift < 2 ^ 62) shifts → laid ≡ laid_out shifts sections → All MovesOn laid
-settled_moves symbols sections laid rows levels shifts rounds same layout moved small placed =
+    → IsLayout (need rows) (tops rows) levels rounds → shifts ≡ shifts_of rows levels → laid ≡ laid_out shifts sections → All MovesOn laid
+settled_moves symbols sections laid rows levels shifts rounds same layout moved placed =
     let within : AreWithin levels (rows_of symbols sections) = subst (λ (all : List Row). AreWithin levels all) same (ranked_within rows levels rounds layout) in
     let is : shifts ≡ shifts_of (rows_of symbols sections) levels = moved ∙ ap (λ (all : List Row). shifts_of all levels) same in
     let rise : AllRise shifts sections = subst (λ (all : List ℕ). AllRise all sections) (sym is) (rows_rise symbols levels sections within) in
-    subst (λ (all : LaidSections). All MovesOn all) (sym placed) (moves_all shifts sections rise (λ n. elim (cases_lt n (length shifts)) [
-      | inl inside ↦ small n 0 inside
-      | inr past ↦ (let none : slice_index shifts n ≡ 0 = get_or_past shifts n 0 past in omega arith)
-    ]))
+    subst (λ (all : LaidSections). All MovesOn all) (sym placed) (moves_all shifts sections rise)

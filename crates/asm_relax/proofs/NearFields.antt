@@ -74,16 +74,16 @@ module _ {P : Type 0} (map : SymbolMap) (sections : List (SectionOf (Frag P ℕ)
   unfolding address_of
   there_at item offset = rw there refl
 
-  place_low : (item offset : ℕ) → length section.bytes ≤ 2 ^ 30 → offset ≤ length section.bytes → address_of sections field.section item offset ≤ 2 ^ 30
-  place_low item offset few within =
+  place_low : (item offset : ℕ) → offset ≤ length section.bytes → address_of sections field.section item offset ≤ 2 ^ 30
+  place_low item offset within =
       let is = there_at item offset in
-      let most = keeps low few item in
+      let most = keeps low item in
       omega arith
 
-  origin_near : field.size ≡ Four → length section.bytes ≤ 2 ^ 30 → field.offset ≤ length section.bytes → wrapped (field_address sections field + 4) ≤ 2 ^ 30 + 4
-  origin_near four few within =
+  origin_near : field.size ≡ Four → field.offset ≤ length section.bytes → wrapped (field_address sections field + 4) ≤ 2 ^ 30 + 4
+  origin_near four within =
       let place = address_of sections field.section field.item field.offset in
-      let most : place ≤ 2 ^ 30 = place_low field.item field.offset few within in
+      let most : place ≤ 2 ^ 30 = place_low field.item field.offset within in
       let size : width field.size ≡ 4 = ap width four in
       by place (width field.size) most size field.in_item
     where
@@ -107,8 +107,8 @@ module _ {P : Type 0} (map : SymbolMap) (sections : List (SectionOf (Frag P ℕ)
       let made : constant_left (settled told field.form) ≡ Some value =
       ap (λ (f : Form). constant_left (settled told f)) both
       ∙ both_cancel told field.section at origin one.symbol own_place number (told_else map sections field one.symbol near.symbol ∙ leads) (told_own map sections field near.linked) in
-      let low_at = place_low item offset within.few within.place in
-      let near_origin = origin_near small.size within.few within.other in
+      let low_at = place_low item offset within.place in
+      let near_origin = origin_near small.size within.other in
       let held : holds field.role.kind field.size (counted field.size field.role value) ≡ true =
       ap (λ (size : FieldSize). holds field.role.kind size (counted size field.role value)) small.size
       ∙ kind_holds field.role.kind field.role.behind at origin number small.behind low_at near_origin small.constant in

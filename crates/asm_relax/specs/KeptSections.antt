@@ -1,5 +1,5 @@
--- What a layout keeps of sections: the offsets of their items, and where their fields stand.
-use Rattle.std.specs.Prelude.{◌≡◌, ◌≤◌, ℕ, List, Some, Ok, All, map, take, drop, slice_get}
+-- What a layout keeps of sections: the offsets of their items, and where their fields stand; and how large they are.
+use Rattle.std.specs.Prelude.{◌≡◌, ◌≤◌, ◌^◌, ℕ, List, Some, Ok, All, map, take, drop, slice_get}
 use Rattle.asm_symbols.specs.SymbolMap.{SymbolMap}
 use Rattle.asm_frags.specs.declared.fields.Field.{Field}
 use Rattle.asm_frags.specs.PlainBytes.{IsBeside, FieldsStand}
@@ -10,6 +10,7 @@ use Rattle.asm_frags.specs.Substituting.{substituted_field, laid_item, laid_sect
 use Rattle.assigned_forms.specs.Linked.{linked}
 use Rattle.asm_relax.specs.Layout.{laid_from, laid_out_section, AreSized}
 use Rattle.asm_relax.specs.Placing.{placed_section}
+use Rattle.asm_relax.specs.RangeChecks.{whole_size}
 use Rattle.asm_relax.specs.Settling.{LaidItem, LooseSections, LaidSections, planned, settled_sections, layout_of}
 
 -- the section as it is laid out, by the shifts of its own rows
@@ -24,11 +25,17 @@ kept_items shifts items = laid_from shifts (map laid_item items)
 abbrev pub kept_fields : SymbolMap → List Field → List Field
 kept_fields symbols fields = map (substituted_field (linked symbols)) fields
 
+-- the section has at most 2^30 bytes
+pub record IsSmall (section : SectionOf LaidItem) : Type 0 where
+  pub size : whole_size section ≤ 2 ^ 30
+
 -- what a layout keeps of sections
 pub record LayoutsKeepSections : Type 0 where
   -- a layout is that of its sections
   pub settled : (symbols : SymbolMap) (sections : LooseSections) (laid : LaidSections) → layout_of symbols sections ≡ Ok laid
       → laid ≡ settled_sections symbols (planned symbols sections)
+  -- none of its sections is too large
+  pub small : (symbols : SymbolMap) (sections : LooseSections) (laid : LaidSections) → layout_of symbols sections ≡ Ok laid → All IsSmall laid
   -- each section stands in it as it is laid out
   pub section : (symbols : SymbolMap) (sections : LooseSections) (laid : LaidSections) (n : ℕ) (section : LooseSection) → layout_of symbols sections ≡ Ok laid
       → slice_get sections n ≡ Some section → (own : List ℕ) × (slice_get laid n ≡ Some (kept_section symbols own section))

@@ -6,23 +6,22 @@ use Rattle.asm_frags.specs.declared.fields.FieldSize.TheVariants.{Four}
 use Rattle.asm_frags.specs.declared.items.Frag.{Frag}
 use Rattle.asm_frags.specs.SectionOf.{SectionOf}
 use Rattle.asm_relax.specs.Final.{shift_in}
+use Rattle.asm_relax.specs.RangeChecks.{end_shift}
 
 -- each item of the section stands behind fewer than 2^64 plain bytes
 abbrev pub StandLow : {P : Type 0} → SectionOf (Frag P ℕ) → Type 0
 StandLow section = All (λ item. item.offset < 2 ^ 64) section.items
 
--- all items of the section move what stands behind them by less than 2^62, and the first ones, however many, by no more than all
+-- the first items of the section, however many, move what stands behind them by no more than all move the end
 abbrev pub MovesOn : {P : Type 0} → SectionOf (Frag P ℕ) → Type 0
-MovesOn section = StandLow section → (before : ℕ)
-    → (shift_in section.items before ≤ shift_in section.items (length section.items)) × (shift_in section.items (length section.items) < 2 ^ 62)
+MovesOn section = StandLow section → (before : ℕ) → shift_in section.items before ≤ end_shift section.items
 
--- no place of the section stands above 2^30, unless the section has more plain bytes than that
+-- no place of the section stands above 2^30
 abbrev pub KeepsLow : {P : Type 0} → SectionOf (Frag P ℕ) → Type 0
-KeepsLow section = StandLow section → length section.bytes ≤ 2 ^ 30 → (before : ℕ) → length section.bytes + shift_in section.items before ≤ 2 ^ 30
+KeepsLow section = StandLow section → (before : ℕ) → length section.bytes + shift_in section.items before ≤ 2 ^ 30
 
--- the section has at most 2^30 plain bytes, and no more of them stand before the one place and the other
+-- no more plain bytes than the section has stand before the one place and the other
 pub record StandWithin {P : Type 0} (section : SectionOf (Frag P ℕ)) (first second : ℕ) : Type 0 where
-  pub few : length section.bytes ≤ 2 ^ 30
   pub place : first ≤ length section.bytes
   pub other : second ≤ length section.bytes
 

@@ -1,6 +1,7 @@
 -- The range checks of a layout: a section that is too large, else an `.org` that moves back, and else a field that does not hold its value.
-use Rattle.std.specs.Prelude.{ℕ, ◌+◌, ◌-◌, ◌^◌, nat_lt, Bool, false, List, [], ◌∷◌, Option, None, Some, option_map, slice_get, if◌then◌else◌}
+use Rattle.std.specs.Prelude.{ℕ, ◌+◌, ◌-◌, ◌^◌, nat_lt, Bool, false, List, [], ◌∷◌, length, Option, None, Some, slice_get, if◌then◌else◌}
 use Rattle.std.specs.List.{position_or_len}
+use Rattle.std.specs.Option.{option_map_or}
 use Rattle.asm_base.specs.declared.positions.Pos.{Pos}
 use Rattle.asm_symbols.specs.SymbolMap.{SymbolMap}
 use Rattle.item_contents.specs.declared.contents.Content.{Content}
@@ -30,10 +31,30 @@ begins_late item = is_large item.address
 abbrev pub first_large : {P : Type 0} → List (Frag P ℕ) → Option (Frag P ℕ)
 first_large items = slice_get items (position_or_len begins_late items - 1)
 
+-- the first line of the source file
+abbrev pub source_start : Pos
+source_start = record { file = 0; line = 1 }
+
+-- the place of the item that ends past the most bytes, or the first line where there are no items
+abbrev pub large_place : {P : Type 0} → List (Frag P ℕ) → Pos
+large_place items = option_map_or (λ item. item.pos) (first_large items) source_start
+
+-- the last item of a section
+abbrev pub last_item : {P : Type 0} → List (Frag P ℕ) → Option (Frag P ℕ)
+last_item items = slice_get items (length items - 1)
+
+-- how far the items of a section move its end: as far as the last one moves what stands behind it
+abbrev pub end_shift : {P : Type 0} → List (Frag P ℕ) → ℕ
+end_shift items = option_map_or (λ item. item.address + item.size - item.offset) (last_item items) 0
+
+-- how many bytes a section has, of which `sh_size` tells 64 bits: its plain bytes, and as many as its items move the end
+abbrev pub whole_size : {P : Type 0} → SectionOf (Frag P ℕ) → ℕ
+whole_size section = length section.bytes + end_shift section.items
+
 -- the fault of a section that is too large, at the first item that ends past the most bytes
 abbrev pub large_section : {P : Type 0} → SectionOf (Frag P ℕ) → Option LayoutFault
 large_section section =
-    if is_large (section_size section) then option_map (λ item. SectionTooLarge item.pos (section_size section)) (first_large section.items) else None
+    if is_large (whole_size section) then Some (SectionTooLarge (large_place section.items) (section_size section)) else None
 
 -- the place that an `.org` counts from is moved so far: the items before it move it, at most those before the `.org`, which has this index
 abbrev pub origin_shift : {P : Type 0} → List (Frag P ℕ) → ℕ → OrgOf → ℕ

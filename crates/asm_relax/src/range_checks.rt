@@ -1,16 +1,17 @@
 //! The range checks of a layout: sections that are too large, then `.org`s that move back, and then fields that do not
 //! hold their values.
 
-ghost use Rattle.std.specs.Prelude.{◌≡◌, ◌+◌, ◌<◌, ◌≤◌, ◌∷◌, [], true, false, None, All, nat_lt, option_map};
+ghost use Rattle.std.specs.Prelude.{◌≡◌, ◌+◌, ◌^◌, ◌<◌, ◌≤◌, ◌∷◌, [], true, false, None, All, IfSome, MatchOption, length, nat_lt, option_map};
 ghost use Rattle.std.specs.List.{position_or_len};
 ghost use Rattle.asm_relax.specs.Faults.{first_of};
 ghost use Rattle.asm_relax.specs.LowPlaces.{MovesOn, KeepsLow, StandLow, StandWithin, IsSmall};
-ghost use Rattle.asm_relax.specs.RangeChecks.{origin_shift, moves_back, section_back, is_large, begins_late, first_large, large_section, misfit, field_misfit, section_misfit, first_fault};
+ghost use Rattle.asm_relax.specs.RangeChecks.{origin_shift, moves_back, section_back, is_large, begins_late, first_large, large_place, last_item, whole_size, large_section, misfit, field_misfit, section_misfit, first_fault};
 ghost use Rattle.x86_insn.specs.declared.amounts.FieldKind.TheVariants.{Number};
 
 use crate::faults::LayoutFault;
 use crate::field_values::{held_value, is_near_pair, spot_within};
 use crate::places::{section_size, shift_in};
+use asm_base::Pos;
 use asm_expr::Term;
 use asm_frags::{Field, FieldSize, Frag, Laid, Section, Sections};
 use asm_symbols::{Spot, Symbols};
@@ -19,6 +20,9 @@ use x86_insn::FieldKind;
 
 /// The most bytes of a section.
 const MOST_BYTES: u64 = 1 << 30;
+
+/// The first line of the source file.
+const SOURCE_START: Pos = Pos { file: 0, line: 1 };
 
 /// Whether a section that ends at this address is too large.
 fn is_large(end: u64) -> bool
@@ -47,21 +51,61 @@ fn first_large(items: &[Frag<Laid>]) -> Option<&Frag<Laid>>
     items.get(begun_early(items).saturating_sub(1))
 }
 
+/// Its place, or the first line where there are no items.
+fn large_place(items: &[Frag<Laid>]) -> Pos
+    ensures { result ≡ large_place items.now }
+{
+    match first_large(items) {
+        Some(first) => first.pos,
+        None => SOURCE_START,
+    }
+}
+
+/// The last item of a section, which stands within its plain bytes.
+fn last_item(section: &Section<Laid>) -> Option<&Frag<Laid>>
+    ensures item { option_map (λ item. item.now) result ≡ last_item section.now.items }
+    ensures within { IfSome result (λ item. item.now.offset ≤ length section.now.bytes) }
+{
+    let items = section.items();
+    items.get(items.len().saturating_sub(1))
+}
+
+/// How many bytes a section has, if their number fits in 64 bits.
+fn whole_size(section: &Section<Laid>) -> Option<u64>
+    ensures { MatchOption result (2 ^ 64 ≤ whole_size section.now)
+        (λ size. size ≡ whole_size section.now) }
+{
+    let bytes = section.bytes().len() as u64;
+    match last_item(section) {
+        None => Some(bytes),
+        Some(item) => {
+            let end = item.address.checked_add(item.size)?;
+            bytes.checked_add(end.saturating_sub(item.offset as u64))
+        }
+    }
+}
+
+/// Whether a section has more than 2^30 bytes.
+fn is_over(section: &Section<Laid>) -> bool
+    ensures { result ≡ is_large (whole_size section.now) }
+{
+    match whole_size(section) {
+        None => true,
+        Some(size) => is_large(size),
+    }
+}
+
 /// The fault of a section that is too large, at the first item that ends past the most bytes.
 fn large_section(section: &Section<Laid>) -> Option<LayoutFault>
     ensures { result ≡ large_section section.now }
 {
-    let size = section_size(section);
-    if !is_large(size) {
+    if !is_over(section) {
         return None;
     }
-    match first_large(section.items()) {
-        Some(first) => Some(LayoutFault::SectionTooLarge {
-            pos: first.pos,
-            size,
-        }),
-        None => None,
-    }
+    Some(LayoutFault::SectionTooLarge {
+        pos: large_place(section.items()),
+        size: section_size(section),
+    })
 }
 
 /// The fault of the first section that is too large.
@@ -102,7 +146,7 @@ fn is_small(field: &Field) -> bool
         && field.form.constant().wrapping_add(1 << 29) <= 1 << 30
 }
 
-/// Whether the section has at most 2^30 plain bytes, and so many stand before neither of these places.
+/// Whether no more plain bytes than the section has stand before these places.
 #[inline(always)]
 fn are_within(section: &Section<Laid>, spot: Spot, field: &Field) -> bool
     ensures within { result ≡ true → StandWithin section.now spot.place.place.offset field.now.offset }
@@ -111,7 +155,7 @@ fn are_within(section: &Section<Laid>, spot: Spot, field: &Field) -> bool
     let bytes = section.bytes();
     let _items = section.items();
     let most = bytes.len();
-    most as u64 <= MOST_BYTES && spot.place.place.offset <= most as u64 && field.offset <= most
+    spot.place.place.offset <= most as u64 && field.offset <= most
 }
 
 /// Whether the field of these two terms leads to a place of its section, and both stand low in it: it holds its value.

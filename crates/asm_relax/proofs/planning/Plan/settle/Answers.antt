@@ -36,7 +36,7 @@ pub first_fault-requires : goal.first_fault-requires
 first_fault-requires g c = record {
   moves =
       settled_moves c.self.inside.symbols.now c.self.inside.sections c.lay_all.new.sections c.self.inside.rows.rows c.settle-rounds.new.self.levels c.settle-rounds.new.self.shifts c.settle-rounds.result
-      c.self.invariant.rows c.settle-rounds.ensures.layout c.settle-rounds.ensures.shifts c.settle-rounds.ensures.small c.lay_all.ensures;
+      c.self.invariant.rows c.settle-rounds.ensures.layout c.settle-rounds.ensures.shifts c.lay_all.ensures;
 }
 
 pub returns-in-Some-clause-sections : goal.returns-in-Some-clause-sections
