@@ -1,0 +1,7 @@
+-- Lemmas, a file for each subject.
+mod LandingLemmas
+mod TargetLemmas
+mod FieldLemmas
+mod NodeLemmas
+mod RuleLemmas
+mod Worked

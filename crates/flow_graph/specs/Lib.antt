@@ -1,0 +1,6 @@
+-- The definitions that contracts cite, in reading order.
+pub mod Targets
+pub mod Nodes
+pub mod Walks
+pub mod Rules
+pub mod Worked
