@@ -1,0 +1,53 @@
+use Rattle.std.proofs.Common.{◌≡◌, ◌≤◌, Some, length, slice_get, refl, sym, ap, ◌∙◌, arith}
+use Rattle.std.proofs.lemmas.Option.{slice_get_past, slice_get_read}
+use Rattle.insn_effects.specs.Followed.{followed_by}
+use Rattle.stack_depths.specs.States.{distances_in}
+use Rattle.stack_facts.specs.Places.{writes}
+use Rattle.stack_facts.specs.Facts.{is_at, facts_after, facts_over, saved_over}
+use Rattle.stack_facts.specs.Sets.{holds_in}
+use Rattle.stack_facts.specs.States.{fact_rules}
+use Rattle.stack_facts.proofs.SetLemmas.{counted_at_most}
+use Rattle.stack_facts.proofs.FactLemmas.{after_case, stays}
+use Rattle.stack_facts.proofs.tables.PassingAnalysis.after.Goals as goal
+
+pub returns-in_ok-out-in-None-clause-holds : goal.returns-in_ok-out-in-None-clause-holds
+unfolding fact_rules
+returns-in_ok-out-in-None-clause-holds c =
+    let s = c.args.self.now in
+    let x = c.in-None.ensures.lookup in
+    let past : length s.items.now ≤ c.args.item = let y = x.3 in omega arith in
+    let none = slice_get_past s.items.now c.args.item past in
+    let known = distances_in s.depths.now c.args.item in
+    after_case (slice_get s.items.now c.args.item) known s.slots.now c.args.before.now c.in_ok-out-in-None.out
+    (λ f. stays s.slots.now c.args.before.now c.in_ok-out-in-None.out c.in_ok-out-in-None.ensures.same f ∙ ap (λ o. facts_over o known (holds_in s.slots.now c.args.before.now) f) (sym none))
+
+pub returns-in_ok-out-in-None-clause-weight : goal.returns-in_ok-out-in-None-clause-weight
+unfolding fact_rules
+returns-in_ok-out-in-None-clause-weight c = let w = counted_at_most c.in_ok-out-in-None.out in let l = c.in_ok-out-in-None.ensures.long in omega arith
+
+pub all_after-requires-clause-plain : goal.all_after-requires-clause-plain
+all_after-requires-clause-plain c = c.args.self.now.table.plain
+
+pub all_after-requires-clause-saved : goal.all_after-requires-clause-saved
+all_after-requires-clause-saved c =
+    let s = c.args.self.now in
+    let x = c.in-Some.ensures.lookup in
+    let known = distances_in s.depths.now c.args.item in
+    let there : slice_get s.items.now c.args.item ≡ Some c.in-Some.found.now = slice_get_read s.items.now (length s.items.now) c.args.item c.in-Some.found.now refl x.3.0 x.1 in
+    λ n r h. s.table.all c.args.item n r x.3.0 (ap (λ o. is_at (saved_over o known) n r) there ∙ ap (λ (k : Rattle.stack_facts.specs.declared.values.Change.Change). is_at k.saved n r) (sym c.change_of-change.ensures) ∙ h)
+
+pub returns-in_ok-out-in-Some-clause-holds : goal.returns-in_ok-out-in-Some-clause-holds
+unfolding fact_rules
+returns-in_ok-out-in-Some-clause-holds c =
+    let s = c.args.self.now in
+    let x = c.in-Some.ensures.lookup in
+    let known = distances_in s.depths.now c.args.item in
+    let there : slice_get s.items.now c.args.item ≡ Some c.in-Some.found.now = slice_get_read s.items.now (length s.items.now) c.args.item c.in-Some.found.now refl x.3.0 x.1 in
+    let stood = holds_in s.slots.now c.args.before.now in
+    let written = writes (followed_by c.in-Some.found.now.effect) in
+    after_case (slice_get s.items.now c.args.item) known s.slots.now c.args.before.now c.in_ok-out-in-Some.out
+    (λ f. c.in_ok-out-in-Some.ensures.at f ∙ ap (λ k. facts_after written k stood f) c.change_of-change.ensures ∙ ap (λ o. facts_over o known stood f) (sym there))
+
+pub returns-in_ok-out-in-Some-clause-weight : goal.returns-in_ok-out-in-Some-clause-weight
+unfolding fact_rules
+returns-in_ok-out-in-Some-clause-weight c = let w = counted_at_most c.in_ok-out-in-Some.out in let l = c.in_ok-out-in-Some.ensures.long in omega arith

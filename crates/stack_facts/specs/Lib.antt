@@ -1,0 +1,6 @@
+-- The definitions that contracts cite, in reading order.
+pub mod Places
+pub mod Facts
+pub mod Sets
+pub mod Sources
+pub mod States

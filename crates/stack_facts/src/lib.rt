@@ -1,0 +1,14 @@
+//! Where the entry values of the callee-saved registers are, at each item of a function.
+#![tactic(auto)]
+
+mod changes;
+mod gathering;
+mod passing;
+mod sets;
+mod slots;
+mod tables;
+mod values;
+
+pub use changes::{is_below, overlaps, stack_after, stored_at};
+pub use tables::{FactTable, facts};
+pub use values::Span;

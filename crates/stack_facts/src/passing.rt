@@ -1,0 +1,266 @@
+//! The facts after an item.
+
+ghost use Rattle.std.specs.Prelude.{◌≡◌, ◌+◌, ◌<◌, ◌≤◌, ℕ, Bool, true, false, IfOk, get_or, length};
+ghost use Rattle.insn_effects.specs.Followed.{followed_by};
+ghost use Rattle.stack_facts.specs.Places as places;
+ghost use Rattle.stack_facts.specs.Facts as spec;
+ghost use Rattle.stack_facts.specs.Sets.{holds_in, fact_at, place_of, higher_of, IsPlain, IsBest};
+
+use crate::changes::{is_below, overlaps, writes};
+use crate::sets::BitSet;
+use crate::slots::place_of;
+use crate::values::{Change, Slot, Span};
+use insn_effects::{Effect, NONE};
+use std::alloc::{AllocError, Global};
+
+fn is_at(found: Option<Slot>, slot: Slot) -> bool
+    ensures { result ≡ spec.is_at found slot.distance slot.register }
+{
+    match found {
+        None => false,
+        Some(s) => s.distance == slot.distance && s.register == slot.register,
+    }
+}
+
+fn is_below_it(known: Option<u64>, distance: u64) -> bool
+    ensures { result ≡ spec.is_below known distance }
+{
+    match known {
+        None => false,
+        Some(it) => is_below(distance, it),
+    }
+}
+
+fn is_touched(span: Option<Span>, distance: u64) -> bool
+    ensures { result ≡ spec.is_touched span distance }
+{
+    match span {
+        None => false,
+        Some(s) => overlaps(s.start, s.size, distance),
+    }
+}
+
+/// Whether a register has its entry value.
+pub(crate) fn has_entry(slots: &[Slot], bits: &BitSet, register: u8) -> bool
+    ensures { result ≡ holds_in slots.now bits.now (spec.entry register) }
+{
+    0 < register && register < NONE && bits.has(register as usize - 1)
+}
+
+/// Whether the bytes at a distance hold the entry value of a register.
+fn has_slot(slots: &[Slot], bits: &BitSet, distance: u64, register: u8) -> bool
+    ensures { result ≡ holds_in slots.now bits.now (spec.slot distance register) }
+{
+    let at = place_of(slots, distance, register);
+    at < slots.len() && bits.has(6 + at)
+}
+
+/// Whether the slot at a place of the table stands.
+#[tactic(auto, using(crate::proofs::SlotLemmas::stands_there))]
+pub(crate) fn has_slot_at(slots: &[Slot], bits: &BitSet, at: usize) -> bool
+    requires place { at < length slots.now }
+    requires plain { IsPlain slots.now }
+    ensures { result ≡ holds_in slots.now bits.now (fact_at slots.now at) }
+{
+    bits.has(6 + at)
+}
+
+fn loads_own(slots: &[Slot], bits: &BitSet, loaded: Option<Slot>, register: u8) -> bool
+    ensures { result ≡ spec.loads_own loaded (holds_in slots.now bits.now) register }
+{
+    match loaded {
+        None => false,
+        Some(s) => s.register == register && has_slot(slots, bits, s.distance, register),
+    }
+}
+
+/// Whether a register has its entry value after an item.
+pub(crate) fn entry_after(
+    slots: &[Slot],
+    effect: &Effect,
+    change: &Change,
+    before: &BitSet,
+    register: u8,
+) -> bool
+    requires { register < 7 }
+    ensures { result ≡ spec.facts_after (places.writes (followed_by effect.now)) change.now
+        (holds_in slots.now before.now) (spec.entry register) }
+{
+    let own = loads_own(slots, before, change.loaded, register);
+    let kept = has_entry(slots, before, register);
+    let written = writes(effect, register);
+    own || (kept && !written)
+}
+
+/// Whether the slot at a place of the table stands after an item.
+fn slot_after(slots: &[Slot], change: &Change, before: &BitSet, at: usize) -> bool
+    requires place { at < length slots.now }
+    requires plain { IsPlain slots.now }
+    ensures { (written : ℕ → Bool) → result ≡ spec.facts_after written change.now
+        (holds_in slots.now before.now) (fact_at slots.now at) }
+{
+    let slot = slots[at];
+    let stood = has_slot_at(slots, before, at);
+    let made = is_at(change.saved, slot) && has_entry(slots, before, slot.register);
+    let dropped = is_touched(change.stored, slot.distance)
+        || is_below_it(change.cleared, slot.distance);
+    let loaded = is_at(change.loaded, slot) && stood;
+    let under = is_below_it(change.floor, slot.distance);
+    (made || (stood && !dropped)) && !loaded && !under
+}
+
+/// The entry values after an item.
+fn entries_after(
+    alloc: Global,
+    slots: &[Slot],
+    effect: &Effect,
+    change: &Change,
+    before: &BitSet,
+) -> Result<BitSet, AllocError>
+    ensures long { IfOk result (λ bits. length bits ≡ 6) }
+    ensures at { IfOk result (λ bits. (k : ℕ) → k < 6 → get_or bits k false
+        ≡ spec.facts_after (places.writes (followed_by effect.now)) change.now
+        (holds_in slots.now before.now) (spec.entry (k + 1))) }
+{
+    let mut out = BitSet::new(alloc);
+    for k in 0..6u8 {
+        let stands = entry_after(slots, effect, change, before, k + 1);
+        out.push(stands)?;
+    }
+    Ok(out)
+}
+
+/// The slots after an item, behind its entry values.
+fn slots_after(
+    slots: &[Slot],
+    change: &Change,
+    before: &BitSet,
+    out: &mut BitSet,
+) -> Result<(), AllocError>
+    requires plain { IsPlain slots.now }
+    ensures long { IfOk result (λ _. length out.new ≡ length out.old + length slots.now) }
+    ensures kept { IfOk result (λ _. (k : ℕ) → k < length out.old
+        → get_or out.new k false ≡ get_or out.old k false) }
+    ensures at { IfOk result (λ _. (written : ℕ → Bool) (k : ℕ) → k < length slots.now
+        → get_or out.new (length out.old + k) false ≡ spec.facts_after written change.now
+        (holds_in slots.now before.now) (fact_at slots.now k)) }
+{
+    for k in 0..slots.len() {
+        let stands = slot_after(slots, change, before, k);
+        out.push(stands)?;
+    }
+    Ok(())
+}
+
+/// The facts after an item.
+pub(crate) fn all_after(
+    alloc: Global,
+    slots: &[Slot],
+    effect: &Effect,
+    change: &Change,
+    before: &BitSet,
+) -> Result<BitSet, AllocError>
+    requires plain { IsPlain slots.now }
+    requires saved { (n r : ℕ) → spec.is_at change.now.saved n r ≡ true
+        → place_of slots.now n r < length slots.now }
+    ensures long { IfOk result (λ bits. length bits ≡ 6 + length slots.now) }
+    ensures at { IfOk result (λ bits. (f : spec.Fact) → holds_in slots.now bits f
+        ≡ spec.facts_after (places.writes (followed_by effect.now)) change.now
+        (holds_in slots.now before.now) f) }
+{
+    let mut out = entries_after(alloc, slots, effect, change, before)?;
+    slots_after(slots, change, before, &mut out)?;
+    Ok(out)
+}
+
+/// The six entry values.
+fn entries(alloc: Global) -> Result<BitSet, AllocError>
+    ensures long { IfOk result (λ bits. length bits ≡ 6) }
+    ensures all { IfOk result (λ bits. (k : ℕ) → k < 6 → get_or bits k false ≡ true) }
+{
+    let mut out = BitSet::new(alloc);
+    for k in 0..6usize {
+        out.push(true)?;
+    }
+    Ok(out)
+}
+
+/// The entry values alone, in the set of a table of so many slots.
+pub(crate) fn entries_alone(alloc: Global, count: usize) -> Result<BitSet, AllocError>
+    ensures long { IfOk result (λ bits. length bits ≡ 6 + count) }
+    ensures low { IfOk result (λ bits. (k : ℕ) → k < 6 → get_or bits k false ≡ true) }
+    ensures high { IfOk result (λ bits. (k : ℕ) → 6 ≤ k → get_or bits k false ≡ false) }
+{
+    let mut out = entries(alloc)?;
+    for k in 0..count {
+        out.push(false)?;
+    }
+    Ok(out)
+}
+
+/// The facts of a set once more, in the set of a table.
+pub(crate) fn same_of(alloc: Global, slots: &[Slot], before: &BitSet) -> Result<BitSet, AllocError>
+    ensures long { IfOk result (λ bits. length bits ≡ 6 + length slots.now) }
+    ensures same { IfOk result (λ bits. (k : ℕ) → k < 6 + length slots.now
+        → get_or bits k false ≡ get_or before.now k false) }
+{
+    let mut out = BitSet::new(alloc);
+    for k in 0..slots.len() + 6 {
+        let bit = before.has(k);
+        out.push(bit)?;
+    }
+    Ok(out)
+}
+
+/// The higher one of a distance that was found and another.
+fn higher(found: Option<u64>, distance: u64) -> u64
+    ensures { result ≡ higher_of found distance }
+{
+    match found {
+        None => distance,
+        Some(best) => {
+            if is_below(best, distance) {
+                distance
+            } else {
+                best
+            }
+        }
+    }
+}
+
+/// The greatest distance that was found, where one slot more is looked at.
+#[tactic(auto, using(crate::proofs::BestLemmas::passes_other, crate::proofs::BestLemmas::passes_absent, crate::proofs::BestLemmas::counts_best))]
+fn next_best(
+    slots: &[Slot],
+    bits: &BitSet,
+    register: u8,
+    at: usize,
+    found: Option<u64>,
+) -> Option<u64>
+    requires place { at < length slots.now }
+    requires plain { IsPlain slots.now }
+    requires best { IsBest slots.now bits.now register at found }
+    ensures { IsBest slots.now bits.now register (at + 1) result }
+{
+    let slot = slots[at];
+    if slot.register != register {
+        return found;
+    }
+    if !has_slot_at(slots, bits, at) {
+        return found;
+    }
+    Some(higher(found, slot.distance))
+}
+
+/// The greatest distance of a slot of a register that stands.
+#[tactic(auto, using(crate::proofs::BestLemmas::ends_best))]
+pub(crate) fn greatest(slots: &[Slot], bits: &BitSet, register: u8) -> Option<u64>
+    requires { IsPlain slots.now }
+    ensures { spec.IsSlotOf (holds_in slots.now bits.now) register result }
+{
+    let mut found = None;
+    for at in 0..slots.len() {
+        found = next_best(slots, bits, register, at, found);
+    }
+    found
+}

@@ -1,0 +1,187 @@
+//! The facts at all items.
+
+ghost use Rattle.std.specs.Prelude.{◌≡◌, ◌<◌, ◌≤◌, ◌+◌, ◌*◌, IfOk, length};
+ghost use Rattle.stack_depths.specs.Distances.{edges};
+ghost use Rattle.stack_depths.specs.States.{distances_in};
+ghost use Rattle.stack_facts.specs.Facts.{AreFacts, saves};
+ghost use Rattle.stack_facts.specs.Sets.{IsPlain, IsTable};
+ghost use Rattle.stack_facts.specs.States.{facts_in};
+
+use crate::changes::change_of;
+use crate::gathering::gather;
+use crate::passing::{all_after, entries_alone, entry_after, greatest, has_entry, same_of};
+use crate::sets::BitSet;
+use crate::values::Slot;
+use asm_base::{NoMemory, Steps};
+use code_functions::CodeItem;
+use flow_graph::Graph;
+use insn_effects::Effect;
+use stack_depths::{DepthTable, Ways, walks_are_listed};
+use std::alloc::{AllocError, Global};
+use std::marker::Model;
+use std::sync::ledger::Ledger;
+use work_lists::{Analysis, flow};
+
+/// The items of a function, their distances, and the slots that they can make.
+#[derive(Clone, Copy)]
+struct Passing<'a> {
+    items: &'a [CodeItem],
+    depths: &'a DepthTable,
+    slots: &'a [Slot],
+    ghost table: { IsTable items.now (distances_in depths.now) slots.now },
+}
+
+impl<'a> Analysis for Passing<'a> {
+    ghost use Rattle.stack_depths.specs.States.{distances_in};
+    ghost use Rattle.stack_facts.specs.States.{fact_rules};
+
+    type State = BitSet;
+
+    ghost rules = { λ passing.
+        fact_rules passing.items.now (distances_in passing.depths.now) passing.slots.now };
+
+    fn enter(&self, alloc: Global) -> Result<BitSet, AllocError> {
+        let out = entries_alone(alloc, self.slots.len())?;
+        Ok(out)
+    }
+
+    fn after(&self, alloc: Global, item: usize, before: &BitSet) -> Result<BitSet, AllocError> {
+        match self.items.get(item) {
+            None => {
+                let out = same_of(alloc, self.slots, before)?;
+                Ok(out)
+            }
+            Some(found) => {
+                let change = change_of(self.depths, item, &found.effect);
+                let out = all_after(alloc, self.slots, &found.effect, &change, before)?;
+                Ok(out)
+            }
+        }
+    }
+
+    fn copy(&self, alloc: Global, from: &BitSet) -> Result<BitSet, AllocError> {
+        from.copy(alloc)
+    }
+
+    fn meet(&self, into: &mut BitSet, from: &BitSet) -> bool {
+        into.meet(from)
+    }
+}
+
+/// The facts that stand at each item.
+#[derive(Drop)]
+pub struct FactTable {
+    slots: Vec<Slot>,
+    states: Vec<Option<BitSet>>,
+    ghost plain: { IsPlain slots.items },
+}
+
+impl Model for FactTable {
+    ghost use Rattle.stack_facts.specs.States.{Facts};
+
+    ghost Value = { Facts };
+
+    ghost view = { λ table. (table.slots.items, table.states.items) };
+}
+
+impl FactTable {
+    ghost use Rattle.std.specs.Prelude.{◌≡◌, ◌<◌};
+    ghost use Rattle.insn_effects.specs.Followed.{followed_by};
+    ghost use Rattle.stack_depths.specs.States.{distances_in};
+    ghost use Rattle.stack_facts.specs.Places.{change_of, writes};
+    ghost use Rattle.stack_facts.specs.Facts.{entry, facts_after, IsSlotOf};
+    ghost use Rattle.stack_facts.specs.States.{facts_in};
+
+    /// Whether a register has its entry value at an item.
+    #[tactic(auto, unfolding(crate::specs::States::facts_in))]
+    pub fn has_entry(&self, item: usize, register: u8) -> bool
+        ensures { result ≡ facts_in self.now item (entry register) }
+    {
+        match self.states.get(item) {
+            Some(Some(bits)) => has_entry(&self.slots, bits, register),
+            _ => false,
+        }
+    }
+
+    /// Whether a register has its entry value after an item.
+    #[tactic(auto, unfolding(crate::specs::States::facts_in))]
+    pub fn has_entry_after(
+        &self,
+        depths: &DepthTable,
+        item: usize,
+        effect: &Effect,
+        register: u8,
+    ) -> bool
+        requires { register < 7 }
+        ensures { result ≡ facts_after (writes (followed_by effect.now))
+            (change_of (followed_by effect.now) (distances_in depths.now item))
+            (facts_in self.now item) (entry register) }
+    {
+        let change = change_of(depths, item, effect);
+        match self.states.get(item) {
+            Some(Some(bits)) => entry_after(&self.slots, effect, &change, bits, register),
+            _ => false,
+        }
+    }
+
+    /// The slot of a register with the greatest distance, of those that stand at an item.
+    #[tactic(auto, unfolding(crate::specs::States::facts_in))]
+    pub fn slot_of(&self, item: usize, register: u8) -> Option<u64>
+        ensures { IsSlotOf (facts_in self.now item) register result }
+    {
+        match self.states.get(item) {
+            Some(Some(bits)) => greatest(&self.slots, bits, register),
+            _ => None,
+        }
+    }
+}
+
+/// The sets of facts over a table of slots.
+fn sets<L: Ledger>(
+    alloc: Global,
+    graph: &Graph,
+    items: &[CodeItem],
+    depths: &DepthTable,
+    slots: &[Slot],
+    steps: &mut Steps<L>,
+) -> Result<Vec<Option<BitSet>>, AllocError>
+    requires table { IsTable items.now (distances_in depths.now) slots.now }
+    ensures facts { IfOk result (λ states.
+        AreFacts graph.now items.now (distances_in depths.now)
+        (facts_in (slots.now, states.items))) }
+    ensures cost { IfOk result (λ _. steps.new ≤ steps.old
+        + ((length slots.now + 7) * edges graph.now + 1)) }
+{
+    if graph.len() == 0 {
+        return Ok(Vec::new(alloc));
+    }
+    graph.targets_are_inside();
+    walks_are_listed();
+    let ways = Ways { graph };
+    let passing = Passing {
+        items,
+        depths,
+        slots,
+    };
+    let states = flow(alloc, &ways, &passing, steps)?;
+    Ok(states)
+}
+
+/// The facts that stand at each item of a function whose distances are these, in at most as many
+/// steps for each edge as there are items that can make a slot, and 7, and one step more.
+pub fn facts<L: Ledger>(
+    alloc: Global,
+    graph: &Graph,
+    items: &[CodeItem],
+    depths: &DepthTable,
+    steps: &mut Steps<L>,
+) -> Result<FactTable, NoMemory>
+    ensures facts { IfOk result (λ table.
+        AreFacts graph.now items.now (distances_in depths.now) (facts_in table)) }
+    ensures cost { IfOk result (λ _. steps.new ≤ steps.old
+        + ((saves items.now (distances_in depths.now) + 7) * edges graph.now + 1)) }
+{
+    let slots = gather(alloc, items, depths)?;
+    let states = sets(alloc, graph, items, depths, &slots, steps)?;
+    Ok(FactTable { slots, states })
+}

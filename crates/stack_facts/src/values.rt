@@ -1,0 +1,30 @@
+//! What an item does to facts.
+
+/// Bytes from a distance from the frame address on.
+#[derive(Clone, Copy)]
+pub struct Span {
+    pub start: u64,
+    pub size: u8,
+}
+
+/// The 8 bytes at a distance from the frame address, which hold a register's entry value.
+#[derive(Clone, Copy)]
+pub struct Slot {
+    pub distance: u64,
+    pub register: u8,
+}
+
+/// What an item does, with the addresses that are known.
+#[derive(Clone, Copy)]
+pub(crate) struct Change {
+    /// The bytes that are stored.
+    pub(crate) stored: Option<Span>,
+    /// The distance of rsp at a call.
+    pub(crate) cleared: Option<u64>,
+    /// The slot that is made where the register has its entry value.
+    pub(crate) saved: Option<Slot>,
+    /// The 8 bytes from which a register is loaded.
+    pub(crate) loaded: Option<Slot>,
+    /// The distance of rsp where it rose.
+    pub(crate) floor: Option<u64>,
+}

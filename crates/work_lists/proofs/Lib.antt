@@ -1,0 +1,4 @@
+pub mod CarriedLemmas
+pub mod SpreadLemmas
+pub mod ChargeLemmas
+pub mod EndLemmas
