@@ -1,0 +1,5 @@
+pub mod RankLemmas
+pub mod RowLemmas
+pub mod ChangingLemmas
+pub mod TableLemmas
+pub mod WorkedLemmas

@@ -1,0 +1,9 @@
+use Rattle.std.proofs.Common.{◌≡◌, ◌<◌, ℕ, true}
+use Rattle.stack_facts.specs.Places.{is_saved}
+use Rattle.stack_facts.specs.Facts.{entry}
+use Rattle.scfi_pass.specs.Faults.{stands_after}
+use Rattle.scfi_pass.specs.Looking.{seen}
+use Rattle.scfi_pass.proofs.checks.loses_entry.Given as goal
+
+abbrev pub invariant-loop-register : goal.invariant-loop-register
+invariant-loop-register l = (q : ℕ) → is_saved q ≡ true → q < l.register → stands_after (seen l.looked) (entry q) ≡ true
