@@ -28,13 +28,15 @@ use Rattle.flow_graph.specs.Walks.{successors, successor_lists}
 abbrev pub place_of : (item offset : ℕ) → Place
 place_of item offset = record { item = item; offset = offset }
 
+-- a line of a source
 abbrev pub on_line : Pos
 on_line = record { file = 0; line = 1 }
 
--- an item of this role at a place, and one whose target the field of this number holds
+-- an item of this role at a place
 abbrev pub code : Role → (item offset : ℕ) → CodeItem
 code does item offset = record { effect = writing does 0; place = place_of item offset; field = None; pos = on_line }
 
+-- an item whose target the field of this number holds
 abbrev pub code_to : Role → (item offset field : ℕ) → CodeItem
 code_to does item offset field = record (code does item offset) { field = Some field }
 
@@ -55,10 +57,11 @@ field_of said held = record {
 abbrev pub counted_from : (symbol number : ℕ) → Form
 counted_from symbol number = record { terms = term_of symbol 1 ∷ term_of own_place (2 ^ 64 - 1) ∷ []; constant = number }
 
--- the field that holds the symbol, and one that says `@PLT` of it
+-- the field that holds the symbol
 abbrev pub to : (symbol : ℕ) → Field
 to symbol = field_of None (counted_from symbol 0)
 
+-- the field that says `@PLT` of the symbol
 abbrev pub to_plt : (symbol : ℕ) → Field
 to_plt symbol = field_of (Some suffix.Plt) (counted_from symbol 0)
 
@@ -70,6 +73,7 @@ symbol_of bound what = record { name = Plain []; meaning = what; binding = bound
 abbrev pub label : (section item offset : ℕ) → Meaning
 label section item offset = meaning.Label (record { place = record { section = section; place = place_of item offset }; stretch = 0; at = 0 })
 
+-- the symbols of a source, and nothing else of it
 abbrev pub map_of : List Symbol → SymbolMap
 map_of symbols = record nothing_named { symbols = symbols }
 
@@ -78,9 +82,11 @@ pub record Shown : Type 0 where
   pub others : List (List ℕ)
   pub exits : List Bool
 
+-- what is shown of a graph
 abbrev pub shown : List Node → Shown
 shown nodes = record { others = successor_lists nodes; exits = map (λ node. node.exits) nodes }
 
+-- the same of the graph of a function in section 1
 abbrev pub graph : List Symbol → List Field → List CodeItem → Shown
 graph symbols fields items = shown (nodes_of (map_of symbols) 1 fields items)
 
@@ -118,21 +124,27 @@ the_names = symbol_of None (label 1 0 0) ∷ symbol_of None (label 1 3 2) ∷ sy
     ∷ symbol_of (Some Weak) (meaning.Assigned (symbol_form 1)) ∷ symbol_of None (meaning.Assigned (symbol_form 7))
     ∷ symbol_of None (meaning.Assigned (record { terms = term_of 1 1 ∷ []; constant = 4 })) ∷ symbol_of (Some Weak) (meaning.Assigned (symbol_form 5)) ∷ []
 
+-- the label of the first item
 abbrev pub start : ℕ
 start = 0
 
+-- the label of the last item
 abbrev pub inside : ℕ
 inside = 1
 
+-- the weak name of that label
 abbrev pub weak_inside : ℕ
 weak_inside = 2
 
+-- the label behind the last item
 abbrev pub end : ℕ
 end = 3
 
+-- a label of another section
 abbrev pub elsewhere : ℕ
 elsewhere = 4
 
+-- a symbol of another object
 abbrev pub undefined : ℕ
 undefined = 5
 
@@ -161,12 +173,15 @@ pub record Going : Type 0 where
   pub node : Option Node
   pub others : List ℕ
 
+-- what is shown of the second item
 abbrev pub second_of : List Node → Going
 second_of nodes = record { node = slice_get nodes 1; others = successors nodes 1 }
 
+-- where control goes from an item of this role and field, in the function above
 abbrev pub going : Role → Field → Going
 going does held = second_of (nodes_of (map_of the_names) 1 (held ∷ []) (code role.Push 0 0 ∷ code_to does 1 1 0 ∷ code role.Pop 2 1 ∷ code role.Return 3 2 ∷ []))
 
+-- control goes by this node to these items
 abbrev pub goes : Node → List ℕ → Going
 goes node others = record { node = Some node; others = others }
 
