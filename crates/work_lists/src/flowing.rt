@@ -17,7 +17,7 @@ fn none_yet<S: Drop>(alloc: Global, count: usize) -> Result<Vec<Option<S>>, Allo
     ensures long { IfOk result (λ states. length states.items ≡ count) }
     ensures none { IfOk result (λ states. (k : ℕ) → get_or states.items k None ≡ None) }
 {
-    let mut states = Vec::new(alloc);
+    let mut states = Vec::with_capacity(alloc, count)?;
     for item in 0..count {
         states.push(None)?;
     }
