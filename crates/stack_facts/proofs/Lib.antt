@@ -2,6 +2,8 @@ pub mod SourceLemmas
 pub mod ChangeLemmas
 pub mod SlotLemmas
 pub mod SetLemmas
+pub mod WordLemmas
 pub mod GatherLemmas
 pub mod FactLemmas
+pub mod QuietLemmas
 pub mod BestLemmas

@@ -1,5 +1,7 @@
 -- Places on the stack, by their distances from the frame address modulo 2 ^ 64, and what an item does there.
-use Rattle.std.specs.Prelude.{◌+◌, ◌-◌, ◌%◌, ◌^◌, ◌==◌, ◌||◌, ◌&&◌, ℕ, nat_lt, nat_le, Bool, false, Option, None, Some, if◌then◌else◌}
+use Rattle.std.specs.Prelude.{◌+◌, ◌-◌, ◌%◌, ◌^◌, ◌==◌, ◌||◌, ◌&&◌, ℕ, nat_lt, nat_le, Bool, true, false, Option, None, Some, if◌then◌else◌}
+use Rattle.insn_effects.specs.declared.effects.Role.{Role}
+use Rattle.insn_effects.specs.declared.effects.Role.TheVariants as role
 use Rattle.insn_effects.specs.Followed.{wrap, FollowedMove, FollowedStore, FollowedLoad, Followed}
 use Rattle.stack_depths.specs.Distances.{Distances, has_bit, sum_of, distance_after}
 use Rattle.stack_facts.specs.declared.values.Span.{Span}
@@ -90,3 +92,16 @@ loads_to (Some l) r = l.register == r
 -- the item writes this register, in any way
 abbrev pub writes : Followed → ℕ → Bool
 writes e r = moves_to e.moves r || (loads_to e.loads r || has_bit e.written r)
+
+-- nothing is followed of an item
+abbrev pub nothing_followed : Followed
+nothing_followed = record { moves = None; written = 0; stores = None; loads = None; calls = false }
+
+-- an item of this role neither moves, stores, loads nor calls
+abbrev pub is_quiet_role : Role → Bool
+is_quiet_role role.Other = true
+is_quiet_role role.Jump = true
+is_quiet_role role.Branch = true
+is_quiet_role role.Return = true
+is_quiet_role role.Padding = true
+is_quiet_role _ = false

@@ -1,6 +1,6 @@
 //! What an item does at the distances that are known.
 
-ghost use Rattle.std.specs.Prelude.{◌≡◌, ◌<◌, ◌+◌, ◌%◌, ◌^◌, option_map, if◌then◌else◌, None};
+ghost use Rattle.std.specs.Prelude.{◌≡◌, ◌<◌, ◌+◌, ◌%◌, ◌^◌, ℕ, false, option_map, if◌then◌else◌, None, IsTrue};
 ghost use Rattle.insn_effects.specs.Followed.{followed_by, stores_by, loads_by, moves_by};
 ghost use Rattle.stack_depths.specs.Accesses.{move_by, store_by, load_by};
 ghost use Rattle.stack_depths.specs.Distances.{has_bit, distance_after, moved_by};
@@ -8,7 +8,7 @@ ghost use Rattle.stack_depths.specs.States.{distances_in};
 ghost use Rattle.stack_facts.specs.Places as spec;
 
 use crate::values::{Change, Slot, Span};
-use insn_effects::{Effect, NONE};
+use insn_effects::{Effect, NONE, Role};
 use stack_depths::{
     DepthTable, FollowedAccess, FollowedMove, followed_load, followed_move, followed_store,
     is_call, is_written,
@@ -226,6 +226,56 @@ pub(crate) fn writes(effect: &Effect, register: u8) -> bool
     let moved = moves_to(followed_move(effect), register);
     let loaded = loads_to(followed_load(effect), register);
     moved || loaded || is_written(effect, register as usize)
+}
+
+fn moves_stack(made: Option<FollowedMove>) -> bool
+    ensures { IsTrue result → (r : ℕ) → 0 < r
+        → spec.moves_to (option_map move_by made) r ≡ false }
+{
+    match made {
+        None => true,
+        Some(m) => m.to == 0,
+    }
+}
+
+fn loads_none(load: Option<FollowedAccess>) -> bool
+    ensures { IsTrue result → option_map load_by load ≡ None }
+{
+    match load {
+        None => true,
+        Some(_) => false,
+    }
+}
+
+/// Whether an item writes none of the six, by a look at its role.
+#[tactic(auto, using(crate::proofs::QuietLemmas::none_written))]
+pub(crate) fn writes_none(effect: &Effect) -> bool
+    ensures { IsTrue result → (r : ℕ) → 0 < r → spec.writes (followed_by effect.now) r ≡ false }
+{
+    if effect.written >= 2 || !moves_stack(followed_move(effect)) {
+        return false;
+    }
+    loads_none(followed_load(effect))
+}
+
+fn is_quiet_role(role: Role) -> bool
+    ensures { result ≡ spec.is_quiet_role role }
+{
+    match role {
+        Role::Other | Role::Jump | Role::Branch | Role::Return | Role::Padding => true,
+        _ => false,
+    }
+}
+
+/// Whether nothing is followed of an item, by a look at its role.
+#[tactic(auto, using(crate::proofs::QuietLemmas::quiet_followed))]
+pub(crate) fn is_quiet(effect: &Effect) -> bool
+    ensures { IsTrue result → followed_by effect.now ≡ spec.nothing_followed }
+{
+    if effect.written != 0 {
+        return false;
+    }
+    is_quiet_role(effect.role)
 }
 
 /// How far a distance is behind another.

@@ -1,16 +1,19 @@
 //! The facts after an item.
 
-ghost use Rattle.std.specs.Prelude.{◌≡◌, ◌+◌, ◌<◌, ◌≤◌, ℕ, Bool, true, false, IfOk, get_or, length};
+ghost use Rattle.std.specs.Prelude.{◌≡◌, ◌+◌, ◌<◌, ◌≤◌, ℕ, Bool, true, false, List, None, IfOk, IfSome, IsTrue, get_or, length};
 ghost use Rattle.insn_effects.specs.Followed.{followed_by};
+ghost use Rattle.stack_depths.specs.States.{distances_in};
+ghost use Rattle.stack_facts.specs.declared.values.Slot.{Slot as TheSlot};
 ghost use Rattle.stack_facts.specs.Places as places;
 ghost use Rattle.stack_facts.specs.Facts as spec;
 ghost use Rattle.stack_facts.specs.Sets.{holds_in, fact_at, place_of, higher_of, IsPlain, IsBest};
 
-use crate::changes::{is_below, overlaps, writes};
+use crate::changes::{change_of, is_below, is_quiet, overlaps, writes, writes_none};
 use crate::sets::BitSet;
 use crate::slots::place_of;
 use crate::values::{Change, Slot, Span};
 use insn_effects::{Effect, NONE};
+use stack_depths::DepthTable;
 use std::alloc::{AllocError, Global};
 
 fn is_at(found: Option<Slot>, slot: Slot) -> bool
@@ -109,8 +112,8 @@ fn slot_after(slots: &[Slot], change: &Change, before: &BitSet, at: usize) -> bo
     (made || (stood && !dropped)) && !loaded && !under
 }
 
-/// The entry values after an item.
-fn entries_after(
+/// The entry values after an item, one by one.
+fn each_entry(
     alloc: Global,
     slots: &[Slot],
     effect: &Effect,
@@ -128,6 +131,63 @@ fn entries_after(
         out.push(stands)?;
     }
     Ok(out)
+}
+
+fn loads_none(loaded: Option<Slot>) -> bool
+    ensures { IsTrue result → loaded ≡ None }
+{
+    match loaded {
+        None => true,
+        Some(_) => false,
+    }
+}
+
+/// Whether an item leaves all entry values as they are, by a look at its role.
+fn keeps_entries(effect: &Effect, change: &Change) -> bool
+    ensures loaded { IsTrue result → change.now.loaded ≡ None }
+    ensures written { IsTrue result → (r : ℕ) → 0 < r
+        → places.writes (followed_by effect.now) r ≡ false }
+{
+    if !loads_none(change.loaded) {
+        return false;
+    }
+    writes_none(effect)
+}
+
+/// The entry values after an item that leaves them as they are, where the set's word has them.
+fn kept_entries(alloc: Global, effect: &Effect, change: &Change, before: &BitSet) -> Option<BitSet>
+    ensures long { IfSome result (λ bits. length bits ≡ 6) }
+    ensures at { IfSome result (λ bits. (slots : List TheSlot) (k : ℕ) → k < 6
+        → get_or bits k false
+        ≡ spec.facts_after (places.writes (followed_by effect.now)) change.now
+        (holds_in slots before.now) (spec.entry (k + 1))) }
+{
+    if !keeps_entries(effect, change) {
+        return None;
+    }
+    match before.first(alloc, 6) {
+        None => None,
+        Some(bits) => Some(bits),
+    }
+}
+
+/// The entry values after an item.
+fn entries_after(
+    alloc: Global,
+    slots: &[Slot],
+    effect: &Effect,
+    change: &Change,
+    before: &BitSet,
+) -> Result<BitSet, AllocError>
+    ensures long { IfOk result (λ bits. length bits ≡ 6) }
+    ensures at { IfOk result (λ bits. (k : ℕ) → k < 6 → get_or bits k false
+        ≡ spec.facts_after (places.writes (followed_by effect.now)) change.now
+        (holds_in slots.now before.now) (spec.entry (k + 1))) }
+{
+    match kept_entries(alloc, effect, change, before) {
+        Some(bits) => Ok(bits),
+        None => each_entry(alloc, slots, effect, change, before),
+    }
 }
 
 /// The slots after an item, behind its entry values.
@@ -153,7 +213,7 @@ fn slots_after(
 }
 
 /// The facts after an item.
-pub(crate) fn all_after(
+fn all_after(
     alloc: Global,
     slots: &[Slot],
     effect: &Effect,
@@ -170,6 +230,34 @@ pub(crate) fn all_after(
 {
     let mut out = entries_after(alloc, slots, effect, change, before)?;
     slots_after(slots, change, before, &mut out)?;
+    Ok(out)
+}
+
+/// The facts after an item at the distances that are known there.
+pub(crate) fn item_after(
+    alloc: Global,
+    slots: &[Slot],
+    depths: &DepthTable,
+    item: usize,
+    effect: &Effect,
+    before: &BitSet,
+) -> Result<BitSet, AllocError>
+    requires plain { IsPlain slots.now }
+    requires saved { (n r : ℕ) → spec.is_at (places.change_of (followed_by effect.now)
+        (distances_in depths.now item)).saved n r ≡ true
+        → place_of slots.now n r < length slots.now }
+    ensures long { IfOk result (λ bits. length bits ≡ 6 + length slots.now) }
+    ensures at { IfOk result (λ bits. (f : spec.Fact) → holds_in slots.now bits f
+        ≡ spec.facts_after (places.writes (followed_by effect.now))
+        (places.change_of (followed_by effect.now) (distances_in depths.now item))
+        (holds_in slots.now before.now) f) }
+{
+    if is_quiet(effect) {
+        let kept = same_of(alloc, slots, before)?;
+        return Ok(kept);
+    }
+    let change = change_of(depths, item, effect);
+    let out = all_after(alloc, slots, effect, &change, before)?;
     Ok(out)
 }
 
@@ -198,8 +286,8 @@ pub(crate) fn entries_alone(alloc: Global, count: usize) -> Result<BitSet, Alloc
     Ok(out)
 }
 
-/// The facts of a set once more, in the set of a table.
-pub(crate) fn same_of(alloc: Global, slots: &[Slot], before: &BitSet) -> Result<BitSet, AllocError>
+/// The facts of a set once more, one by one, in the set of a table.
+fn each_of(alloc: Global, slots: &[Slot], before: &BitSet) -> Result<BitSet, AllocError>
     ensures long { IfOk result (λ bits. length bits ≡ 6 + length slots.now) }
     ensures same { IfOk result (λ bits. (k : ℕ) → k < 6 + length slots.now
         → get_or bits k false ≡ get_or before.now k false) }
@@ -210,6 +298,18 @@ pub(crate) fn same_of(alloc: Global, slots: &[Slot], before: &BitSet) -> Result<
         out.push(bit)?;
     }
     Ok(out)
+}
+
+/// The facts of a set once more, in the set of a table.
+pub(crate) fn same_of(alloc: Global, slots: &[Slot], before: &BitSet) -> Result<BitSet, AllocError>
+    ensures long { IfOk result (λ bits. length bits ≡ 6 + length slots.now) }
+    ensures same { IfOk result (λ bits. (k : ℕ) → k < 6 + length slots.now
+        → get_or bits k false ≡ get_or before.now k false) }
+{
+    if before.len() == slots.len() + 6 {
+        return before.copy(alloc);
+    }
+    each_of(alloc, slots, before)
 }
 
 /// The higher one of a distance that was found and another.
@@ -252,9 +352,9 @@ fn next_best(
     Some(higher(found, slot.distance))
 }
 
-/// The greatest distance of a slot of a register that stands.
+/// The greatest distance of a slot of a register that stands, of all slots.
 #[tactic(auto, using(crate::proofs::BestLemmas::ends_best))]
-pub(crate) fn greatest(slots: &[Slot], bits: &BitSet, register: u8) -> Option<u64>
+fn highest(slots: &[Slot], bits: &BitSet, register: u8) -> Option<u64>
     requires { IsPlain slots.now }
     ensures { spec.IsSlotOf (holds_in slots.now bits.now) register result }
 {
@@ -263,4 +363,16 @@ pub(crate) fn greatest(slots: &[Slot], bits: &BitSet, register: u8) -> Option<u6
         found = next_best(slots, bits, register, at, found);
     }
     found
+}
+
+/// The greatest distance of a slot of a register that stands.
+#[tactic(auto, using(crate::proofs::QuietLemmas::short_best))]
+pub(crate) fn greatest(slots: &[Slot], bits: &BitSet, register: u8) -> Option<u64>
+    requires { IsPlain slots.now }
+    ensures { spec.IsSlotOf (holds_in slots.now bits.now) register result }
+{
+    if bits.is_short() {
+        return None;
+    }
+    highest(slots, bits, register)
 }

@@ -1,7 +1,7 @@
-//! Sets of numbers, as bits.
+//! Sets of numbers, as bits: the first ones in a word, and the others behind it.
 
-ghost use Rattle.std.specs.Prelude.{◌≡◌, ◌<◌, ◌≤◌, ◌&&◌, ◌++◌, ◌∷◌, [], ℕ, false, IsTrue, IsFalse, IfOk, get_or, length, sum_by};
-ghost use Rattle.stack_facts.specs.Sets.{counted};
+ghost use Rattle.std.specs.Prelude.{◌≡◌, ◌≢◌, ◌<◌, ℕ, false, get_or};
+ghost use Rattle.stack_depths.specs.Distances.{has_bit};
 
 use std::alloc::{AllocError, Global};
 use std::marker::Model;
@@ -15,80 +15,215 @@ fn bit_at(bits: &[bool], k: usize) -> bool
     }
 }
 
-fn meet_bits(into: &mut [bool], from: &[bool]) -> bool
-    ensures both { (k : ℕ) → get_or into.new k false
-        ≡ (get_or into.old k false && get_or from.now k false) }
-    ensures less { IsTrue result → sum_by counted into.new < sum_by counted into.old }
-    ensures same { IsFalse result → into.new ≡ into.old }
+/// Whether a word has a bit.
+#[inline(always)]
+fn has_bit(word: u64, k: usize) -> bool
+    requires { k < 64 }
+    ensures { result ≡ has_bit word k }
 {
-    let mut changed = false;
-    for k in 0..into.len() {
-        if into[k] && !bit_at(from, k) {
-            into[k] = false;
-            changed = true;
-        }
-    }
-    changed
+    (word >> k) % 2 == 1
 }
 
-/// A set of numbers.
+/// A word with a bit as it is told, and its other bits.
+#[inline(always)]
+#[tactic(auto, using(crate::proofs::WordLemmas::put_here, crate::proofs::WordLemmas::put_other, crate::proofs::WordLemmas::cleared_here, crate::proofs::WordLemmas::cleared_other))]
+fn with_bit(word: u64, k: usize, bit: bool) -> u64
+    requires { k < 64 }
+    ensures here { has_bit result k ≡ bit }
+    ensures others { (j : ℕ) → j < 64 → j ≢ k → has_bit result j ≡ has_bit word j }
+{
+    if bit {
+        word | (1u64 << k)
+    } else {
+        word & !(1u64 << k)
+    }
+}
+
+/// A set of numbers, of which it is told up to its length whether it has them.
 #[derive(Drop)]
 pub struct BitSet {
-    bits: Vec<bool>,
+    low: u64,
+    /// How many of the bits of the word count.
+    count: usize,
+    more: Vec<bool>,
 }
 
 impl Model for BitSet {
-    ghost use Rattle.std.specs.Prelude.{List, Bool};
+    ghost use Rattle.std.specs.Prelude.{◌≤◌, List, Bool, ◌++◌};
+    ghost use Rattle.stack_facts.specs.Sets.{low_bits};
 
     ghost Value = { List Bool };
 
-    ghost view = { λ s. s.bits.items };
+    ghost view = { λ s. low_bits s.low s.count ++ s.more.items };
+
+    ghost invariant = { λ s. s.count ≤ 64 };
 }
 
 impl BitSet {
-    ghost use Rattle.std.specs.Prelude.{◌≡◌, ◌<◌, ◌&&◌, ◌++◌, ◌∷◌, [], ℕ, false, IsTrue, IsFalse, IfOk, get_or, length, sum_by};
+    ghost use Rattle.std.specs.Prelude.{◌≡◌, ◌<◌, ◌≤◌, ◌&&◌, ◌++◌, ◌∷◌, [], ℕ, false, IsTrue, IsFalse, IfOk, IfSome, get_or, length, slice_set, sum_by};
     ghost use Rattle.stack_facts.specs.Sets.{counted};
 
     /// The set of no number.
+    #[tactic(auto, unfolding(crate::specs::Sets::low_bits))]
     pub fn new(alloc: Global) -> BitSet
         ensures { result ≡ [] }
     {
         BitSet {
-            bits: Vec::new(alloc),
+            low: 0,
+            count: 0,
+            more: Vec::new(alloc),
         }
     }
 
+    /// Up to which number it is told.
+    #[inline(always)]
+    #[tactic(auto, using(crate::proofs::WordLemmas::length_bits))]
+    pub fn len(&self) -> usize
+        ensures { result ≡ length self.now }
+    {
+        self.count + self.more.len()
+    }
+
     /// Whether it has a number.
+    #[inline(always)]
+    #[tactic(auto, using(crate::proofs::WordLemmas::in_word, crate::proofs::WordLemmas::behind_word))]
     pub fn has(&self, k: usize) -> bool
         ensures { result ≡ get_or self.now k false }
     {
-        bit_at(&self.bits, k)
+        if k < self.count {
+            has_bit(self.low, k)
+        } else {
+            bit_at(&self.more, k - self.count)
+        }
     }
 
     /// Tells whether it has the number that is next.
+    #[inline(always)]
     pub fn push(&mut self, bit: bool) -> Result<(), AllocError>
         ensures { IfOk result (λ _. self.new ≡ self.old ++ bit ∷ []) }
     {
-        self.bits.push(bit)?;
+        let count = self.count;
+        if count < 64 {
+            if self.more.len() == 0 {
+                self.low = with_bit(self.low, count, bit);
+                self.count = count + 1;
+                return Ok(());
+            }
+        }
+        self.more.push(bit)?;
         Ok(())
     }
 
     /// The same set once more.
+    #[inline(always)]
     pub fn copy(&self, alloc: Global) -> Result<BitSet, AllocError>
         ensures { IfOk result (λ s. s ≡ self.now) }
     {
         Ok(BitSet {
-            bits: Vec::from_slice(alloc, &self.bits)?,
+            low: self.low,
+            count: self.count,
+            more: Vec::from_slice(alloc, &self.more)?,
         })
     }
 
+    /// The set up to a number, where its word goes so far.
+    #[inline(always)]
+    #[tactic(auto, using(crate::proofs::WordLemmas::length_bits, crate::proofs::WordLemmas::in_word))]
+    pub fn first(&self, alloc: Global, count: usize) -> Option<BitSet>
+        ensures long { IfSome result (λ s. length s ≡ count) }
+        ensures same { IfSome result (λ s. (k : ℕ) → k < count
+            → get_or s k false ≡ get_or self.now k false) }
+    {
+        if count <= self.count {
+            Some(BitSet {
+                low: self.low,
+                count,
+                more: Vec::new(alloc),
+            })
+        } else {
+            None
+        }
+    }
+
+    /// Whether it has none of the numbers from 6 on.
+    #[inline(always)]
+    #[tactic(auto, using(crate::proofs::WordLemmas::short_bits))]
+    pub fn is_short(&self) -> bool
+        ensures { IsTrue result → (k : ℕ) → 6 ≤ k → get_or self.now k false ≡ false }
+    {
+        if self.more.len() != 0 {
+            return false;
+        }
+        self.low >> 6 == 0
+    }
+
+    /// Takes a number out.
+    fn clear(&mut self, k: usize)
+        requires { k < length self.old }
+        ensures { self.new ≡ slice_set self.old k false }
+    {
+        let count = self.count;
+        if k < count {
+            self.low = with_bit(self.low, k, false);
+            return;
+        }
+        let at = k - count;
+        self.more[at] = false;
+    }
+
+    /// Leaves the numbers that both sets have, one by one, and tells whether that is less.
+    fn meet_each(&mut self, other: &BitSet) -> bool
+        ensures both { (k : ℕ) → get_or self.new k false
+            ≡ (get_or self.old k false && get_or other.now k false) }
+        ensures less { IsTrue result → sum_by counted self.new < sum_by counted self.old }
+        ensures same { IsFalse result → self.new ≡ self.old }
+    {
+        let mut changed = false;
+        for k in 0..self.len() {
+            if self.has(k) && !other.has(k) {
+                self.clear(k);
+                changed = true;
+            }
+        }
+        changed
+    }
+
+    /// Whether the other set has all its numbers, by a look at the words.
+    #[inline(always)]
+    #[tactic(auto, using(crate::proofs::WordLemmas::within_bits))]
+    fn is_within(&self, other: &BitSet) -> bool
+        ensures { IsTrue result → (k : ℕ) → get_or self.now k false
+            ≡ (get_or self.now k false && get_or other.now k false) }
+    {
+        if self.more.len() != 0 || self.count > other.count {
+            return false;
+        }
+        self.low & other.low == self.low
+    }
+
     /// Leaves the numbers that both sets have, and tells whether that is less.
+    #[inline(always)]
     pub fn meet(&mut self, other: &BitSet) -> bool
         ensures both { (k : ℕ) → get_or self.new k false
             ≡ (get_or self.old k false && get_or other.now k false) }
         ensures less { IsTrue result → sum_by counted self.new < sum_by counted self.old }
         ensures same { IsFalse result → self.new ≡ self.old }
     {
-        meet_bits(&mut self.bits, &other.bits)
+        if self.is_within(other) {
+            return false;
+        }
+        self.meet_each(other)
+    }
+
+    /// Whether both are the same set, by a look at the words.
+    #[inline(always)]
+    #[tactic(auto, using(crate::proofs::WordLemmas::same_bits))]
+    pub fn is_same(&self, other: &BitSet) -> bool
+        ensures { IsTrue result → (k : ℕ) → get_or self.now k false ≡ get_or other.now k false }
+    {
+        if self.low != other.low || self.count != other.count || self.more.len() != 0 {
+            return false;
+        }
+        other.more.len() == 0
     }
 }

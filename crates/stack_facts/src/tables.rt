@@ -9,7 +9,7 @@ ghost use Rattle.stack_facts.specs.States.{facts_in};
 
 use crate::changes::change_of;
 use crate::gathering::gather;
-use crate::passing::{all_after, entries_alone, entry_after, greatest, has_entry, same_of};
+use crate::passing::{entries_alone, entry_after, greatest, has_entry, item_after, same_of};
 use crate::sets::BitSet;
 use crate::values::Slot;
 use asm_base::{NoMemory, Steps};
@@ -52,8 +52,7 @@ impl<'a> Analysis for Passing<'a> {
                 Ok(out)
             }
             Some(found) => {
-                let change = change_of(self.depths, item, &found.effect);
-                let out = all_after(alloc, self.slots, &found.effect, &change, before)?;
+                let out = item_after(alloc, self.slots, self.depths, item, &found.effect, before)?;
                 Ok(out)
             }
         }
@@ -85,11 +84,11 @@ impl Model for FactTable {
 }
 
 impl FactTable {
-    ghost use Rattle.std.specs.Prelude.{◌≡◌, ◌<◌};
+    ghost use Rattle.std.specs.Prelude.{◌≡◌, ◌<◌, IsTrue};
     ghost use Rattle.insn_effects.specs.Followed.{followed_by};
     ghost use Rattle.stack_depths.specs.States.{distances_in};
     ghost use Rattle.stack_facts.specs.Places.{change_of, writes};
-    ghost use Rattle.stack_facts.specs.Facts.{entry, facts_after, IsSlotOf};
+    ghost use Rattle.stack_facts.specs.Facts.{Fact, entry, facts_after, IsSlotOf};
     ghost use Rattle.stack_facts.specs.States.{facts_in};
 
     /// Whether a register has its entry value at an item.
@@ -120,6 +119,21 @@ impl FactTable {
         let change = change_of(depths, item, effect);
         match self.states.get(item) {
             Some(Some(bits)) => entry_after(&self.slots, effect, &change, bits, register),
+            _ => false,
+        }
+    }
+
+    /// Whether the same facts stand at two items, by a look at their bits.
+    #[tactic(auto, using(crate::proofs::QuietLemmas::same_facts), unfolding(crate::specs::States::facts_in))]
+    pub fn are_same(&self, one: usize, other: usize) -> bool
+        ensures { IsTrue result → (f : Fact) → facts_in self.now one f
+            ≡ facts_in self.now other f }
+    {
+        match self.states.get(one) {
+            Some(Some(bits)) => match self.states.get(other) {
+                Some(Some(others)) => bits.is_same(others),
+                _ => false,
+            },
             _ => false,
         }
     }

@@ -1,9 +1,7 @@
 use Rattle.std.proofs.Common.{◌≡◌, ◌≤◌, Some, length, slice_get, refl, sym, ap, ◌∙◌, arith}
 use Rattle.std.proofs.lemmas.Option.{slice_get_past, slice_get_read}
-use Rattle.insn_effects.specs.Followed.{followed_by}
 use Rattle.stack_depths.specs.States.{distances_in}
-use Rattle.stack_facts.specs.Places.{writes}
-use Rattle.stack_facts.specs.Facts.{is_at, facts_after, facts_over, saved_over}
+use Rattle.stack_facts.specs.Facts.{is_at, facts_over, saved_over}
 use Rattle.stack_facts.specs.Sets.{holds_in}
 use Rattle.stack_facts.specs.States.{fact_rules}
 use Rattle.stack_facts.proofs.SetLemmas.{counted_at_most}
@@ -25,16 +23,16 @@ pub returns-in_ok-out-in-None-clause-weight : goal.returns-in_ok-out-in-None-cla
 unfolding fact_rules
 returns-in_ok-out-in-None-clause-weight c = let w = counted_at_most c.in_ok-out-in-None.out in let l = c.in_ok-out-in-None.ensures.long in omega arith
 
-pub all_after-requires-clause-plain : goal.all_after-requires-clause-plain
-all_after-requires-clause-plain c = c.args.self.now.table.plain
+pub item_after-requires-clause-plain : goal.item_after-requires-clause-plain
+item_after-requires-clause-plain c = c.args.self.now.table.plain
 
-pub all_after-requires-clause-saved : goal.all_after-requires-clause-saved
-all_after-requires-clause-saved c =
+pub item_after-requires-clause-saved : goal.item_after-requires-clause-saved
+item_after-requires-clause-saved c =
     let s = c.args.self.now in
     let x = c.in-Some.ensures.lookup in
     let known = distances_in s.depths.now c.args.item in
     let there : slice_get s.items.now c.args.item ≡ Some c.in-Some.found.now = slice_get_read s.items.now (length s.items.now) c.args.item c.in-Some.found.now refl x.3.0 x.1 in
-    λ n r h. s.table.all c.args.item n r x.3.0 (ap (λ o. is_at (saved_over o known) n r) there ∙ ap (λ (k : Rattle.stack_facts.specs.declared.values.Change.Change). is_at k.saved n r) (sym c.change_of-change.ensures) ∙ h)
+    λ n r h. s.table.all c.args.item n r x.3.0 (ap (λ o. is_at (saved_over o known) n r) there ∙ h)
 
 pub returns-in_ok-out-in-Some-clause-holds : goal.returns-in_ok-out-in-Some-clause-holds
 unfolding fact_rules
@@ -44,9 +42,8 @@ returns-in_ok-out-in-Some-clause-holds c =
     let known = distances_in s.depths.now c.args.item in
     let there : slice_get s.items.now c.args.item ≡ Some c.in-Some.found.now = slice_get_read s.items.now (length s.items.now) c.args.item c.in-Some.found.now refl x.3.0 x.1 in
     let stood = holds_in s.slots.now c.args.before.now in
-    let written = writes (followed_by c.in-Some.found.now.effect) in
     after_case (slice_get s.items.now c.args.item) known s.slots.now c.args.before.now c.in_ok-out-in-Some.out
-    (λ f. c.in_ok-out-in-Some.ensures.at f ∙ ap (λ k. facts_after written k stood f) c.change_of-change.ensures ∙ ap (λ o. facts_over o known stood f) (sym there))
+    (λ f. c.in_ok-out-in-Some.ensures.at f ∙ ap (λ o. facts_over o known stood f) (sym there))
 
 pub returns-in_ok-out-in-Some-clause-weight : goal.returns-in_ok-out-in-Some-clause-weight
 unfolding fact_rules

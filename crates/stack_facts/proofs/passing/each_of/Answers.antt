@@ -1,6 +1,6 @@
 use Rattle.std.proofs.Common.{◌+◌, ◌∷◌, [], false, get_or, length, ap, sym, ◌∙◌, arith, below_more, length-append}
 use Rattle.stack_facts.proofs.SetLemmas.{pushed_same, pushed_last}
-use Rattle.stack_facts.proofs.passing.same_of.Goals as goal
+use Rattle.stack_facts.proofs.passing.each_of.Goals as goal
 
 pub loop-k-preserved : goal.loop-k-preserved
 loop-k-preserved c =

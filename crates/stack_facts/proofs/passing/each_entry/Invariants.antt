@@ -3,7 +3,7 @@ use Rattle.insn_effects.specs.Followed.{followed_by}
 use Rattle.stack_facts.specs.Places.{writes}
 use Rattle.stack_facts.specs.Facts.{entry, facts_after}
 use Rattle.stack_facts.specs.Sets.{holds_in}
-use Rattle.stack_facts.proofs.passing.entries_after.Given as goal
+use Rattle.stack_facts.proofs.passing.each_entry.Given as goal
 
 abbrev pub invariant-loop-k : goal.invariant-loop-k
 invariant-loop-k l = record {

@@ -1,5 +1,5 @@
 use Rattle.std.proofs.Common.{◌≡◌, ◌<◌, ℕ, false, get_or, length}
-use Rattle.stack_facts.proofs.passing.same_of.Given as goal
+use Rattle.stack_facts.proofs.passing.each_of.Given as goal
 
 abbrev pub invariant-loop-k : goal.invariant-loop-k
 invariant-loop-k l = record {
