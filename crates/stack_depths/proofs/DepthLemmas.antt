@@ -1,6 +1,7 @@
-use Rattle.std.proofs.Common.{◌≡◌, ℕ, zero, suc, ◌+◌, ◌-◌, ◌%◌, ◌^◌, ◌<◌, ◌≤◌, ◌==◌, ◌&&◌, nat_lt, Bool, true, false, cond, if◌then◌else◌, List, [], ◌∷◌, length, get_or, slice_get, ◌↔◌, is_some, sum_by, Option, Some, None, refl, sym, ap, arith, ◌∙◌}
+use Rattle.std.proofs.Common.{◌≡◌, ℕ, zero, suc, ◌+◌, ◌-◌, ◌%◌, ◌^◌, ◌<◌, ◌≤◌, ◌≢◌, ◌==◌, ◌&&◌, nat_lt, Bool, true, false, cond, if◌then◌else◌, List, [], ◌∷◌, length, get_or, slice_get, slice_set, ◌↔◌, is_some, sum_by, Option, Some, None, refl, sym, ap, arith, ◌∙◌, get_or-set_same, get_or-set_other}
 use Rattle.std.proofs.lemmas.Bool.Decides.{nat_tests}
 use Rattle.std.proofs.lemmas.List.Sums.{sum_by-cons}
+use Rattle.std.proofs.lemmas.Nat.Bits.{bit_at-zero}
 use Rattle.work_lists.specs.Exact.{Fact, says, carried_from, carries, look, IsExactAt, AreExact}
 use Rattle.flow_graph.specs.declared.nodes.Node.{Node}
 use Rattle.flow_graph.specs.Walks.{successor_lists, IsWalk}
@@ -16,6 +17,37 @@ pub weight_of : (s : List (Option Distance)) → sum_by held s ≤ length s
 weight_of [] = omega arith
 weight_of (None ∷ s) = let i = weight_of s in let e = sum_by-cons held None s in omega arith
 weight_of (Some d ∷ s) = let i = weight_of s in let e = sum_by-cons held (Some d) s in omega arith
+
+-- where nothing is written no register is
+no_bit : (q : ℕ) → has_bit 0 q ≡ false
+no_bit q = ap (λ x. x == 1) (bit_at-zero q)
+
+-- the same of a move
+pub unwritten : (moves : Option FollowedMove) (written : ℕ) (before : ℕ → Option ℕ) (q : ℕ) → written ≡ 0 → moved_by moves false before q ≡ moved_by moves (has_bit written q) before q
+unwritten moves written before q e = ap (λ b. moved_by moves b before q) (sym (ap (λ n. has_bit n q) e ∙ no_bit q))
+
+-- a register that does not move keeps its distance
+pub unmoved_alone : (out before : List (Option Distance)) (q : ℕ) → out ≡ before → known out q ≡ moved_by None false (known before) q
+unmoved_alone out before q e = ap (λ s. known s q) e
+
+-- one register moves, and the others keep their distances
+pub moved_one : (before : List (Option Distance)) (m : FollowedMove) (to : ℕ) (x : Option Distance) (q : ℕ) → length before ≡ 7 → to ≡ m.to → to < 7 → q < 7
+    → value_of x ≡ sum_of (known before m.base) m.add → known (slice_set before to x) q ≡ moved_by (Some m) false (known before) q
+moved_one before m to x q long is inside small sum = by_test (m.to == q) refl
+  where
+    by_test : (b : Bool) → (m.to == q) ≡ b → known (slice_set before to x) q ≡ cond b (sum_of (known before m.base) m.add) (known before q)
+    by_test true t =
+        let same : q ≡ to = grind (arith, nat_tests) in
+        ap (known (slice_set before to x)) same ∙ ap value_of (get_or-set_same before to x None (omega arith)) ∙ sum
+    by_test false t =
+        let apart : q ≢ to = grind (arith, nat_tests) in
+        ap value_of (get_or-set_other before to q x None apart)
+
+-- no register of the seven moves
+pub moved_none : (before : List (Option Distance)) (m : FollowedMove) (q : ℕ) → 7 ≤ m.to → q < 7 → known before q ≡ moved_by (Some m) false (known before) q
+moved_none before m q far small =
+    let other : (m.to == q) ≡ false = grind (arith, nat_tests) in
+    sym (ap (λ b. cond b (sum_of (known before m.base) m.add) (known before q)) other)
 
 -- a known distance is below 2 ^ 64
 pub fits_of : (s : List (Option Distance)) (q d : ℕ) → known s q ≡ Some d → d < 2 ^ 64

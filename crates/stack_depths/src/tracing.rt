@@ -1,6 +1,6 @@
 //! The distances after an item, and what two items' distances have both.
 
-ghost use Rattle.std.specs.Prelude.{◌≡◌, ◌<◌, ◌≤◌, ℕ, IsTrue, IsFalse, None, option_map, length, sum_by};
+ghost use Rattle.std.specs.Prelude.{◌≡◌, ◌<◌, ◌≤◌, ℕ, false, IsTrue, IsFalse, None, Some, option_map, length, sum_by};
 ghost use Rattle.insn_effects.specs.Followed.{followed_by};
 ghost use Rattle.stack_depths.specs.Distances.{has_bit, unless_written, sum_of, moved_by, distance_after, entry_distance};
 ghost use Rattle.stack_depths.specs.Accesses.{move_by};
@@ -68,13 +68,45 @@ fn moved_by(
     }
 }
 
-/// The distance of register q after an item.
-fn moved(effect: &Effect, before: &Known, q: usize) -> Option<Distance>
-    requires { q < 7 }
-    ensures { value_of result
-        ≡ distance_after (followed_by effect.now) (known before.now) q }
+/// The distances after a move alone.
+#[tactic(auto, using(crate::proofs::DepthLemmas::moved_none, crate::proofs::DepthLemmas::moved_one))]
+fn moved_one(made: FollowedMove, before: &Known) -> Known
+    ensures long { length result ≡ 7 }
+    ensures at { (q : ℕ) → q < 7
+        → known result q ≡ moved_by (Some (move_by made)) false (known before.now) q }
 {
-    moved_by(followed_move(effect), effect, before, q)
+    let to = made.to as usize;
+    if to >= 7 {
+        return *before;
+    }
+    let mut out = *before;
+    out[to] = added(before, made.base, made.add);
+    out
+}
+
+/// The distances after this move of an item that writes nothing else.
+fn moved_alone(made: Option<FollowedMove>, before: &Known) -> Known
+    ensures long { length result ≡ 7 }
+    ensures at { (q : ℕ) → q < 7
+        → known result q ≡ moved_by (option_map move_by made) false (known before.now) q }
+{
+    match made {
+        None => *before,
+        Some(m) => moved_one(m, before),
+    }
+}
+
+/// The distances after this move of an item, one by one.
+fn moved_each(made: Option<FollowedMove>, effect: &Effect, before: &Known) -> Known
+    ensures long { length result ≡ 7 }
+    ensures at { (q : ℕ) → q < 7 → known result q ≡ moved_by (option_map move_by made)
+        (has_bit effect.now.written q) (known before.now) q }
+{
+    let mut out = [None; 7];
+    for q in 0..7 {
+        out[q] = moved_by(made, effect, before, q);
+    }
+    out
 }
 
 /// The distances after an item.
@@ -83,11 +115,12 @@ fn moved_all(effect: &Effect, before: &Known) -> Known
     ensures at { (q : ℕ) → q < 7
         → known result q ≡ distance_after (followed_by effect.now) (known before.now) q }
 {
-    let mut out = [None; 7];
-    for q in 0..7 {
-        out[q] = moved(effect, before, q);
+    let made = followed_move(effect);
+    let written = effect.written;
+    if written == 0 {
+        return moved_alone(made, before);
     }
-    out
+    moved_each(made, effect, before)
 }
 
 /// Whether a distance is lost where it meets another.

@@ -1,14 +1,16 @@
-use Rattle.std.proofs.Common.{◌≢◌, ◌<◌, length, None, ap, ◌∙◌, arith, below_more, get_or-set_other, get_or-set_same, length-set}
-use Rattle.stack_depths.specs.States.{value_of}
+use Rattle.std.proofs.Common.{false, ap, ◌∙◌}
+use Rattle.insn_effects.specs.Followed.{moves_by}
+use Rattle.stack_depths.specs.Distances.{has_bit, moved_by}
+use Rattle.stack_depths.specs.States.{known}
+use Rattle.stack_depths.proofs.DepthLemmas.{unwritten}
 use Rattle.stack_depths.proofs.tracing.moved_all.Goals as goal
 
-pub loop-q-preserved : goal.loop-q-preserved
-loop-q-preserved c =
-    let r = c.moved.result in
-    let i = c.loop-q.invariant in
-    record {
-      long = length-set c.loop-q.out c.loop-q.q r ∙ i.long;
-      done = below_more _ _
-          (λ k h. let ne : k ≢ c.loop-q.q = omega arith in ap value_of (get_or-set_other c.loop-q.out c.loop-q.q k r None ne) ∙ i.done k h)
-          (let l = i.long in let lt : c.loop-q.q < length c.loop-q.out = omega arith in ap value_of (get_or-set_same c.loop-q.out c.loop-q.q r None lt) ∙ c.moved.ensures);
-    }
+pub returns-then-written-eq0-clause-at : goal.returns-then-written-eq0-clause-at
+returns-then-written-eq0-clause-at c = λ q h.
+    let e = c.args.effect.now in
+    c.moved_alone.ensures.at q h ∙ ap (λ m. moved_by m false (known c.args.before.now) q) c.followed_move-made.ensures
+    ∙ unwritten (moves_by e.role e) e.written (known c.args.before.now) q c.if-written-eq0.true
+
+pub returns-clause-at : goal.returns-clause-at
+returns-clause-at c = λ q h.
+    c.moved_each.ensures.at q h ∙ ap (λ m. moved_by m (has_bit c.args.effect.now.written q) (known c.args.before.now) q) c.followed_move-made.ensures
