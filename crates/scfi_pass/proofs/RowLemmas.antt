@@ -1,15 +1,17 @@
-use Rattle.std.proofs.Common.{◌≡◌, ◌≢◌, ℕ, zero, suc, ◌+◌, ◌<◌, ◌==◌, Bool, true, false, Option, Some, None, refl, sym, subst, arith}
+use Rattle.std.proofs.Common.{◌≡◌, ℕ, zero, suc, ◌+◌, ◌<◌, ◌==◌, Bool, true, false, Option, Some, None, refl, sym, ap, subst, arith}
 use Rattle.std.proofs.lemmas.Bool.Decides.{nat_tests}
-use Rattle.std.specs.Option.{IsSome}
 use Rattle.asm_base.specs.declared.faults.ScfiFault.TheVariants as scfi
 use Rattle.asm_base.specs.declared.faults.SavedRegister.{SavedRegister}
 use Rattle.asm_base.specs.declared.faults.SavedRegister.TheVariants.{Rbx, Rbp, R12, R13, R14, R15}
 use Rattle.stack_facts.specs.Places.{is_saved}
-use Rattle.stack_facts.specs.Facts.{entry, IsSlotOf}
+use Rattle.stack_facts.specs.Facts.{Fact, entry, IsSlotOf}
 use Rattle.scfi_pass.specs.declared.rows.Cfa.{Cfa}
 use Rattle.scfi_pass.specs.Registers.{number_of}
-use Rattle.scfi_pass.specs.Rows.{cfa_of, IsRuleOf}
-use Rattle.scfi_pass.specs.Faults.{Situation, IsLost, IsFirstOf, IsSound}
+use Rattle.scfi_pass.specs.Rows.{or_else, IsRuleOf, AreRules}
+use Rattle.scfi_pass.specs.declared.rows.StackRow.{StackRow}
+use Rattle.scfi_pass.specs.Looking.{IsClear}
+use Rattle.scfi_pass.proofs.RankLemmas.{clear_lost}
+use Rattle.scfi_pass.specs.Faults.{Situation, IsTold, IsLost, IsFirstOf, IsSound}
 
 -- of the six registers a first one would have what one has
 least : (P : ℕ → Type 0) → ((k : ℕ) → is_saved k ≡ true → ((q : ℕ) → is_saved q ≡ true → q < k → P q → ⊥) → P k → ⊥) → (n q : ℕ) → q < n → is_saved q ≡ true → P q → ⊥
@@ -60,11 +62,27 @@ ruled s r None sound six h = (h, by_value (s.stands (entry r)) refl)
     by_value false e = absurd (not_lost s r sound six (e, h))
 ruled s r (Some n) sound six h = h
 
--- where no fault is told, the frame address is known
-pub known_frame : (s : Situation) → IsSound s → cfa_of s.known ≢ None
-known_frame s sound h = sound scfi.FrameLost h
+-- the first one that there is
+pub first_cfa : (one other : Option Cfa) (cfa : Cfa) → one ≡ Some cfa → Some cfa ≡ or_else one other
+first_cfa one other cfa e = ap (λ o. or_else o other) (sym e)
 
--- it is there where it was worked out
-pub known_some : (s : Situation) (found : Option Cfa) → IsSound s → found ≡ cfa_of s.known → IsSome found
-known_some s None sound e = absurd (known_frame s sound (sym e))
-known_some s (Some cfa) sound e = refl
+-- where there is none, the other
+pub next_cfa : (one other : Option Cfa) → one ≡ None → other ≡ or_else one other
+next_cfa one other e = ap (λ o. or_else o other) (sym e)
+
+-- a register that has a rule is not lost
+ruled_not_lost : (stands : Fact → Bool) (r : ℕ) (n : Option ℕ) → IsRuleOf stands r n → IsLost stands r → ⊥
+ruled_not_lost stands r None h lost = let a = h.1 in let b = lost.0 in cc
+ruled_not_lost stands r (Some n) h lost = let a = h.0 in let b = lost.1 n in cc
+
+-- where all six have rules, none is lost
+pub rules_clear : (s : Situation) (row : StackRow) → AreRules s.stands row → IsClear s 2
+rules_clear s row rules = clear_lost s (λ r told. none r told.0)
+  where
+    none : (r : SavedRegister) → IsLost s.stands (number_of r) → ⊥
+    none Rbx lost = ruled_not_lost s.stands 1 row.rbx rules.rbx lost
+    none Rbp lost = ruled_not_lost s.stands 2 row.rbp rules.rbp lost
+    none R12 lost = ruled_not_lost s.stands 3 row.r12 rules.r12 lost
+    none R13 lost = ruled_not_lost s.stands 4 row.r13 rules.r13 lost
+    none R14 lost = ruled_not_lost s.stands 5 row.r14 rules.r14 lost
+    none R15 lost = ruled_not_lost s.stands 6 row.r15 rules.r15 lost

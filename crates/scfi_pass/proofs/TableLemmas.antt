@@ -1,16 +1,20 @@
-use Rattle.std.proofs.Common.{◌≡◌, ℕ, ◌+◌, ◌<◌, ◌≤◌, ◌⊎◌, inl, inr, true, false, Option, Some, List, [], ◌∷◌, ◌++◌, length, slice_get, Result, Ok, Err, refl, sym, ap, subst, ◌∙◌, arith}
+use Rattle.std.proofs.Common.{◌≡◌, ℕ, ◌+◌, ◌<◌, ◌≤◌, ◌⊎◌, inl, inr, true, false, Bool, Option, None, Some, List, [], ◌∷◌, ◌++◌, length, slice_get, Result, Ok, Err, refl, sym, ap, subst, ◌∙◌, arith}
 use Rattle.std.proofs.lemmas.Bool.{cases_lt}
 use Rattle.std.proofs.lemmas.List.{append_assoc}
 use Rattle.asm_base.specs.declared.faults.ScfiFault.{ScfiFault}
 use Rattle.cfi_rows.specs.Differences.{differences}
 use Rattle.code_functions.specs.declared.items.CodeItem.{CodeItem}
 use Rattle.flow_graph.specs.declared.nodes.Node.{Node}
+use Rattle.stack_depths.specs.Distances.{Distances}
+use Rattle.scfi_pass.specs.declared.rows.Cfa.{Cfa}
+use Rattle.stack_facts.specs.Facts.{Fact, entry, slot, IsSlotOf}
+use Rattle.stack_facts.specs.Places.{below}
 use Rattle.scfi_pass.specs.declared.rows.StackRow.{StackRow}
 use Rattle.scfi_pass.specs.declared.item_ops.ItemOp.{ItemOp}
-use Rattle.scfi_pass.specs.Rows.{IsRow, whole_row}
+use Rattle.scfi_pass.specs.Rows.{IsRow, IsRuleOf, AreRules, cfa_of, whole_row}
 use Rattle.scfi_pass.specs.Changing.{told}
 use Rattle.scfi_pass.specs.Faults.{Situation, IsSound, IsFirst}
-use Rattle.scfi_pass.specs.Tables.{Analyzed, situation, IsSoundAt, IsFaultAt, IsNextRow, ops_from, entry_row, IsFrameTable}
+use Rattle.scfi_pass.specs.Tables.{Analyzed, situation, IsSoundAt, IsFaultAt, IsNextRow, IsOwnRow, IsHeld, row_by, ops_from, entry_row, IsFrameTable}
 use Rattle.scfi_pass.specs.Synthesis.{LeadsOn, Refuses, Analyzes, IsTableOf, IsFaultOf}
 use Rattle.scfi_pass.specs.declared.walked.ItemFault.{ItemFault}
 use Rattle.asm_base.specs.declared.refusals.Refusal.{Refusal}
@@ -99,3 +103,60 @@ fault_of a items nodes old new is (Err (Fault f)) h = (a, is, h)
 pub table_of : (a : Analyzed) (items : List CodeItem) (nodes : List Node) (old new : ℕ) (ops : List ItemOp) → Analyzes a items nodes old new → IsFrameTable a ops
     → IsTableOf items nodes old new ops
 table_of a items nodes old new ops is h = (a, is, h)
+
+-- the rule of a register where the same facts stand
+same_rule : (one other : Fact → Bool) (r : ℕ) (n : Option ℕ) → ((f : Fact) → one f ≡ other f) → IsRuleOf one r n → IsRuleOf other r n
+same_rule one other r None same h = ((λ n. sym (same (slot n r)) ∙ h.0 n), sym (same (entry r)) ∙ h.1)
+same_rule one other r (Some n) same h = (sym (same (slot n r)) ∙ h.0, λ m e. h.1 m (same (slot m r) ∙ e))
+
+-- the rules of all six
+pub same_rules : (one other : Fact → Bool) (row : StackRow) → ((f : Fact) → one f ≡ other f) → AreRules one row → AreRules other row
+same_rules one other row same h = record {
+  rbx = same_rule one other 1 row.rbx same h.rbx;
+  rbp = same_rule one other 2 row.rbp same h.rbp;
+  r12 = same_rule one other 3 row.r12 same h.r12;
+  r13 = same_rule one other 4 row.r13 same h.r13;
+  r14 = same_rule one other 5 row.r14 same h.r14;
+  r15 = same_rule one other 6 row.r15 same h.r15;
+}
+
+-- no item was gone over yet
+pub none_held : (a : Analyzed) (last : ℕ) (row : StackRow) → last ≡ length a.items → IsHeld a last row
+none_held a last row e = λ h. absurd (omega arith)
+
+-- a row of a frame address and rules
+row_of_rules : (known : Distances) (stands : Fact → Bool) (row : StackRow) → cfa_of known ≡ Some row.cfa → AreRules stands row → IsRow known stands row
+row_of_rules known stands row cfa rules = record {
+  cfa = cfa;
+  rbx = rules.rbx;
+  rbp = rules.rbp;
+  r12 = rules.r12;
+  r13 = rules.r13;
+  r14 = rules.r14;
+  r15 = rules.r15;
+}
+
+-- the row of an item that was looked at
+pub own_row : (a : Analyzed) (j : ℕ) (item : CodeItem) (node : Node) (s : Situation) (row : StackRow) (cfa : Cfa) → s ≡ situation a j item node
+    → cfa_of s.known ≡ Some cfa → row.cfa ≡ cfa → AreRules s.stands row → IsOwnRow a j row
+own_row a j item node s row cfa e frame is rules =
+    let P : Situation → Type 0 = λ x. AreRules x.stands row in
+    let here : AreRules (a.facts j) row = subst P e rules in
+    let known : cfa_of (a.distances j) ≡ Some row.cfa = ap (λ (x : Situation). cfa_of x.known) (sym e) ∙ frame ∙ ap (λ (c : Cfa). Some c) (sym is) in
+    (row_of_rules (a.distances j) (a.facts j) row known here, here)
+
+-- the rules of the row before, where the same facts stand
+pub held_rules : (a : Analyzed) (last j : ℕ) (item : CodeItem) (node : Node) (s : Situation) (row : StackRow) → s ≡ situation a j item node → IsHeld a last row
+    → (last < length a.items) × ((f : Fact) → a.facts last f ≡ a.facts j f) → AreRules s.stands row
+held_rules a last j item node s row e held same =
+    let P : Situation → Type 0 = λ x. AreRules x.stands row in
+    subst P (sym e) (same_rules (a.facts last) (a.facts j) row same.1 (held same.0))
+
+-- the row behind an item is its own
+pub own_next : (a : Analyzed) (j : ℕ) (before row : StackRow) (next : Option StackRow) → a.reached j ≡ true → row ≡ row_by before next
+    → IsOwnRow a j (row_by before next) → IsNextRow a j before row
+own_next a j before row next reached e own = let P : StackRow → Type 0 = IsRow (a.distances j) (a.facts j) in reached_next a j before row reached (subst P (sym e) own.0)
+
+-- and its rules are held
+pub own_held : (a : Analyzed) (j : ℕ) (before row : StackRow) (next : Option StackRow) → row ≡ row_by before next → IsOwnRow a j (row_by before next) → IsHeld a j row
+own_held a j before row next e own = λ h. let P : StackRow → Type 0 = AreRules (a.facts j) in subst P (sym e) own.1

@@ -31,17 +31,32 @@ abbrev pub or_else : Option Cfa → Option Cfa → Option Cfa
 or_else None other = other
 or_else (Some cfa) other = Some cfa
 
--- the frame address is counted from rbp if its distance is known and at most 0, else from rsp if known, else from the first of rbx, r12 to r15 whose distance
--- is known and at most 0
+-- the frame address is counted from the first of rbx, r12 to r15 whose distance is known and at most 0
+abbrev pub other_cfa : Distances → Option Cfa
+other_cfa known =
+    or_else (low_by 1 (known 1)) (or_else (low_by 3 (known 3)) (or_else (low_by 4 (known 4)) (or_else (low_by 5 (known 5)) (low_by 6 (known 6)))))
+
+-- from rsp if its distance is known, else from the first of those
+abbrev pub stack_cfa : Distances → Option Cfa
+stack_cfa known = or_else (known_by 0 (known 0)) (other_cfa known)
+
+-- from rbp if its distance is known and at most 0, else from rsp if known, else from the first of rbx, r12 to r15 whose distance is known and at most 0
 abbrev pub cfa_of : Distances → Option Cfa
-cfa_of known =
-    or_else (low_by 2 (known 2)) (or_else (known_by 0 (known 0)) (or_else (low_by 1 (known 1))
-    (or_else (low_by 3 (known 3)) (or_else (low_by 4 (known 4)) (or_else (low_by 5 (known 5)) (low_by 6 (known 6)))))))
+cfa_of known = or_else (low_by 2 (known 2)) (stack_cfa known)
 
 -- a register has its slot with the greatest distance, or else its entry value still
 abbrev pub IsRuleOf : (stands : Fact → Bool) → (register : ℕ) → Option ℕ → Type 0
 IsRuleOf stands r None = IsSlotOf stands r None × (stands (entry r) ≡ true)
 IsRuleOf stands r (Some n) = IsSlotOf stands r (Some n)
+
+-- where each of the six is
+pub record AreRules (stands : Fact → Bool) (row : StackRow) : Type 0 where
+  pub rbx : IsRuleOf stands 1 row.rbx
+  pub rbp : IsRuleOf stands 2 row.rbp
+  pub r12 : IsRuleOf stands 3 row.r12
+  pub r13 : IsRuleOf stands 4 row.r13
+  pub r14 : IsRuleOf stands 5 row.r14
+  pub r15 : IsRuleOf stands 6 row.r15
 
 -- the row by what is known and stands at an item
 pub record IsRow (known : Distances) (stands : Fact → Bool) (row : StackRow) : Type 0 where

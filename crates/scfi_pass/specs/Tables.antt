@@ -1,5 +1,5 @@
 -- The frame table of a function, or its first fault.
-use Rattle.std.specs.Prelude.{◌≡◌, ◌+◌, ◌<◌, ◌==◌, ℕ, Bool, true, false, None, Some, List, [], ◌∷◌, ◌++◌, length, slice_get}
+use Rattle.std.specs.Prelude.{◌≡◌, ◌+◌, ◌<◌, ◌==◌, ℕ, Bool, true, false, Option, None, Some, List, [], ◌∷◌, ◌++◌, length, slice_get}
 use Rattle.cfi_rows.specs.Differences.{differences}
 use Rattle.code_functions.specs.declared.items.CodeItem.{CodeItem}
 use Rattle.flow_graph.specs.declared.nodes.Node.{Node}
@@ -8,7 +8,7 @@ use Rattle.stack_depths.specs.Distances.{Distances, AreDistances, AreReached}
 use Rattle.stack_facts.specs.Facts.{Fact, AreFacts}
 use Rattle.scfi_pass.specs.declared.rows.StackRow.{StackRow}
 use Rattle.scfi_pass.specs.declared.item_ops.ItemOp.{ItemOp}
-use Rattle.scfi_pass.specs.Rows.{IsRow, whole_row}
+use Rattle.scfi_pass.specs.Rows.{IsRow, AreRules, whole_row}
 use Rattle.scfi_pass.specs.Changing.{told}
 use Rattle.scfi_pass.specs.Faults.{Situation, IsSound, IsFirst, at_exit}
 
@@ -58,6 +58,19 @@ pub record IsFirstFault (a : Analyzed) (j : ℕ) (fault : ScfiFault) : Type 0 wh
 -- the row of an item behind this row: that of its own, or, where no walk leads to it, the same
 abbrev pub IsNextRow : Analyzed → ℕ → StackRow → StackRow → Type 0
 IsNextRow a j before row = (a.reached j ≡ true → IsRow (a.distances j) (a.facts j) row) × (a.reached j ≡ false → row ≡ before)
+
+-- the row is that of an item by what is known and stands there
+abbrev pub IsOwnRow : Analyzed → ℕ → StackRow → Type 0
+IsOwnRow a j row = IsRow (a.distances j) (a.facts j) row × AreRules (a.facts j) row
+
+-- another row, or the one before
+abbrev pub row_by : StackRow → Option StackRow → StackRow
+row_by before None = before
+row_by before (Some row) = row
+
+-- a row has the rules of the six by what stands at an item, if there is one
+abbrev pub IsHeld : Analyzed → ℕ → StackRow → Type 0
+IsHeld a last row = last < length a.items → AreRules (a.facts last) row
 
 -- the rows of the items from this one on, behind a row
 abbrev pub AreRowsFrom : Analyzed → ℕ → StackRow → List StackRow → Type 0

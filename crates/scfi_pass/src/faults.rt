@@ -1,6 +1,7 @@
 //! The first fault of an item.
 
-ghost use Rattle.std.specs.Prelude.{◌≡◌, IfErr, OnOk};
+ghost use Rattle.std.specs.Prelude.{◌≡◌, IfErr, IfOk, IsTrue, OnOk, Some};
+ghost use Rattle.scfi_pass.specs.Rows.{cfa_of};
 ghost use Rattle.scfi_pass.specs.Faults.{IsFirst, IsSound};
 ghost use Rattle.scfi_pass.specs.Looking.{seen, IsClear, IsToldAt};
 
@@ -11,17 +12,19 @@ use crate::checks::{
 use crate::frames::cfa_of;
 use crate::looking::Looked;
 use crate::registers::saved_register;
+use crate::rows::Cfa;
 use asm_base::ScfiFault;
 use stack_depths::is_call;
 
 #[tactic(auto, using(crate::proofs::RankLemmas::clear_frame))]
-fn check_frame(looked: &Looked) -> Result<(), ScfiFault>
+fn check_frame(looked: &Looked) -> Result<Cfa, ScfiFault>
     ensures told { IfErr result (IsToldAt (seen looked.now) 1) }
     ensures clear { OnOk result (IsClear (seen looked.now) 1) }
+    ensures frame { IfOk result (λ cfa. cfa_of (seen looked.now).known ≡ Some cfa) }
 {
     match cfa_of(looked.depths, looked.place) {
         None => Err(ScfiFault::FrameLost),
-        Some(_) => Ok(()),
+        Some(cfa) => Ok(cfa),
     }
 }
 
@@ -35,6 +38,18 @@ fn check_lost(looked: &Looked) -> Result<(), ScfiFault>
         return Err(ScfiFault::RegisterLost(saved_register(register)));
     }
     Ok(())
+}
+
+/// The same, where it may be known already that none is lost.
+fn check_held(looked: &Looked, held: bool) -> Result<(), ScfiFault>
+    requires { IsTrue held → IsClear (seen looked.now) 2 }
+    ensures told { IfErr result (IsToldAt (seen looked.now) 2) }
+    ensures clear { OnOk result (IsClear (seen looked.now) 2) }
+{
+    if held {
+        return Ok(());
+    }
+    check_lost(looked)
 }
 
 #[tactic(auto, using(crate::proofs::RankLemmas::clear_return))]
@@ -150,13 +165,16 @@ fn check_far(looked: &Looked) -> Result<(), ScfiFault>
     Ok(())
 }
 
-/// Nothing, where no fault is told at an item, or else the one of the least rank.
-pub(crate) fn checked(looked: &Looked) -> Result<(), ScfiFault>
+/// The frame address, where no fault is told at an item, or else the fault of the least rank. Where it
+/// is known already that no register is lost, that is not asked again.
+pub(crate) fn checked(looked: &Looked, held: bool) -> Result<Cfa, ScfiFault>
+    requires { IsTrue held → IsClear (seen looked.now) 2 }
     ensures first { IfErr result (IsFirst (seen looked.now)) }
     ensures sound { OnOk result (IsSound (seen looked.now)) }
+    ensures frame { IfOk result (λ cfa. cfa_of (seen looked.now).known ≡ Some cfa) }
 {
-    check_frame(looked)?;
-    check_lost(looked)?;
+    let cfa = check_frame(looked)?;
+    check_held(looked, held)?;
     check_return_address(looked)?;
     check_stack(looked)?;
     check_registers(looked)?;
@@ -166,5 +184,5 @@ pub(crate) fn checked(looked: &Looked) -> Result<(), ScfiFault>
     check_end(looked)?;
     check_use(looked)?;
     check_far(looked)?;
-    Ok(())
+    Ok(cfa)
 }

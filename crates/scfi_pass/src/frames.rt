@@ -47,17 +47,35 @@ fn or_else(one: Option<Cfa>, other: Option<Cfa>) -> Option<Cfa>
     }
 }
 
-/// The frame address, from the first register that gives it.
-pub(crate) fn cfa_of(depths: &DepthTable, item: usize) -> Option<Cfa>
-    ensures { result ≡ spec.cfa_of (distances_in depths.now item) }
+/// The frame address from the first of rbx, r12 to r15 that gives it.
+#[inline(never)]
+fn other_cfa(depths: &DepthTable, item: usize) -> Option<Cfa>
+    ensures { result ≡ spec.other_cfa (distances_in depths.now item) }
 {
-    let rbp = low_by(2, depths.distance(item, 2));
-    let rsp = known_by(0, depths.distance(item, 0));
     let rbx = low_by(1, depths.distance(item, 1));
     let r12 = low_by(3, depths.distance(item, 3));
     let r13 = low_by(4, depths.distance(item, 4));
     let r14 = low_by(5, depths.distance(item, 5));
     let r15 = low_by(6, depths.distance(item, 6));
-    let others = or_else(r12, or_else(r13, or_else(r14, r15)));
-    or_else(rbp, or_else(rsp, or_else(rbx, others)))
+    or_else(rbx, or_else(r12, or_else(r13, or_else(r14, r15))))
+}
+
+/// The frame address from rsp, or else from the others.
+fn stack_cfa(depths: &DepthTable, item: usize) -> Option<Cfa>
+    ensures { result ≡ spec.stack_cfa (distances_in depths.now item) }
+{
+    match known_by(0, depths.distance(item, 0)) {
+        Some(cfa) => Some(cfa),
+        None => other_cfa(depths, item),
+    }
+}
+
+/// The frame address, from the first register that gives it.
+pub(crate) fn cfa_of(depths: &DepthTable, item: usize) -> Option<Cfa>
+    ensures { result ≡ spec.cfa_of (distances_in depths.now item) }
+{
+    match low_by(2, depths.distance(item, 2)) {
+        Some(cfa) => Some(cfa),
+        None => stack_cfa(depths, item),
+    }
 }

@@ -1,14 +1,15 @@
 //! The row of an item of which no fault is told.
 
-ghost use Rattle.std.specs.Prelude.{◌≡◌, true};
+ghost use Rattle.std.specs.Prelude.{◌≡◌, Bool, true, IsTrue};
 ghost use Rattle.stack_facts.specs.Places.{is_saved};
-ghost use Rattle.scfi_pass.specs.Rows.{IsRuleOf, IsRow};
+ghost use Rattle.stack_facts.specs.Facts.{Fact};
+ghost use Rattle.scfi_pass.specs.Rows.{IsRuleOf, AreRules};
 ghost use Rattle.scfi_pass.specs.Faults.{IsSound};
+ghost use Rattle.scfi_pass.specs.Tables.{row_by};
 ghost use Rattle.scfi_pass.specs.Looking.{seen};
 
-use crate::frames::cfa_of;
 use crate::looking::Looked;
-use crate::rows::StackRow;
+use crate::rows::{Cfa, StackRow};
 
 /// The slot of a register, or none where it has its entry value still.
 fn rule_at(looked: &Looked, register: u8) -> Option<u64>
@@ -19,12 +20,12 @@ fn rule_at(looked: &Looked, register: u8) -> Option<u64>
     looked.facts.slot_of(looked.place, register)
 }
 
-/// The row of an item.
-pub(crate) fn row_at(looked: &Looked) -> StackRow
+/// The row of an item with this frame address, its rules worked out.
+fn new_row(looked: &Looked, cfa: Cfa) -> StackRow
     requires { IsSound (seen looked.now) }
-    ensures { IsRow (seen looked.now).known (seen looked.now).stands result }
+    ensures cfa { result.cfa ≡ cfa }
+    ensures rules { AreRules (seen looked.now).stands result }
 {
-    let cfa = cfa_of(looked.depths, looked.place).unwrap();
     StackRow {
         cfa,
         rbx: rule_at(looked, 1),
@@ -34,4 +35,46 @@ pub(crate) fn row_at(looked: &Looked) -> StackRow
         r14: rule_at(looked, 5),
         r15: rule_at(looked, 6),
     }
+}
+
+/// The row of an item with this frame address, with rules that are held already.
+fn held_row(cfa: Cfa, row: &StackRow) -> StackRow
+    ensures cfa { result.cfa ≡ cfa }
+    ensures rules { (stands : Fact → Bool) → AreRules stands row.now → AreRules stands result }
+{
+    StackRow {
+        cfa,
+        rbx: row.rbx,
+        rbp: row.rbp,
+        r12: row.r12,
+        r13: row.r13,
+        r14: row.r14,
+        r15: row.r15,
+    }
+}
+
+fn same_cfa(one: Cfa, other: Cfa) -> bool
+    ensures { IsTrue result → one ≡ other }
+{
+    if one.register != other.register {
+        return false;
+    }
+    one.distance == other.distance
+}
+
+/// The row of an item with this frame address, if it is another than the row before. Its rules may be
+/// known to be those of the row before.
+pub(crate) fn other_row(looked: &Looked, cfa: Cfa, held: bool, row: &StackRow) -> Option<StackRow>
+    requires sound { IsSound (seen looked.now) }
+    requires held { IsTrue held → AreRules (seen looked.now).stands row.now }
+    ensures cfa { (row_by row.now result).cfa ≡ cfa }
+    ensures rules { AreRules (seen looked.now).stands (row_by row.now result) }
+{
+    if held {
+        if same_cfa(row.cfa, cfa) {
+            return None;
+        }
+        return Some(held_row(cfa, row));
+    }
+    Some(new_row(looked, cfa))
 }

@@ -1,12 +1,13 @@
 //! The frame table of a function, or its first fault.
 
-ghost use Rattle.std.specs.Prelude.{◌≡◌, ◌<◌, ◌++◌, IfOk, Some, true, length, slice_get};
+ghost use Rattle.std.specs.Prelude.{◌≡◌, ◌<◌, ◌++◌, IfOk, IsTrue, Some, true, length, slice_get};
 ghost use Rattle.stack_depths.specs.States.{reached_in};
+ghost use Rattle.stack_facts.specs.Facts.{Fact};
 ghost use Rattle.cfi_rows.specs.Differences.{differences};
-ghost use Rattle.scfi_pass.specs.Rows.{IsRow, whole_row};
+ghost use Rattle.scfi_pass.specs.Rows.{whole_row};
 ghost use Rattle.scfi_pass.specs.Changing.{told};
 ghost use Rattle.scfi_pass.specs.Looking.{seen};
-ghost use Rattle.scfi_pass.specs.Tables.{IsSoundAt, IsNextRow, IsFrameTable, situation, entry_row};
+ghost use Rattle.scfi_pass.specs.Tables.{IsSoundAt, IsNextRow, IsOwnRow, IsHeld, IsFrameTable, row_by, situation, entry_row};
 ghost use Rattle.scfi_pass.specs.Synthesis.{analyzed, Refuses, RefusesAt};
 
 use crate::changing::lead;
@@ -15,10 +16,10 @@ use crate::faults::checked;
 use crate::item_ops::ItemOp;
 use crate::looking::Looked;
 use crate::rows::{Cfa, StackRow};
-use crate::rules::row_at;
+use crate::rules::other_row;
 use crate::walked::{ItemFault, Walked};
 use asm_base::Refusal;
-use std::alloc::Global;
+use std::alloc::{AllocError, Global};
 
 fn entry_row() -> StackRow
     ensures { result ≡ entry_row }
@@ -55,47 +56,89 @@ fn look<'a>(walked: &Walked<'a>, place: usize) -> Looked<'a>
     }
 }
 
-/// The row of an item to which a walk leads, or its first fault.
-fn reached_row(walked: &Walked, place: usize) -> Result<StackRow, Refusal<ItemFault>>
+/// Whether the same facts stand at an item as at the last one that was gone over.
+fn is_held(walked: &Walked, last: usize, place: usize) -> bool
+    ensures { IsTrue result → (last < length walked.now.items.now)
+        × ((f : Fact) → (analyzed walked.now).facts last f
+        ≡ (analyzed walked.now).facts place f) }
+{
+    if last >= walked.items.len() {
+        return false;
+    }
+    walked.facts.are_same(last, place)
+}
+
+/// The row of an item to which a walk leads, if it is another than the one before, or its first fault.
+/// The row before has the rules of the last item that was gone over.
+fn reached_row(
+    walked: &Walked,
+    place: usize,
+    last: usize,
+    row: &StackRow,
+) -> Result<Option<StackRow>, Refusal<ItemFault>>
     requires place { place < length walked.now.items.now }
     requires reached { reached_in walked.now.depths.now place ≡ true }
+    requires held { IsHeld (analyzed walked.now) last row.now }
     ensures sound { IfOk result (λ _. IsSoundAt (analyzed walked.now) place) }
-    ensures row { IfOk result (λ row. IsRow ((analyzed walked.now).distances place)
-        ((analyzed walked.now).facts place) row) }
+    ensures row { IfOk result (λ next. IsOwnRow (analyzed walked.now) place (row_by row.now next)) }
     ensures fault { RefusesAt (analyzed walked.now) place result }
 {
     let looked = look(walked, place);
-    match checked(&looked) {
-        Ok(()) => Ok(row_at(&looked)),
+    let held = is_held(walked, last, place);
+    match checked(&looked, held) {
         Err(fault) => Err(Refusal::Fault(ItemFault { item: place, fault })),
+        Ok(cfa) => Ok(other_row(&looked, cfa, held, row)),
     }
 }
 
-/// Goes over an item: the row is its own then, and the instructions lead to it.
+/// Puts another row in place of a row, if there is one, and the instructions that lead to it.
+fn put_row(
+    ops: &mut Vec<ItemOp>,
+    place: usize,
+    row: &mut StackRow,
+    next: Option<StackRow>,
+) -> Result<(), AllocError>
+    ensures row { IfOk result (λ _. row.new ≡ row_by row.old next) }
+    ensures ops { IfOk result (λ _. ops.new.items ≡ ops.old.items
+        ++ told place (differences (whole_row row.old) (whole_row row.new))) }
+{
+    match next {
+        None => Ok(()),
+        Some(next) => {
+            lead(ops, place, row, &next)?;
+            *row = next;
+            Ok(())
+        }
+    }
+}
+
+/// Goes over an item: the row is its own then, and the instructions lead to it. It tells the last item
+/// that was gone over.
+#[tactic(auto, using(crate::proofs::TableLemmas::own_next, crate::proofs::TableLemmas::own_held))]
 fn take(
     walked: &Walked,
     place: usize,
+    last: usize,
     row: &mut StackRow,
     ops: &mut Vec<ItemOp>,
-) -> Result<(), Refusal<ItemFault>>
+) -> Result<usize, Refusal<ItemFault>>
     requires place { place < length walked.now.items.now }
+    requires held { IsHeld (analyzed walked.now) last row.old }
     ensures sound { IfOk result (λ _. IsSoundAt (analyzed walked.now) place) }
     ensures row { IfOk result (λ _. IsNextRow (analyzed walked.now) place row.old row.new) }
+    ensures held { IfOk result (λ last. IsHeld (analyzed walked.now) last row.new) }
     ensures ops { IfOk result (λ _. ops.new.items ≡ ops.old.items
         ++ told place (differences (whole_row row.old) (whole_row row.new))) }
     ensures fault { RefusesAt (analyzed walked.now) place result }
 {
     if !walked.depths.is_reached(place) {
-        return Ok(());
+        return Ok(last);
     }
-    match reached_row(walked, place) {
+    match reached_row(walked, place, last, row) {
         Err(refusal) => Err(refusal),
-        Ok(next) => match lead(ops, place, row, &next) {
+        Ok(next) => match put_row(ops, place, row, next) {
             Err(_) => Err(Refusal::NoMemory),
-            Ok(()) => {
-                *row = next;
-                Ok(())
-            }
+            Ok(()) => Ok(place),
         },
     }
 }
@@ -107,10 +150,11 @@ pub(crate) fn frame_table(alloc: Global, walked: &Walked) -> Result<Vec<ItemOp>,
 {
     let mut ops = Vec::new(alloc);
     let mut row = entry_row();
+    let mut last = walked.items.len();
     for place in 0..walked.items.len() {
-        match take(walked, place, &mut row, &mut ops) {
+        match take(walked, place, last, &mut row, &mut ops) {
             Err(refusal) => return Err(refusal),
-            Ok(()) => {}
+            Ok(next) => last = next,
         }
     }
     Ok(ops)

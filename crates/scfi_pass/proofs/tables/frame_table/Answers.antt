@@ -10,6 +10,7 @@ loop-place-preserved c =
     let t = c.in-Ok.ensures in
     record {
       sound = sounds_on a c.loop-place.place i.sound t.sound;
+      held = t.held;
       leads = leads_step a c.loop-place.place c.loop-place.row c.take.new.row c.loop-place.ops.items c.take.new.ops.items i.leads t.row t.ops;
     }
 
