@@ -1,4 +1,4 @@
-//! Public calls that no program reaches, with ample memory, and rows of layouts and of frame tables: what each line of the input answers is written.
+//! Public calls that no program reaches, with ample memory, and rows of layouts, of frame tables and of functions: what each line of the input answers is written.
 #![tactic(auto)]
 
 mod calls;

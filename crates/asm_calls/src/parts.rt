@@ -1,7 +1,8 @@
-//! The parts of the stored input: cases of layouts, entries of frame tables, and calls.
+//! The parts of the stored input: cases of layouts, entries of frame tables, functions, and calls.
 
 use crate::calls::write_call;
 use frame_rows::write_entry;
+use function_rows::write_function;
 use layout_rows::Case;
 use row_texts::write_line;
 use std::alloc::Global;
@@ -12,6 +13,7 @@ use std::io;
 enum Part {
     Layouts,
     Frames,
+    Functions,
     Calls,
 }
 
@@ -20,6 +22,7 @@ fn part_of(line: &str) -> Option<Part> {
     match line {
         "=== layouts" => Some(Part::Layouts),
         "=== frames" => Some(Part::Frames),
+        "=== functions" => Some(Part::Functions),
         "=== calls" => Some(Part::Calls),
         _ => None,
     }
@@ -36,6 +39,7 @@ fn write_answer(
     match part {
         Part::Layouts => case.read_line(alloc, line, out),
         Part::Frames => write_entry(alloc, line, out),
+        Part::Functions => write_function(alloc, line, out),
         Part::Calls => write_call(alloc, line, out),
     }
 }
