@@ -4,7 +4,8 @@
     checks/stacks.py [--program crates/asm_calls/out/asm_calls] [--count 1000] [--seed 1]
 
 First the functions of crates/asm_calls/stdin, with what crates/asm_calls/stdout says of them. With the built program `asm_calls` random functions too, which it
-reads from its standard input. Prints the first lines that differ, with `<` before what the program says and `>` before what the model says. Ends with 1 where
+reads from its standard input. Random functions have no `popstack`, `pushword` or `retpop`; on
+`popstack ret` the two are known to differ. Prints the first lines that differ, with `<` before what the program says and `>` before what the model says. Ends with 1 where
 one differs.
 """
 import argparse
