@@ -153,7 +153,8 @@ def distances_after(item: Item, known: Distances) -> Distances:
         after[RSP] = moved(RSP, -8)
     elif item.word == "pop":
         after[RSP] = None if RSP in registers_in(item.numbers[1]) else moved(RSP, 8)
-    elif item.word == "popmemory":
+    elif item.word in ("popmemory", "popstack"):
+        # Every pop moves rsp by 8, also `pop %rsp`, which is not supported.
         after[RSP] = moved(RSP, 8)
     elif item.word == "move":
         to, base, amount = item.numbers

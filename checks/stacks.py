@@ -4,9 +4,8 @@
     checks/stacks.py [--program crates/asm_calls/out/asm_calls] [--count 1000] [--seed 1]
 
 First the functions of crates/asm_calls/stdin, with what crates/asm_calls/stdout says of them. With the built program `asm_calls` random functions too, which it
-reads from its standard input. Random functions have no `popstack`, `pushword` or `retpop`; on
-`popstack ret` the two are known to differ. Prints the first lines that differ, with `<` before what the program says and `>` before what the model says. Ends with 1 where
-one differs.
+reads from its standard input; they have no `pushword`. Prints the first lines that differ, with `<` before what the program says and `>` before what the model says.
+Ends with 1 where one differs.
 """
 import argparse
 import difflib
@@ -97,6 +96,7 @@ class Maker:
             (14, lambda: choice(("je", "je", "je", "jmp")) + self.target(count)),
             (5, lambda: "nop"),
             (5, lambda: choice(("ret", "ret", "ret", "ud2", "data", "jmpthrough", "nop"))),
+            (1, lambda: choice(("popstack", "retpop"))),
         ]
         return self.rng.choices([make for _, make in kinds], [weight for weight, _ in kinds])[0]()
 
