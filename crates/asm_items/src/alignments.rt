@@ -26,7 +26,7 @@ fn is_code(sections: &Sections, number: u32) -> bool
 
 /// Puts the alignment of these values, and then allows or refuses the names of its operands.
 #[inline(always)]
-fn put_align(
+pub fn put_align(
     assembler: &mut Assembler,
     pos: Pos,
     by: AlignedBy,

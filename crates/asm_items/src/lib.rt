@@ -5,6 +5,6 @@ mod alignments;
 mod leb128_numbers;
 mod orgs;
 
-pub use alignments::place_align;
+pub use alignments::{place_align, put_align};
 pub use leb128_numbers::place_leb128;
 pub use orgs::place_org;
