@@ -31,13 +31,14 @@ use Rattle.asm_place.specs.declared.codes.CodeField.{CodeField}
 use Rattle.asm_place.specs.Coding.{InsnShape, shape_in, forms_of, in_text_order, values_in, of_code, fields_of, put_code, keeps_place, put_by_jump, put_coded, put_insn, place_insn, place_text, place_read, lone_code, insn_by, place_coded, place_instruction}
 use Rattle.asm_place.specs.Placing.{place_body, place_label, place_unlabelled, place_labelled, has_wide_label, place_tokens}
 use Rattle.asm_place.specs.Sources.{pos_at, place, place_all}
+use Rattle.asm_place.specs.Bodies.{AreLabels}
 use Rattle.asm_place.specs.Instructions.{behind_labels, instruction_written, run_end, with_more, IsContinued, Grows, IsWithin, AreWithin}
 use Rattle.asm_place.specs.CodePlaces.{text_read, insn_written, is_instruction, BeginsAsInstruction, insn_in, labelled, known_in, code_fields, with_held, zeros_in, blanked, AreApart, field_in, with_code, IsCodePut, IsInsnPut, CodeStandsAt, InsnStands, jump_in}
 use Rattle.asm_place.proofs.GrowthLemmas.{get_set, All-there, run_keeps, run_added}
 use Rattle.asm_place.proofs.Walks.{FramesKeep}
 use Rattle.asm_place.proofs.PlacingLaws.{all_grow, all_within}
 use Rattle.asm_place.proofs.StatementSplits.{err-ok, same_Ok, both_ok, all_split}
-use Rattle.asm_place.proofs.InstructionLaws.{wide_ok, Labels, same_labels, label_keeps, located_ok, first_placed, run_items}
+use Rattle.asm_place.proofs.InstructionLaws.{wide_ok, same_labels, label_keeps, located_ok, first_placed, run_items}
 use Rattle.asm_place.proofs.FieldOrder.{zeros_long}
 use Rattle.asm_place.proofs.CodeParts.{apart_inside, slice_long, code_none, set_same, apart_before, code_put}
 use Rattle.asm_place.proofs.CodingFields.{coding_apart}
@@ -67,22 +68,31 @@ labels_split pos [] placed = refl
 labels_split pos (first ∷ []) placed = refl
 labels_split pos (first ∷ second ∷ rest) placed = label_splits (is_label first second) pos first second rest placed (labels_split pos rest)
 
--- labels change neither the sections nor which is the current one, nor the syntax
+-- labels change symbols alone
 labels_keep_by : (test : Bool) (pos : Pos) (first : SpelledToken) (rest : List SpelledToken) (before labels : Placed)
-    → ((one : Placed) → labelled pos rest one ≡ Ok labels → Labels one labels)
+    → ((one : Placed) → labelled pos rest one ≡ Ok labels → AreLabels one labels)
     → cond test (place_label pos first before >>= (λ one. labelled pos rest one)) (Ok before) ≡ Ok labels
-    → Labels before labels
+    → AreLabels before labels
 labels_keep_by true pos first rest before labels again is =
     both_ok _ _ labels is (λ one one_is later.
     let keeps = label_keeps pos first before one one_is in
     let more = again one later in
-    record { sections = more.sections ∙ keeps.sections; current = more.current ∙ keeps.current; syntax = more.syntax ∙ keeps.syntax })
-labels_keep_by false pos first rest before labels again is = same_labels before labels (same_Ok before labels is)
+    record {
+      sections = more.sections ∙ keeps.sections;
+      current = more.current ∙ keeps.current;
+      previous = more.previous ∙ keeps.previous;
+      stack = more.stack ∙ keeps.stack;
+      syntax = more.syntax ∙ keeps.syntax;
+      procedures = more.procedures ∙ keeps.procedures;
+      no_warn = more.no_warn ∙ keeps.no_warn;
+      notes = more.notes ∙ keeps.notes;
+    })
+labels_keep_by false pos first rest before labels again is = same_labels before labels before.table (same_Ok before labels is)
 
-pub labels_keep : (pos : Pos) (tokens : List SpelledToken) (before labels : Placed) → labelled pos tokens before ≡ Ok labels → Labels before labels
+pub labels_keep : (pos : Pos) (tokens : List SpelledToken) (before labels : Placed) → labelled pos tokens before ≡ Ok labels → AreLabels before labels
 unfolding labelled
-labels_keep pos [] before labels is = same_labels before labels (same_Ok before labels is)
-labels_keep pos (first ∷ []) before labels is = same_labels before labels (same_Ok before labels is)
+labels_keep pos [] before labels is = same_labels before labels before.table (same_Ok before labels is)
+labels_keep pos (first ∷ []) before labels is = same_labels before labels before.table (same_Ok before labels is)
 labels_keep pos (first ∷ second ∷ rest) before labels is =
     labels_keep_by (is_label first second) pos first rest before labels (λ one. labels_keep pos rest one labels) is
 

@@ -24,12 +24,14 @@ use Rattle.x86_lookup.specs.BareInstructions.{Coded, bare_instruction, BareCodes
 use Rattle.asm_base.specs.Refusals.{◌>>=◌}
 use Rattle.asm_operands.specs.LayerFaults.{of_sections}
 use Rattle.asm_operands.specs.Operands.{is_name, is_dot, names_symbol, begins_with_dot, is_label}
+use Rattle.asm_uses.specs.Tables.{Table}
 use Rattle.asm_values.specs.State.{Placed, with_table, unless_dot, put_bytes_into}
 use Rattle.asm_words.specs.declared.directives.Syntax.{Syntax}
 use Rattle.asm_words.specs.declared.directives.Syntax.TheVariants.{Att, Intel}
 use Rattle.asm_place.specs.Coding.{lone_code, place_coded, place_instruction}
 use Rattle.asm_place.specs.Placing.{place_body, place_label, place_labelled, has_wide_label, place_tokens}
 use Rattle.asm_place.specs.Sources.{pos_at, located, place, place_all}
+use Rattle.asm_place.specs.Bodies.{AreLabels}
 use Rattle.asm_place.specs.Instructions.{behind_labels, instruction_written, instruction_of, run_end, next_item, next_offset, with_more, IsContinued, Grows, IsWithin, AreWithin, IsPut, StandsAt}
 use Rattle.asm_place.proofs.GrowthLemmas.{get_set, All-there, run_keeps, run_added}
 use Rattle.asm_place.proofs.Walks.{FramesKeep}
@@ -104,29 +106,25 @@ pub wide_ok : (wide : Bool) (answer : Result Placed PlaceCause) (placed : Placed
 wide_ok true answer placed is = err-ok _ placed is
 wide_ok false answer placed is = is
 
--- a label changes neither the sections nor which is the current one, nor the syntax
-pub record Labels (before placed : Placed) : Type 0 where
-  pub sections : placed.sections ≡ before.sections
-  pub current : placed.current ≡ before.current
-  pub syntax : placed.syntax ≡ before.syntax
-
-pub same_labels : (before placed : Placed) → before ≡ placed → Labels before placed
-same_labels before placed is = record {
+-- what is placed with other symbols is the same but for these
+pub same_labels : (before placed : Placed) (table : Table) → with_table before table ≡ placed → AreLabels before placed
+same_labels before placed table is = record {
   sections = ap (λ (p : Placed). p.sections) (sym is);
   current = ap (λ (p : Placed). p.current) (sym is);
+  previous = ap (λ (p : Placed). p.previous) (sym is);
+  stack = ap (λ (p : Placed). p.stack) (sym is);
   syntax = ap (λ (p : Placed). p.syntax) (sym is);
+  procedures = ap (λ (p : Placed). p.procedures) (sym is);
+  no_warn = ap (λ (p : Placed). p.no_warn) (sym is);
+  notes = ap (λ (p : Placed). p.notes) (sym is);
 }
 
-pub label_keeps : (pos : Pos) (token : SpelledToken) (before placed : Placed) → place_label pos token before ≡ Ok placed → Labels before placed
+-- a label changes symbols alone
+pub label_keeps : (pos : Pos) (token : SpelledToken) (before placed : Placed) → place_label pos token before ≡ Ok placed → AreLabels before placed
 unfolding place_label
 label_keeps pos token before placed is =
     both_ok _ _ placed is (λ table made is_placed.
-    let same : with_table before table ≡ placed = dot_ok (is_dot token) (with_table before table) placed is_placed in
-    record {
-      sections = ap (λ (p : Placed). p.sections) (sym same);
-      current = ap (λ (p : Placed). p.current) (sym same);
-      syntax = ap (λ (p : Placed). p.syntax) (sym same);
-    })
+    same_labels before placed table (dot_ok (is_dot token) (with_table before table) placed is_placed))
 
 not_alone : (syntax : Syntax) (first second : SpelledToken) (rest : List SpelledToken) (coded : Coded) → instruction_written syntax (first ∷ second ∷ rest) ≡ Some coded → ⊥
 unfolding instruction_written

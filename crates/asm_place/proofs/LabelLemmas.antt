@@ -24,7 +24,7 @@ unlabelled pos (first ∷ []) placed none = refl
 unlabelled pos (first ∷ second ∷ rest) placed none =
     ap (λ b. cond b (place_label pos first placed >>= (λ labels. place_labelled pos rest labels)) (place_body pos first (second ∷ rest) placed)) none
 
-label_two : (pos : Pos) (first second : SpelledToken) (rest : List SpelledToken) (placed : Placed) → is_label first second ≡ true
+pub label_two : (pos : Pos) (first second : SpelledToken) (rest : List SpelledToken) (placed : Placed) → is_label first second ≡ true
     → place_labelled pos (first ∷ second ∷ rest) placed ≡ (place_label pos first placed >>= (λ labels. place_labelled pos rest labels))
 unfolding place_labelled
 label_two pos first second rest placed labelled =

@@ -17,6 +17,7 @@ mod InstructionLaws
 mod CodeParts
 mod CodingFields
 mod CodeLaws
+mod SplitLaws
 mod JumpLaws
 mod NamedSymbols
 mod GivenNames

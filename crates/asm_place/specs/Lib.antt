@@ -7,6 +7,7 @@ pub mod Amounts
 pub mod Placing
 pub mod Sources
 pub mod Instructions
+pub mod Bodies
 pub mod CodePlaces
 pub mod JumpPlaces
 pub mod SymbolPlaces

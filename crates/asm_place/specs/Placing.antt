@@ -2,7 +2,7 @@
 use Rattle.std.specs.Prelude.{ℕ, ◌&&◌, ◌||◌, Bool, false, not, List, [], ◌∷◌, drop, Option, None, Some, Result, Ok, Err, if◌then◌else◌}
 use Rattle.std.specs.Result.{is_err}
 use Rattle.asm_operands.specs.declared.place_faults.PlaceCause.{PlaceCause}
-use Rattle.asm_operands.specs.declared.place_faults.PlaceCause.TheVariants.{NumberTooWide, UnknownMnemonic, UnknownDirective, BadOperand}
+use Rattle.asm_operands.specs.declared.place_faults.PlaceCause.TheVariants.{NumberTooWide, UnknownMnemonic, UnknownDirective}
 use Rattle.asm_base.specs.declared.positions.Pos.{Pos}
 use Rattle.asm_base.specs.Tokens.{SpelledToken}
 use Rattle.expr_texts.specs.Numbers.{numeral}

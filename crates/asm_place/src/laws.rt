@@ -4,6 +4,8 @@ ghost use Rattle.std.specs.Prelude.{◌≡◌, ◌≤◌, ◌^◌, ◌∷◌, �
 ghost use Rattle.asm_base.specs.declared.positions.Pos.{Pos};
 ghost use Rattle.asm_base.specs.Tokens.{SpelledToken};
 ghost use Rattle.asm_lines.specs.NextStatements.{TokenStatement};
+ghost use Rattle.asm_operands.specs.Operands.{begins_with_label};
+ghost use Rattle.asm_place.specs.Bodies.{labels_of, tokens_in_two, front, place_in_two, AreLabels};
 ghost use Rattle.x86_lookup.specs.BareInstructions.{Coded};
 ghost use Rattle.asm_values.specs.State.{Placed, nothing_placed};
 ghost use Rattle.asm_place.specs.Placing.{place_tokens};
@@ -60,6 +62,25 @@ pub fn placing_in_order()
 pub fn placing_is_not_reading()
     ensures { (statements : List TokenStatement) (before : Placed) (stop : FaultAt)
         → place_all statements before ≡ Err stop → is_file_too_large stop.fault ≡ false }
+{}
+
+/// A statement is its labels and then what stands behind them, of which it has the same faults.
+#[tactic(auto, using(crate::proofs::SplitLaws::labels_first, crate::proofs::SplitLaws::no_label_behind, crate::proofs::SplitLaws::tokens_split, crate::proofs::SplitLaws::statement_split))]
+pub fn statements_split()
+    ensures whole { (tokens : List SpelledToken) → labels_of tokens ++ behind_labels tokens ≡ tokens }
+    ensures bare { (tokens : List SpelledToken)
+        → begins_with_label (behind_labels tokens) ≡ false }
+    ensures tokens { (pos : Pos) (tokens : List SpelledToken) (placed : Placed)
+        → place_tokens pos tokens placed ≡ tokens_in_two pos tokens placed }
+    ensures statement { (s : TokenStatement) (placed : Placed)
+        → place s placed ≡ place_in_two s placed }
+{}
+
+/// Labels change symbols alone.
+#[tactic(auto, using(crate::proofs::SplitLaws::front_keeps))]
+pub fn labels_change_symbols()
+    ensures { (s : TokenStatement) (before after : Placed)
+        → place (front s) before ≡ Ok after → AreLabels before after }
 {}
 
 /// Where a statement is an instruction without operands in AT&T syntax, its bytes are put last in the

@@ -2,6 +2,7 @@
 #![tactic(auto)]
 
 mod amount_forms;
+mod bodies;
 mod code_putting;
 mod codes;
 mod instructions;
@@ -12,10 +13,12 @@ mod remarks;
 mod sources;
 mod syntax_words;
 
+pub use bodies::{Body, body_of, labels_length};
 pub use laws::{
     encoding_items, encoding_stands, instruction_items, instruction_stands, jump_items,
-    jumps_are_put, jumps_read, places_stand, placing_grows, placing_in_order,
-    placing_is_not_reading, placing_within, procedures_stand_in_order, sources_are_small,
+    jumps_are_put, jumps_read, labels_change_symbols, places_stand, placing_grows,
+    placing_in_order, placing_is_not_reading, placing_within, procedures_stand_in_order,
+    sources_are_small, statements_split,
 };
 pub use place_faults::{BoxedFault, FaultAt};
 pub use sources::StatementPlacer;
