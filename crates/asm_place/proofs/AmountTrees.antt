@@ -99,7 +99,7 @@ module _ (held : Amount) (read : Tree) (is : IsAmountOf held read) where
   same_form known fits = ap in_statement (same_linear held read known is fits)
 
 -- the shape of an instruction is that of its text
-same_shape : (insn : Insn) (text : InsnText) → IsInsnOf insn text → shape_of insn ≡ shape_in text
+pub same_shape : (insn : Insn) (text : InsnText) → IsInsnOf insn text → shape_of insn ≡ shape_in text
 same_shape insn text is =
     rw (is.name, is.size, is.«prefix», is.first, is.second, is.third, is.address, is.immediate.suffix, is.displacement.suffix) refl
 
@@ -110,7 +110,7 @@ module _ (pos : Pos) (insn : Insn) (text : InsnText) (placed : Placed) (is : IsI
   abbrev moved : Tree
   moved = text.displacement.tree
 
-  same_tables : (syntax : Syntax) → with_trees pos (trees_of syntax insn) placed.table ≡ with_trees pos (in_text_order syntax own moved) placed.table
+  pub same_tables : (syntax : Syntax) → with_trees pos (trees_of syntax insn) placed.table ≡ with_trees pos (in_text_order syntax own moved) placed.table
   unfolding with_trees
   same_tables Att =
       same_table insn.displacement.amount moved is.displacement.amount pos (with_tree pos (amount_tree insn.immediate.amount) placed.table)
@@ -132,7 +132,7 @@ module _ (pos : Pos) (insn : Insn) (text : InsnText) (placed : Placed) (is : IsI
         same_meant insn.displacement.amount moved is.displacement.amount placed.table.symbols.counts,
       ) refl
 
-  same_forms : (known : Knowledge) → InsnFits known insn
+  pub same_forms : (known : Knowledge) → InsnFits known insn
       → forms_of known (amount_tree insn.immediate.amount) (amount_tree insn.displacement.amount) ≡ forms_of known own moved
   same_forms known fits =
       rw (same_form insn.immediate.amount own is.immediate.amount known fits.immediate, same_form insn.displacement.amount moved is.displacement.amount known fits.displacement) refl

@@ -3,9 +3,11 @@ mod RemarkLemmas
 mod TokenLists
 mod NamedForms
 mod AmountTrees
+mod EffectLemmas
 mod FieldOrder
 mod GrowthLemmas
 mod LabelLemmas
+mod BodyLemmas
 mod Walks
 mod TakenPlaces
 mod ProcedureSteps

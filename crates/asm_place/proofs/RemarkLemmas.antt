@@ -28,6 +28,11 @@ last_there tokens token there = last_seen tokens ∙ ap (λ found. string_in (op
 pub last_missing : (tokens : List Token) → slice_get tokens (length tokens - 1) ≡ None → last_string (map spelled tokens) ≡ None
 last_missing tokens none = last_seen tokens ∙ ap (λ found. string_in (option_map spelled found)) none
 
+-- where the notes stay, no refusal makes one
+pub notes_stay : (cause : Refusal PlaceCause) (old new : List Noted) → new ≡ old → KeepsNotes {T = Unit {0}} (Err cause) old new
+notes_stay (refusal.Fault cause) old new same = same
+notes_stay refusal.NoMemory old new same = tt
+
 -- what refuses a statement answers its fault in its place
 pub refused_in_place : (s : TokenStatement) (old new : List Noted) (cause : Refusal PlaceCause) (result : Refusal FaultAt) (due : Result Placed PlaceCause)
     → KeepsNotes {T = Unit {0}} (Err cause) old new → IsRefusalAt s new cause result → Fails cause due → Fails result (located s old due)

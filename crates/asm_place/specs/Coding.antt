@@ -282,6 +282,11 @@ lone_code Att [] = None
 lone_code Att (name ∷ []) = bare_code name.bytes
 lone_code Att (name ∷ operand ∷ rest) = None
 
+-- the bytes of an instruction that stands alone in AT&T syntax, where these are asked for
+abbrev pub lone_asked : Bool → List SpelledToken → Option (List ℕ)
+lone_asked false tokens = None
+lone_asked true tokens = lone_code Att tokens
+
 -- the instruction that the tokens are in this syntax
 abbrev pub insn_by : Syntax → List SpelledToken → Result InsnText OperandCause
 insn_by Att tokens = att.insn_of tokens
@@ -291,6 +296,11 @@ insn_by Intel tokens = intel.insn_of tokens
 abbrev pub place_coded : Pos → Option (List ℕ) → List SpelledToken → Placed → Result Placed PlaceCause
 place_coded pos None tokens placed = place_read pos (insn_by placed.syntax tokens) placed
 place_coded pos (Some bytes) tokens placed = put_bytes pos bytes placed
+
+-- the bytes of a mnemonic that stands alone, or the instruction that was read
+abbrev pub place_either : Pos → Option (List ℕ) → Result InsnText OperandCause → Placed → Result Placed PlaceCause
+place_either pos None read placed = place_read pos read placed
+place_either pos (Some bytes) read placed = put_bytes pos bytes placed
 
 -- a statement that is an instruction, in the syntax that is in force
 unfoldable pub place_instruction : Pos → List SpelledToken → Placed → Result Placed PlaceCause

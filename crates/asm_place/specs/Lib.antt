@@ -3,6 +3,7 @@ pub mod Faults
 pub mod Remarks
 pub mod SyntaxWords
 pub mod Coding
+pub mod Effects
 pub mod Amounts
 pub mod Placing
 pub mod Sources

@@ -12,6 +12,8 @@ mod placing;
 mod remarks;
 mod sources;
 mod syntax_words;
+mod watched;
+mod watches;
 
 pub use bodies::{Body, body_of, labels_length};
 pub use laws::{

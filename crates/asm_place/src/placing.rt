@@ -12,6 +12,7 @@ ghost use Rattle.asm_values.specs.PlacedBy.{placed_by, PlacesBy};
 use crate::instructions::place_instruction;
 use crate::remarks::{place_error, place_warning};
 use crate::syntax_words::place_syntax;
+use crate::watches::Watch;
 use asm_base::{Pos, Token};
 use asm_declarations::{
     place_comm, place_file, place_ident, place_lcomm, place_popped, place_pushed, place_said,
@@ -171,7 +172,8 @@ fn place_body(
     } else if begins_with_dot(first.bytes) {
         place_directive(assembler, pos, first.bytes, rest)
     } else {
-        place_instruction(assembler, pos, tokens)
+        let mut watch = Watch::none();
+        place_instruction(assembler, pos, tokens, &mut watch)
     }
 }
 

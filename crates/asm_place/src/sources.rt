@@ -67,7 +67,7 @@ impl Model for StatementPlacer {
 
 /// The refusal of the statement at this place, which takes the notes along.
 #[inline(never)]
-fn refused(
+pub(crate) fn refused(
     assembler: &mut Assembler,
     pos: Pos,
     tokens: &[Token],
