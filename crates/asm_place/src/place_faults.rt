@@ -30,7 +30,7 @@ impl BoxedFault {
     ghost use Rattle.std.specs.Prelude.{◌≡◌, IfOk};
 
     /// This fault in a box.
-    pub(crate) fn new(alloc: Global, fault: FaultAt) -> Result<BoxedFault, AllocError>
+    pub fn new(alloc: Global, fault: FaultAt) -> Result<BoxedFault, AllocError>
         ensures { IfOk result (λ boxed. boxed ≡ fault) }
     {
         Ok(BoxedFault {
