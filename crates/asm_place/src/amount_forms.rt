@@ -348,6 +348,7 @@ fn named_form(
 }
 
 /// The form of an amount.
+#[inline(always)]
 #[tactic(auto, unfolding(asm_operands::specs::Expressions::form_in, asm_expr::specs::Linear::linear))]
 pub(crate) fn amount_form(
     assembler: &Assembler,

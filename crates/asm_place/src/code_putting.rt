@@ -180,6 +180,27 @@ fn put_fields(
     }
 }
 
+/// The same: most instructions have no field.
+#[inline(always)]
+#[tactic(auto, unfolding(crate::specs::Coding::put_code))]
+fn put_made(
+    assembler: &mut Assembler,
+    pos: Pos,
+    insn: &Insn,
+    forms: &InsnForms,
+    made: &Encoded,
+) -> Result<(), PlaceFault>
+    ensures placed { PlacesBy (put_code pos made.now.bytes.items 0
+        (fields_of (shape_of insn.now) forms.now (made_coding made.now)))
+        assembler.old assembler.new result }
+    ensures kept { assembler.new.notes ≡ assembler.old.notes }
+{
+    match (made.displacement, made.immediate) {
+        (None, None) => put_rest(assembler, pos, made.bytes.as_slice()),
+        _ => put_fields(assembler, pos, insn, forms, made),
+    }
+}
+
 /// The bytes and the fields of an instruction of these forms.
 #[inline(always)]
 #[tactic(auto, unfolding(crate::specs::Coding::put_coded))]
@@ -198,12 +219,13 @@ fn put_coded(
         displacement: known(&forms.displacement),
     };
     match &encode(insn, &values) {
-        Ok(made) => put_fields(assembler, pos, insn, forms, made),
+        Ok(made) => put_made(assembler, pos, insn, forms, made),
         Err(cause) => Err(PlaceFault::Fault(code_fault(*cause))),
     }
 }
 
 /// A direct jump, as an item that grows with the distance to its target.
+#[inline(always)]
 fn put_jump(
     assembler: &mut Assembler,
     pos: Pos,

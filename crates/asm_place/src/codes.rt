@@ -109,6 +109,7 @@ pub(crate) fn direct_jump(insn: &Insn) -> Option<Option<Condition>>
 }
 
 /// A form less the place of the field that holds it.
+#[inline(always)]
 pub(crate) fn from_own_place(alloc: Global, form: Linear) -> Result<Linear, NoMemory>
     ensures { IfOk result (λ made. made ≡ from_own_place form) }
 {
