@@ -1,0 +1,9 @@
+-- Lemmas, a file for each subject.
+mod SeenLemmas
+mod ItemLemmas
+mod LabelLemmas
+mod FollowingLaws
+mod StandingLemmas
+mod StandingLaws
+mod OrderLemmas
+mod Worked

@@ -1,0 +1,83 @@
+//! What holds of all that is followed.
+
+ghost use Rattle.std.specs.Prelude.{◌≡◌, ℕ, Bool, List, All, map, Ok, Err, false};
+ghost use Rattle.asm_lines.specs.NextStatements.{TokenStatement};
+ghost use Rattle.asm_lines.specs.Placing.{placed_in_order};
+ghost use Rattle.asm_place.specs.Faults.{is_file_too_large};
+ghost use Rattle.asm_place.specs.Sources.{place_all};
+ghost use Rattle.asm_place.specs.declared.place_faults.FaultAt.{FaultAt};
+ghost use Rattle.asm_frags.specs.Writing.{LooseSection};
+ghost use Rattle.code_functions.specs.declared.items.CodeItem.{CodeItem};
+ghost use Rattle.code_functions.specs.InOrder.{AreInOrder};
+ghost use Rattle.code_functions.specs.Recorded.{Recorded, items_of};
+ghost use Rattle.code_functions.specs.Seen.{all_seen};
+ghost use Rattle.asm_functions.specs.Followed.{Followed, nothing_followed, place_followed, follow_all, functions_at_end, placed_alone, placed_part};
+ghost use Rattle.asm_functions.specs.Standing.{StandsInOrder};
+ghost use Rattle.asm_functions.specs.Worked.{WorkedSteps};
+
+use asm_place::{
+    places_stand, placing_grows, placing_is_not_reading, placing_within, statements_split,
+};
+
+/// Statements that are followed as they are handed out are followed in order.
+#[tactic(auto, using(crate::proofs::FollowingLaws::in_order))]
+pub fn following_in_order()
+    ensures { (statements : List TokenStatement) (before : Followed)
+        → placed_in_order (λ followed statement. place_followed statement followed) before
+        statements ≡ follow_all statements before }
+{}
+
+/// What is placed of statements that are followed is what placing alone makes of them; of a directive
+/// of a frame table the labels alone are placed where functions are asked for. Where they are not,
+/// following is placing, and its faults are those of placing.
+pub fn following_is_placing()
+    ensures placed { (statements : List TokenStatement) (before f : Followed)
+        → follow_all statements before ≡ Ok f
+        → place_all (map (placed_part before.asked) statements) before.placed ≡ Ok f.placed }
+    ensures asked { (statements : List TokenStatement) (before f : Followed)
+        → follow_all statements before ≡ Ok f → f.asked ≡ before.asked }
+    ensures unasked { (statements : List TokenStatement) (before : Followed)
+        → before.asked ≡ false
+        → follow_all statements before ≡ placed_alone statements before }
+{
+    statements_split();
+}
+
+/// The functions of a source begin inside their sections, and so do their items, in order from there;
+/// those that have ended have ended behind their items. So it is too once all have ended at the end
+/// of their sections.
+pub fn functions_stand_in_order()
+    ensures so_far { (statements : List TokenStatement) (no_warn asked : Bool) (f : Followed)
+        → follow_all statements (nothing_followed no_warn asked) ≡ Ok f
+        → All (StandsInOrder f.placed.sections) f.functions }
+    ensures whole { (statements : List TokenStatement) (no_warn asked : Bool) (f : Followed)
+        → follow_all statements (nothing_followed no_warn asked) ≡ Ok f
+        → All (StandsInOrder f.placed.sections) (functions_at_end f) }
+{
+    placing_grows();
+    placing_within();
+    places_stand();
+}
+
+/// The items of a function that stands in order are in the order of their places.
+pub fn standing_items_are_in_order()
+    ensures { (sections : List LooseSection) (functions : List (Recorded CodeItem)) (number : ℕ)
+        → All (StandsInOrder sections) (all_seen functions)
+        → AreInOrder (items_of number functions) }
+{}
+
+/// Only the reading of a file calls it too large: no step of following does.
+pub fn following_is_not_reading()
+    ensures one { (statement : TokenStatement) (before : Followed) (stop : FaultAt)
+        → place_followed statement before ≡ Err stop → is_file_too_large stop.fault ≡ false }
+    ensures all { (statements : List TokenStatement) (before : Followed) (stop : FaultAt)
+        → follow_all statements before ≡ Err stop → is_file_too_large stop.fault ≡ false }
+{
+    placing_is_not_reading();
+}
+
+/// Steps that were worked out by hand.
+#[tactic(auto, using(crate::proofs::Worked::worked))]
+pub fn worked_steps()
+    ensures { WorkedSteps }
+{}
