@@ -14,6 +14,7 @@ pub mod SeenFaults
 pub mod SeenTables
 pub mod SeenNodes
 pub mod SeenAnswers
+pub mod SeenRecords
 pub mod KnownDistances
 pub mod LowStack
 pub mod WrittenRows

@@ -7,6 +7,7 @@ use Rattle.asm_symbols.specs.SymbolMap.{SymbolMap}
 use Rattle.insn_effects.specs.Flows.{Flow}
 use Rattle.insn_effects.specs.Followed.{Followed, followed_by, flow_by, unsupported_by, is_data}
 use Rattle.code_functions.specs.declared.items.CodeItem.{CodeItem}
+use Rattle.code_functions.specs.Seen.{seen}
 use Rattle.flow_graph.specs.declared.nodes.Node.{Node}
 use Rattle.flow_graph.specs.Nodes.{nodes_of}
 use Rattle.scfi_pass.specs.declared.item_ops.ItemOp.{ItemOp}
@@ -38,6 +39,10 @@ sight_of item = record {
 -- the same is seen of all items
 abbrev pub LookAlike : List CodeItem → List CodeItem → Type 0
 LookAlike one other = map sight_of one ≡ map sight_of other
+
+-- so it is where all that is recorded of items is the same, their statements and padding too
+abbrev pub SeenLookAlike : Type 0
+SeenLookAlike = (one other : List CodeItem) → map seen one ≡ map seen other → LookAlike one other
 
 -- a table of items is that of all that look like them, with the same nodes
 abbrev pub TablesAreSeen : Type 0
