@@ -77,6 +77,7 @@ impl Graph {
     }
 
     /// The items to which control may go from an item.
+    #[inline(always)]
     #[tactic(auto, unfolding(crate::specs::Walks::successors))]
     pub fn succ(&self, item: usize) -> ArrayVec<usize, 2>
         requires { item < length self.now }

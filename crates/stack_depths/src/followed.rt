@@ -24,6 +24,7 @@ pub struct FollowedAccess {
     pub register: u8,
 }
 
+#[inline(always)]
 fn moved(to: u8, base: u8, add: u64) -> Option<FollowedMove>
     ensures { option_map move_by result ≡ moved to base add }
 {
@@ -34,6 +35,7 @@ fn moved(to: u8, base: u8, add: u64) -> Option<FollowedMove>
     }
 }
 
+#[inline(always)]
 fn stored(base: u8, displacement: u64, size: u8, register: u8) -> Option<FollowedAccess>
     ensures { option_map store_by result ≡ stored base displacement size register }
 {
@@ -49,6 +51,7 @@ fn stored(base: u8, displacement: u64, size: u8, register: u8) -> Option<Followe
     }
 }
 
+#[inline(always)]
 fn loaded(base: u8, displacement: u64, register: u8) -> Option<FollowedAccess>
     ensures { option_map load_by result ≡ loaded base displacement register }
 {
@@ -65,6 +68,7 @@ fn loaded(base: u8, displacement: u64, register: u8) -> Option<FollowedAccess>
 }
 
 /// The move that an item makes.
+#[inline(always)]
 pub fn followed_move(effect: &Effect) -> Option<FollowedMove>
     ensures { option_map move_by result ≡ moves_by effect.now.role effect.now }
 {
@@ -78,6 +82,7 @@ pub fn followed_move(effect: &Effect) -> Option<FollowedMove>
 }
 
 /// The store that an item makes, at a displacement from one of the seven.
+#[inline(always)]
 pub fn followed_store(effect: &Effect) -> Option<FollowedAccess>
     ensures { option_map store_by result ≡ stores_by effect.now.role effect.now }
 {
@@ -91,6 +96,7 @@ pub fn followed_store(effect: &Effect) -> Option<FollowedAccess>
 }
 
 /// The load that an item makes, from a displacement from one of the seven.
+#[inline(always)]
 pub fn followed_load(effect: &Effect) -> Option<FollowedAccess>
     ensures { option_map load_by result ≡ loads_by effect.now.role effect.now }
 {
@@ -103,6 +109,7 @@ pub fn followed_load(effect: &Effect) -> Option<FollowedAccess>
 }
 
 /// Whether an item is a call.
+#[inline(always)]
 pub fn is_call(effect: &Effect) -> bool
     ensures { result ≡ calls_by effect.now.role }
 {
@@ -113,6 +120,7 @@ pub fn is_call(effect: &Effect) -> bool
 }
 
 /// Whether an item writes a register of the seven in another way than by its move.
+#[inline(always)]
 pub fn is_written(effect: &Effect, register: usize) -> bool
     requires { register < 7 }
     ensures { result ≡ has_bit effect.now.written register }

@@ -34,6 +34,7 @@ impl DepthTable {
     ghost use Rattle.stack_depths.specs.States.{distances_in, reached_in};
 
     /// The distance of a register at an item, modulo 2^64.
+    #[inline(always)]
     #[tactic(auto, unfolding(crate::specs::States::distances_in))]
     pub fn distance(&self, item: usize, register: u8) -> Option<u64>
         ensures { result ≡ distances_in self.now item register }
@@ -51,6 +52,7 @@ impl DepthTable {
     }
 
     /// Whether a walk leads to an item.
+    #[inline(always)]
     #[tactic(auto, unfolding(crate::specs::States::reached_in))]
     pub fn is_reached(&self, item: usize) -> bool
         ensures { result ≡ reached_in self.now item }

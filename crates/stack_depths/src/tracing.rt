@@ -17,6 +17,7 @@ use work_lists::Analysis;
 pub(crate) type Known = [Option<Distance>; 7];
 
 /// The distance of a register that no move changes.
+#[inline(always)]
 fn unmoved(effect: &Effect, before: &Known, q: usize) -> Option<Distance>
     requires { q < 7 }
     ensures { value_of result
@@ -30,6 +31,7 @@ fn unmoved(effect: &Effect, before: &Known, q: usize) -> Option<Distance>
 }
 
 /// What a base holds, and a number more.
+#[inline(always)]
 fn added(before: &Known, base: u8, add: u64) -> Option<Distance>
     ensures { value_of result ≡ sum_of (known before.now base) add }
 {
@@ -69,6 +71,7 @@ fn moved_by(
 }
 
 /// The distances after a move alone.
+#[inline(always)]
 #[tactic(auto, using(crate::proofs::DepthLemmas::moved_none, crate::proofs::DepthLemmas::moved_one))]
 fn moved_one(made: FollowedMove, before: &Known) -> Known
     ensures long { length result ≡ 7 }
@@ -85,6 +88,7 @@ fn moved_one(made: FollowedMove, before: &Known) -> Known
 }
 
 /// The distances after this move of an item that writes nothing else.
+#[inline(always)]
 fn moved_alone(made: Option<FollowedMove>, before: &Known) -> Known
     ensures long { length result ≡ 7 }
     ensures at { (q : ℕ) → q < 7
@@ -110,6 +114,7 @@ fn moved_each(made: Option<FollowedMove>, effect: &Effect, before: &Known) -> Kn
 }
 
 /// The distances after an item.
+#[inline(always)]
 fn moved_all(effect: &Effect, before: &Known) -> Known
     ensures long { length result ≡ 7 }
     ensures at { (q : ℕ) → q < 7
@@ -124,6 +129,7 @@ fn moved_all(effect: &Effect, before: &Known) -> Known
 }
 
 /// Whether a distance is lost where it meets another.
+#[inline(always)]
 fn is_lost(a: Option<Distance>, b: Option<Distance>) -> bool
     ensures lost { IsTrue result → (meet_of (value_of a) (value_of b) ≡ None) × (held a ≡ 1) }
     ensures kept { IsFalse result → meet_of (value_of a) (value_of b) ≡ value_of a }
@@ -135,6 +141,19 @@ fn is_lost(a: Option<Distance>, b: Option<Distance>) -> bool
             Some(y) => x.value != y.value,
         },
     }
+}
+
+/// Whether no distance is lost where distances meet others.
+fn loses_none(state: &Known, from: &Known) -> bool
+    ensures { IsTrue result → (q : ℕ) → q < 7
+        → known state.now q ≡ meet_of (known state.now q) (known from.now q) }
+{
+    for q in 0..7 {
+        if is_lost(state[q], from[q]) {
+            return false;
+        }
+    }
+    true
 }
 
 /// Leaves each distance that both have, and tells whether that is less.
@@ -183,6 +202,7 @@ impl<'a> Analysis for Tracing<'a> {
         Ok(at_entry())
     }
 
+    #[inline(always)]
     fn after(
         &self,
         _alloc: Global,
@@ -195,12 +215,18 @@ impl<'a> Analysis for Tracing<'a> {
         }
     }
 
+    #[inline(always)]
     fn copy(
         &self,
         _alloc: Global,
         from: &[Option<Distance>; 7],
     ) -> Result<[Option<Distance>; 7], AllocError> {
         Ok(*from)
+    }
+
+    #[inline(always)]
+    fn keeps(&self, state: &[Option<Distance>; 7], from: &[Option<Distance>; 7]) -> bool {
+        loses_none(state, from)
     }
 
     fn meet(&self, into: &mut [Option<Distance>; 7], from: &[Option<Distance>; 7]) -> bool {

@@ -20,11 +20,13 @@ impl<'a> Edges for Ways<'a> {
 
     ghost rows = { λ ways. successor_lists ways.graph.now };
 
+    #[inline(always)]
     #[tactic(auto, using(crate::proofs::WayLemmas::count_of))]
     fn len(&self) -> usize {
         self.graph.len()
     }
 
+    #[inline(always)]
     #[tactic(auto, using(crate::proofs::WayLemmas::row_of))]
     fn succ(&self, item: usize) -> ArrayVec<usize, 2> {
         self.graph.succ(item)

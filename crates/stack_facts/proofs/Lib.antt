@@ -3,7 +3,9 @@ pub mod ChangeLemmas
 pub mod SlotLemmas
 pub mod SetLemmas
 pub mod WordLemmas
+pub mod BitLemmas
 pub mod GatherLemmas
 pub mod FactLemmas
 pub mod QuietLemmas
 pub mod BestLemmas
+pub mod PassLemmas

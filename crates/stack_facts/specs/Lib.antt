@@ -2,5 +2,6 @@
 pub mod Places
 pub mod Facts
 pub mod Sets
+pub mod Passing
 pub mod Sources
 pub mod States

@@ -15,6 +15,7 @@ use stack_depths::{
 };
 
 /// The distance of an address, if it is fixed.
+#[inline(always)]
 fn fixed(depths: &DepthTable, item: usize, base: u8, displacement: u64) -> Option<u64>
     ensures { result ≡ spec.fixed (distances_in depths.now item) base displacement }
 {
@@ -24,6 +25,7 @@ fn fixed(depths: &DepthTable, item: usize, base: u8, displacement: u64) -> Optio
     }
 }
 
+#[inline(always)]
 fn span_of(depths: &DepthTable, item: usize, store: Option<FollowedAccess>) -> Option<Span>
     ensures { result ≡ spec.stored_by (option_map store_by store) (distances_in depths.now item) }
 {
@@ -40,6 +42,7 @@ fn span_of(depths: &DepthTable, item: usize, store: Option<FollowedAccess>) -> O
 }
 
 /// The bytes that an item stores at a fixed address.
+#[inline(always)]
 pub fn stored_at(depths: &DepthTable, item: usize, effect: &Effect) -> Option<Span>
     ensures { result
         ≡ spec.stored_by (stores_by effect.now.role effect.now) (distances_in depths.now item) }
@@ -47,18 +50,21 @@ pub fn stored_at(depths: &DepthTable, item: usize, effect: &Effect) -> Option<Sp
     span_of(depths, item, followed_store(effect))
 }
 
+#[inline(always)]
 fn is_saved(register: u8) -> bool
     ensures { result ≡ spec.is_saved register }
 {
     0 < register && register < NONE
 }
 
+#[inline(always)]
 fn is_slot_place(distance: u64) -> bool
     ensures { result ≡ spec.is_slot_place distance }
 {
     distance % 8 == 0 && distance >= 1 << 63 && distance <= u64::MAX - 15
 }
 
+#[inline(always)]
 fn slot_of(depths: &DepthTable, item: usize, store: Option<FollowedAccess>) -> Option<Slot>
     ensures { result ≡ spec.saved_by (option_map store_by store) (distances_in depths.now item) }
 {
@@ -81,6 +87,7 @@ fn slot_of(depths: &DepthTable, item: usize, store: Option<FollowedAccess>) -> O
 }
 
 /// The slot that an item may make.
+#[inline(always)]
 pub(crate) fn saved_by(depths: &DepthTable, item: usize, effect: &Effect) -> Option<Slot>
     ensures { result
         ≡ spec.saved_by (stores_by effect.now.role effect.now) (distances_in depths.now item) }
@@ -88,6 +95,7 @@ pub(crate) fn saved_by(depths: &DepthTable, item: usize, effect: &Effect) -> Opt
     slot_of(depths, item, followed_store(effect))
 }
 
+#[inline(always)]
 fn bytes_of(depths: &DepthTable, item: usize, load: Option<FollowedAccess>) -> Option<Slot>
     ensures { result ≡ spec.loaded_by (option_map load_by load) (distances_in depths.now item) }
 {
@@ -104,6 +112,7 @@ fn bytes_of(depths: &DepthTable, item: usize, load: Option<FollowedAccess>) -> O
 }
 
 /// The bytes from which an item loads its register.
+#[inline(always)]
 fn loaded_by(depths: &DepthTable, item: usize, effect: &Effect) -> Option<Slot>
     ensures { result
         ≡ spec.loaded_by (loads_by effect.now.role effect.now) (distances_in depths.now item) }
@@ -111,6 +120,7 @@ fn loaded_by(depths: &DepthTable, item: usize, effect: &Effect) -> Option<Slot>
     bytes_of(depths, item, followed_load(effect))
 }
 
+#[inline(always)]
 fn stack_unmoved(depths: &DepthTable, item: usize, effect: &Effect) -> Option<u64>
     ensures { result
         ≡ moved_by None (has_bit effect.now.written 0) (distances_in depths.now item) 0 }
@@ -122,6 +132,7 @@ fn stack_unmoved(depths: &DepthTable, item: usize, effect: &Effect) -> Option<u6
     }
 }
 
+#[inline(always)]
 fn stack_moved(
     depths: &DepthTable,
     item: usize,
@@ -144,6 +155,7 @@ fn stack_moved(
 }
 
 /// The distance of rsp after an item.
+#[inline(always)]
 pub fn stack_after(depths: &DepthTable, item: usize, effect: &Effect) -> Option<u64>
     ensures { result ≡ distance_after (followed_by effect.now) (distances_in depths.now item) 0 }
 {
@@ -151,6 +163,7 @@ pub fn stack_after(depths: &DepthTable, item: usize, effect: &Effect) -> Option<
 }
 
 /// A distance by which signed distances have the order of numbers.
+#[inline(always)]
 fn key_of(distance: u64) -> u64
     ensures { result ≡ (distance + 2 ^ 63) % 2 ^ 64 }
 {
@@ -158,12 +171,14 @@ fn key_of(distance: u64) -> u64
 }
 
 /// Whether a distance is below another.
+#[inline(always)]
 pub fn is_below(one: u64, other: u64) -> bool
     ensures { result ≡ spec.below one other }
 {
     key_of(one) < key_of(other)
 }
 
+#[inline(always)]
 fn floor_by(before: Option<u64>, after: Option<u64>) -> Option<u64>
     ensures { result ≡ spec.floor_by before after }
 {
@@ -176,6 +191,7 @@ fn floor_by(before: Option<u64>, after: Option<u64>) -> Option<u64>
     }
 }
 
+#[inline(always)]
 fn cleared_by(depths: &DepthTable, item: usize, effect: &Effect) -> Option<u64>
     ensures { result
         ≡ (if (followed_by effect.now).calls then distances_in depths.now item 0 else None) }
@@ -188,6 +204,7 @@ fn cleared_by(depths: &DepthTable, item: usize, effect: &Effect) -> Option<u64>
 }
 
 /// What an item does at the distances that are known there.
+#[inline(always)]
 pub(crate) fn change_of(depths: &DepthTable, item: usize, effect: &Effect) -> Change
     ensures { result ≡ spec.change_of (followed_by effect.now) (distances_in depths.now item) }
 {
@@ -258,6 +275,7 @@ pub(crate) fn writes_none(effect: &Effect) -> bool
     loads_none(followed_load(effect))
 }
 
+#[inline(always)]
 fn is_quiet_role(role: Role) -> bool
     ensures { result ≡ spec.is_quiet_role role }
 {
@@ -268,6 +286,7 @@ fn is_quiet_role(role: Role) -> bool
 }
 
 /// Whether nothing is followed of an item, by a look at its role.
+#[inline(always)]
 #[tactic(auto, using(crate::proofs::QuietLemmas::quiet_followed))]
 pub(crate) fn is_quiet(effect: &Effect) -> bool
     ensures { IsTrue result → followed_by effect.now ≡ spec.nothing_followed }
@@ -279,6 +298,7 @@ pub(crate) fn is_quiet(effect: &Effect) -> bool
 }
 
 /// How far a distance is behind another.
+#[inline(always)]
 fn gap(one: u64, other: u64) -> u64
     ensures { result ≡ spec.gap one other }
 {
@@ -286,6 +306,7 @@ fn gap(one: u64, other: u64) -> u64
 }
 
 /// Whether so many bytes meet the 8 bytes at another distance.
+#[inline(always)]
 #[tactic(auto, unfolding(crate::specs::Places::overlaps))]
 pub fn overlaps(start: u64, size: u8, other: u64) -> bool
     ensures { result ≡ spec.overlaps start size other }

@@ -9,6 +9,7 @@ ghost use Rattle.stack_facts.specs.Facts as spec;
 ghost use Rattle.stack_facts.specs.Sets.{holds_in, fact_at, place_of, higher_of, IsPlain, IsBest};
 
 use crate::changes::{change_of, is_below, is_quiet, overlaps, writes, writes_none};
+use crate::numbers::Numbers;
 use crate::sets::BitSet;
 use crate::slots::place_of;
 use crate::values::{Change, Slot, Span};
@@ -16,6 +17,7 @@ use insn_effects::{Effect, NONE};
 use stack_depths::DepthTable;
 use std::alloc::{AllocError, Global};
 
+#[inline(always)]
 fn is_at(found: Option<Slot>, slot: Slot) -> bool
     ensures { result ≡ spec.is_at found slot.distance slot.register }
 {
@@ -25,6 +27,7 @@ fn is_at(found: Option<Slot>, slot: Slot) -> bool
     }
 }
 
+#[inline(always)]
 fn is_below_it(known: Option<u64>, distance: u64) -> bool
     ensures { result ≡ spec.is_below known distance }
 {
@@ -34,6 +37,7 @@ fn is_below_it(known: Option<u64>, distance: u64) -> bool
     }
 }
 
+#[inline(always)]
 fn is_touched(span: Option<Span>, distance: u64) -> bool
     ensures { result ≡ spec.is_touched span distance }
 {
@@ -44,32 +48,36 @@ fn is_touched(span: Option<Span>, distance: u64) -> bool
 }
 
 /// Whether a register has its entry value.
-pub(crate) fn has_entry(slots: &[Slot], bits: &BitSet, register: u8) -> bool
-    ensures { result ≡ holds_in slots.now bits.now (spec.entry register) }
+#[inline(always)]
+pub(crate) fn has_entry<B: Numbers>(slots: &[Slot], bits: &B, register: u8) -> bool
+    ensures { result ≡ holds_in slots.now (B.list bits.now) (spec.entry register) }
 {
     0 < register && register < NONE && bits.has(register as usize - 1)
 }
 
 /// Whether the bytes at a distance hold the entry value of a register.
-fn has_slot(slots: &[Slot], bits: &BitSet, distance: u64, register: u8) -> bool
-    ensures { result ≡ holds_in slots.now bits.now (spec.slot distance register) }
+#[inline(always)]
+pub(crate) fn has_slot<B: Numbers>(slots: &[Slot], bits: &B, distance: u64, register: u8) -> bool
+    ensures { result ≡ holds_in slots.now (B.list bits.now) (spec.slot distance register) }
 {
     let at = place_of(slots, distance, register);
     at < slots.len() && bits.has(6 + at)
 }
 
 /// Whether the slot at a place of the table stands.
+#[inline(always)]
 #[tactic(auto, using(crate::proofs::SlotLemmas::stands_there))]
-pub(crate) fn has_slot_at(slots: &[Slot], bits: &BitSet, at: usize) -> bool
+pub(crate) fn has_slot_at<B: Numbers>(slots: &[Slot], bits: &B, at: usize) -> bool
     requires place { at < length slots.now }
     requires plain { IsPlain slots.now }
-    ensures { result ≡ holds_in slots.now bits.now (fact_at slots.now at) }
+    ensures { result ≡ holds_in slots.now (B.list bits.now) (fact_at slots.now at) }
 {
     bits.has(6 + at)
 }
 
-fn loads_own(slots: &[Slot], bits: &BitSet, loaded: Option<Slot>, register: u8) -> bool
-    ensures { result ≡ spec.loads_own loaded (holds_in slots.now bits.now) register }
+#[inline(always)]
+fn loads_own<B: Numbers>(slots: &[Slot], bits: &B, loaded: Option<Slot>, register: u8) -> bool
+    ensures { result ≡ spec.loads_own loaded (holds_in slots.now (B.list bits.now)) register }
 {
     match loaded {
         None => false,
@@ -78,16 +86,17 @@ fn loads_own(slots: &[Slot], bits: &BitSet, loaded: Option<Slot>, register: u8) 
 }
 
 /// Whether a register has its entry value after an item.
-pub(crate) fn entry_after(
+#[inline(always)]
+pub(crate) fn entry_after<B: Numbers>(
     slots: &[Slot],
     effect: &Effect,
     change: &Change,
-    before: &BitSet,
+    before: &B,
     register: u8,
 ) -> bool
     requires { register < 7 }
     ensures { result ≡ spec.facts_after (places.writes (followed_by effect.now)) change.now
-        (holds_in slots.now before.now) (spec.entry register) }
+        (holds_in slots.now (B.list before.now)) (spec.entry register) }
 {
     let own = loads_own(slots, before, change.loaded, register);
     let kept = has_entry(slots, before, register);
@@ -96,11 +105,12 @@ pub(crate) fn entry_after(
 }
 
 /// Whether the slot at a place of the table stands after an item.
-fn slot_after(slots: &[Slot], change: &Change, before: &BitSet, at: usize) -> bool
+#[inline(always)]
+pub(crate) fn slot_after<B: Numbers>(slots: &[Slot], change: &Change, before: &B, at: usize) -> bool
     requires place { at < length slots.now }
     requires plain { IsPlain slots.now }
     ensures { (written : ℕ → Bool) → result ≡ spec.facts_after written change.now
-        (holds_in slots.now before.now) (fact_at slots.now at) }
+        (holds_in slots.now (B.list before.now)) (fact_at slots.now at) }
 {
     let slot = slots[at];
     let stood = has_slot_at(slots, before, at);
@@ -330,17 +340,17 @@ fn higher(found: Option<u64>, distance: u64) -> u64
 
 /// The greatest distance that was found, where one slot more is looked at.
 #[tactic(auto, using(crate::proofs::BestLemmas::passes_other, crate::proofs::BestLemmas::passes_absent, crate::proofs::BestLemmas::counts_best))]
-fn next_best(
+fn next_best<B: Numbers>(
     slots: &[Slot],
-    bits: &BitSet,
+    bits: &B,
     register: u8,
     at: usize,
     found: Option<u64>,
 ) -> Option<u64>
     requires place { at < length slots.now }
     requires plain { IsPlain slots.now }
-    requires best { IsBest slots.now bits.now register at found }
-    ensures { IsBest slots.now bits.now register (at + 1) result }
+    requires best { IsBest slots.now (B.list bits.now) register at found }
+    ensures { IsBest slots.now (B.list bits.now) register (at + 1) result }
 {
     let slot = slots[at];
     if slot.register != register {
@@ -354,9 +364,9 @@ fn next_best(
 
 /// The greatest distance of a slot of a register that stands, of all slots.
 #[tactic(auto, using(crate::proofs::BestLemmas::ends_best))]
-fn highest(slots: &[Slot], bits: &BitSet, register: u8) -> Option<u64>
+fn highest<B: Numbers>(slots: &[Slot], bits: &B, register: u8) -> Option<u64>
     requires { IsPlain slots.now }
-    ensures { spec.IsSlotOf (holds_in slots.now bits.now) register result }
+    ensures { spec.IsSlotOf (holds_in slots.now (B.list bits.now)) register result }
 {
     let mut found = None;
     for at in 0..slots.len() {
@@ -367,9 +377,9 @@ fn highest(slots: &[Slot], bits: &BitSet, register: u8) -> Option<u64>
 
 /// The greatest distance of a slot of a register that stands.
 #[tactic(auto, using(crate::proofs::QuietLemmas::short_best))]
-pub(crate) fn greatest(slots: &[Slot], bits: &BitSet, register: u8) -> Option<u64>
+pub(crate) fn greatest<B: Numbers>(slots: &[Slot], bits: &B, register: u8) -> Option<u64>
     requires { IsPlain slots.now }
-    ensures { spec.IsSlotOf (holds_in slots.now bits.now) register result }
+    ensures { spec.IsSlotOf (holds_in slots.now (B.list bits.now)) register result }
 {
     if bits.is_short() {
         return None;

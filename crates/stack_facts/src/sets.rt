@@ -3,6 +3,7 @@
 ghost use Rattle.std.specs.Prelude.{◌≡◌, ◌≢◌, ◌<◌, ℕ, false, get_or};
 ghost use Rattle.stack_depths.specs.Distances.{has_bit};
 
+use crate::numbers::Numbers;
 use std::alloc::{AllocError, Global};
 use std::marker::Model;
 
@@ -17,7 +18,7 @@ fn bit_at(bits: &[bool], k: usize) -> bool
 
 /// Whether a word has a bit.
 #[inline(always)]
-fn has_bit(word: u64, k: usize) -> bool
+pub(crate) fn has_bit(word: u64, k: usize) -> bool
     requires { k < 64 }
     ensures { result ≡ has_bit word k }
 {
@@ -27,7 +28,7 @@ fn has_bit(word: u64, k: usize) -> bool
 /// A word with a bit as it is told, and its other bits.
 #[inline(always)]
 #[tactic(auto, using(crate::proofs::WordLemmas::put_here, crate::proofs::WordLemmas::put_other, crate::proofs::WordLemmas::cleared_here, crate::proofs::WordLemmas::cleared_other))]
-fn with_bit(word: u64, k: usize, bit: bool) -> u64
+pub(crate) fn with_bit(word: u64, k: usize, bit: bool) -> u64
     requires { k < 64 }
     ensures here { has_bit result k ≡ bit }
     ensures others { (j : ℕ) → j < 64 → j ≢ k → has_bit result j ≡ has_bit word j }
@@ -59,6 +60,31 @@ impl Model for BitSet {
     ghost invariant = { λ s. s.count ≤ 64 };
 }
 
+impl Numbers for BitSet {
+    ghost use Rattle.std.specs.Prelude.{false, get_or};
+
+    ghost list = { λ s. s };
+
+    #[inline(always)]
+    #[tactic(auto, using(crate::proofs::WordLemmas::in_word, crate::proofs::WordLemmas::behind_word))]
+    fn has(&self, k: usize) -> bool {
+        if k < self.count {
+            has_bit(self.low, k)
+        } else {
+            bit_at(&self.more, k - self.count)
+        }
+    }
+
+    #[inline(always)]
+    #[tactic(auto, using(crate::proofs::WordLemmas::short_bits))]
+    fn is_short(&self) -> bool {
+        if self.more.len() != 0 {
+            return false;
+        }
+        self.low >> 6 == 0
+    }
+}
+
 impl BitSet {
     ghost use Rattle.std.specs.Prelude.{◌≡◌, ◌<◌, ◌≤◌, ◌&&◌, ◌++◌, ◌∷◌, [], ℕ, false, IsTrue, IsFalse, IfOk, IfSome, get_or, length, slice_set, sum_by};
     ghost use Rattle.stack_facts.specs.Sets.{counted};
@@ -82,19 +108,6 @@ impl BitSet {
         ensures { result ≡ length self.now }
     {
         self.count + self.more.len()
-    }
-
-    /// Whether it has a number.
-    #[inline(always)]
-    #[tactic(auto, using(crate::proofs::WordLemmas::in_word, crate::proofs::WordLemmas::behind_word))]
-    pub fn has(&self, k: usize) -> bool
-        ensures { result ≡ get_or self.now k false }
-    {
-        if k < self.count {
-            has_bit(self.low, k)
-        } else {
-            bit_at(&self.more, k - self.count)
-        }
     }
 
     /// Tells whether it has the number that is next.
@@ -145,18 +158,6 @@ impl BitSet {
         }
     }
 
-    /// Whether it has none of the numbers from 6 on.
-    #[inline(always)]
-    #[tactic(auto, using(crate::proofs::WordLemmas::short_bits))]
-    pub fn is_short(&self) -> bool
-        ensures { IsTrue result → (k : ℕ) → 6 ≤ k → get_or self.now k false ≡ false }
-    {
-        if self.more.len() != 0 {
-            return false;
-        }
-        self.low >> 6 == 0
-    }
-
     /// Takes a number out.
     fn clear(&mut self, k: usize)
         requires { k < length self.old }
@@ -191,7 +192,7 @@ impl BitSet {
     /// Whether the other set has all its numbers, by a look at the words.
     #[inline(always)]
     #[tactic(auto, using(crate::proofs::WordLemmas::within_bits))]
-    fn is_within(&self, other: &BitSet) -> bool
+    pub fn is_within(&self, other: &BitSet) -> bool
         ensures { IsTrue result → (k : ℕ) → get_or self.now k false
             ≡ (get_or self.now k false && get_or other.now k false) }
     {

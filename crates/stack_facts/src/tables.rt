@@ -12,6 +12,8 @@ use crate::gathering::gather;
 use crate::passing::{entries_alone, entry_after, greatest, has_entry, item_after, same_of};
 use crate::sets::BitSet;
 use crate::values::Slot;
+use crate::word_passing::word_after;
+use crate::words::Word;
 use asm_base::{NoMemory, Steps};
 use code_functions::CodeItem;
 use flow_graph::Graph;
@@ -45,6 +47,7 @@ impl<'a> Analysis for Passing<'a> {
         Ok(out)
     }
 
+    #[inline(always)]
     fn after(&self, alloc: Global, item: usize, before: &BitSet) -> Result<BitSet, AllocError> {
         match self.items.get(item) {
             None => {
@@ -58,8 +61,14 @@ impl<'a> Analysis for Passing<'a> {
         }
     }
 
+    #[inline(always)]
     fn copy(&self, alloc: Global, from: &BitSet) -> Result<BitSet, AllocError> {
         from.copy(alloc)
+    }
+
+    #[inline(always)]
+    fn keeps(&self, state: &BitSet, from: &BitSet) -> bool {
+        state.is_within(from)
     }
 
     fn meet(&self, into: &mut BitSet, from: &BitSet) -> bool {
@@ -67,20 +76,70 @@ impl<'a> Analysis for Passing<'a> {
     }
 }
 
-/// The facts that stand at each item.
+/// The same, where a word has room for all facts.
+#[derive(Clone, Copy)]
+struct WordPassing<'a> {
+    items: &'a [CodeItem],
+    depths: &'a DepthTable,
+    slots: &'a [Slot],
+    ghost table: { IsTable items.now (distances_in depths.now) slots.now },
+    ghost few: { length slots.now < 58 },
+}
+
+impl<'a> Analysis for WordPassing<'a> {
+    ghost use Rattle.stack_depths.specs.States.{distances_in};
+    ghost use Rattle.stack_facts.specs.States.{fact_rules};
+
+    type State = Word;
+
+    ghost rules = { λ passing.
+        fact_rules passing.items.now (distances_in passing.depths.now) passing.slots.now };
+
+    fn enter(&self, _alloc: Global) -> Result<Word, AllocError> {
+        Ok(Word::six())
+    }
+
+    #[inline(always)]
+    fn after(&self, _alloc: Global, item: usize, before: &Word) -> Result<Word, AllocError> {
+        match self.items.get(item) {
+            None => Ok(before.first(6 + self.slots.len())),
+            Some(found) => Ok(word_after(self.slots, self.depths, item, &found.effect, before)),
+        }
+    }
+
+    #[inline(always)]
+    fn copy(&self, _alloc: Global, from: &Word) -> Result<Word, AllocError> {
+        Ok(from.again())
+    }
+
+    #[inline(always)]
+    fn keeps(&self, state: &Word, from: &Word) -> bool {
+        state.is_within(from)
+    }
+
+    fn meet(&self, into: &mut Word, from: &Word) -> bool {
+        into.meet(from)
+    }
+}
+
+/// The facts that stand at each item: in words where these have room for all, or else in sets.
 #[derive(Drop)]
 pub struct FactTable {
     slots: Vec<Slot>,
-    states: Vec<Option<BitSet>>,
+    by_words: bool,
+    words: Vec<Option<Word>>,
+    sets: Vec<Option<BitSet>>,
     ghost plain: { IsPlain slots.items },
 }
 
 impl Model for FactTable {
+    ghost use Rattle.std.specs.Prelude.{if◌then◌else◌};
     ghost use Rattle.stack_facts.specs.States.{Facts};
 
     ghost Value = { Facts };
 
-    ghost view = { λ table. (table.slots.items, table.states.items) };
+    ghost view = { λ table. (table.slots.items,
+        if table.by_words then table.words.items else table.sets.items) };
 }
 
 impl FactTable {
@@ -92,13 +151,21 @@ impl FactTable {
     ghost use Rattle.stack_facts.specs.States.{facts_in};
 
     /// Whether a register has its entry value at an item.
+    #[inline(always)]
     #[tactic(auto, unfolding(crate::specs::States::facts_in))]
     pub fn has_entry(&self, item: usize, register: u8) -> bool
         ensures { result ≡ facts_in self.now item (entry register) }
     {
-        match self.states.get(item) {
-            Some(Some(bits)) => has_entry(&self.slots, bits, register),
-            _ => false,
+        if self.by_words {
+            match self.words.get(item) {
+                Some(Some(word)) => has_entry(&self.slots, word, register),
+                _ => false,
+            }
+        } else {
+            match self.sets.get(item) {
+                Some(Some(bits)) => has_entry(&self.slots, bits, register),
+                _ => false,
+            }
         }
     }
 
@@ -117,21 +184,32 @@ impl FactTable {
             (facts_in self.now item) (entry register) }
     {
         let change = change_of(depths, item, effect);
-        match self.states.get(item) {
-            Some(Some(bits)) => entry_after(&self.slots, effect, &change, bits, register),
-            _ => false,
+        if self.by_words {
+            match self.words.get(item) {
+                Some(Some(word)) => entry_after(&self.slots, effect, &change, word, register),
+                _ => false,
+            }
+        } else {
+            match self.sets.get(item) {
+                Some(Some(bits)) => entry_after(&self.slots, effect, &change, bits, register),
+                _ => false,
+            }
         }
     }
 
-    /// Whether the same facts stand at two items, by a look at their bits.
+    /// Whether the same facts stand at two items, by a look at their words.
+    #[inline(always)]
     #[tactic(auto, using(crate::proofs::QuietLemmas::same_facts), unfolding(crate::specs::States::facts_in))]
     pub fn are_same(&self, one: usize, other: usize) -> bool
         ensures { IsTrue result → (f : Fact) → facts_in self.now one f
             ≡ facts_in self.now other f }
     {
-        match self.states.get(one) {
-            Some(Some(bits)) => match self.states.get(other) {
-                Some(Some(others)) => bits.is_same(others),
+        if !self.by_words {
+            return false;
+        }
+        match self.words.get(one) {
+            Some(Some(word)) => match self.words.get(other) {
+                Some(Some(others)) => word.is_same(others),
                 _ => false,
             },
             _ => false,
@@ -143,9 +221,16 @@ impl FactTable {
     pub fn slot_of(&self, item: usize, register: u8) -> Option<u64>
         ensures { IsSlotOf (facts_in self.now item) register result }
     {
-        match self.states.get(item) {
-            Some(Some(bits)) => greatest(&self.slots, bits, register),
-            _ => None,
+        if self.by_words {
+            match self.words.get(item) {
+                Some(Some(word)) => greatest(&self.slots, word, register),
+                _ => None,
+            }
+        } else {
+            match self.sets.get(item) {
+                Some(Some(bits)) => greatest(&self.slots, bits, register),
+                _ => None,
+            }
         }
     }
 }
@@ -181,6 +266,38 @@ fn sets<L: Ledger>(
     Ok(states)
 }
 
+/// The facts over a table of few slots, in words.
+fn words<L: Ledger>(
+    alloc: Global,
+    graph: &Graph,
+    items: &[CodeItem],
+    depths: &DepthTable,
+    slots: &[Slot],
+    steps: &mut Steps<L>,
+) -> Result<Vec<Option<Word>>, AllocError>
+    requires table { IsTable items.now (distances_in depths.now) slots.now }
+    requires few { length slots.now < 58 }
+    ensures facts { IfOk result (λ states.
+        AreFacts graph.now items.now (distances_in depths.now)
+        (facts_in (slots.now, states.items))) }
+    ensures cost { IfOk result (λ _. steps.new ≤ steps.old
+        + ((length slots.now + 7) * edges graph.now + 1)) }
+{
+    if graph.len() == 0 {
+        return Ok(Vec::new(alloc));
+    }
+    graph.targets_are_inside();
+    walks_are_listed();
+    let ways = Ways { graph };
+    let passing = WordPassing {
+        items,
+        depths,
+        slots,
+    };
+    let states = flow(alloc, &ways, &passing, steps)?;
+    Ok(states)
+}
+
 /// The facts that stand at each item of a function whose distances are these, in at most as many
 /// steps for each edge as there are items that can make a slot, and 7, and one step more.
 pub fn facts<L: Ledger>(
@@ -196,6 +313,20 @@ pub fn facts<L: Ledger>(
         + ((saves items.now (distances_in depths.now) + 7) * edges graph.now + 1)) }
 {
     let slots = gather(alloc, items, depths)?;
-    let states = sets(alloc, graph, items, depths, &slots, steps)?;
-    Ok(FactTable { slots, states })
+    if slots.len() < 58 {
+        let words = words(alloc, graph, items, depths, &slots, steps)?;
+        return Ok(FactTable {
+            slots,
+            by_words: true,
+            words,
+            sets: Vec::new(alloc),
+        });
+    }
+    let sets = sets(alloc, graph, items, depths, &slots, steps)?;
+    Ok(FactTable {
+        slots,
+        by_words: false,
+        words: Vec::new(alloc),
+        sets,
+    })
 }

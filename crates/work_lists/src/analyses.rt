@@ -35,6 +35,11 @@ pub trait Analysis {
     fn copy(&self, alloc: Global, from: &Self::State) -> Result<Self::State, AllocError>
         ensures { IfOk result (λ s. s ≡ from.now) };
 
+    /// Whether a state has nothing that another does not have, by a look at both.
+    fn keeps(&self, state: &Self::State, from: &Self::State) -> bool
+        ensures { IsTrue result → (f : Fact) → (rules self.now).holds state.now f
+            ≡ ((rules self.now).holds state.now f && (rules self.now).holds from.now f) };
+
     /// Leaves what both states have, and tells whether that is less.
     fn meet(&self, into: &mut Self::State, from: &Self::State) -> bool
         ensures holds { (f : Fact) → (rules self.now).holds into.new f

@@ -1,6 +1,6 @@
 //! The work list.
 
-ghost use Rattle.std.specs.Prelude.{◌≡◌, ◌<◌, ◌≤◌, ◌+◌, ◌*◌, ℕ, IfOk, None, get_or, length};
+ghost use Rattle.std.specs.Prelude.{◌≡◌, ◌<◌, ◌≤◌, ◌+◌, ◌*◌, ◌++◌, ◌∷◌, [], ℕ, IfOk, None, get_or, length};
 ghost use Rattle.work_lists.specs.Graphs.{IsInside, edges};
 ghost use Rattle.work_lists.specs.Exact.{AreExact};
 
@@ -12,6 +12,19 @@ use asm_base::Steps;
 use std::alloc::{AllocError, Global};
 use std::sync::ledger::Ledger;
 
+/// Puts a state last, at once where there is room for it.
+#[inline(always)]
+fn put_last<S: Drop>(states: &mut Vec<Option<S>>, state: Option<S>) -> Result<(), AllocError>
+    ensures { IfOk result (λ _. states.new.items ≡ states.old.items ++ state ∷ []) }
+{
+    if states.len() < states.capacity() {
+        states.push_reserved(state);
+        return Ok(());
+    }
+    states.push(state)?;
+    Ok(())
+}
+
 /// No state, for so many items.
 fn none_yet<S: Drop>(alloc: Global, count: usize) -> Result<Vec<Option<S>>, AllocError>
     ensures long { IfOk result (λ states. length states.items ≡ count) }
@@ -19,7 +32,7 @@ fn none_yet<S: Drop>(alloc: Global, count: usize) -> Result<Vec<Option<S>>, Allo
 {
     let mut states = Vec::with_capacity(alloc, count)?;
     for item in 0..count {
-        states.push(None)?;
+        put_last(&mut states, None)?;
     }
     Ok(states)
 }

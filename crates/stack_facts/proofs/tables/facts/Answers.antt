@@ -13,8 +13,8 @@ more a b n h =
 
 pub returns-clause-cost : goal.returns-clause-cost
 returns-clause-cost g c =
-    let a = c.in_ok-states.ensures.cost in
+    let a = c.in_ok-sets.ensures.cost in
     let f = c.in_ok-slots.ensures.few in
-    let v = ap length c.deref.ensures.value in
-    let m = more (length c.deref.result.now) (saves c.args.items.now (distances_in c.args.depths.now)) (edges c.args.graph.now) (omega arith) in
+    let v = ap length c.deref-2.ensures.value in
+    let m = more (length c.deref-2.result.now) (saves c.args.items.now (distances_in c.args.depths.now)) (edges c.args.graph.now) (omega arith) in
     omega arith

@@ -1,7 +1,7 @@
 use Rattle.std.proofs.Common.{None, inl, inr, refl}
 use Rattle.std.proofs.lemmas.List.{get_or_read}
 use Rattle.work_lists.proofs.CarriedLemmas.{carried_met}
-use Rattle.work_lists.proofs.carrying.carry.Goals as goal
+use Rattle.work_lists.proofs.carrying.carry_again.Goals as goal
 
 pub returns-in_ok-push-in-Some : goal.returns-in_ok-push-in-Some
 returns-in_ok-push-in-Some g c =
