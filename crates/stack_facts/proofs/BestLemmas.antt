@@ -1,11 +1,12 @@
-use Rattle.std.proofs.Common.{◌≡◌, ℕ, ◌+◌, ◌<◌, ◌≤◌, ◌≢◌, ◌⊎◌, inl, inr, nat_lt, Bool, true, false, cond, Option, Some, None, List, length, refl, sym, ap, subst, ◌∙◌, arith}
-use Rattle.std.proofs.lemmas.Bool.{cases_lt, cases_Bool}
+use Rattle.std.proofs.Common.{◌≡◌, ℕ, ◌+◌, ◌<◌, ◌≤◌, ◌≢◌, ◌⊎◌, inl, inr, nat_lt, Bool, true, false, cond, Option, Some, None, List, length, get_or, slice_set, get_or-set_same, get_or-set_other, refl, sym, ap, subst, ◌∙◌, arith}
+use Rattle.std.proofs.lemmas.Bool.{cases_eq, cases_lt, cases_Bool}
 use Rattle.std.proofs.lemmas.Bool.Decides.{nat_tests}
 use Rattle.stack_facts.specs.declared.values.Slot.{Slot}
 use Rattle.stack_facts.specs.Places.{below}
-use Rattle.stack_facts.specs.Facts.{slot, IsSlotOf}
-use Rattle.stack_facts.specs.Sets.{place_of, slot_at, fact_at, holds_in, higher_of, IsBest}
+use Rattle.stack_facts.specs.Facts.{Fact, slot, IsSlotOf}
+use Rattle.stack_facts.specs.Sets.{place_of, slot_at, fact_at, holds_in, higher_of, IsBest, AreBest}
 use Rattle.stack_facts.proofs.SlotLemmas.{found_there}
+use Rattle.stack_facts.proofs.QuietLemmas.{short_best}
 
 -- no slot was looked at
 pub begins_best : (slots : List Slot) (bits : List Bool) (r : ℕ) → IsBest slots bits r 0 None
@@ -123,3 +124,46 @@ ends_best slots bits r (Some n) b = (
       let t : holds_in slots bits (fact_at slots k) ≡ true = ap (λ x. holds_in slots bits (slot x (slot_at slots k).register)) f.0 ∙ ap (λ x. holds_in slots bits (slot m x)) f.1 ∙ h in
       ap (below n) (sym f.0) ∙ b.best n k refl p f.1 t,
 )
+
+-- the same for each register: no slot was looked at
+pub begins_all : (slots : List Slot) (bits : List Bool) (found : List (Option ℕ)) → ((r : ℕ) → get_or found r None ≡ None) → AreBest slots bits 0 found
+begins_all slots bits found none = λ r h. let P : Option ℕ → Type 0 = IsBest slots bits r 0 in subst P (sym (none r)) (begins_best slots bits r)
+
+-- one that does not stand
+pub passes_absent_all : (slots : List Slot) (bits : List Bool) (k : ℕ) (found : List (Option ℕ)) → AreBest slots bits k found → holds_in slots bits (fact_at slots k) ≡ false → AreBest slots bits (k + 1) found
+passes_absent_all slots bits k found b gone = λ r h. passes_absent slots bits r k (get_or found r None) (b r h) gone
+
+-- one of another register
+pub passes_other_all : (slots : List Slot) (bits : List Bool) (k : ℕ) (found : List (Option ℕ)) → AreBest slots bits k found → 7 ≤ (slot_at slots k).register → AreBest slots bits (k + 1) found
+passes_other_all slots bits k found b far = λ r h. let ne : (slot_at slots k).register ≢ r = omega arith in passes_other slots bits r k (get_or found r None) (b r h) ne
+
+-- one that stands
+pub counts_all : (slots : List Slot) (bits : List Bool) (k own : ℕ) (found : List (Option ℕ)) → AreBest slots bits k found → length found ≡ 7 → own ≡ (slot_at slots k).register → own < 7
+    → holds_in slots bits (fact_at slots k) ≡ true → AreBest slots bits (k + 1) (slice_set found own (Some (higher_of (get_or found own None) (slot_at slots k).distance)))
+counts_all slots bits k own found b long mine small there = λ r h. by_place r h (cases_eq r own)
+  where
+    x : Option ℕ
+    x = Some (higher_of (get_or found own None) (slot_at slots k).distance)
+
+    here : IsBest slots bits own (k + 1) (get_or (slice_set found own x) own None)
+    here =
+        let P : Option ℕ → Type 0 = IsBest slots bits own (k + 1) in
+        subst P (sym (get_or-set_same found own x None (omega arith))) (counts_best slots bits own k (get_or found own None) (b own small) (sym mine) there)
+
+    by_place : (r : ℕ) → r < 7 → (r ≡ own) ⊎ (r ≡ own → ⊥) → IsBest slots bits r (k + 1) (get_or (slice_set found own x) r None)
+    by_place r h (inl e) = let P : ℕ → Type 0 = λ m. IsBest slots bits m (k + 1) (get_or (slice_set found own x) m None) in subst P (sym e) here
+    by_place r h (inr ne) =
+        let P : Option ℕ → Type 0 = IsBest slots bits r (k + 1) in
+        subst P (sym (get_or-set_other found own r x None ne)) (passes_other slots bits r k (get_or found r None) (b r h) (λ e. ne (sym (mine ∙ e))))
+
+-- all slots were looked at
+pub ends_all : (slots : List Slot) (bits : List Bool) (found : List (Option ℕ)) → AreBest slots bits (length slots) found → (r : ℕ) → r < 7 → IsSlotOf (holds_in slots bits) r (get_or found r None)
+ends_all slots bits found b r h = ends_best slots bits r (get_or found r None) (b r h)
+
+-- no slot stands
+pub short_all : (slots : List Slot) (bits : List Bool) (found : List (Option ℕ)) → ((r : ℕ) → get_or found r None ≡ None) → ((k : ℕ) → 6 ≤ k → get_or bits k false ≡ false) → (r : ℕ) → IsSlotOf (holds_in slots bits) r (get_or found r None)
+short_all slots bits found none short r = let P : Option ℕ → Type 0 = IsSlotOf (holds_in slots bits) r in subst P (sym (none r)) (short_best slots bits r short)
+
+-- where nothing stands no slot does
+pub nothing_stands : (stands : Fact → Bool) (found : List (Option ℕ)) → ((r : ℕ) → get_or found r None ≡ None) → ((f : Fact) → stands f ≡ false) → (r : ℕ) → IsSlotOf stands r (get_or found r None)
+nothing_stands stands found none no_fact r = let P : Option ℕ → Type 0 = IsSlotOf stands r in subst P (sym (none r)) (λ n. no_fact (slot n r))

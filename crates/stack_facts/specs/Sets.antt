@@ -82,3 +82,7 @@ pub record IsBest (slots : List Slot) (bits : List Bool) (r count : ℕ) (found 
 abbrev pub higher_of : Option ℕ → ℕ → ℕ
 higher_of None distance = distance
 higher_of (Some best) distance = if below best distance then distance else best
+
+-- the same for each of the seven registers
+abbrev pub AreBest : List Slot → List Bool → (count : ℕ) → List (Option ℕ) → Type 0
+AreBest slots bits count found = (r : ℕ) → r < 7 → IsBest slots bits r count (get_or found r None)

@@ -2,6 +2,7 @@
 #![tactic(auto)]
 
 mod changes;
+mod finding;
 mod gathering;
 mod numbers;
 mod passing;

@@ -323,7 +323,8 @@ pub(crate) fn same_of(alloc: Global, slots: &[Slot], before: &BitSet) -> Result<
 }
 
 /// The higher one of a distance that was found and another.
-fn higher(found: Option<u64>, distance: u64) -> u64
+#[inline(always)]
+pub(crate) fn higher(found: Option<u64>, distance: u64) -> u64
     ensures { result ≡ higher_of found distance }
 {
     match found {

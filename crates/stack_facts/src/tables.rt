@@ -8,6 +8,7 @@ ghost use Rattle.stack_facts.specs.Sets.{IsPlain, IsTable};
 ghost use Rattle.stack_facts.specs.States.{facts_in};
 
 use crate::changes::change_of;
+use crate::finding::{each_highest, no_slots};
 use crate::gathering::gather;
 use crate::passing::{entries_alone, entry_after, greatest, has_entry, item_after, same_of};
 use crate::sets::BitSet;
@@ -143,7 +144,7 @@ impl Model for FactTable {
 }
 
 impl FactTable {
-    ghost use Rattle.std.specs.Prelude.{◌≡◌, ◌<◌, IsTrue};
+    ghost use Rattle.std.specs.Prelude.{◌≡◌, ◌<◌, ℕ, None, IsTrue, get_or};
     ghost use Rattle.insn_effects.specs.Followed.{followed_by};
     ghost use Rattle.stack_depths.specs.States.{distances_in};
     ghost use Rattle.stack_facts.specs.Places.{change_of, writes};
@@ -213,6 +214,25 @@ impl FactTable {
                 _ => false,
             },
             _ => false,
+        }
+    }
+
+    /// For each of the seven registers the slot with the greatest distance, of those that stand at an item.
+    #[tactic(auto, using(crate::proofs::BestLemmas::nothing_stands), unfolding(crate::specs::States::facts_in))]
+    pub fn slots_of(&self, item: usize) -> [Option<u64>; 7]
+        ensures { (r : ℕ) → r < 7
+            → IsSlotOf (facts_in self.now item) r (get_or result r None) }
+    {
+        if self.by_words {
+            match self.words.get(item) {
+                Some(Some(word)) => each_highest(&self.slots, word),
+                _ => no_slots(),
+            }
+        } else {
+            match self.sets.get(item) {
+                Some(Some(bits)) => each_highest(&self.slots, bits),
+                _ => no_slots(),
+            }
         }
     }
 
