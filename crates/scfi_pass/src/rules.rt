@@ -2,7 +2,7 @@
 
 ghost use Rattle.std.specs.Prelude.{◌≡◌, Bool, true, IsTrue};
 ghost use Rattle.stack_facts.specs.Places.{is_saved};
-ghost use Rattle.stack_facts.specs.Facts.{Fact};
+ghost use Rattle.stack_facts.specs.Facts.{Fact, IsSlotOf};
 ghost use Rattle.scfi_pass.specs.Rows.{IsRuleOf, AreRules};
 ghost use Rattle.scfi_pass.specs.Faults.{IsSound};
 ghost use Rattle.scfi_pass.specs.Tables.{row_by};
@@ -12,12 +12,15 @@ use crate::looking::Looked;
 use crate::rows::{Cfa, StackRow};
 
 /// The slot of a register, or none where it has its entry value still.
-fn rule_at(looked: &Looked, register: u8) -> Option<u64>
+#[inline(always)]
+fn rule_at(looked: &Looked, register: u8, found: Option<u64>) -> Option<u64>
     requires sound { IsSound (seen looked.now) }
     requires saved { is_saved register ≡ true }
+    requires found { IsSlotOf (seen looked.now).stands register found }
     ensures { IsRuleOf (seen looked.now).stands register result }
 {
-    looked.facts.slot_of(looked.place, register)
+    let _ = looked;
+    found
 }
 
 /// The row of an item with this frame address, its rules worked out.
@@ -26,14 +29,15 @@ fn new_row(looked: &Looked, cfa: Cfa) -> StackRow
     ensures cfa { result.cfa ≡ cfa }
     ensures rules { AreRules (seen looked.now).stands result }
 {
+    let slots = looked.facts.slots_of(looked.place);
     StackRow {
         cfa,
-        rbx: rule_at(looked, 1),
-        rbp: rule_at(looked, 2),
-        r12: rule_at(looked, 3),
-        r13: rule_at(looked, 4),
-        r14: rule_at(looked, 5),
-        r15: rule_at(looked, 6),
+        rbx: rule_at(looked, 1, slots[1]),
+        rbp: rule_at(looked, 2, slots[2]),
+        r12: rule_at(looked, 3, slots[3]),
+        r13: rule_at(looked, 4, slots[4]),
+        r14: rule_at(looked, 5, slots[5]),
+        r15: rule_at(looked, 6, slots[6]),
     }
 }
 

@@ -3,4 +3,4 @@ use Rattle.scfi_pass.proofs.RowLemmas.{ruled}
 use Rattle.scfi_pass.proofs.rules.rule_at.Goals as goal
 
 pub returns : goal.returns
-returns c = ruled (seen c.args.looked.now) c.args.register c.slot_of.result c.requires.sound c.requires.saved c.slot_of.ensures
+returns c = ruled (seen c.args.looked.now) c.args.register c.args.found c.requires.sound c.requires.saved c.requires.found
