@@ -1,10 +1,10 @@
-use Rattle.std.proofs.Common.{◌≡◌, ℕ, ◌+◌, ◌-◌, ◌<◌, ◌≤◌, ◌≢◌, ◌==◌, ◌⊎◌, ◌&&◌, ◌||◌, not, inl, inr, nat_lt, Bool, true, false, if◌then◌else◌, Option, None, Some, List, length, get_or, refl, sym, ap, subst, ◌∙◌, arith}
-use Rattle.std.proofs.lemmas.Bool.{cases_eq, cases_lt}
+use Rattle.std.proofs.Common.{◌≡◌, ℕ, ◌+◌, ◌-◌, ◌<◌, ◌≤◌, ◌≢◌, ◌==◌, ◌⊎◌, ◌&&◌, ◌||◌, not, inl, inr, Bool, true, false, if◌then◌else◌, None, Some, List, length, get_or, refl, sym, ap, subst, ◌∙◌, arith}
+use Rattle.std.proofs.lemmas.Bool.{cases_eq}
 use Rattle.std.proofs.lemmas.Bool.Decides.{nat_tests}
 use Rattle.stack_facts.specs.declared.values.Slot.{Slot}
 use Rattle.stack_facts.specs.declared.values.Change.{Change}
 use Rattle.stack_facts.specs.Places.{is_saved}
-use Rattle.stack_facts.specs.Facts.{Fact, entry, slot, is_at, is_below, is_touched, loads_own, facts_after}
+use Rattle.stack_facts.specs.Facts.{Fact, entry, slot, loads_own, facts_after}
 use Rattle.stack_facts.specs.Sets.{place_of, slot_at, fact_at, holds_in, IsPlain}
 use Rattle.stack_facts.specs.Passing.{IsDropped, is_stored, is_under, is_here, IsPut, IsMade, IsFreed}
 use Rattle.stack_facts.proofs.SlotLemmas.{found_there, stands_there}

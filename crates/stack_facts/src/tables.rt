@@ -139,8 +139,10 @@ impl Model for FactTable {
 
     ghost Value = { Facts };
 
-    ghost view = { λ table. (table.slots.items,
-        if table.by_words then table.words.items else table.sets.items) };
+    ghost view = { λ table. (
+      table.slots.items,
+      if table.by_words then table.words.items else table.sets.items,
+    ) };
 }
 
 impl FactTable {

@@ -29,11 +29,7 @@ impl Numbers for Word {
     #[inline(always)]
     #[tactic(auto, using(crate::proofs::BitLemmas::in_word_alone, crate::proofs::BitLemmas::behind_word_alone))]
     fn has(&self, k: usize) -> bool {
-        if k < 64 {
-            has_bit(self.bits, k)
-        } else {
-            false
-        }
+        if k < 64 { has_bit(self.bits, k) } else { false }
     }
 
     #[inline(always)]

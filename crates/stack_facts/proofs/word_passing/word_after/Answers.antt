@@ -1,5 +1,4 @@
-use Rattle.std.proofs.Common.{◌≡◌, ◌+◌, ◌<◌, ◌≤◌, false, get_or, sym, ap, ◌∙◌, arith}
-use Rattle.std.proofs.lemmas.Bool.{cases_lt}
+use Rattle.std.proofs.Common.{sym, ap, ◌∙◌}
 use Rattle.insn_effects.specs.Followed.{followed_by}
 use Rattle.stack_depths.specs.States.{distances_in}
 use Rattle.stack_facts.specs.declared.values.Change.{Change}

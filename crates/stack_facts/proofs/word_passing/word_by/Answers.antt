@@ -1,4 +1,4 @@
-use Rattle.std.proofs.Common.{◌≡◌, ◌+◌, ◌∙◌, sym, arith}
+use Rattle.std.proofs.Common.{◌+◌, ◌∙◌, arith}
 use Rattle.insn_effects.specs.Followed.{followed_by}
 use Rattle.stack_facts.specs.Places.{writes}
 use Rattle.stack_facts.proofs.PassLemmas.{slot_after, none_after}

@@ -1,4 +1,4 @@
-use Rattle.std.proofs.Common.{◌≡◌, ◌-◌, false, get_or, sym, ap, ◌∙◌}
+use Rattle.std.proofs.Common.{◌-◌, false, get_or, sym, ap, ◌∙◌}
 use Rattle.stack_facts.proofs.WordLemmas.{in_word, behind_word}
 use Rattle.stack_facts.proofs.sets.BitSetNumbers.has.Goals as goal
 

@@ -1,4 +1,4 @@
-use Rattle.std.proofs.Common.{◌≤◌, arith}
+use Rattle.std.proofs.Common.{arith}
 use Rattle.stack_facts.specs.States.{fact_rules, fact_of}
 use Rattle.stack_facts.proofs.BitLemmas.{few_counted}
 use Rattle.stack_facts.proofs.FactLemmas.{begins}

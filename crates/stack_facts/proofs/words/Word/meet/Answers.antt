@@ -1,7 +1,6 @@
-use Rattle.std.proofs.Common.{◌≡◌, ◌≢◌, ◌<◌, ◌^◌, false, get_or, sum_by, sym, ap, ◌∙◌, arith}
+use Rattle.std.proofs.Common.{◌≡◌, ◌≢◌, arith}
 use Rattle.std.specs.Prelude.{bit_and}
 use Rattle.std.proofs.lemmas.Bool.Decides.{nat_tests}
-use Rattle.stack_facts.specs.Sets.{counted}
 use Rattle.stack_facts.proofs.BitLemmas.{met_word, met_less, within_word_alone}
 use Rattle.stack_facts.proofs.words.Word.meet.Goals as goal
 

@@ -1,4 +1,4 @@
-use Rattle.std.proofs.Common.{◌≡◌, false, get_or, ap, ◌∙◌}
+use Rattle.std.proofs.Common.{false, get_or, ap, ◌∙◌}
 use Rattle.stack_facts.proofs.BitLemmas.{set_other}
 use Rattle.stack_facts.proofs.words.Word.with.Goals as goal
 
