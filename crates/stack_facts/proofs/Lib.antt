@@ -2,8 +2,6 @@ pub mod SourceLemmas
 pub mod ChangeLemmas
 pub mod SlotLemmas
 pub mod SetLemmas
-pub mod WordLemmas
-pub mod BitLemmas
 pub mod GatherLemmas
 pub mod FactLemmas
 pub mod QuietLemmas

@@ -7,16 +7,6 @@ use Rattle.stack_facts.specs.declared.values.Slot.{Slot}
 use Rattle.stack_facts.specs.Places.{below, is_saved}
 use Rattle.stack_facts.specs.Facts.{Fact, entry, slot, saved_over, is_at}
 
--- a bit counts
-abbrev pub counted : Bool → ℕ
-counted true = 1
-counted false = 0
-
--- the first bits of a word
-unfoldable pub low_bits : (word count : ℕ) → List Bool
-low_bits word zero = []
-low_bits word (suc n) = low_bits word n ++ has_bit word n ∷ []
-
 -- the slot is this one
 abbrev pub is_slot : (distance register : ℕ) → Slot → Bool
 is_slot n r s = s.distance == n && s.register == r

@@ -5,7 +5,8 @@ use Rattle.code_functions.specs.declared.items.CodeItem.{CodeItem}
 use Rattle.stack_depths.specs.Distances.{Distances}
 use Rattle.stack_facts.specs.declared.values.Slot.{Slot}
 use Rattle.stack_facts.specs.Facts.{Fact, entry, slot, entry_facts}
-use Rattle.stack_facts.specs.Sets.{counted, holds_in}
+use Rattle.number_sets.specs.Bits.{counted}
+use Rattle.stack_facts.specs.Sets.{holds_in}
 use Rattle.stack_facts.specs.Sources.{source_over}
 
 -- what the work list calls a fact

@@ -4,9 +4,9 @@ ghost use Rattle.std.specs.Prelude.{◌≡◌, ◌<◌, ◌+◌, ℕ, None, get_
 ghost use Rattle.stack_facts.specs.Facts.{IsSlotOf};
 ghost use Rattle.stack_facts.specs.Sets.{holds_in, IsPlain, AreBest};
 
-use crate::numbers::Numbers;
 use crate::passing::{has_slot_at, higher};
 use crate::values::Slot;
+use number_sets::Numbers;
 
 /// No distance of any register.
 #[inline(always)]

@@ -4,14 +4,11 @@
 mod changes;
 mod finding;
 mod gathering;
-mod numbers;
 mod passing;
-mod sets;
 mod slots;
 mod tables;
 mod values;
 mod word_passing;
-mod words;
 
 pub use changes::{is_below, overlaps, stack_after, stored_at};
 pub use tables::{FactTable, facts};

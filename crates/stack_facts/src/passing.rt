@@ -9,11 +9,10 @@ ghost use Rattle.stack_facts.specs.Facts as spec;
 ghost use Rattle.stack_facts.specs.Sets.{holds_in, fact_at, place_of, higher_of, IsPlain, IsBest};
 
 use crate::changes::{change_of, is_below, is_quiet, overlaps, writes, writes_none};
-use crate::numbers::Numbers;
-use crate::sets::BitSet;
 use crate::slots::place_of;
 use crate::values::{Change, Slot, Span};
 use insn_effects::{Effect, NONE};
+use number_sets::{BitSet, Numbers};
 use stack_depths::DepthTable;
 use std::alloc::{AllocError, Global};
 

@@ -13,8 +13,8 @@ use crate::changes::{change_of, is_below, is_quiet, overlaps};
 use crate::passing::{has_entry, has_slot};
 use crate::slots::place_of;
 use crate::values::{Change, Slot, Span};
-use crate::words::Word;
 use insn_effects::{Effect, NONE};
+use number_sets::Word;
 use stack_depths::{DepthTable, FollowedAccess, FollowedMove, followed_load, followed_move};
 
 /// The entry values of a word, without one of a register.

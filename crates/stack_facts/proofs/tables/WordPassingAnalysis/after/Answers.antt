@@ -4,7 +4,7 @@ use Rattle.stack_depths.specs.States.{distances_in}
 use Rattle.stack_facts.specs.Facts.{is_at, facts_over, saved_over}
 use Rattle.stack_facts.specs.Sets.{holds_in}
 use Rattle.stack_facts.specs.States.{fact_rules}
-use Rattle.stack_facts.proofs.BitLemmas.{few_counted}
+use Rattle.stack_facts.proofs.SetLemmas.{few_counted}
 use Rattle.stack_facts.proofs.FactLemmas.{after_case, stays}
 use Rattle.stack_facts.proofs.tables.WordPassingAnalysis.after.Goals as goal
 

@@ -1,6 +1,6 @@
 use Rattle.std.proofs.Common.{arith}
 use Rattle.stack_facts.specs.States.{fact_rules, fact_of}
-use Rattle.stack_facts.proofs.BitLemmas.{few_counted}
+use Rattle.stack_facts.proofs.SetLemmas.{few_counted}
 use Rattle.stack_facts.proofs.FactLemmas.{begins}
 use Rattle.stack_facts.proofs.tables.WordPassingAnalysis.enter.Goals as goal
 

@@ -1,7 +1,7 @@
 use Rattle.std.proofs.Common.{◌≡◌, ◌/◌, ◌^◌, false, get_or, length, sym, ap, ◌∙◌, arith, rules}
 use Rattle.std.proofs.lemmas.Bool.Decides.{nat_tests}
-use Rattle.stack_facts.proofs.WordLemmas.{short_bits}
-use Rattle.stack_facts.proofs.sets.BitSetNumbers.is_short.Goals as goal
+use Rattle.number_sets.proofs.WordLemmas.{short_bits}
+use Rattle.number_sets.proofs.sets.BitSetNumbers.is_short.Goals as goal
 
 pub returns : goal.returns
 returns c = λ t k h.

@@ -1,7 +1,7 @@
 //! Sets of numbers, as bits: the first ones in a word, and the others behind it.
 
 ghost use Rattle.std.specs.Prelude.{◌≡◌, ◌≢◌, ◌<◌, ℕ, false, get_or};
-ghost use Rattle.stack_depths.specs.Distances.{has_bit};
+ghost use Rattle.number_sets.specs.Bits.{has_bit};
 
 use crate::numbers::Numbers;
 use std::alloc::{AllocError, Global};
@@ -51,7 +51,7 @@ pub struct BitSet {
 
 impl Model for BitSet {
     ghost use Rattle.std.specs.Prelude.{◌≤◌, List, Bool, ◌++◌};
-    ghost use Rattle.stack_facts.specs.Sets.{low_bits};
+    ghost use Rattle.number_sets.specs.Bits.{low_bits};
 
     ghost Value = { List Bool };
 
@@ -87,10 +87,10 @@ impl Numbers for BitSet {
 
 impl BitSet {
     ghost use Rattle.std.specs.Prelude.{◌≡◌, ◌<◌, ◌≤◌, ◌&&◌, ◌++◌, ◌∷◌, [], ℕ, false, IsTrue, IsFalse, IfOk, IfSome, get_or, length, slice_set, sum_by};
-    ghost use Rattle.stack_facts.specs.Sets.{counted};
+    ghost use Rattle.number_sets.specs.Bits.{counted};
 
     /// The set of no number.
-    #[tactic(auto, unfolding(crate::specs::Sets::low_bits))]
+    #[tactic(auto, unfolding(crate::specs::Bits::low_bits))]
     pub fn new(alloc: Global) -> BitSet
         ensures { result ≡ [] }
     {
@@ -214,17 +214,5 @@ impl BitSet {
             return false;
         }
         self.meet_each(other)
-    }
-
-    /// Whether both are the same set, by a look at the words.
-    #[inline(always)]
-    #[tactic(auto, using(crate::proofs::WordLemmas::same_bits))]
-    pub fn is_same(&self, other: &BitSet) -> bool
-        ensures { IsTrue result → (k : ℕ) → get_or self.now k false ≡ get_or other.now k false }
-    {
-        if self.low != other.low || self.count != other.count || self.more.len() != 0 {
-            return false;
-        }
-        other.more.len() == 0
     }
 }

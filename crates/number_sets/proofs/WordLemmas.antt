@@ -6,9 +6,21 @@ use Rattle.std.proofs.lemmas.Bool.Decides.{nat_tests}
 use Rattle.std.proofs.lemmas.List.{append-nil, append_assoc, get_or_append_left, get_or-append_right, get_or_past}
 use Rattle.std.proofs.lemmas.Nat.{shr-shr}
 use Rattle.std.proofs.lemmas.Nat.Bits.{bit_at_and, bit_at-zero, bit_at_set_same, bit_at_set_other, bit_at_clear_same, bit_at_clear_other}
-use Rattle.stack_depths.specs.Distances.{has_bit}
-use Rattle.stack_facts.specs.Sets.{low_bits}
-use Rattle.stack_facts.proofs.SetLemmas.{pushed_same, pushed_last}
+use Rattle.number_sets.specs.Bits.{has_bit}
+use Rattle.number_sets.specs.Bits.{low_bits}
+
+-- bits that were there stay
+pushed_same : (bits : List Bool) (bit : Bool) (k : ℕ) → k < length bits → get_or (bits ++ bit ∷ []) k false ≡ get_or bits k false
+pushed_same [] bit k h = absurd (omega arith)
+pushed_same (x ∷ bits) bit zero h = refl
+pushed_same (x ∷ bits) bit (suc k) h = pushed_same bits bit k (omega arith)
+
+-- the bit that was put last
+pushed_last : (bits : List Bool) (bit : Bool) (k : ℕ) → k ≡ length bits → get_or (bits ++ bit ∷ []) k false ≡ bit
+pushed_last [] bit zero h = refl
+pushed_last [] bit (suc k) h = absurd (omega arith)
+pushed_last (x ∷ bits) bit zero h = absurd (omega arith)
+pushed_last (x ∷ bits) bit (suc k) h = pushed_last bits bit k (omega arith)
 
 -- a bit that is put is there
 pub put_here : (word k : ℕ) → k < 64 → has_bit (bit_or word (1 * 2 ^ k % 2 ^ 64)) k ≡ true
@@ -168,10 +180,3 @@ within_bits one other n m more others k none longer both = by_place (cases_lt k 
     by_place (inr s) =
         let a : get_or (low_bits one n ++ more) k false ≡ false = behind_word one n more k s ∙ get_or_past more (k - n) false (omega arith) in
         ap (λ x. x && get_or (low_bits other m ++ others) k false) a ∙ sym a
-
--- two sets of the same words
-pub same_bits : (one other n m : ℕ) (more others : List Bool) (k : ℕ) → one ≡ other → n ≡ m → length more ≡ 0 → length others ≡ 0
-    → get_or (low_bits one n ++ more) k false ≡ get_or (low_bits other m ++ others) k false
-same_bits one other n m more others k e f none none_too =
-    ap (λ w. get_or (low_bits w n ++ more) k false) e ∙ ap (λ c. get_or (low_bits other c ++ more) k false) f
-    ∙ ap (λ r. get_or (low_bits other m ++ r) k false) (none_more more none ∙ sym (none_more others none_too))

@@ -1,6 +1,6 @@
 use Rattle.std.proofs.Common.{◌≡◌, ◌&&◌, ℕ, ◌<◌, ◌≤◌, true, false, sum_by, get_or, length}
-use Rattle.stack_facts.specs.Sets.{counted}
-use Rattle.stack_facts.proofs.sets.BitSet.meet_each.Given as goal
+use Rattle.number_sets.specs.Bits.{counted}
+use Rattle.number_sets.proofs.sets.BitSet.meet_each.Given as goal
 
 abbrev pub invariant-loop-k : goal.invariant-loop-k
 invariant-loop-k l =

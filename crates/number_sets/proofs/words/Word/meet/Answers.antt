@@ -1,8 +1,8 @@
 use Rattle.std.proofs.Common.{◌≡◌, ◌≢◌, arith}
 use Rattle.std.specs.Prelude.{bit_and}
 use Rattle.std.proofs.lemmas.Bool.Decides.{nat_tests}
-use Rattle.stack_facts.proofs.BitLemmas.{met_word, met_less, within_word_alone}
-use Rattle.stack_facts.proofs.words.Word.meet.Goals as goal
+use Rattle.number_sets.proofs.BitLemmas.{met_word, met_less, within_word_alone}
+use Rattle.number_sets.proofs.words.Word.meet.Goals as goal
 
 pub returns-then-left-self-clause-both : goal.returns-then-left-self-clause-both
 returns-then-left-self-clause-both c = λ k.

@@ -14,7 +14,7 @@ pub struct Word {
 
 impl Model for Word {
     ghost use Rattle.std.specs.Prelude.{List, Bool};
-    ghost use Rattle.stack_facts.specs.Sets.{low_bits};
+    ghost use Rattle.number_sets.specs.Bits.{low_bits};
 
     ghost Value = { List Bool };
 
@@ -41,8 +41,8 @@ impl Numbers for Word {
 
 impl Word {
     ghost use Rattle.std.specs.Prelude.{◌≡◌, ◌≢◌, ◌+◌, ◌<◌, ◌≤◌, ◌&&◌, not, ℕ, true, false, IsTrue, IsFalse, get_or, sum_by};
-    ghost use Rattle.stack_depths.specs.Distances.{has_bit};
-    ghost use Rattle.stack_facts.specs.Sets.{counted};
+    ghost use Rattle.number_sets.specs.Bits.{has_bit};
+    ghost use Rattle.number_sets.specs.Bits.{counted};
 
     /// The first six numbers.
     #[inline(always)]

@@ -8,9 +8,9 @@ use Rattle.std.proofs.lemmas.List.Sums.{sum_by-append, sum_by-cons}
 use Rattle.std.proofs.lemmas.Nat.{shr-shr, one_shl}
 use Rattle.std.proofs.lemmas.Nat.Bits.{bit_at_and, bit_at_or, bit_at_not, bit_at-lt, bit_at_ones, bit_at_ones_above, bit_at_mask_inside, bit_at_mask_below, same_from_bits_below}
 use Rattle.std.proofs.lemmas.Nat.{and_le_l}
-use Rattle.stack_depths.specs.Distances.{has_bit}
-use Rattle.stack_facts.specs.Sets.{low_bits, counted}
-use Rattle.stack_facts.proofs.WordLemmas.{length_low, get_low, same_low, none_high}
+use Rattle.number_sets.specs.Bits.{has_bit}
+use Rattle.number_sets.specs.Bits.{low_bits, counted}
+use Rattle.number_sets.proofs.WordLemmas.{length_low, get_low, same_low, none_high}
 
 -- a bit that both have
 pub in_both : (a b k : ℕ) → has_bit (bit_and a b) k ≡ (has_bit a k && has_bit b k)
@@ -121,16 +121,6 @@ met_less one other h ne = by_case (fewer (bit_and one other) one 64 (λ k s e. f
     by_case : ((k : ℕ) → k < 64 → has_bit (bit_and one other) k ≡ has_bit one k) ⊎ (sum_by counted (low_bits (bit_and one other) 64) < sum_by counted (low_bits one 64)) → sum_by counted (low_bits (bit_and one other) 64) < sum_by counted (low_bits one 64)
     by_case (inr s) = s
     by_case (inl same) = absurd (ne (same_from_bits_below 64 (bit_and one other) one (let l = and_le_l one other in omega arith) h (λ k s. same_bit k (same k s))))
-
--- at most so many are counted as stand before the others
-pub few_counted : (bits : List Bool) (n : ℕ) → ((k : ℕ) → n ≤ k → get_or bits k false ≡ false) → sum_by counted bits ≤ n
-few_counted [] n h = omega arith
-few_counted (b ∷ bits) zero h = let e = sum_by-cons counted b bits in let f = ap counted (h 0 (omega arith)) in let i = few_counted bits zero (λ k l. h (suc k) (omega arith)) in omega arith
-few_counted (b ∷ bits) (suc n) h = let e = sum_by-cons counted b bits in let i = few_counted bits n (λ k l. h (suc k) (omega arith)) in let m = at_most b in omega arith
-  where
-    at_most : (x : Bool) → counted x ≤ 1
-    at_most true = omega arith
-    at_most false = omega arith
 
 -- the first six numbers
 pub six_low : (k : ℕ) → k < 6 → get_or (low_bits 63 64) k false ≡ true

@@ -1,8 +1,8 @@
 use Rattle.std.proofs.Common.{◌≡◌, ◌-◌, ◌<◌, ◌≤◌, ◌+◌, false, length, ap, arith, rules}
 use Rattle.std.specs.Prelude.{slice_set}
 use Rattle.std.specs.Vec.{with_item}
-use Rattle.stack_facts.proofs.WordLemmas.{cleared_low, cleared_more, length_bits}
-use Rattle.stack_facts.proofs.sets.BitSet.clear.Goals as goal
+use Rattle.number_sets.proofs.WordLemmas.{cleared_low, cleared_more, length_bits}
+use Rattle.number_sets.proofs.sets.BitSet.clear.Goals as goal
 
 pub returns-then-k-count : goal.returns-then-k-count
 returns-then-k-count c =

@@ -1,6 +1,6 @@
 use Rattle.std.proofs.Common.{false, get_or, ap, ◌∙◌}
-use Rattle.stack_facts.proofs.BitLemmas.{set_other}
-use Rattle.stack_facts.proofs.words.Word.with.Goals as goal
+use Rattle.number_sets.proofs.BitLemmas.{set_other}
+use Rattle.number_sets.proofs.words.Word.with.Goals as goal
 
 pub returns-clause-others : goal.returns-clause-others
 returns-clause-others c = λ j ne.

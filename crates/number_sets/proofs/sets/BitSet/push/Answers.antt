@@ -1,6 +1,6 @@
 use Rattle.std.proofs.Common.{◌≡◌, ◌+◌, length, refl, arith, rules}
-use Rattle.stack_facts.proofs.WordLemmas.{pushed_low, pushed_more}
-use Rattle.stack_facts.proofs.sets.BitSet.push.Goals as goal
+use Rattle.number_sets.proofs.WordLemmas.{pushed_low, pushed_more}
+use Rattle.number_sets.proofs.sets.BitSet.push.Goals as goal
 
 pub returns-then-len-eq0 : goal.returns-then-len-eq0
 returns-then-len-eq0 c =

@@ -1,8 +1,8 @@
 use Rattle.std.proofs.Common.{◌≡◌, ◌≤◌, ◌&&◌, false, get_or, length, sym, ap, ◌∙◌, arith, rules}
 use Rattle.std.specs.Prelude.{bit_and}
 use Rattle.std.proofs.lemmas.Bool.Decides.{nat_tests}
-use Rattle.stack_facts.proofs.WordLemmas.{within_bits}
-use Rattle.stack_facts.proofs.sets.BitSet.is_within.Goals as goal
+use Rattle.number_sets.proofs.WordLemmas.{within_bits}
+use Rattle.number_sets.proofs.sets.BitSet.is_within.Goals as goal
 
 pub returns : goal.returns
 returns c = λ t k.

@@ -1,6 +1,6 @@
 use Rattle.std.proofs.Common.{◌-◌, false, get_or, sym, ap, ◌∙◌}
-use Rattle.stack_facts.proofs.WordLemmas.{in_word, behind_word}
-use Rattle.stack_facts.proofs.sets.BitSetNumbers.has.Goals as goal
+use Rattle.number_sets.proofs.WordLemmas.{in_word, behind_word}
+use Rattle.number_sets.proofs.sets.BitSetNumbers.has.Goals as goal
 
 pub returns-then-k-self : goal.returns-then-k-self
 returns-then-k-self c =

@@ -1,6 +1,6 @@
 use Rattle.std.proofs.Common.{◌≡◌, ◌<◌, ◌≤◌, ◌+◌, ℕ, false, get_or, length, sym, ap, ◌∙◌, arith}
-use Rattle.stack_facts.proofs.WordLemmas.{length_bits, in_word}
-use Rattle.stack_facts.proofs.sets.BitSet.first.Goals as goal
+use Rattle.number_sets.proofs.WordLemmas.{length_bits, in_word}
+use Rattle.number_sets.proofs.sets.BitSet.first.Goals as goal
 
 pub returns-then-count-self-clause-long : goal.returns-then-count-self-clause-long
 returns-then-count-self-clause-long c =
