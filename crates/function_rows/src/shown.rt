@@ -5,11 +5,11 @@ ghost use Rattle.std.specs.Prelude.{◌<◌, length};
 use asm_base::{SavedRegister, ScfiFault};
 use cfi_rows::op_bytes;
 use flow_graph::{Graph, Node};
-use row_texts::{write_code, write_line, write_text};
+use row_texts::{write_code, write_line, write_number, write_text};
 use scfi_pass::ItemOp;
 use stack_depths::DepthTable;
 use stack_facts::FactTable;
-use std::io::{self, Write};
+use std::io;
 
 /// The name of one of the seven registers.
 fn name(register: u8) -> &'static str {
@@ -35,10 +35,39 @@ fn saved_name(register: SavedRegister) -> &'static str {
     }
 }
 
+/// A distance, with its sign.
+fn write_signed(distance: u64, out: &mut Vec<u8>) -> io::Result<()> {
+    let distance = distance.cast_signed();
+    write_text(if distance < 0 { "-" } else { "+" }, &mut *out)?;
+    write_number(distance.unsigned_abs(), out)
+}
+
+/// A register behind a sign, and its distance.
+fn write_distance(register: u8, distance: u64, out: &mut Vec<u8>) -> io::Result<()> {
+    write_text(" ", &mut *out)?;
+    write_text(name(register), &mut *out)?;
+    write_signed(distance, out)
+}
+
+/// A register, and its slot.
+fn write_slot(register: u8, distance: u64, out: &mut Vec<u8>) -> io::Result<()> {
+    write_text(" ", &mut *out)?;
+    write_text(name(register), &mut *out)?;
+    write_text("@", &mut *out)?;
+    write_signed(distance, out)
+}
+
+/// A register that does not have its entry value.
+fn write_changed(register: u8, out: &mut Vec<u8>) -> io::Result<()> {
+    write_text(" -", &mut *out)?;
+    write_text(name(register), out)
+}
+
 /// Numbers, with a space before each.
 fn write_numbers(numbers: &[usize], out: &mut Vec<u8>) -> io::Result<()> {
     for number in numbers {
-        write!(out, " {number}")?;
+        write_text(" ", &mut *out)?;
+        write_number(*number as u64, &mut *out)?;
     }
     Ok(())
 }
@@ -62,8 +91,7 @@ fn write_exit(node: Node, out: &mut Vec<u8>) -> io::Result<()> {
 fn write_distances(table: &DepthTable, item: usize, out: &mut Vec<u8>) -> io::Result<()> {
     for register in 0..7u8 {
         if let Some(distance) = table.distance(item, register) {
-            let distance = distance.cast_signed();
-            write!(out, " {}{distance:+}", name(register))?;
+            write_distance(register, distance, &mut *out)?;
         }
     }
     Ok(())
@@ -73,11 +101,10 @@ fn write_distances(table: &DepthTable, item: usize, out: &mut Vec<u8>) -> io::Re
 fn write_facts(table: &FactTable, item: usize, out: &mut Vec<u8>) -> io::Result<()> {
     for register in 1..7u8 {
         if !table.has_entry(item, register) {
-            write!(out, " -{}", name(register))?;
+            write_changed(register, &mut *out)?;
         }
         if let Some(distance) = table.slot_of(item, register) {
-            let distance = distance.cast_signed();
-            write!(out, " {}@{distance}", name(register))?;
+            write_slot(register, distance, &mut *out)?;
         }
     }
     Ok(())
@@ -94,7 +121,8 @@ pub fn write_item(
     if item >= graph.len() {
         return Ok(());
     }
-    write!(out, "{item}:")?;
+    write_number(item as u64, &mut *out)?;
+    write_text(":", &mut *out)?;
     write_successors(graph, item, &mut *out)?;
     write_exit(graph.node(item), &mut *out)?;
     if !depths.is_reached(item) {
@@ -107,15 +135,22 @@ pub fn write_item(
     write_line("", out)
 }
 
+/// The bytes of an instruction behind the number of its item.
+fn write_op(told: ItemOp, out: &mut Vec<u8>) -> io::Result<()> {
+    write_text(" ", &mut *out)?;
+    write_number(told.item as u64, &mut *out)?;
+    write_text("=", &mut *out)?;
+    match op_bytes(told.op) {
+        Some(bytes) => write_code(bytes.as_slice(), out),
+        None => write_text("none", out),
+    }
+}
+
 /// The bytes of the instructions, with the number of its item before each.
 pub fn write_ops(ops: &[ItemOp], out: &mut Vec<u8>) -> io::Result<()> {
     write_text("table:", &mut *out)?;
     for told in ops {
-        write!(out, " {}=", told.item)?;
-        match op_bytes(told.op) {
-            Some(bytes) => write_code(bytes.as_slice(), &mut *out)?,
-            None => write_text("none", &mut *out)?,
-        }
+        write_op(*told, &mut *out)?;
     }
     write_line("", out)
 }
@@ -137,15 +172,27 @@ fn words(fault: ScfiFault) -> &'static str {
     }
 }
 
-/// A fault and its item.
-pub fn write_fault(item: usize, fault: ScfiFault, out: &mut Vec<u8>) -> io::Result<()> {
-    write!(out, "fault at {item}: {}", words(fault))?;
+/// What is said of a fault behind its words.
+fn write_more(fault: ScfiFault, out: &mut Vec<u8>) -> io::Result<()> {
     match fault {
         ScfiFault::RegisterLost(register) | ScfiFault::RegisterNotRestored(register) => {
-            write!(out, " {}", saved_name(register))?;
+            write_text(" ", &mut *out)?;
+            write_text(saved_name(register), out)
         }
-        ScfiFault::StackNotRestored(Some(distance)) => write!(out, " {distance:+}")?,
-        _ => {}
+        ScfiFault::StackNotRestored(Some(distance)) => {
+            write_text(" ", &mut *out)?;
+            write_signed(distance.cast_unsigned(), out)
+        }
+        _ => Ok(()),
     }
+}
+
+/// A fault and its item.
+pub fn write_fault(item: usize, fault: ScfiFault, out: &mut Vec<u8>) -> io::Result<()> {
+    write_text("fault at ", &mut *out)?;
+    write_number(item as u64, &mut *out)?;
+    write_text(": ", &mut *out)?;
+    write_text(words(fault), &mut *out)?;
+    write_more(fault, &mut *out)?;
     write_line("", out)
 }
